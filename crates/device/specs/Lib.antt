@@ -1,0 +1,11 @@
+pub mod Disk
+pub mod Step
+pub mod Run
+pub mod Script
+pub mod Picks
+pub mod Memory
+pub mod MemoryLaws
+pub mod Sectors
+pub mod SectorLaws
+pub mod Host
+pub mod Faults

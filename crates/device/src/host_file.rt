@@ -1,0 +1,111 @@
+ghost use Rattle.std.specs.Prelude.{◌≡◌, ◌<◌, ◌≤◌, ◌⊎◌, ◌^◌, ◌-◌, ◌+◌, ◌↔◌, length, IsOk, IsErr, IfOk, OnOk};
+
+use crate::{DeviceFault, RawFile};
+use std::fs::File;
+use std::io;
+use std::os::unix::fs::FileExt;
+
+// The operating system's own limit on offsets.
+const MOST_BYTES: u64 = 1 << 63;
+
+/// A file of the operating system.
+///
+/// No contract of the operating system says what its file holds, so here `keeps` is a fact that nobody has, and what `RawFile` says
+/// of contents says nothing. What is proved of every raw file holds of this one only if the file keeps the disk model, which is
+/// assumed.
+#[derive(Drop)]
+pub struct HostFile {
+    file: File,
+    failures: u64,
+}
+
+impl HostFile {
+    pub(crate) fn new(file: File) -> HostFile
+        ensures { result.failures ≡ 0 }
+    {
+        HostFile { file, failures: 0 }
+    }
+
+    // Counts a call that failed.
+    fn counted<T: Drop>(&mut self, answer: io::Result<T>) -> Result<T, DeviceFault>
+        ensures value { IfOk result (λ value. answer ≡ Ok value) }
+        ensures later { self.old.failures ≤ self.new.failures }
+        ensures cause { IsErr result → (self.old.failures < self.new.failures) ⊎ (self.new.failures ≡ 2 ^ 64 - 1) }
+    {
+        match answer {
+            Ok(value) => Ok(value),
+            Err(_) => {
+                self.failures = self.failures.saturating_add(1);
+                Err(DeviceFault)
+            }
+        }
+    }
+}
+
+// Refuses a range that ends past the limit.
+fn within_limit(offset: u64, count: usize) -> io::Result<()>
+    ensures { IsOk result ↔ (offset + count ≤ 2 ^ 63) }
+{
+    if offset <= MOST_BYTES && count as u64 <= MOST_BYTES - offset {
+        Ok(())
+    } else {
+        Err(io::ErrorKind::FileTooLarge.into())
+    }
+}
+
+fn read_bytes(file: &File, offset: u64, buffer: &mut [u8]) -> io::Result<()> {
+    within_limit(offset, buffer.len())?;
+    file.read_exact_at(buffer, offset)
+}
+
+fn write_bytes(file: &File, offset: u64, bytes: &[u8]) -> io::Result<()>
+    ensures { OnOk result (offset + length bytes.now ≤ 2 ^ 63) }
+{
+    within_limit(offset, bytes.len())?;
+    file.write_all_at(bytes, offset)
+}
+
+fn size_of(file: &File) -> io::Result<u64>
+    ensures { IfOk result (λ size. size ≤ 2 ^ 63) }
+{
+    let size = file.metadata()?.len();
+    within_limit(size, 0)?;
+    Ok(size)
+}
+
+impl RawFile for HostFile {
+    ghost use Rattle.device.specs.Host.{host_disk};
+
+    ghost disk = { host_disk };
+
+    ghost at_most = { λ file keeps. absurd keeps };
+
+    ghost counts_now = { λ file t c keeps le left. absurd keeps };
+
+    ghost only_now = { λ file c keeps since. absurd keeps };
+
+    fn size(&mut self) -> Result<u64, DeviceFault> {
+        let answer = size_of(&self.file);
+        self.counted(answer)
+    }
+
+    fn read_at(&mut self, offset: u64, buffer: &mut [u8]) -> Result<(), DeviceFault> {
+        let answer = read_bytes(&self.file, offset, buffer);
+        self.counted(answer)
+    }
+
+    fn write_at(&mut self, offset: u64, bytes: &[u8]) -> Result<(), DeviceFault> {
+        let answer = write_bytes(&self.file, offset, bytes);
+        self.counted(answer)
+    }
+
+    fn cut_to(&mut self, size: u64) -> Result<(), DeviceFault> {
+        let answer = self.file.set_len(size);
+        self.counted(answer)
+    }
+
+    fn sync(&mut self) -> Result<(), DeviceFault> {
+        let answer = self.file.sync_all();
+        self.counted(answer)
+    }
+}
