@@ -1,0 +1,6 @@
+pub mod Parts
+pub mod Gathering
+pub mod Logs
+pub mod Appending
+pub mod Walking
+pub mod Checking

@@ -1,0 +1,50 @@
+use Rattle.std.proofs.Common.{rules, arith, ◌∙◌, sym, ap, subst, ◌+◌, ℕ, map, Vec, Global}
+use Rattle.std.specs.Prelude.{IsErrOf}
+use Rattle.std.proofs.lemmas.List.{map_push}
+use Rattle.gatelog.specs.declared.fault.LogFault.TheVariants as LogFault
+use Rattle.gatelog.specs.Walk.{HoldsRecord}
+use Rattle.gatelog.proofs.Logs.{inside}
+use Rattle.gatelog.proofs.Walking.{same_then, no_log-record, passes-next, passes-end}
+use Rattle.gatelog.proofs.recovery.payloads_of.Goals as goal
+
+pub returns-then-gate-end-clause-damaged : goal.returns-then-gate-end-clause-damaged
+returns-then-gate-end-clause-damaged g c keeps is_damaged payloads log =
+    let inv = c.loop-gate.invariant in
+    let here = inv.passes keeps payloads log in
+    let within = inside here.0 c.loop-gate.gate c.args.last (g.D.Device.disk.content c.args.device.now) here.2 in
+    absurd (omega (arith, within.1, inv.end keeps, c.loop-gate-test.true, c.if-gate-end.true))
+
+pub returns-in_err-payload-clause-damaged : goal.returns-in_err-payload-clause-damaged
+returns-in_err-payload-clause-damaged g c keeps is_damaged payloads log =
+    let inv = c.loop-gate.invariant in
+    let content = g.D.Device.disk.content c.args.device.now in
+    let here = inv.passes keeps payloads log in
+    let told : IsErrOf c.read_payload.result LogFault.Damaged = search rules in
+    no_log-record here.0 c.loop-gate.gate c.args.last content here.2 c.loop-gate-test.true
+    (λ payload holds. c.read_payload.ensures.damaged (inv.ran.kept keeps) told payload (subst (HoldsRecord (c.loop-gate.gate + 1) payload) (sym (inv.ran.seen keeps)) holds))
+
+pub loop-gate-preserved : goal.loop-gate-preserved
+loop-gate-preserved g c =
+    let inv = c.loop-gate.invariant in
+    let disk = g.D.Device.disk in
+    let content = disk.content c.args.device.now in
+    let payload = c.in_ok-payload.payload.items in
+    record {
+      ran = same_then disk c.args.device.now c.loop-gate.device c.read_payload.new.device inv.ran c.read_payload.ensures.ran;
+      end = inv.end;
+      at_most = inv.at_most;
+      passes = λ keeps.
+          passes-next c.args.start c.loop-gate.gate c.sectors_of.result c.args.last content
+          (map (λ (v : Vec ℕ Global). v.items) c.loop-gate.found.items) (map (λ (v : Vec ℕ Global). v.items) c.push.new.self.items) payload (inv.passes keeps) c.loop-gate-test.true (search rules)
+          (λ first holds. c.in_ok-payload.ensures.found (inv.ran.kept keeps) first (subst (HoldsRecord (c.loop-gate.gate + 1) first) (sym (inv.ran.seen keeps)) holds))
+          (ap (map (λ (v : Vec ℕ Global). v.items)) c.in_ok-push.ensures.items ∙ map_push (λ (v : Vec ℕ Global). v.items) c.loop-gate.found.items c.in_ok-payload.payload);
+    }
+
+pub returns-in_err-push-clause-ran : goal.returns-in_err-push-clause-ran
+returns-in_err-push-clause-ran g c =
+    same_then g.D.Device.disk c.args.device.now c.loop-gate.device c.read_payload.new.device c.loop-gate.invariant.ran c.read_payload.ensures.ran
+
+pub returns-clause-found : goal.returns-clause-found
+returns-clause-found g c keeps payloads log =
+    let inv = c.loop-gate.invariant in
+    passes-end c.args.start c.loop-gate.gate c.args.last (g.D.Device.disk.content c.args.device.now) _ (inv.passes keeps) c.loop-gate-test.false payloads log

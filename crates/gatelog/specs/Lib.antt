@@ -1,0 +1,5 @@
+pub mod Record
+pub mod Payload
+pub mod Log
+pub mod Settled
+pub mod Walk

@@ -1,0 +1,18 @@
+-- A walk over a log's records.
+use Rattle.std.specs.Prelude.{◌≡◌, ◌*◌, ◌++◌, ℕ, List}
+use Rattle.gatelog.specs.Record.{part, sectors, IsRecord}
+use Rattle.gatelog.specs.Log.{HoldsLog}
+
+-- The body of a payload stands in this sector and those behind it.
+abbrev pub HoldsRecord : ℕ → List ℕ → List ℕ → Type 0
+HoldsRecord at payload content = IsRecord payload (part (512 * at) (512 * sectors payload) content)
+
+-- A log stands at the one gate exactly where one stands at the other, and they end at the same gate.
+pub record Leads (from to : ℕ) (content : List ℕ) : Type 0 where
+  pub forth : (payloads : List (List ℕ)) (last : ℕ) → HoldsLog to payloads last content → (all : List (List ℕ)) × HoldsLog from all last content
+  pub back : (payloads : List (List ℕ)) (last : ℕ) → HoldsLog from payloads last content → (rest : List (List ℕ)) × HoldsLog to rest last content
+
+-- Each log at the one gate that ends at this one has these payloads, and then those of a log at the other.
+abbrev pub Passes : ℕ → List (List ℕ) → ℕ → ℕ → List ℕ → Type 0
+Passes from passed to last content = (payloads : List (List ℕ)) → HoldsLog from payloads last content
+    → (rest : List (List ℕ)) × (payloads ≡ passed ++ rest) × HoldsLog to rest last content

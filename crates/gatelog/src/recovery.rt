@@ -1,0 +1,147 @@
+ghost use Rattle.std.specs.Prelude.{◌≡◌, ◌<◌, ◌≤◌, ◌+◌, ◌*◌, ◌^◌, ◌⊎◌, ◌↔◌, ◌++◌, ◌∷◌, [], ℕ, List, map, length, IsTrue, IfOk, OnOk, OnErr, IsErrOf, slice_index, EachIndex, vec_len};
+ghost use Rattle.byteorder.specs.Endian.{big_number};
+ghost use Rattle.device.specs.Disk.{HasCause, HasFailed};
+ghost use Rattle.device.specs.Step.{Same};
+ghost use Rattle.device.specs.Run.{Ran};
+ghost use Rattle.gatelog.specs.declared.fault.LogFault.TheVariants as LogFault;
+ghost use Rattle.gatelog.specs.Record.{part, sectors, body_sectors};
+ghost use Rattle.gatelog.specs.Log.{HoldsLog};
+ghost use Rattle.gatelog.specs.Walk.{HoldsRecord};
+
+use crate::LogFault;
+use crate::record::{LENGTH_BYTES, MOST_PAYLOAD, SECTOR, sectors_of};
+use crate::write_record::OPEN;
+use byteorder::{BigEndian, ByteOrder};
+use device::{Device, DeviceFault};
+use std::alloc::{AllocError, Global};
+
+fn read_sector<D: Device>(device: &mut D, at: u64) -> Result<[u8; 512], DeviceFault>
+    requires { D.disk.keeps device.old → 512 * at + 512 ≤ length (D.disk.content device.old) }
+    ensures bytes { D.disk.keeps device.old → IfOk result (λ sector. sector ≡ part (512 * at) 512 (D.disk.content device.old)) }
+    ensures ran { Ran D.disk device.old device.new Same }
+    ensures cause { HasCause D.disk device.old device.new result }
+{
+    let mut sector = [0; SECTOR];
+    device.read(at, &mut sector)?;
+    Ok(sector)
+}
+
+fn is_zero(bytes: &[u8]) -> bool
+    ensures { IsTrue result ↔ EachIndex bytes.now (λ k. slice_index bytes.now k ≡ 0) }
+{
+    bytes.iter().all(|byte| *byte == 0)
+}
+
+// Checks the record's body in this sector and those behind it, of a device of `end` sectors, and gives its number of sectors.
+fn check_body<D: Device>(device: &mut D, at: u64, end: u64) -> Result<u64, LogFault>
+    requires end { D.disk.keeps device.old → length (D.disk.content device.old) ≡ 512 * end }
+    requires at_most { end ≤ 2 ^ 54 }
+    ensures found { D.disk.keeps device.old → IfOk result (λ count. (payload : List ℕ) × (count ≡ sectors payload) × HoldsRecord at payload (D.disk.content device.old)) }
+    ensures damaged { D.disk.keeps device.old → IsErrOf result LogFault.Damaged → (payload : List ℕ) → HoldsRecord at payload (D.disk.content device.old) → ⊥ }
+    ensures inside { IfOk result (λ count. (0 < count) × (at + count ≤ end)) }
+    ensures refusal { OnErr result (IsErrOf result LogFault.Device ⊎ IsErrOf result LogFault.Damaged) }
+    ensures ran { Ran D.disk device.old device.new Same }
+    ensures cause { IsErrOf result LogFault.Device → HasFailed D.disk device.old device.new }
+{
+    if at >= end {
+        return Err(LogFault::Damaged);
+    }
+    let first = read_sector(device, at)?;
+    let payload_length = BigEndian::read_u32(&first) as usize;
+    if payload_length > MOST_PAYLOAD {
+        return Err(LogFault::Damaged);
+    }
+    let count = sectors_of(payload_length);
+    if count as u64 > end - at {
+        return Err(LogFault::Damaged);
+    }
+    let last = read_sector(device, at + count as u64 - 1)?;
+    let used = LENGTH_BYTES + payload_length - SECTOR * (count - 1);
+    if !is_zero(&last[used..]) {
+        return Err(LogFault::Damaged);
+    }
+    Ok(count as u64)
+}
+
+// The first closed gate of the log that begins at a gate.
+pub(crate) fn last_gate_of<D: Device>(device: &mut D, at: u64) -> Result<u64, LogFault>
+    ensures found { D.disk.keeps device.old → IfOk result (λ last. (payloads : List (List ℕ)) × HoldsLog at payloads last (D.disk.content device.old)) }
+    ensures damaged { D.disk.keeps device.old → IsErrOf result LogFault.Damaged
+        → (payloads : List (List ℕ)) (last : ℕ) → HoldsLog at payloads last (D.disk.content device.old) → ⊥ }
+    ensures in_order { IfOk result (λ last. (at ≤ last) × (last < 2 ^ 54)) }
+    ensures refusal { OnErr result (IsErrOf result LogFault.Device ⊎ IsErrOf result LogFault.Damaged) }
+    ensures ran { Ran D.disk device.old device.new Same }
+    ensures cause { IsErrOf result LogFault.Device → HasFailed D.disk device.old device.new }
+{
+    let end = device.len()?;
+    let mut gate = at;
+    while gate < end {
+        let sector = read_sector(device, gate)?;
+        if sector[0] != OPEN {
+            return Ok(gate);
+        }
+        gate += 1 + check_body(device, gate + 1, end)?;
+    }
+    Err(LogFault::Damaged)
+}
+
+// A copy of some of the bytes.
+fn copy_of(alloc: Global, bytes: &[u8], at: usize, count: usize) -> Result<Vec<u8>, AllocError>
+    requires { at + count ≤ length bytes.now }
+    ensures { IfOk result (λ copy. copy.items ≡ part at count bytes.now) }
+{
+    bytes[at..at + count].to_vec(alloc)
+}
+
+// The payload of the record whose body stands in this sector and those behind it, of a device of `end` sectors.
+fn read_payload<D: Device>(
+    alloc: Global,
+    device: &mut D,
+    at: u64,
+    end: u64,
+) -> Result<Vec<u8>, LogFault>
+    requires end { D.disk.keeps device.old → length (D.disk.content device.old) ≡ 512 * end }
+    requires at_most { end ≤ 2 ^ 54 }
+    ensures found { D.disk.keeps device.old → (payload : List ℕ) → HoldsRecord at payload (D.disk.content device.old) → IfOk result (λ found. found.items ≡ payload) }
+    ensures damaged { D.disk.keeps device.old → IsErrOf result LogFault.Damaged → (payload : List ℕ) → HoldsRecord at payload (D.disk.content device.old) → ⊥ }
+    ensures inside { IfOk result (λ found. (vec_len found ≤ 67108864) × (at + body_sectors (vec_len found) ≤ end)) }
+    ensures ran { Ran D.disk device.old device.new Same }
+    ensures cause { IsErrOf result LogFault.Device → HasFailed D.disk device.old device.new }
+{
+    let count = check_body(device, at, end)?;
+    let mut body = vec![in alloc; 0; count as usize * SECTOR]?;
+    device.read(at, &mut body)?;
+    let payload_length = BigEndian::read_u32(&body) as usize;
+    if payload_length > MOST_PAYLOAD || sectors_of(payload_length) as u64 != count {
+        return Err(LogFault::Damaged);
+    }
+    Ok(copy_of(alloc, &body, LENGTH_BYTES, payload_length)?)
+}
+
+// The payloads of the log between two gates.
+pub(crate) fn payloads_of<D: Device>(
+    alloc: Global,
+    device: &mut D,
+    start: u64,
+    last: u64,
+) -> Result<Vec<Vec<u8>>, LogFault>
+    ensures found { D.disk.keeps device.old → (payloads : List (List ℕ)) → HoldsLog start payloads last (D.disk.content device.old)
+        → IfOk result (λ found. map (λ payload. payload.items) found.items ≡ payloads) }
+    ensures damaged { D.disk.keeps device.old → IsErrOf result LogFault.Damaged
+        → (payloads : List (List ℕ)) → HoldsLog start payloads last (D.disk.content device.old) → ⊥ }
+    ensures ran { Ran D.disk device.old device.new Same }
+    ensures cause { IsErrOf result LogFault.Device → HasFailed D.disk device.old device.new }
+{
+    let end = device.len()?;
+    let mut found = Vec::new(alloc);
+    let mut gate = start;
+    while gate < last {
+        if gate >= end {
+            return Err(LogFault::Damaged);
+        }
+        let payload = read_payload(alloc, device, gate + 1, end)?;
+        gate += 1 + sectors_of(payload.len()) as u64;
+        found.push(payload)?;
+    }
+    Ok(found)
+}
