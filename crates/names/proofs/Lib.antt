@@ -1,0 +1,3 @@
+pub mod KeyBytes
+pub mod KeyOrder
+pub mod NameBytes

@@ -1,0 +1,139 @@
+ghost use Rattle.std.specs.Prelude.{◌≡◌, ◌==◌, false};
+ghost use Rattle.std.specs.List.{list_all, slice_split};
+ghost use Rattle.std.specs.Option.{option_map_or};
+ghost use Rattle.names.specs.Name.{is_letter_or_digit, is_label_byte, is_label, is_namespace, is_name, dot};
+
+/// The longest name, in characters.
+pub const NAME_LIMIT: usize = 253;
+
+/// The longest namespace, in characters.
+pub const NAMESPACE_LIMIT: usize = 63;
+
+fn check_letter_or_digit(byte: u8) -> bool
+    ensures { result ≡ is_letter_or_digit byte }
+{
+    byte.is_ascii_lowercase() || byte.is_ascii_digit()
+}
+
+fn check_edge(edge: Option<u8>) -> bool
+    ensures { result ≡ option_map_or is_letter_or_digit edge false }
+{
+    edge.is_some_and(check_letter_or_digit)
+}
+
+fn check_label_bytes(label: &[u8]) -> bool
+    ensures { result ≡ list_all is_label_byte label.now }
+{
+    label
+        .iter()
+        .all(|byte| check_letter_or_digit(*byte) || *byte == b'-')
+}
+
+fn check_label(label: &[u8]) -> bool
+    ensures { result ≡ is_label label.now }
+{
+    check_edge(label.first().copied())
+        && check_edge(label.last().copied())
+        && check_label_bytes(label)
+}
+
+fn check_labels(text: &[u8]) -> bool
+    ensures { result ≡ list_all is_label (slice_split (λ byte. byte == dot) text.now) }
+{
+    text.split(|byte| *byte == b'.').all(check_label)
+}
+
+/// Whether the text is a namespace: one DNS label of at most 63 characters (RFC 1123 section 2.1),
+/// in small letters.
+pub fn check_namespace(text: &str) -> bool
+    ensures { result ≡ is_namespace text.now }
+{
+    text.len() <= NAMESPACE_LIMIT && check_label(text.as_bytes())
+}
+
+/// Whether the text is a name: a DNS subdomain of at most 253 characters (RFC 1123 section 2.1),
+/// in small letters. A label in it may be longer than 63 characters.
+pub fn check_name(text: &str) -> bool
+    ensures { result ≡ is_name text.now }
+{
+    text.len() <= NAME_LIMIT && check_labels(text.as_bytes())
+}
+
+#[cfg(test)]
+mod tests {
+    use super::*;
+    use std::test::Fail;
+
+    // RFC 1123 section 2.1, and the examples of the Kubernetes documentation on object names.
+    #[test]
+    fn names_are_dns_subdomains(rt: HostRuntime) {
+        let names = [
+            "a",
+            "0",
+            "nginx-demo",
+            "kube-root-ca.crt",
+            "example.com",
+            "3com.com",
+            "a-b--c",
+            "v1.2.3",
+        ];
+        for name in names {
+            assert!(rt; check_name(name), "{name}");
+        }
+        let others = [
+            "",
+            ".",
+            "-",
+            "-a",
+            "a-",
+            "a..b",
+            ".a",
+            "a.",
+            "a.-b",
+            "a-.b",
+            "A",
+            "Nginx",
+            "a_b",
+            "a b",
+            "a/b",
+            "a\0b",
+            "caf\u{e9}",
+            "*.example.com",
+        ];
+        for text in others {
+            assert!(rt; !check_name(text), "{text}");
+        }
+    }
+
+    #[test]
+    fn namespaces_are_dns_labels(rt: HostRuntime) {
+        for namespace in ["default", "kube-system", "kube-node-lease", "0", "1a"] {
+            assert!(rt; check_namespace(namespace), "{namespace}");
+        }
+        for text in ["", "a.b", "-a", "a-", "Default", "a_b", "a\0"] {
+            assert!(rt; !check_namespace(text), "{text}");
+        }
+    }
+
+    #[test]
+    fn lengths_have_their_limits(rt: HostRuntime) -> Result<(), Fail> {
+        let mut text = String::new(rt.alloc());
+        for _ in 0..62 {
+            text.push('a')?;
+        }
+        assert!(rt; check_namespace(text.as_str()));
+        text.push('a')?;
+        assert!(rt; check_namespace(text.as_str()));
+        text.push('a')?;
+        assert!(rt; !check_namespace(text.as_str()));
+        assert!(rt; check_name(text.as_str()));
+        for _ in 64..253 {
+            text.push('a')?;
+        }
+        assert_eq!(rt; text.len(), 253);
+        assert!(rt; check_name(text.as_str()));
+        text.push('a')?;
+        assert!(rt; !check_name(text.as_str()));
+        Ok(())
+    }
+}

@@ -1,0 +1,286 @@
+ghost use Rattle.std.specs.Prelude.{◌≡◌, Option, IsTrue, ◌↔◌};
+ghost use Rattle.names.specs.Resource.{row, api_version, numbered, with_plural, with_kind};
+
+/// A kind of object that the store holds.
+#[derive(Clone, Copy, Debug, PartialEq, Eq, Hash)]
+pub enum Resource {
+    ConfigMap,
+    Node,
+    Pod,
+    Service,
+    Deployment,
+    ValidatingAdmissionPolicy,
+    ValidatingAdmissionPolicyBinding,
+}
+
+/// Whether the objects of a resource stand in a namespace.
+#[derive(Clone, Copy, Debug, PartialEq, Eq, Hash)]
+pub enum Scope {
+    Namespaced,
+    Cluster,
+}
+
+/// What the table says of one resource.
+#[derive(Clone, Copy)]
+struct Row {
+    number: u8,
+    plural: &'static str,
+    kind: &'static str,
+    group: &'static str,
+    version: &'static str,
+    api_version: &'static str,
+    scope: Scope,
+}
+
+impl Resource {
+    fn row(self) -> Row
+        ensures number { result.number ≡ (row self).number }
+        ensures plural { result.plural.now ≡ (row self).plural }
+        ensures kind { result.kind.now ≡ (row self).kind }
+        ensures group { result.group.now ≡ (row self).group }
+        ensures version { result.version.now ≡ (row self).version }
+        ensures api_version { result.api_version.now ≡ api_version self }
+        ensures scope { result.scope ≡ (row self).scope }
+    {
+        match self {
+            Resource::ConfigMap => Row {
+                number: 1,
+                plural: "configmaps",
+                kind: "ConfigMap",
+                group: "",
+                version: "v1",
+                api_version: "v1",
+                scope: Scope::Namespaced,
+            },
+            Resource::Node => Row {
+                number: 2,
+                plural: "nodes",
+                kind: "Node",
+                group: "",
+                version: "v1",
+                api_version: "v1",
+                scope: Scope::Cluster,
+            },
+            Resource::Pod => Row {
+                number: 3,
+                plural: "pods",
+                kind: "Pod",
+                group: "",
+                version: "v1",
+                api_version: "v1",
+                scope: Scope::Namespaced,
+            },
+            Resource::Service => Row {
+                number: 4,
+                plural: "services",
+                kind: "Service",
+                group: "",
+                version: "v1",
+                api_version: "v1",
+                scope: Scope::Namespaced,
+            },
+            Resource::Deployment => Row {
+                number: 5,
+                plural: "deployments",
+                kind: "Deployment",
+                group: "apps",
+                version: "v1",
+                api_version: "apps/v1",
+                scope: Scope::Namespaced,
+            },
+            Resource::ValidatingAdmissionPolicy => Row {
+                number: 6,
+                plural: "validatingadmissionpolicies",
+                kind: "ValidatingAdmissionPolicy",
+                group: "admissionregistration.k8s.io",
+                version: "v1",
+                api_version: "admissionregistration.k8s.io/v1",
+                scope: Scope::Cluster,
+            },
+            Resource::ValidatingAdmissionPolicyBinding => Row {
+                number: 7,
+                plural: "validatingadmissionpolicybindings",
+                kind: "ValidatingAdmissionPolicyBinding",
+                group: "admissionregistration.k8s.io",
+                version: "v1",
+                api_version: "admissionregistration.k8s.io/v1",
+                scope: Scope::Cluster,
+            },
+        }
+    }
+
+    /// Its number in stored keys, from 1.
+    pub fn number(self) -> u8
+        ensures { result ≡ (row self).number }
+    {
+        self.row().number
+    }
+
+    /// Its name in paths, as `configmaps`.
+    pub fn plural(self) -> &'static str
+        ensures { result.now ≡ (row self).plural }
+    {
+        self.row().plural
+    }
+
+    /// The `kind` of its objects, as `ConfigMap`.
+    pub fn kind(self) -> &'static str
+        ensures { result.now ≡ (row self).kind }
+    {
+        self.row().kind
+    }
+
+    /// Its API group, which is empty for the core group.
+    pub fn group(self) -> &'static str
+        ensures { result.now ≡ (row self).group }
+    {
+        self.row().group
+    }
+
+    /// Its version within the group.
+    pub fn version(self) -> &'static str
+        ensures { result.now ≡ (row self).version }
+    {
+        self.row().version
+    }
+
+    /// The `apiVersion` of its objects: `GROUP/VERSION`, or `VERSION` alone in the core group.
+    pub fn api_version(self) -> &'static str
+        ensures { result.now ≡ api_version self }
+    {
+        self.row().api_version
+    }
+
+    pub fn scope(self) -> Scope
+        ensures { result ≡ (row self).scope }
+    {
+        self.row().scope
+    }
+
+    /// Whether its objects stand in a namespace.
+    pub fn is_namespaced(self) -> bool
+        ensures { IsTrue result ↔ ((row self).scope ≡ Scope.Namespaced) }
+    {
+        match self.scope() {
+            Scope::Namespaced => true,
+            Scope::Cluster => false,
+        }
+    }
+}
+
+/// The table of all resources, in the order of their numbers.
+pub struct ResourceTable;
+
+impl ResourceTable {
+    pub const RESOURCES: [Resource; 7] = [
+        Resource::ConfigMap,
+        Resource::Node,
+        Resource::Pod,
+        Resource::Service,
+        Resource::Deployment,
+        Resource::ValidatingAdmissionPolicy,
+        Resource::ValidatingAdmissionPolicyBinding,
+    ];
+
+    /// The resource with this number.
+    pub fn numbered(number: u8) -> Option<Resource>
+        ensures value { result ≡ numbered number }
+
+        // No two resources have one number.
+        ensures every_resource { (r : Resource) → numbered (row r).number ≡ Some r }
+    {
+        Self::RESOURCES
+            .iter()
+            .copied()
+            .find(|resource| resource.number() == number)
+    }
+
+    /// The resource with this plural in this group and version.
+    pub fn with_plural(version: &str, plural: &str) -> Option<Resource>
+        ensures value { result ≡ with_plural version.now plural.now }
+
+        // No two resources share a path.
+        ensures every_resource { (r : Resource) → with_plural (api_version r) (row r).plural ≡ Some r }
+    {
+        Self::RESOURCES.iter().copied().find(|resource| resource.api_version() == version
+            && resource.plural() == plural)
+    }
+
+    /// The resource with this kind in this group and version.
+    pub fn with_kind(version: &str, kind: &str) -> Option<Resource>
+        ensures value { result ≡ with_kind version.now kind.now }
+
+        // No two resources share a kind.
+        ensures every_resource { (r : Resource) → with_kind (api_version r) (row r).kind ≡ Some r }
+    {
+        Self::RESOURCES.iter().copied().find(|resource| resource.api_version() == version
+            && resource.kind() == kind)
+    }
+}
+
+#[cfg(test)]
+mod tests {
+    use super::*;
+
+    // The paths, kinds and versions of the Kubernetes API.
+    #[test]
+    fn the_table_has_the_names_of_the_kubernetes_api(rt: HostRuntime) {
+        let admission = "admissionregistration.k8s.io/v1";
+        let rows = [
+            (1, "v1", "configmaps", "ConfigMap", true),
+            (2, "v1", "nodes", "Node", false),
+            (3, "v1", "pods", "Pod", true),
+            (4, "v1", "services", "Service", true),
+            (5, "apps/v1", "deployments", "Deployment", true),
+            (
+                6,
+                admission,
+                "validatingadmissionpolicies",
+                "ValidatingAdmissionPolicy",
+                false,
+            ),
+            (
+                7,
+                admission,
+                "validatingadmissionpolicybindings",
+                "ValidatingAdmissionPolicyBinding",
+                false,
+            ),
+        ];
+        for (
+            resource,
+            (number, api_version, plural, kind, is_namespaced),
+        ) in ResourceTable::RESOURCES.iter().copied().zip(rows) {
+            assert_eq!(rt; resource.number(), number);
+            assert_eq!(rt; resource.api_version(), api_version);
+            assert_eq!(rt; resource.plural(), plural);
+            assert_eq!(rt; resource.kind(), kind);
+            assert_eq!(rt; resource.is_namespaced(), is_namespaced);
+            assert_eq!(rt; ResourceTable::numbered(number), Some(resource));
+            assert_eq!(rt;
+                ResourceTable::with_plural(api_version, plural),
+                Some(resource)
+            );
+            assert_eq!(rt; ResourceTable::with_kind(api_version, kind), Some(resource));
+        }
+    }
+
+    #[test]
+    fn groups_and_versions_make_up_the_api_version(rt: HostRuntime) {
+        assert_eq!(rt; Resource::Pod.group(), "");
+        assert_eq!(rt; Resource::Pod.version(), "v1");
+        assert_eq!(rt; Resource::Deployment.group(), "apps");
+        assert_eq!(rt; Resource::Deployment.version(), "v1");
+        assert_eq!(rt; Resource::Deployment.scope(), Scope::Namespaced);
+    }
+
+    #[test]
+    fn what_the_table_lacks_is_not_found(rt: HostRuntime) {
+        assert_eq!(rt; ResourceTable::numbered(0), None);
+        assert_eq!(rt; ResourceTable::numbered(8), None);
+        assert_eq!(rt; ResourceTable::with_plural("v1", "deployments"), None);
+        assert_eq!(rt; ResourceTable::with_plural("apps/v1", "pods"), None);
+        assert_eq!(rt; ResourceTable::with_kind("v1", "Namespace"), None);
+        assert_eq!(rt; ResourceTable::with_kind("v1", "configmap"), None);
+    }
+}
