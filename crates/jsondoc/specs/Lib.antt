@@ -1,0 +1,3 @@
+pub mod DataCode
+pub mod Document
+pub mod Escapes

@@ -1,0 +1,23 @@
+//! Documents: JSON values (RFC 8259) whose numbers are all whole and in 64 signed bits.
+//!
+//! ```text
+//! let mut document = Doc::read(alloc, b"{\"b\": 1, \"a\": \"x\"}")?;
+//! document.put(alloc, "c", Doc::from(2))?;
+//! document.text(alloc)?                              // {"a":"x","b":1,"c":2}
+//! ```
+//!
+//! Contracts see a `Doc` as its data, as `serde_json` defines it. `Doc::read` is exact: it gives the document, or says
+//! that the bytes are no JSON, or that a number is no document's. `Doc::text` is the one text of a document, and a text
+//! reads back to its document.
+#![tactic(auto)]
+
+mod doc;
+mod escapes;
+mod members;
+#[cfg(test)]
+mod tests;
+mod whole;
+
+pub use doc::{Doc, ReadFault};
+pub use escapes::text_escapes;
+pub use serde_json::{Map, Value};
