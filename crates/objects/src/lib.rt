@@ -1,0 +1,18 @@
+//! What is stored, by key: a finite map in the order of the keys, in memory.
+//!
+//! ```text
+//! objects.reserve(1)?;
+//! let old = objects.put(Entry::new(alloc, key, value)?);
+//! ```
+//!
+//! `get`, `put`, `remove` and `list` answer and do what they do on a list of keys and values that
+//! ascends by key. Memory is taken by `reserve` for the places and by `Entry::new` for an entry, so
+//! that `put` and `remove`, which can then not fail, take none. To `put` among many objects moves one
+//! handle for each, and no key or value.
+#![tactic(auto)]
+
+mod entry;
+mod objects;
+
+pub use entry::Entry;
+pub use objects::Objects;

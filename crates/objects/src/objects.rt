@@ -1,0 +1,280 @@
+ghost use Rattle.std.specs.Prelude.{◌≡◌, ◌↔◌, ◌+◌, ◌-◌, ◌<◌, ◌≤◌, [], map, length, is_some, if◌then◌else◌, IsTrue, IsNone, IsOk, IfOk, IfErr, OnOk, OnErr};
+ghost use Rattle.std.specs.FinMap.{is_sorted};
+ghost use Rattle.std.specs.List.{filter};
+ghost use Rattle.std.specs.Option.{option_copied, option_map};
+ghost use Rattle.std.specs.Ordering.{eq_by_cmp};
+ghost use Rattle.names.specs.Key.{Key as KeyData, key_cmp};
+ghost use Rattle.objects.specs.Objects.{value_at, with_value, without_key, is_of};
+
+use crate::entry::Entry;
+use names::{Key, Resource};
+use std::alloc::{AllocError, Global};
+use std::marker::Model;
+use std::mem;
+
+// Whether the key is of this resource, and in this namespace if one is given.
+fn is_key_of(key: &Key, resource: Resource, namespace: Option<&str>) -> bool
+    ensures { result ≡ is_of resource (option_map (λ text. text.now) namespace.entry) key.now }
+{
+    let is_of_resource = key.resource().number() == resource.number();
+    match namespace {
+        None => is_of_resource,
+        Some(namespace) => is_of_resource && key.namespace() == namespace,
+    }
+}
+
+/// What is stored, by key.
+#[derive(Drop)]
+pub struct Objects<T> {
+    entries: Vec<Entry<T>>,
+}
+
+impl<T> Model for Objects<T> {
+    ghost use Rattle.objects.specs.Objects.{Objects as ObjectsData};
+
+    ghost Value = { ObjectsData T };
+
+    ghost use Rattle.std.specs.Prelude.{◌-◌, IsTrue, vec_len, vec_capacity};
+    ghost use Rattle.std.specs.FinMap.{is_sorted};
+    ghost use Rattle.names.specs.Key.{key_cmp};
+
+    ghost view = { λ o. record {
+      entries = o.entries.items;
+      room = vec_capacity o.entries - vec_len o.entries;
+    } };
+
+    ghost invariant = { λ o. IsTrue (is_sorted key_cmp o.entries.items) };
+}
+
+impl<T> Objects<T> {
+    ghost use Rattle.objects.specs.Place.{StandsAt, IsGap};
+
+    /// No objects. Takes no memory.
+    pub fn new(alloc: Global) -> Objects<T>
+        ensures { result ≡ record { entries = []; room = 0 } }
+    {
+        Objects {
+            entries: Vec::new(alloc),
+        }
+    }
+
+    /// How many objects there are.
+    pub fn len(&self) -> usize
+        ensures len { result ≡ length self.now.entries }
+        ensures ascending { IsTrue (is_sorted key_cmp self.now.entries) }
+    {
+        self.entries.len()
+    }
+
+    /// Whether there are no objects.
+    pub fn is_empty(&self) -> bool
+        ensures { IsTrue result ↔ (self.now.entries ≡ []) }
+    {
+        self.entries.is_empty()
+    }
+
+    /// Takes memory for so many more keys, if it is not there yet.
+    pub fn reserve(&mut self, additional: usize) -> Result<(), AllocError>
+        ensures ok { OnOk result (additional ≤ self.new.room) }
+        ensures entries { self.new.entries ≡ self.old.entries }
+        ensures room { self.old.room ≤ self.new.room }
+        ensures err { OnErr result (self.new ≡ self.old) }
+        ensures succeeds { additional ≤ self.old.room → IsOk result }
+    {
+        self.entries.reserve(additional)
+    }
+
+    /// What is stored under the key.
+    pub fn get(&self, key: &Key) -> Option<&T>
+        ensures value { option_copied result ≡ value_at key.now self.now.entries }
+        ensures ascending { IsTrue (is_sorted key_cmp self.now.entries) }
+    {
+        match self.place(key) {
+            Ok(at) => Some(self.entries[at].value()),
+            Err(_) => None,
+        }
+    }
+
+    /// Stores the entry, and gives back what was stored under its key. Takes no memory: a new key
+    /// uses up one place of the room.
+    pub fn put(&mut self, entry: Entry<T>) -> Option<T>
+        requires { IsNone (value_at entry.0 self.old.entries) → 0 < self.old.room }
+        ensures value { result ≡ value_at entry.0 self.old.entries }
+        ensures map { (key : KeyData) → value_at key self.new.entries ≡
+            (if eq_by_cmp key_cmp key entry.0 then Some entry.1 else value_at key self.old.entries) }
+        ensures entries { self.new.entries ≡ with_value entry.0 entry.1 self.old.entries }
+        ensures room { self.new.room ≡
+            (if is_some result then self.old.room else self.old.room - 1) }
+    {
+        match self.place(entry.key()) {
+            Ok(at) => Some(mem::replace(&mut self.entries[at], entry).into_value()),
+            Err(at) => {
+                self.entries.insert(at, entry).unwrap();
+                None
+            }
+        }
+    }
+
+    /// Removes what is stored under the key, and gives it back. Takes no memory.
+    pub fn remove(&mut self, key: &Key) -> Option<T>
+        ensures value { result ≡ value_at key.now self.old.entries }
+        ensures map { (other : KeyData) → value_at other self.new.entries ≡
+            (if eq_by_cmp key_cmp other key.now then None else value_at other self.old.entries) }
+        ensures entries { self.new.entries ≡ without_key key.now self.old.entries }
+        ensures room { self.new.room ≡
+            (if is_some result then self.old.room + 1 else self.old.room) }
+    {
+        match self.place(key) {
+            Ok(at) => Some(self.entries.remove(at).into_value()),
+            Err(_) => None,
+        }
+    }
+
+    /// The entries of a resource, in one namespace or in all, ascending by key.
+    pub fn list(
+        &self,
+        alloc: Global,
+        resource: Resource,
+        namespace: Option<&str>,
+    ) -> Result<Vec<&Entry<T>>, AllocError>
+        ensures { let text = option_map (λ text. text.now) namespace.entry in
+            IfOk result (λ listed. map (λ entry. entry.now) listed.items
+            ≡ filter (λ entry. is_of resource text entry.0) self.now.entries) }
+    {
+        self.entries
+            .iter()
+            .filter(|entry| is_key_of(entry.key(), resource, namespace))
+            .collect(alloc)
+    }
+
+    // Where the key stands, or would stand.
+    fn place(&self, key: &Key) -> Result<usize, usize>
+        ensures found { IfOk result (StandsAt self.now.entries key.now) }
+        ensures absent { IfErr result (IsGap self.now.entries key.now) }
+    {
+        self.entries.binary_search_by(|entry| entry.key().cmp(key))
+    }
+}
+
+#[cfg(test)]
+mod tests {
+    use super::*;
+    use std::test::Fail;
+
+    fn config_map(rt: &HostRuntime, namespace: &str, name: &str) -> Result<Key, Fail> {
+        Ok(Key::new(rt.alloc(), Resource::ConfigMap, namespace, name)?)
+    }
+
+    fn store(
+        rt: &HostRuntime,
+        objects: &mut Objects<u32>,
+        key: Key,
+        value: u32,
+    ) -> Result<Option<u32>, Fail> {
+        objects.reserve(1)?;
+        let entry = Entry::new(rt.alloc(), key, value)?;
+        Ok(objects.put(entry))
+    }
+
+    #[test]
+    fn what_was_put_last_is_found(rt: HostRuntime) -> Result<(), Fail> {
+        let mut objects = Objects::new(rt.alloc());
+        assert!(rt; objects.is_empty());
+        assert_eq!(rt;
+            store(&rt, &mut objects, config_map(&rt, "default", "b")?, 1)?,
+            None
+        );
+        assert_eq!(rt;
+            store(&rt, &mut objects, config_map(&rt, "default", "a")?, 2)?,
+            None
+        );
+        assert_eq!(rt;
+            store(&rt, &mut objects, config_map(&rt, "default", "b")?, 3)?,
+            Some(1)
+        );
+        assert_eq!(rt; objects.len(), 2);
+        assert_eq!(rt;
+            objects.get(&config_map(&rt, "default", "a")?).copied(),
+            Some(2)
+        );
+        assert_eq!(rt;
+            objects.get(&config_map(&rt, "default", "b")?).copied(),
+            Some(3)
+        );
+        assert_eq!(rt; objects.get(&config_map(&rt, "other", "a")?).copied(), None);
+        assert_eq!(rt; objects.remove(&config_map(&rt, "default", "a")?), Some(2));
+        assert_eq!(rt; objects.remove(&config_map(&rt, "default", "a")?), None);
+        assert_eq!(rt;
+            objects.get(&config_map(&rt, "default", "a")?).copied(),
+            None
+        );
+        assert_eq!(rt;
+            objects.get(&config_map(&rt, "default", "b")?).copied(),
+            Some(3)
+        );
+        Ok(())
+    }
+
+    #[test]
+    fn a_list_is_ascending_by_key(rt: HostRuntime) -> Result<(), Fail> {
+        let mut objects = Objects::new(rt.alloc());
+        for (namespace, name, value) in [
+            ("b", "a", 1),
+            ("a", "c", 2),
+            ("a-b", "a", 3),
+            ("a", "b.c", 4),
+            ("a", "b", 5),
+        ] {
+            store(&rt, &mut objects, config_map(&rt, namespace, name)?, value)?;
+        }
+        store(
+            &rt,
+            &mut objects,
+            Key::new(rt.alloc(), Resource::Node, "", "a")?,
+            6,
+        )?;
+        let mut values = Vec::new(rt.alloc());
+        for entry in objects.list(rt.alloc(), Resource::ConfigMap, None)? {
+            values.push(*entry.value())?;
+        }
+        assert_eq!(rt; values.as_slice(), [5, 4, 2, 3, 1].as_slice());
+        let mut values = Vec::new(rt.alloc());
+        for entry in objects.list(rt.alloc(), Resource::ConfigMap, Some("a"))? {
+            values.push(*entry.value())?;
+        }
+        assert_eq!(rt; values.as_slice(), [5, 4, 2].as_slice());
+        assert_eq!(rt; objects.list(rt.alloc(), Resource::Pod, None)?.len(), 0);
+        assert_eq!(rt; objects.list(rt.alloc(), Resource::Node, None)?.len(), 1);
+        Ok(())
+    }
+
+    #[test]
+    fn sixty_five_thousand_objects_find_room(rt: HostRuntime) -> Result<(), Fail> {
+        let mut objects = Objects::new(rt.alloc());
+        objects.reserve(65_536)?;
+        for number in 1..65_536_u32 {
+            let name = format!(in rt.alloc(); "{number:05}")?;
+            store(
+                &rt,
+                &mut objects,
+                config_map(&rt, "default", name.as_str())?,
+                number,
+            )?;
+        }
+        store(&rt, &mut objects, config_map(&rt, "default", "00000")?, 0)?;
+        assert_eq!(rt; objects.len(), 65_536);
+        assert_eq!(rt;
+            objects.get(&config_map(&rt, "default", "00000")?).copied(),
+            Some(0)
+        );
+        assert_eq!(rt;
+            objects.get(&config_map(&rt, "default", "65535")?).copied(),
+            Some(65_535)
+        );
+        assert_eq!(rt;
+            objects.get(&config_map(&rt, "default", "65536")?).copied(),
+            None
+        );
+        Ok(())
+    }
+}
