@@ -1,0 +1,256 @@
+ghost use Rattle.std.specs.Prelude.{◌≡◌, ◌↔◌, ◌+◌, ◌^◌, ◌<◌, List, [], ◌∷◌, ◌++◌, length, IfOk};
+ghost use Rattle.std.specs.Iterator.{at_most};
+ghost use Rattle.std.specs.Map.Iter.{TakesFirst, deref};
+
+use crate::event::{Change, Event};
+use circular_buffer::{HeapCircularBuffer, Iter};
+use names::{Key, Rules};
+use std::alloc::{AllocError, Global};
+use std::error::Error;
+use std::fmt;
+use std::marker::Model;
+
+/// Why the events above a revision cannot be told.
+#[derive(Clone, Copy, Debug, PartialEq, Eq, Hash)]
+pub enum WindowFault {
+    /// Some of them may have left the window.
+    TooOld,
+    /// There is no such revision yet.
+    TooNew,
+}
+
+impl fmt::Display for WindowFault {
+    fn fmt<W: fmt::Write>(&self, f: &mut fmt::Formatter<W>) -> fmt::Result {
+        f.write_str(match self {
+            WindowFault::TooOld => "the revision has left the window",
+            WindowFault::TooNew => "the revision is above the current one",
+        })
+    }
+}
+
+impl Error for WindowFault {}
+
+/// The last events of a store, and its revision.
+#[derive(Drop)]
+pub struct Window<D> {
+    ring: HeapCircularBuffer<Event<D>>,
+    revision: u64,
+}
+
+impl<D> Model for Window<D> {
+    ghost use Rattle.window.specs.Window.{Window as WindowData};
+
+    ghost Value = { WindowData D };
+
+    ghost use Rattle.std.specs.Prelude.{◌-◌, ◌<◌, length};
+    ghost use Rattle.window.specs.Window.{AreNumberedFrom};
+
+    ghost view = { λ w. record {
+      events = w.ring.items;
+      revision = w.revision;
+      places = w.ring.capacity;
+    } };
+
+    ghost invariant = { λ w. (length w.ring.items < w.revision)
+        × AreNumberedFrom (w.revision - length w.ring.items) w.ring.items };
+}
+
+impl<D: Drop> Window<D> {
+    ghost use Rattle.window.specs.Window.{IsWindowOf, event_at, with_event, events_above};
+    ghost use Rattle.names.specs.declared.format.Rules.{Rules as RulesData};
+    ghost use Rattle.window.specs.declared.event.Event.{Event as EventData};
+
+    /// The window of an empty store, with room for as many events as the rules keep.
+    pub fn new(alloc: Global, rules: Rules) -> Result<Window<D>, AllocError>
+        ensures { IfOk result (IsWindowOf rules []) }
+    {
+        Ok(Window {
+            ring: HeapCircularBuffer::with_capacity(alloc, rules.window_events)?,
+            revision: 1,
+        })
+    }
+
+    /// The revision that the last write made, or 1 where there was none.
+    pub fn revision(&self) -> u64
+        ensures { result ≡ self.now.revision }
+    {
+        self.revision
+    }
+
+    /// Adds the event of one more write. Takes no memory.
+    pub fn push(&mut self, change: Change, key: Key, document: D)
+        requires { self.old.revision + 1 < 2 ^ 64 }
+        ensures value { self.new ≡ with_event self.old change key document }
+
+        // Behind all events of a store, it is the window behind these and one more.
+        ensures window { (rules : RulesData) (all : List (EventData D)) →
+            let event = event_at self.new.revision change key document in
+            IsWindowOf rules all self.old → IsWindowOf rules (all ++ event ∷ []) self.new }
+    {
+        self.revision += 1;
+        let revision = self.revision;
+        self.ring.push_back(Event {
+            revision,
+            change,
+            key,
+            document,
+        });
+    }
+
+    /// The events above a revision, oldest first. Takes no memory.
+    pub fn since(&self, revision: u64) -> Result<Events<'_, D>, WindowFault>
+        ensures too_old { (result ≡ Err WindowFault.TooOld)
+            ↔ (revision + self.now.places < self.now.revision) }
+        ensures too_new { (result ≡ Err WindowFault.TooNew) ↔ (self.now.revision < revision) }
+        ensures value { IfOk result (λ events. events ≡ events_above revision self.now.events) }
+
+        // Of all events of a store, none above the revision is left out.
+        ensures window { (rules : RulesData) (all : List (EventData D)) →
+            IsWindowOf rules all self.now → IfOk result (λ events. events ≡ events_above revision all) }
+    {
+        if self.revision < revision {
+            return Err(WindowFault::TooNew);
+        }
+        let above = self.revision - revision;
+        if (self.ring.capacity() as u64) < above {
+            return Err(WindowFault::TooOld);
+        }
+        let mut events = self.ring.iter();
+        for _ in 0..(self.ring.len() as u64).saturating_sub(above) {
+            events.next();
+        }
+        Ok(Events { events })
+    }
+}
+
+/// The events above a revision, oldest first.
+#[derive(Drop)]
+pub struct Events<'a, D> {
+    events: Iter<'a, Event<D>>,
+}
+
+impl<'a, D> Model for Events<'a, D> {
+    ghost use Rattle.std.specs.Prelude.{List};
+    ghost use Rattle.window.specs.declared.event.Event.{Event as EventData};
+
+    ghost Value = { List (EventData D) };
+
+    ghost view = { λ e. e.events };
+}
+
+impl<'a, D> Iterator for Events<'a, D> {
+    type Item = &'a Event<D>;
+
+    ghost next_gives = { TakesFirst deref };
+
+    ghost remaining = { λ events. at_most (length events) };
+
+    fn next(&mut self) -> Option<&'a Event<D>> {
+        self.events.next()
+    }
+}
+
+#[cfg(test)]
+mod tests {
+    use super::*;
+    use names::{Format, Resource};
+    use std::test::Fail;
+
+    // The window behind the events of revisions 2 to `last`, each of which tells its revision.
+    fn filled(rt: &HostRuntime, last: u64) -> Result<Window<u64>, Fail> {
+        let mut window = Window::new(rt.alloc(), Format::First.rules())?;
+        for revision in 2..=last {
+            let key = Key::new(rt.alloc(), Resource::ConfigMap, "default", "a")?;
+            let change = if revision == 2 {
+                Change::Added
+            } else {
+                Change::Modified
+            };
+            if window.revision() < u64::MAX - 1 {
+                window.push(change, key, revision);
+            }
+        }
+        Ok(window)
+    }
+
+    // The first and the last document that `since` tells, and how many.
+    fn told(window: &Window<u64>, revision: u64) -> Result<(u64, u64, usize), WindowFault> {
+        let mut first = 0;
+        let mut last = 0;
+        let mut count = 0_usize;
+        for event in window.since(revision)? {
+            if count == 0 {
+                first = event.document;
+            }
+            last = event.document;
+            count = count.saturating_add(1);
+        }
+        Ok((first, last, count))
+    }
+
+    #[test]
+    fn an_empty_store_has_revision_one_and_no_events(rt: HostRuntime) -> Result<(), Fail> {
+        let window = filled(&rt, 1)?;
+        assert_eq!(rt; window.revision(), 1);
+        assert_eq!(rt; told(&window, 1), Ok((0, 0, 0)));
+        assert_eq!(rt; told(&window, 0), Ok((0, 0, 0)));
+        assert_eq!(rt; told(&window, 2), Err(WindowFault::TooNew));
+        Ok(())
+    }
+
+    #[test]
+    fn the_events_above_a_revision_come_oldest_first(rt: HostRuntime) -> Result<(), Fail> {
+        let window = filled(&rt, 5)?;
+        assert_eq!(rt; told(&window, 1), Ok((2, 5, 4)));
+        assert_eq!(rt; told(&window, 3), Ok((4, 5, 2)));
+        assert_eq!(rt; told(&window, 5), Ok((0, 0, 0)));
+        assert_eq!(rt; told(&window, 6), Err(WindowFault::TooNew));
+        let mut events = window.since(1)?;
+        assert!(rt;
+            matches!(
+                events.next(),
+                Some(Event {
+                    revision: 2,
+                    change: Change::Added,
+                    ..
+                })
+            )
+        );
+        assert!(rt;
+            matches!(
+                events.next(),
+                Some(Event {
+                    revision: 3,
+                    change: Change::Modified,
+                    ..
+                })
+            )
+        );
+        Ok(())
+    }
+
+    #[test]
+    fn the_window_has_256_events(rt: HostRuntime) -> Result<(), Fail> {
+        let window = filled(&rt, 257)?;
+        assert_eq!(rt; told(&window, 1), Ok((2, 257, 256)));
+        assert_eq!(rt; told(&window, 0), Err(WindowFault::TooOld));
+        let window = filled(&rt, 258)?;
+        assert_eq!(rt; told(&window, 1), Err(WindowFault::TooOld));
+        assert_eq!(rt; told(&window, 2), Ok((3, 258, 256)));
+        assert_eq!(rt; told(&window, 257), Ok((258, 258, 1)));
+        Ok(())
+    }
+
+    #[test]
+    fn faults_are_named(rt: HostRuntime) -> Result<(), Fail> {
+        assert_eq!(rt;
+            WindowFault::TooOld.to_string(rt.alloc())?.as_str(),
+            "the revision has left the window"
+        );
+        assert_eq!(rt;
+            WindowFault::TooNew.to_string(rt.alloc())?.as_str(),
+            "the revision is above the current one"
+        );
+        Ok(())
+    }
+}
