@@ -1,0 +1,6 @@
+pub mod ViewLemmas
+pub mod StepLemmas
+pub mod MemberLemmas
+pub mod Ordered
+pub mod Forms
+pub mod Recovery

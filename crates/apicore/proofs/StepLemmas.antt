@@ -1,0 +1,104 @@
+-- What requests write, and what their replies depend on.
+use Rattle.std.proofs.Common.{◌≡◌, ◌≤◌, ◌<◌, ℕ, List, [], ◌∷◌, length, Bool, true, false, nat_lt, nat_le, cond, Option, Some, None, is_some, inr, ◌++◌, append_assoc, refl, sym, ap, ◌∙◌, arith}
+use Rattle.std.specs.Option.{option_map_or}
+use Rattle.apicore.specs.Reply.{Reply, status}
+use Rattle.apicore.specs.declared.refusal.Refusal.{Refusal}
+use Rattle.apicore.specs.declared.refusal.Refusal.TheVariants.{AlreadyExists, ObjectTooLarge, TooManyObjects, RevisionExhausted}
+use Rattle.jsondoc.specs.Document.{text}
+use Rattle.names.specs.declared.format.Rules.{Rules}
+use Rattle.names.specs.Key.{Key}
+use Rattle.apicore.specs.Document.{Document}
+use Rattle.apicore.specs.History.{Write, put, History}
+use Rattle.apicore.specs.Manifest.{Manifest, Body, sound, HasForm, BodyHasForm}
+use Rattle.apicore.specs.Refusal.{first_of}
+use Rattle.apicore.specs.Request.{Request, get, create, refused, RequestHasForm}
+use Rattle.apicore.specs.Step.{refusal, writes, reply, accepted, replies, step, runs}
+use Rattle.apicore.specs.View.{View, exists, is_too_large, is_full, is_exhausted, after_all, empty, view, AllMayFollow, IsHistory}
+use Rattle.apicore.proofs.ViewLemmas.{after_all-append, AllMayFollow-append}
+
+not_below : (m n : ℕ) → nat_lt m n ≡ false → n ≤ m
+not_below m n e = Prim.grind arith
+
+below : (m n : ℕ) → nat_le m n ≡ false → n < m
+below m n e = Prim.grind arith
+
+-- an object that nothing refuses may be put
+put_follows : (rules : Rules) (v : View) (k : Key) (d : Document) → HasForm k d → (there large full last : Bool) → is_too_large rules d ≡ large → is_full rules v ≡ full
+    → is_exhausted rules v ≡ last
+    → AllMayFollow rules v
+    (cond (is_some (first_of ((AlreadyExists, there) ∷ (ObjectTooLarge, large) ∷ (TooManyObjects, full) ∷ (RevisionExhausted, last) ∷ []))) [] (put k d ∷ []))
+put_follows rules v k d form true large full last a b c = tt
+put_follows rules v k d form false true full last a b c = tt
+put_follows rules v k d form false false true last a b c = tt
+put_follows rules v k d form false false false true a b c = tt
+put_follows rules v k d form false false false false a b c = (
+  record {
+    form = form;
+    size = not_below rules.text_limit_bytes (length (text d.json)) a;
+    room = inr (below rules.object_limit (length v.objects) b);
+    revision = below rules.greatest_revision v.revision c;
+  },
+  tt,
+)
+
+create_follows : (rules : Rules) (v : View) (k : Key) (b : Body) (asked : Option (List ℕ)) → BodyHasForm k b
+    → AllMayFollow rules v (writes rules v (create (record { key = k; body = b; version = asked })))
+create_follows rules v k (sound d) asked form =
+    put_follows rules v k d form (exists v k) (is_too_large rules d) (is_full rules v) (is_exhausted rules v) refl refl refl
+
+nothing_follows : (rules : Rules) (v : View) (b : Bool) → AllMayFollow rules v (cond b [] [])
+nothing_follows rules v true = tt
+nothing_follows rules v false = tt
+
+-- what a request writes may follow
+pub AllMayFollow-writes : (rules : Rules) (v : View) (r : Request) → RequestHasForm r → AllMayFollow rules v (writes rules v r)
+AllMayFollow-writes rules v (refused r) form = tt
+AllMayFollow-writes rules v (get k) form = nothing_follows rules v (is_some (refusal rules v (get k)))
+AllMayFollow-writes rules v (create m) form = create_follows rules v m.key m.body m.version form
+
+pub IsHistory-step : (rules : Rules) (h : History) (r : Request) → IsHistory rules h → RequestHasForm r → IsHistory rules (step rules h r).0
+IsHistory-step rules h r before form =
+    AllMayFollow-append rules empty h (writes rules (view rules h) r) before (AllMayFollow-writes rules (view rules h) r form)
+
+pub view-step : (rules : Rules) (h : History) (r : Request) → view rules (step rules h r).0 ≡ after_all rules (view rules h) (writes rules (view rules h) r)
+view-step rules h r = after_all-append rules empty h (writes rules (view rules h) r)
+
+pub view_decides_step : (rules : Rules) (g h : History) (r : Request) → view rules g ≡ view rules h
+    → ((step rules g r).1 ≡ (step rules h r).1) × (view rules (step rules g r).0 ≡ view rules (step rules h r).0)
+view_decides_step rules g h r same = (
+  ap (λ v. reply rules v r) same,
+  view-step rules g r ∙ ap (λ v. after_all rules v (writes rules v r)) same ∙ sym (view-step rules h r),
+)
+
+-- ---- what a request's refusal makes of its step
+
+abbrev AnswersRefusal : Rules → View → Request → Refusal → Type 0
+AnswersRefusal rules v r x = (status x ≡ reply rules v r) × ([] ≡ writes rules v r)
+
+refused_by : (o : Option Refusal) (x : Refusal) (good : Reply) (ws : List Write) → Some x ≡ o
+    → (status x ≡ option_map_or status o good) × ([] ≡ cond (is_some o) [] ws)
+refused_by None x good ws is = cc
+refused_by (Some y) x good ws is = let same : x ≡ y = cc in (ap status same, refl)
+
+-- a create that is refused answers so, and writes nothing
+pub refused_create : (rules : Rules) (v : View) (m : Manifest) (x : Refusal) → Some x ≡ refusal rules v (create m) → AnswersRefusal rules v (create m) x
+refused_create rules v m x is = refused_by (refusal rules v (create m)) x _ _ is
+
+either_way : (b : Bool) (ws : List Write) → ws ≡ cond b ws ws
+either_way true ws = refl
+either_way false ws = refl
+
+pub writes-get : (rules : Rules) (v : View) (k : Key) → [] ≡ writes rules v (get k)
+writes-get rules v k = either_way (is_some (refusal rules v (get k))) []
+
+-- ---- runs
+
+pub runs_are_steps : (rules : Rules) (h : History) (r : Request) (rs : List Request)
+    → ((runs rules h (r ∷ rs)).0 ≡ (runs rules (step rules h r).0 rs).0)
+    × ((runs rules h (r ∷ rs)).1 ≡ (step rules h r).1 ∷ (runs rules (step rules h r).0 rs).1)
+runs_are_steps rules h r rs =
+    let ws : List Write = writes rules (view rules h) r in
+    let seen : view rules (h ++ ws) ≡ after_all rules (view rules h) ws = view-step rules h r in (
+      sym (append_assoc h ws (accepted rules (after_all rules (view rules h) ws) rs)) ∙ ap (λ v. (h ++ ws) ++ accepted rules v rs) (sym seen),
+      ap (λ v. reply rules (view rules h) r ∷ replies rules v rs) (sym seen),
+    )

@@ -1,0 +1,7 @@
+use Rattle.std.proofs.Common.{arith}
+use Rattle.apicore.specs.View.{empty}
+use Rattle.apicore.proofs.ViewLemmas.{revision-after_all}
+use Rattle.apicore.proofs.laws.revision_counts.Goals as goal
+
+pub returns : goal.returns
+returns c = λ rules h. let e = revision-after_all rules empty h in omega (arith, e)

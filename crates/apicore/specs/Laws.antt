@@ -1,0 +1,54 @@
+-- Laws of histories and steps.
+use Rattle.std.specs.Prelude.{◌≡◌, ◌+◌, List, [], ◌∷◌, length, None}
+use Rattle.circular_buffer.specs.Buffer.{keep_last}
+use Rattle.jsondoc.specs.Document.{text}
+use Rattle.names.specs.declared.format.Rules.{Rules}
+use Rattle.names.specs.Key.{Key}
+use Rattle.window.specs.declared.event.Event.{Event}
+use Rattle.apicore.specs.Document.{Document}
+use Rattle.apicore.specs.History.{Write, History, object_at}
+use Rattle.apicore.specs.Manifest.{item, sound, HasForm, IsManifestOf}
+use Rattle.apicore.specs.Request.{Request, RequestHasForm}
+use Rattle.apicore.specs.Step.{step, runs}
+use Rattle.apicore.specs.View.{View, stored_at, event_of, after, view, empty, IsHistory}
+
+-- The revision is one more than the number of writes.
+abbrev pub RevisionCounts : Type 0
+RevisionCounts = (rules : Rules) (h : History) → (view rules h).revision ≡ 1 + length h
+
+-- A key has what the last write to it left.
+abbrev pub KeyHasLastWrite : Type 0
+KeyHasLastWrite = (rules : Rules) (h : History) (k : Key) → stored_at (view rules h) k ≡ object_at h k
+
+-- the events of writes that follow a view, all of them
+abbrev pub events_from : Rules → View → List Write → List (Event Document)
+events_from rules v [] = []
+events_from rules v (w ∷ ws) = event_of v w ∷ events_from rules (after rules v w) ws
+
+-- The events of a view are those of the last writes, as many as the format's window has.
+abbrev pub EventsAreLast : Type 0
+EventsAreLast =
+    (rules : Rules) (h : History) → (view rules h).events ≡ keep_last rules.window_events (events_from rules empty h)
+
+-- What a request writes may follow, so that a step makes a history of a history.
+abbrev pub WritesFollow : Type 0
+WritesFollow =
+    (rules : Rules) (h : History) (r : Request) → IsHistory rules h → RequestHasForm r → IsHistory rules (step rules h r).0
+
+-- A run is its steps in turn.
+abbrev pub RunsAreSteps : Type 0
+RunsAreSteps =
+    (rules : Rules) (h : History) (r : Request) (rs : List Request) →
+    let after_one = (step rules h r).0 in
+    ((runs rules h (r ∷ rs)).0 ≡ (runs rules after_one rs).0) × ((runs rules h (r ∷ rs)).1 ≡ (step rules h r).1 ∷ (runs rules after_one rs).1)
+
+-- Equal views give equal replies, and equal views after.
+abbrev pub ViewDecides : Type 0
+ViewDecides =
+    (rules : Rules) (g h : History) (r : Request) → view rules g ≡ view rules h
+    → ((step rules g r).1 ≡ (step rules h r).1) × (view rules (step rules g r).0 ≡ view rules (step rules h r).0)
+
+-- What is stored is read as itself: the text of a stored document, sent to the item of its key, asks for that document.
+abbrev pub StoredIsRead : Type 0
+StoredIsRead =
+    (k : Key) (d : Document) → HasForm k d → IsManifestOf (item k) (text d.json) (record { key = k; body = sound d; version = None })

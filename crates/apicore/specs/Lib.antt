@@ -1,0 +1,15 @@
+pub mod Refusal
+pub mod Document
+pub mod DocumentCode
+pub mod Manifest
+pub mod Codes
+pub mod History
+pub mod View
+pub mod Request
+pub mod RequestOf
+pub mod Reply
+pub mod Step
+pub mod Put
+pub mod State
+pub mod Prepared
+pub mod Laws

@@ -1,0 +1,40 @@
+-- The table of refusals: code (RFC 9110 section 15), reason and message of each (Kubernetes API conventions, "Response Status Kind").
+use Rattle.std.specs.Prelude.{ℕ, List, [], ◌∷◌, Bool, codes, if◌then◌else◌, Option, Some, None}
+use Rattle.apicore.specs.declared.refusal.Refusal.{Refusal}
+use Rattle.apicore.specs.declared.refusal.Refusal.TheVariants.{MalformedRequest, NoSuchPath, BadQuery, BadNameInPath, UnexpectedBody, BodyIsNotJson, NumberOutsideRange, WrongKind, BadMetadata, WrongName, VersionOnCreate, AlreadyExists, NotFound, ObjectTooLarge, TooManyObjects, RevisionExhausted, OutOfMemory, StorageFailed}
+
+-- what a refusal says
+pub record Answer : Type 0 where
+  pub code : ℕ
+  pub reason : List ℕ
+  pub message : List ℕ
+
+-- the table, in the order in which refusals are looked for
+abbrev pub answer : Refusal → Answer
+answer MalformedRequest = record { code = 400; reason = codes "BadRequest"; message = codes "malformed or unfinished request" }
+answer NoSuchPath = record { code = 404; reason = codes "NotFound"; message = codes "no such path" }
+answer BadQuery = record { code = 400; reason = codes "BadRequest"; message = codes "bad query" }
+answer BadNameInPath = record { code = 400; reason = codes "BadRequest"; message = codes "bad name in path" }
+answer UnexpectedBody = record { code = 400; reason = codes "BadRequest"; message = codes "unexpected body" }
+answer BodyIsNotJson = record { code = 400; reason = codes "BadRequest"; message = codes "body is not JSON" }
+answer NumberOutsideRange = record { code = 400; reason = codes "BadRequest"; message = codes "number outside 64 bits" }
+answer WrongKind = record { code = 400; reason = codes "BadRequest"; message = codes "apiVersion or kind does not fit the path" }
+answer BadMetadata = record { code = 422; reason = codes "Invalid"; message = codes "bad metadata" }
+answer WrongName = record { code = 400; reason = codes "BadRequest"; message = codes "name or namespace does not fit the path" }
+answer VersionOnCreate = record { code = 400; reason = codes "BadRequest"; message = codes "resourceVersion must be empty on create" }
+answer AlreadyExists = record { code = 409; reason = codes "AlreadyExists"; message = codes "already exists" }
+answer NotFound = record { code = 404; reason = codes "NotFound"; message = codes "not found" }
+answer ObjectTooLarge = record { code = 413; reason = codes "RequestEntityTooLarge"; message = codes "object too large" }
+answer TooManyObjects = record { code = 507; reason = codes "InsufficientStorage"; message = codes "too many objects" }
+answer RevisionExhausted = record { code = 507; reason = codes "InsufficientStorage"; message = codes "revision exhausted" }
+answer OutOfMemory = record { code = 503; reason = codes "ServiceUnavailable"; message = codes "out of memory" }
+answer StorageFailed = record { code = 500; reason = codes "InternalError"; message = codes "storage failed" }
+
+-- a refusal, and whether its condition holds
+abbrev pub Condition : Type 0
+Condition = Refusal × Bool
+
+-- the first refusal whose condition holds
+abbrev pub first_of : List Condition → Option Refusal
+first_of [] = None
+first_of (c ∷ cs) = if c.1 then Some c.0 else first_of cs

@@ -1,0 +1,32 @@
+-- Replies, and the body of a refusal (Kubernetes API conventions, "Response Status Kind").
+use Rattle.std.specs.Prelude.{ℕ, List, [], ◌∷◌, codes}
+use Rattle.serde_json.specs.Data.{unsigned, Data, number, string}
+use Rattle.jsondoc.specs.Document.{text}
+use Rattle.apicore.specs.declared.refusal.Refusal.{Refusal}
+use Rattle.apicore.specs.Document.{Document, object_of, shown}
+use Rattle.apicore.specs.Refusal.{Answer, answer}
+
+-- a status code (RFC 9110 section 15), the texts of warnings (RFC 9111 section 5.5), and the body
+pub record Reply : Type 0 where
+  pub code : ℕ
+  pub warnings : List (List ℕ)
+  pub body : List ℕ
+
+-- the `Status` of an answer
+abbrev pub status_document : Answer → Data
+status_document a =
+    object_of (
+    (codes "apiVersion", string (codes "v1"))
+    ∷ (codes "code", number (unsigned a.code))
+    ∷ (codes "kind", string (codes "Status"))
+    ∷ (codes "message", string a.message)
+    ∷ (codes "reason", string a.reason)
+    ∷ (codes "status", string (codes "Failure"))
+    ∷ [])
+
+abbrev pub status : Refusal → Reply
+status r = record { code = (answer r).code; warnings = []; body = text (status_document (answer r)) }
+
+-- the reply that shows an object
+abbrev pub showing : (code : ℕ) → Document → (revision : ℕ) → Reply
+showing code d revision = record { code = code; warnings = []; body = text (shown d revision) }

@@ -1,0 +1,81 @@
+-- One request: what refuses it, what it writes, what is replied. And runs of requests.
+use Rattle.std.specs.Prelude.{ℕ, ◌+◌, List, [], ◌∷◌, ◌++◌, true, not, if◌then◌else◌, Option, is_some}
+use Rattle.std.specs.Option.{option_map_or}
+use Rattle.apicore.specs.declared.refusal.Refusal.{Refusal}
+use Rattle.apicore.specs.declared.refusal.Refusal.TheVariants.{AlreadyExists, NotFound, ObjectTooLarge, TooManyObjects, RevisionExhausted}
+use Rattle.names.specs.declared.format.Rules.{Rules}
+use Rattle.names.specs.Key.{Key}
+use Rattle.apicore.specs.History.{Write, put, History}
+use Rattle.apicore.specs.Manifest.{Body, sound}
+use Rattle.apicore.specs.Refusal.{Condition, first_of}
+use Rattle.apicore.specs.Reply.{Reply, status, showing}
+use Rattle.apicore.specs.Request.{Request, get, create, refused}
+use Rattle.apicore.specs.View.{View, stored_at, exists, is_too_large, is_full, is_exhausted, after_all, view}
+
+-- ---- refusals
+
+-- what refuses a body that is to be a new object
+abbrev pub create_conditions : Rules → View → Key → Body → List Condition
+create_conditions rules v k (sound d) =
+    (AlreadyExists, exists v k)
+    ∷ (ObjectTooLarge, is_too_large rules d)
+    ∷ (TooManyObjects, is_full rules v)
+    ∷ (RevisionExhausted, is_exhausted rules v)
+    ∷ []
+
+-- each refusal of a request, in order, and whether its condition holds
+abbrev pub conditions : Rules → View → Request → List Condition
+conditions rules v (refused r) = (r, true) ∷ []
+conditions rules v (get k) = (NotFound, not (exists v k)) ∷ []
+conditions rules v (create m) = create_conditions rules v m.key m.body
+
+abbrev pub refusal : Rules → View → Request → Option Refusal
+refusal rules v r = first_of (conditions rules v r)
+
+-- ---- writes
+
+abbrev put_of : Key → Body → List Write
+put_of k (sound d) = put k d ∷ []
+
+-- the write of a request that nothing refuses
+abbrev write_of : Request → List Write
+write_of (refused r) = []
+write_of (get k) = []
+write_of (create m) = put_of m.key m.body
+
+-- the write that a request makes, if any: a refused request makes none
+abbrev pub writes : Rules → View → Request → List Write
+writes rules v r = if is_some (refusal rules v r) then [] else write_of r
+
+-- ---- replies
+
+abbrev created : Body → (revision : ℕ) → Reply
+created (sound d) revision = showing 201 d revision
+
+-- the reply to a request that nothing refuses
+abbrev success : View → Request → Reply
+success v (refused r) = status r
+success v (get k) = option_map_or (λ s. showing 200 s.document s.revision) (stored_at v k) (status NotFound)
+success v (create m) = created m.body (v.revision + 1)
+
+abbrev pub reply : Rules → View → Request → Reply
+reply rules v r = option_map_or status (refusal rules v r) (success v r)
+
+-- ---- runs
+
+-- the writes that requests add: those that were accepted
+abbrev pub accepted : Rules → View → List Request → List Write
+accepted rules v [] = []
+accepted rules v (r ∷ rs) = writes rules v r ++ accepted rules (after_all rules v (writes rules v r)) rs
+
+abbrev pub replies : Rules → View → List Request → List Reply
+replies rules v [] = []
+replies rules v (r ∷ rs) = reply rules v r ∷ replies rules (after_all rules v (writes rules v r)) rs
+
+-- the history after a request, and the reply
+abbrev pub step : Rules → History → Request → History × Reply
+step rules h r = (h ++ writes rules (view rules h) r, reply rules (view rules h) r)
+
+-- the history after requests, and the replies
+abbrev pub runs : Rules → History → List Request → History × List Reply
+runs rules h rs = (h ++ accepted rules (view rules h) rs, replies rules (view rules h) rs)

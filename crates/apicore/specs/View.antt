@@ -1,0 +1,99 @@
+-- What is seen of a history: its objects, its revision and its last events. And what may follow it.
+use Rattle.std.specs.Prelude.{ℕ, ◌+◌, ◌<◌, ◌≤◌, List, [], ◌∷◌, ◌++◌, length, Bool, nat_lt, nat_le, IsTrue, if◌then◌else◌, Option, is_some, ◌⊎◌}
+use Rattle.std.specs.Option.{option_map_or}
+use Rattle.circular_buffer.specs.Buffer.{keep_last}
+use Rattle.serde_json.specs.Data.{null}
+use Rattle.jsondoc.specs.Document.{text}
+use Rattle.names.specs.declared.format.Rules.{Rules}
+use Rattle.names.specs.Key.{Key}
+use Rattle.objects.specs.Objects.{value_at, with_value, without_key}
+use Rattle.window.specs.declared.event.Change.TheVariants.{Added, Modified, Deleted}
+use Rattle.window.specs.declared.event.Event.{Event}
+use Rattle.window.specs.Window.{event_at}
+use Rattle.apicore.specs.declared.stored.Stored.{Stored}
+use Rattle.apicore.specs.Document.{Document}
+use Rattle.apicore.specs.History.{Write, put, delete, History}
+use Rattle.apicore.specs.Manifest.{HasForm}
+
+-- the objects in key order, the revision, and the events of the last writes, oldest first
+pub record View : Type 0 where
+  pub objects : List (Key × Stored)
+  pub revision : ℕ
+  pub events : List (Event Document)
+
+abbrev pub stored_at : View → Key → Option Stored
+stored_at v k = value_at k v.objects
+
+abbrev pub exists : View → Key → Bool
+exists v k = is_some (stored_at v k)
+
+-- the document that stands at a key, which a deletion removes
+abbrev pub document_at : View → Key → Document
+document_at v k = option_map_or (λ s. s.document) (stored_at v k) (record { json = null })
+
+-- ---- one more write
+
+abbrev pub objects_after : View → Write → List (Key × Stored)
+objects_after v (put k d) = with_value k (record { document = d; revision = v.revision + 1 }) v.objects
+objects_after v (delete k) = without_key k v.objects
+
+-- The event of an accepted write: Added where the key had no object before, Modified where it had one, Deleted for a
+-- deletion, which tells the document that it removed.
+abbrev pub event_of : View → Write → Event Document
+event_of v (put k d) = event_at (v.revision + 1) (if exists v k then Modified else Added) k d
+event_of v (delete k) = event_at (v.revision + 1) Deleted k (document_at v k)
+
+-- what is seen after one more write
+abbrev pub after : Rules → View → Write → View
+after rules v w = record {
+  objects = objects_after v w;
+  revision = v.revision + 1;
+  events = keep_last rules.window_events (v.events ++ event_of v w ∷ []);
+}
+
+abbrev pub after_all : Rules → View → List Write → View
+after_all rules v [] = v
+after_all rules v (w ∷ ws) = after_all rules (after rules v w) ws
+
+-- an empty store has revision 1
+abbrev pub empty : View
+empty = record { objects = []; revision = 1; events = [] }
+
+abbrev pub view : Rules → History → View
+view rules h = after_all rules empty h
+
+-- ---- what may follow
+
+abbrev pub is_too_large : Rules → Document → Bool
+is_too_large rules d = nat_lt rules.text_limit_bytes (length (text d.json))
+
+abbrev pub is_full : Rules → View → Bool
+is_full rules v = nat_le rules.object_limit (length v.objects)
+
+abbrev pub is_exhausted : Rules → View → Bool
+is_exhausted rules v = nat_le rules.greatest_revision v.revision
+
+-- a put that may follow: a document of the right form and size, at a key with an object or where there is room for one more
+pub record MayPut (rules : Rules) (v : View) (k : Key) (d : Document) : Type 0 where
+  pub form : HasForm k d
+  pub size : length (text d.json) ≤ rules.text_limit_bytes
+  pub room : IsTrue (exists v k) ⊎ (length v.objects < rules.object_limit)
+  pub revision : v.revision < rules.greatest_revision
+
+-- a deletion that may follow: of an object
+pub record MayDelete (rules : Rules) (v : View) (k : Key) : Type 0 where
+  pub object : IsTrue (exists v k)
+  pub revision : v.revision < rules.greatest_revision
+
+-- the write may follow a history of which v is seen
+abbrev pub MayFollow : Rules → View → Write → Type 0
+MayFollow rules v (put k d) = MayPut rules v k d
+MayFollow rules v (delete k) = MayDelete rules v k
+
+abbrev pub AllMayFollow : Rules → View → List Write → Type 0
+AllMayFollow rules v [] = Unit {0}
+AllMayFollow rules v (w ∷ ws) = MayFollow rules v w × AllMayFollow rules (after rules v w) ws
+
+-- a list of writes that a store may have taken
+abbrev pub IsHistory : Rules → History → Type 0
+IsHistory rules h = AllMayFollow rules empty h

@@ -1,0 +1,37 @@
+// The laws of the definitions, each the contract of a function.
+ghost use Rattle.apicore.specs.Laws.{RevisionCounts, KeyHasLastWrite, EventsAreLast, WritesFollow, RunsAreSteps, ViewDecides, StoredIsRead};
+
+/// The revision is one more than the number of writes.
+pub fn revision_counts()
+    ensures { RevisionCounts }
+{}
+
+/// A key has what the last write to it left.
+pub fn key_has_last_write()
+    ensures { KeyHasLastWrite }
+{}
+
+/// The events of a view are those of the last writes.
+pub fn events_are_last()
+    ensures { EventsAreLast }
+{}
+
+/// What a request writes may follow, so that a step makes a history of a history.
+pub fn writes_follow()
+    ensures { WritesFollow }
+{}
+
+/// A run is its steps in turn.
+pub fn runs_are_steps()
+    ensures { RunsAreSteps }
+{}
+
+/// Equal views give equal replies, and equal views after.
+pub fn view_decides()
+    ensures { ViewDecides }
+{}
+
+/// What is stored is read as itself, so that recovery finds by `Manifest::read` what was stored.
+pub fn stored_is_read()
+    ensures { StoredIsRead }
+{}

@@ -1,0 +1,37 @@
+//! What a request does to what is stored: the model of the server, and its core.
+//!
+//! ```text
+//! let manifest = Manifest::read(alloc, Resource::ConfigMap, "default", None, body)?;
+//! let prepared = core.prepare(alloc, &Request::Create(manifest))?;
+//! let reply = core.take(prepared);
+//! ```
+//!
+//! A history is a list of writes, its view is what is seen of it, and a step takes a history and a request to a history and a
+//! reply. `Manifest::read` decides what refuses a body, wherever it comes from. `Core` holds a view: `prepare` takes all the
+//! memory of a step and changes nothing that is seen, `take` takes none, and together they are one step.
+#![tactic(auto)]
+
+mod laws;
+mod manifest;
+mod metadata;
+mod prepared;
+mod refusal;
+mod reply;
+mod request;
+mod shown;
+mod state;
+mod stored;
+#[cfg(test)]
+mod tests;
+
+pub use laws::{
+    events_are_last, key_has_last_write, revision_counts, runs_are_steps, stored_is_read,
+    view_decides, writes_follow,
+};
+pub use manifest::{BodyFault, Manifest};
+pub use prepared::{Prepared, Put};
+pub use refusal::Refusal;
+pub use reply::Reply;
+pub use request::Request;
+pub use state::Core;
+pub use stored::{Document, Stored};

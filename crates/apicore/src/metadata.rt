@@ -1,0 +1,109 @@
+ghost use Rattle.std.specs.Prelude.{◌≡◌, IfOk, option_map};
+ghost use Rattle.serde_json.specs.View.{view, members_view};
+ghost use Rattle.apicore.specs.Document.{metadata_of, metadata_text, is_metadata, each_member, is_metadata_member, is_text, are_texts, has_kind, has_text};
+
+use jsondoc::{Doc, Map, Value};
+use names::{Resource, check_name, check_namespace};
+use std::alloc::AllocError;
+
+/// A copy of a document's metadata, `null` if it has none.
+pub(crate) fn metadata_copy(document: &Doc) -> Result<Doc, AllocError>
+    ensures { IfOk result (λ d. d ≡ metadata_of document.now) }
+{
+    match document.get("metadata") {
+        Some(metadata) => Doc::copy_of(metadata),
+        None => Ok(Doc::null()),
+    }
+}
+
+/// The text of a member of a document's metadata.
+pub(crate) fn metadata_text<'a>(document: &'a Doc, name: &str) -> Option<&'a str>
+    ensures { option_map (λ s. s.now) result ≡ metadata_text name.now document.now }
+{
+    document.get("metadata")?.get(name)?.as_str()
+}
+
+/// Whether the object is of this resource.
+pub(crate) fn has_kind(resource: Resource, document: &Doc) -> bool
+    ensures { result ≡ has_kind resource document.now }
+{
+    has_text(document, "apiVersion", resource.api_version())
+        && has_text(document, "kind", resource.kind())
+}
+
+fn has_text(document: &Doc, name: &str, text: &str) -> bool
+    ensures { result ≡ has_text name.now text.now document.now }
+{
+    match document.get(name) {
+        Some(value) => match value.as_str() {
+            Some(found) => text == found,
+            None => false,
+        },
+        None => false,
+    }
+}
+
+/// Whether the document's metadata is well-formed, and has a name.
+pub(crate) fn has_metadata(document: &Doc) -> bool
+    ensures { result ≡ is_metadata (metadata_of document.now) }
+{
+    match document.get("metadata") {
+        Some(metadata) => is_metadata(metadata),
+        None => false,
+    }
+}
+
+fn is_metadata(metadata: &Value) -> bool
+    ensures { result ≡ is_metadata (view metadata.now) }
+{
+    match metadata.as_object() {
+        Some(members) => are_metadata_members(members) && metadata.get("name").is_some(),
+        None => false,
+    }
+}
+
+fn are_metadata_members(members: &Map<String, Value>) -> bool
+    ensures { result ≡ each_member is_metadata_member (members_view members.now.entries) }
+{
+    for (name, value) in members.iter() {
+        if !is_metadata_member(name.as_str(), value) {
+            return false;
+        }
+    }
+    true
+}
+
+fn is_metadata_member(name: &str, value: &Value) -> bool
+    ensures { result ≡ is_metadata_member name.now (view value.now) }
+{
+    if name == "name" {
+        value.as_str().is_some_and(|text| check_name(text))
+    } else if name == "namespace" {
+        value.as_str().is_some_and(|text| check_namespace(text))
+    } else if name == "labels" || name == "annotations" {
+        are_texts(value)
+    } else {
+        name == "resourceVersion" && value.is_string()
+    }
+}
+
+// Whether the value is an object of texts.
+fn are_texts(value: &Value) -> bool
+    ensures { result ≡ are_texts (view value.now) }
+{
+    match value.as_object() {
+        Some(members) => are_member_texts(members),
+        None => false,
+    }
+}
+
+fn are_member_texts(members: &Map<String, Value>) -> bool
+    ensures { result ≡ each_member (λ _ value. is_text value) (members_view members.now.entries) }
+{
+    for (_, value) in members.iter() {
+        if !value.is_string() {
+            return false;
+        }
+    }
+    true
+}

@@ -1,0 +1,244 @@
+ghost use Rattle.std.specs.Prelude.{◌≡◌, ◌+◌, ◌^◌, ◌<◌, ◌≤◌, length, IfOk, None};
+ghost use Rattle.apicore.specs.Document.{Document as DocumentData};
+ghost use Rattle.apicore.specs.History as write;
+ghost use Rattle.apicore.specs.Manifest.{sound, BodyHasForm};
+ghost use Rattle.apicore.specs.Prepared.{HasRoom, IsStepOf, IsReady, writes_of};
+ghost use Rattle.apicore.specs.Request.{get, create, RequestHasForm};
+ghost use Rattle.apicore.specs.RequestOf.{request_of};
+ghost use Rattle.apicore.specs.Step.{reply, refusal};
+ghost use Rattle.apicore.specs.View.{empty, exists, is_too_large, is_full, is_exhausted, after, after_all};
+
+use crate::manifest::Manifest;
+use crate::prepared::{Prepared, Put};
+use crate::refusal::Refusal;
+use crate::reply::Reply;
+use crate::request::Request;
+use crate::stored::{Document, Stored};
+use names::{Key, Rules};
+#[cfg(test)]
+use objects::Entry;
+use objects::Objects;
+use std::alloc::{AllocError, Global};
+use std::marker::Model;
+use window::{Change, Window};
+
+/// What is stored: the objects, the revision and the last events.
+#[derive(Drop)]
+pub struct Core {
+    rules: Rules,
+    objects: Objects<Stored>,
+    window: Window<Document>,
+}
+
+impl Model for Core {
+    ghost use Rattle.apicore.specs.State.{State, coded_state};
+
+    ghost Value = { State };
+
+    ghost coded = { coded_state };
+
+    ghost use Rattle.std.specs.Prelude.{◌≡◌};
+
+    ghost view = { λ c. record { rules = c.rules; view = record { objects = c.objects.entries; revision = c.window.revision; events = c.window.events }; room = c.objects.room } };
+
+    ghost invariant = { λ c. c.window.places ≡ c.rules.window_events };
+}
+
+impl Core {
+    /// An empty store.
+    pub fn new(alloc: Global, rules: Rules) -> Result<Core, AllocError>
+        ensures rules { IfOk result (λ c. c.rules ≡ rules) }
+        ensures view { IfOk result (λ c. c.view ≡ empty) }
+    {
+        Ok(Core {
+            rules,
+            objects: Objects::new(alloc),
+            window: Window::new(alloc, rules)?,
+        })
+    }
+
+    /// The numbers that the store keeps to.
+    pub fn rules(&self) -> Rules
+        ensures { result ≡ self.now.rules }
+    {
+        self.rules
+    }
+
+    /// The revision of the last write, 1 where there was none.
+    pub fn revision(&self) -> u64
+        ensures { result ≡ self.now.view.revision }
+    {
+        self.window.revision()
+    }
+
+    /// How many objects are stored.
+    pub fn object_count(&self) -> usize
+        ensures { result ≡ length self.now.view.objects }
+    {
+        self.objects.len()
+    }
+
+    /// Prepares the step of a request: takes all its memory, and leaves what is seen as it was, also where there is none.
+    pub fn prepare(&mut self, alloc: Global, request: &Request) -> Result<Prepared, AllocError>
+        ensures rules { self.new.rules ≡ self.old.rules }
+        ensures view { self.new.view ≡ self.old.view }
+        ensures step { IfOk result (IsStepOf self.old.rules self.old.view (request_of request.now)) }
+        ensures ready { IfOk result (IsReady self.new) }
+
+        // So that what it writes may follow.
+        ensures form { RequestHasForm (request_of request.now) }
+    {
+        match request {
+            Request::Get(key) => Ok(Prepared {
+                reply: self.shown(alloc, key)?,
+                put: None,
+            }),
+            Request::Create(manifest) => match self.create_refusal(manifest) {
+                Some(refusal) => Ok(Prepared {
+                    reply: Reply::status(alloc, refusal)?,
+                    put: None,
+                }),
+                None => self.prepare_create(alloc, manifest),
+            },
+            Request::Refused(refusal) => Ok(Prepared {
+                reply: Reply::status(alloc, *refusal)?,
+                put: None,
+            }),
+        }
+    }
+
+    /// Takes a prepared step. This takes no memory.
+    pub fn take(&mut self, prepared: Prepared) -> Reply
+        requires { IsReady self.old prepared }
+        ensures reply { result ≡ prepared.reply }
+        ensures rules { self.new.rules ≡ self.old.rules }
+        ensures view { self.new.view ≡ after_all self.old.rules self.old.view (writes_of prepared.put) }
+    {
+        let Prepared { reply, put } = prepared;
+        if let Some(put) = put {
+            self.put(put);
+        }
+        reply
+    }
+
+    // The reply to a GET.
+    fn shown(&self, alloc: Global, key: &Key) -> Result<Reply, AllocError>
+        ensures { IfOk result (λ r. r ≡ reply self.now.rules self.now.view (get key.now)) }
+    {
+        match self.objects.get(key) {
+            Some(stored) => Reply::showing(alloc, 200, &stored.document, stored.revision),
+            None => Reply::status(alloc, Refusal::NotFound),
+        }
+    }
+
+    // The first refusal of a new object.
+    fn create_refusal(&self, manifest: &Manifest) -> Option<Refusal>
+        ensures refusal { result ≡ refusal self.now.rules self.now.view (create manifest.now) }
+        ensures form { BodyHasForm manifest.now.key manifest.now.body }
+    {
+        // The document, of which the text and the form speak.
+        let _document = manifest.document();
+        if self.holds(manifest.key()) {
+            return Some(Refusal::AlreadyExists);
+        }
+        if self.is_too_large(manifest) {
+            return Some(Refusal::ObjectTooLarge);
+        }
+        if self.is_full() {
+            return Some(Refusal::TooManyObjects);
+        }
+        if self.is_exhausted() {
+            return Some(Refusal::RevisionExhausted);
+        }
+        None
+    }
+
+    // Whether there is an object with this key.
+    fn holds(&self, key: &Key) -> bool
+        ensures { result ≡ exists self.now.view key.now }
+    {
+        self.objects.get(key).is_some()
+    }
+
+    // Whether the text to be stored is above the limit.
+    fn is_too_large(&self, manifest: &Manifest) -> bool
+        ensures { (d : DocumentData) → manifest.now.body ≡ sound d → result ≡ is_too_large self.now.rules d }
+    {
+        self.rules.text_limit_bytes < manifest.text().len()
+    }
+
+    // Whether there are as many objects as there may be.
+    fn is_full(&self) -> bool
+        ensures { result ≡ is_full self.now.rules self.now.view }
+    {
+        self.rules.object_limit <= self.objects.len()
+    }
+
+    // Whether the greatest revision is reached.
+    fn is_exhausted(&self) -> bool
+        ensures { result ≡ is_exhausted self.now.rules self.now.view }
+    {
+        self.rules.greatest_revision <= self.window.revision()
+    }
+
+    // Prepares a new object that nothing refuses.
+    fn prepare_create(&mut self, alloc: Global, manifest: &Manifest) -> Result<Prepared, AllocError>
+        requires { refusal self.old.rules self.old.view (create manifest.now) ≡ None }
+        ensures rules { self.new.rules ≡ self.old.rules }
+        ensures view { self.new.view ≡ self.old.view }
+        ensures step { IfOk result (IsStepOf self.old.rules self.old.view (create manifest.now)) }
+        ensures room { IfOk result (λ p. HasRoom self.new p.put) }
+    {
+        // The revision is below the greatest one, so that the next one fits.
+        let _greatest = self.rules.greatest_revision;
+        let revision = self.window.revision() + 1;
+        let document = manifest.document();
+        let put = Put::new(alloc, manifest.key(), document, manifest.text(), revision)?;
+        let reply = Reply::showing(alloc, 201, document, revision)?;
+        self.objects.reserve(1)?;
+        Ok(Prepared {
+            reply,
+            put: Some(put),
+        })
+    }
+
+    // Takes a put.
+    fn put(&mut self, put: Put)
+        requires room { 0 < self.old.room }
+        requires revision { put.revision ≡ self.old.view.revision + 1 }
+        requires greatest { self.old.view.revision < self.old.rules.greatest_revision }
+        ensures rules { self.new.rules ≡ self.old.rules }
+        ensures view { self.new.view ≡ after self.old.rules self.old.view (write.put put.key put.document) }
+    {
+        // The window's revision is below the greatest one, so that the next one fits.
+        let _greatest = self.rules.greatest_revision;
+        let (entry, key, document) = put.into_parts();
+        let change = if self.objects.put(entry).is_some() {
+            Change::Modified
+        } else {
+            Change::Added
+        };
+        self.window.push(change, key, document);
+    }
+
+    // Stores an object without a write, for a test of a full store.
+    #[cfg(test)]
+    pub(crate) fn fill(
+        &mut self,
+        alloc: Global,
+        key: Key,
+        document: Document,
+    ) -> Result<(), AllocError> {
+        self.objects.reserve(1)?;
+        let entry = Entry::new(
+            alloc,
+            key,
+            Stored {
+                document,
+                revision: 1,
+            },
+        )?;
+        drop(self.objects.put(entry));
+        Ok(())
+    }
+}

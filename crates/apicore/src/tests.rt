@@ -1,0 +1,406 @@
+// Bodies after the Kubernetes API conventions, and replies whose bytes were written by hand.
+use crate::{
+    BodyFault, Core, Document, Manifest, Refusal, Reply, Request, events_are_last,
+    key_has_last_write, revision_counts, runs_are_steps, stored_is_read, view_decides,
+    writes_follow,
+};
+use jsondoc::Doc;
+use names::{Format, Key, Resource, Rules};
+use std::alloc::Global;
+use std::process::Abort;
+use std::test::Fail;
+
+const POSTED: &str =
+    "{\"apiVersion\":\"v1\",\"kind\":\"ConfigMap\",\"metadata\":{\"name\":\"a\"},\"data\":{\"k\":\"v\"}}";
+
+const STORED: &str =
+    "{\"apiVersion\":\"v1\",\"data\":{\"k\":\"v\"},\"kind\":\"ConfigMap\",\"metadata\":{\"name\":\"a\",\"namespace\":\"default\"}}";
+
+fn posted(alloc: Global, body: &str) -> Result<Manifest, BodyFault> {
+    Manifest::read(alloc, Resource::ConfigMap, "default", None, body.as_bytes())
+}
+
+fn refusal_of(read: Result<Manifest, BodyFault>) -> Option<BodyFault> {
+    read.err()
+}
+
+#[test]
+fn a_posted_object_is_stored_with_its_namespace(rt: HostRuntime) -> Result<(), Fail> {
+    assert_eq!(rt; POSTED.len(), 79);
+    let manifest = posted(rt.alloc(), POSTED)?;
+    assert_eq!(rt; manifest.text(), STORED);
+    assert_eq!(rt; manifest.text().len(), 101);
+    assert_eq!(rt; manifest.key().namespace(), "default");
+    assert_eq!(rt; manifest.key().name(), "a");
+    assert!(rt; manifest.version().is_none());
+    assert_eq!(rt;
+        manifest.document().json().text(rt.alloc())?.as_str(),
+        STORED
+    );
+    Ok(())
+}
+
+#[test]
+fn a_revision_is_asked_for_and_not_stored(rt: HostRuntime) -> Result<(), Fail> {
+    let body =
+        "{\"apiVersion\":\"v1\",\"kind\":\"ConfigMap\",\"metadata\":{\"name\":\"a\",\"namespace\":\"default\",\"resourceVersion\":\"02\"},\"data\":{\"k\":\"v\"}}";
+    let manifest = Manifest::read(
+        rt.alloc(),
+        Resource::ConfigMap,
+        "default",
+        Some("a"),
+        body.as_bytes(),
+    )?;
+    assert_eq!(rt; manifest.text(), STORED);
+    assert_eq!(rt; manifest.version(), Some("02"));
+    let created = refusal_of(posted(rt.alloc(), body));
+    assert_eq!(rt; created, Some(BodyFault::Refused(Refusal::VersionOnCreate)));
+    Ok(())
+}
+
+#[test]
+fn a_stored_text_is_read_as_itself(rt: HostRuntime) -> Result<(), Fail> {
+    let manifest = Manifest::read(
+        rt.alloc(),
+        Resource::ConfigMap,
+        "default",
+        Some("a"),
+        STORED.as_bytes(),
+    )?;
+    assert_eq!(rt; manifest.text(), STORED);
+    Ok(())
+}
+
+#[test]
+fn each_fault_of_a_body_has_its_refusal(rt: HostRuntime) {
+    for (body, refusal) in [
+        ("", Refusal::BodyIsNotJson),
+        ("{", Refusal::BodyIsNotJson),
+        ("1.5", Refusal::NumberOutsideRange),
+        (
+            "{\"apiVersion\":\"v1\",\"kind\":\"ConfigMap\",\"metadata\":{\"name\":\"a\"},\"data\":1e2}",
+            Refusal::NumberOutsideRange,
+        ),
+        ("[]", Refusal::WrongKind),
+        (
+            "{\"apiVersion\":\"v2\",\"kind\":\"ConfigMap\",\"metadata\":{\"name\":\"a\"}}",
+            Refusal::WrongKind,
+        ),
+        (
+            "{\"apiVersion\":\"v1\",\"kind\":\"Secret\",\"metadata\":{\"name\":\"a\"}}",
+            Refusal::WrongKind,
+        ),
+        (
+            "{\"apiVersion\":\"v1\",\"kind\":\"ConfigMap\"}",
+            Refusal::BadMetadata,
+        ),
+        (
+            "{\"apiVersion\":\"v1\",\"kind\":\"ConfigMap\",\"metadata\":{}}",
+            Refusal::BadMetadata,
+        ),
+        (
+            "{\"apiVersion\":\"v1\",\"kind\":\"ConfigMap\",\"metadata\":{\"name\":\"A\"}}",
+            Refusal::BadMetadata,
+        ),
+        (
+            "{\"apiVersion\":\"v1\",\"kind\":\"ConfigMap\",\"metadata\":{\"name\":1}}",
+            Refusal::BadMetadata,
+        ),
+        (
+            "{\"apiVersion\":\"v1\",\"kind\":\"ConfigMap\",\"metadata\":{\"name\":\"a\",\"namespace\":\"\"}}",
+            Refusal::BadMetadata,
+        ),
+        (
+            "{\"apiVersion\":\"v1\",\"kind\":\"ConfigMap\",\"metadata\":{\"name\":\"a\",\"uid\":\"x\"}}",
+            Refusal::BadMetadata,
+        ),
+        (
+            "{\"apiVersion\":\"v1\",\"kind\":\"ConfigMap\",\"metadata\":{\"name\":\"a\",\"labels\":{\"k\":1}}}",
+            Refusal::BadMetadata,
+        ),
+        (
+            "{\"apiVersion\":\"v1\",\"kind\":\"ConfigMap\",\"metadata\":{\"name\":\"a\",\"annotations\":[]}}",
+            Refusal::BadMetadata,
+        ),
+        (
+            "{\"apiVersion\":\"v1\",\"kind\":\"ConfigMap\",\"metadata\":{\"name\":\"a\",\"resourceVersion\":2}}",
+            Refusal::BadMetadata,
+        ),
+        (
+            "{\"apiVersion\":\"v1\",\"kind\":\"ConfigMap\",\"metadata\":{\"name\":\"a\",\"namespace\":\"other\"}}",
+            Refusal::WrongName,
+        ),
+        (
+            "{\"apiVersion\":\"v1\",\"kind\":\"ConfigMap\",\"metadata\":{\"name\":\"a\",\"resourceVersion\":\"1\"}}",
+            Refusal::VersionOnCreate,
+        ),
+    ] {
+        let found = refusal_of(posted(rt.alloc(), body));
+        assert_eq!(rt; found, Some(BodyFault::Refused(refusal)), "{body}");
+    }
+}
+
+#[test]
+fn the_first_refusal_of_the_table_counts(rt: HostRuntime) {
+    for (body, refusal) in [
+        // A number before the kind, the kind before the metadata, the metadata before the name, the name before the revision.
+        (
+            "{\"apiVersion\":\"v1\",\"kind\":\"Secret\",\"data\":0.5}",
+            Refusal::NumberOutsideRange,
+        ),
+        (
+            "{\"apiVersion\":\"v1\",\"kind\":\"Secret\",\"metadata\":{}}",
+            Refusal::WrongKind,
+        ),
+        (
+            "{\"apiVersion\":\"v1\",\"kind\":\"ConfigMap\",\"metadata\":{\"namespace\":\"other\"}}",
+            Refusal::BadMetadata,
+        ),
+        (
+            "{\"apiVersion\":\"v1\",\"kind\":\"ConfigMap\",\"metadata\":{\"name\":\"a\",\"namespace\":\"other\",\"resourceVersion\":\"1\"}}",
+            Refusal::WrongName,
+        ),
+    ] {
+        let found = refusal_of(posted(rt.alloc(), body));
+        assert_eq!(rt; found, Some(BodyFault::Refused(refusal)), "{body}");
+    }
+    let bad_path = Manifest::read(rt.alloc(), Resource::ConfigMap, "Default", None, b"{");
+    assert_eq!(rt;
+        refusal_of(bad_path),
+        Some(BodyFault::Refused(Refusal::BadNameInPath))
+    );
+    let bad_name = Manifest::read(
+        rt.alloc(),
+        Resource::ConfigMap,
+        "default",
+        Some("a..b"),
+        b"{",
+    );
+    assert_eq!(rt;
+        refusal_of(bad_name),
+        Some(BodyFault::Refused(Refusal::BadNameInPath))
+    );
+    let other_name = Manifest::read(
+        rt.alloc(),
+        Resource::ConfigMap,
+        "default",
+        Some("b"),
+        POSTED.as_bytes(),
+    );
+    assert_eq!(rt;
+        refusal_of(other_name),
+        Some(BodyFault::Refused(Refusal::WrongName))
+    );
+}
+
+#[test]
+fn cluster_scoped_objects_have_no_namespace(rt: HostRuntime) -> Result<(), Fail> {
+    let body = "{\"apiVersion\":\"v1\",\"kind\":\"Node\",\"metadata\":{\"name\":\"n1\"}}";
+    let manifest = Manifest::read(rt.alloc(), Resource::Node, "", None, body.as_bytes())?;
+    assert_eq!(rt; manifest.text(), body);
+    let named =
+        "{\"apiVersion\":\"v1\",\"kind\":\"Node\",\"metadata\":{\"name\":\"n1\",\"namespace\":\"default\"}}";
+    let refused = Manifest::read(rt.alloc(), Resource::Node, "", None, named.as_bytes());
+    assert_eq!(rt;
+        refusal_of(refused),
+        Some(BodyFault::Refused(Refusal::WrongName))
+    );
+    let placed = Manifest::read(rt.alloc(), Resource::Node, "default", None, body.as_bytes());
+    assert_eq!(rt;
+        refusal_of(placed),
+        Some(BodyFault::Refused(Refusal::BadNameInPath))
+    );
+    Ok(())
+}
+
+fn assert_status(
+    rt: &impl Abort,
+    alloc: Global,
+    refusal: Refusal,
+    code: u16,
+    body: &str,
+) -> Result<(), Fail> {
+    let reply = Reply::status(alloc, refusal)?;
+    assert_eq!(rt; reply.code(), code);
+    assert_eq!(rt; reply.body(), body);
+    assert!(rt; reply.warnings().is_empty());
+    Ok(())
+}
+
+#[test]
+fn a_refusal_is_a_status(rt: HostRuntime) -> Result<(), Fail> {
+    let exists =
+        "{\"apiVersion\":\"v1\",\"code\":409,\"kind\":\"Status\",\"message\":\"already exists\",\"reason\":\"AlreadyExists\",\"status\":\"Failure\"}";
+    assert_eq!(rt; exists.len(), 117);
+    assert_status(&rt, rt.alloc(), Refusal::AlreadyExists, 409, exists)?;
+    let missing =
+        "{\"apiVersion\":\"v1\",\"code\":404,\"kind\":\"Status\",\"message\":\"not found\",\"reason\":\"NotFound\",\"status\":\"Failure\"}";
+    assert_eq!(rt; missing.len(), 107);
+    assert_status(&rt, rt.alloc(), Refusal::NotFound, 404, missing)?;
+    let memory =
+        "{\"apiVersion\":\"v1\",\"code\":503,\"kind\":\"Status\",\"message\":\"out of memory\",\"reason\":\"ServiceUnavailable\",\"status\":\"Failure\"}";
+    assert_eq!(rt; memory.len(), 121);
+    assert_status(&rt, rt.alloc(), Refusal::OutOfMemory, 503, memory)?;
+    assert_eq!(rt; Reply::out_of_memory_body(), memory);
+    assert_status(
+        &rt,
+        rt.alloc(),
+        Refusal::StorageFailed,
+        500,
+        Reply::storage_failed_body(),
+    )
+}
+
+fn answer(alloc: Global, core: &mut Core, request: &Request) -> Result<Reply, Fail> {
+    let prepared = core.prepare(alloc, request)?;
+    Ok(core.take(prepared))
+}
+
+fn create(alloc: Global, name: &str) -> Result<Request, Fail> {
+    let body = format!(in alloc;
+        "{{\"apiVersion\":\"v1\",\"kind\":\"ConfigMap\",\"metadata\":{{\"name\":\"{name}\"}},\"data\":{{\"k\":\"v\"}}}}"
+    )?;
+    Ok(Request::Create(posted(alloc, body.as_str())?))
+}
+
+fn get(alloc: Global, name: &str) -> Result<Request, Fail> {
+    Ok(Request::Get(Key::new(alloc, Resource::ConfigMap, "default", name)?))
+}
+
+#[test]
+fn a_created_object_is_shown_with_its_revision(rt: HostRuntime) -> Result<(), Fail> {
+    let shown =
+        "{\"apiVersion\":\"v1\",\"data\":{\"k\":\"v\"},\"kind\":\"ConfigMap\",\"metadata\":{\"name\":\"a\",\"namespace\":\"default\",\"resourceVersion\":\"2\"}}";
+    assert_eq!(rt; shown.len(), 123);
+    let mut core = Core::new(rt.alloc(), Format::First.rules())?;
+    let missing = answer(rt.alloc(), &mut core, &get(rt.alloc(), "a")?)?;
+    assert_eq!(rt; missing.code(), 404);
+    let created = answer(rt.alloc(), &mut core, &create(rt.alloc(), "a")?)?;
+    assert_eq!(rt; created.code(), 201);
+    assert_eq!(rt; created.body(), shown);
+    let found = answer(rt.alloc(), &mut core, &get(rt.alloc(), "a")?)?;
+    assert_eq!(rt; found.code(), 200);
+    assert_eq!(rt; found.body(), shown);
+    assert_eq!(rt; core.revision(), 2);
+    assert_eq!(rt; core.object_count(), 1);
+    Ok(())
+}
+
+#[test]
+fn a_second_create_takes_no_revision(rt: HostRuntime) -> Result<(), Fail> {
+    let mut core = Core::new(rt.alloc(), Format::First.rules())?;
+    let _created = answer(rt.alloc(), &mut core, &create(rt.alloc(), "a")?)?;
+    let again = answer(rt.alloc(), &mut core, &create(rt.alloc(), "a")?)?;
+    assert_eq!(rt; again.code(), 409);
+    assert_eq!(rt; again.body().len(), 117);
+    assert_eq!(rt; core.revision(), 2);
+    let refused = answer(
+        rt.alloc(),
+        &mut core,
+        &Request::Refused(Refusal::NoSuchPath),
+    )?;
+    assert_eq!(rt; refused.code(), 404);
+    assert_eq!(rt; core.revision(), 2);
+    Ok(())
+}
+
+#[test]
+fn a_prepared_write_has_its_document(rt: HostRuntime) -> Result<(), Fail> {
+    let mut core = Core::new(rt.alloc(), Format::First.rules())?;
+    let prepared = core.prepare(rt.alloc(), &create(rt.alloc(), "a")?)?;
+    let put = prepared.put.as_ref().ok_or("a put")?;
+    assert_eq!(rt; put.key().name(), "a");
+    assert_eq!(rt; put.text(), STORED);
+    assert_eq!(rt; put.document().json().text(rt.alloc())?.as_str(), STORED);
+    assert_eq!(rt; core.revision(), 1);
+    assert_eq!(rt; core.rules().text_limit_bytes, 16384);
+    Ok(())
+}
+
+// Creates an object, and compares the code and a part of the reply.
+fn assert_created(
+    rt: &impl Abort,
+    alloc: Global,
+    core: &mut Core,
+    name: &str,
+    code: u16,
+    part: &str,
+) -> Result<(), Fail> {
+    let request = create(alloc, name)?;
+    let reply = answer(alloc, core, &request)?;
+    assert_eq!(rt; reply.code(), code);
+    assert!(rt; reply.body().contains(part));
+    Ok(())
+}
+
+const SMALL: Rules = Rules {
+    window_events: 1,
+    text_limit_bytes: 101,
+    body_limit_bytes: 200,
+    object_limit: 2,
+    greatest_revision: 3,
+};
+
+#[test]
+fn a_text_above_the_limit_is_refused(rt: HostRuntime) -> Result<(), Fail> {
+    let mut core = Core::new(rt.alloc(), SMALL)?;
+    assert_created(&rt, rt.alloc(), &mut core, "a", 201, "\"resourceVersion\":\"2\"")?;
+    assert_created(&rt, rt.alloc(), &mut core, "aa", 413, "object too large")
+}
+
+#[test]
+fn an_object_above_the_limit_is_refused(rt: HostRuntime) -> Result<(), Fail> {
+    let mut core = Core::new(rt.alloc(), SMALL)?;
+    assert_created(&rt, rt.alloc(), &mut core, "a", 201, "")?;
+    assert_created(&rt, rt.alloc(), &mut core, "b", 201, "\"resourceVersion\":\"3\"")?;
+    assert_created(&rt, rt.alloc(), &mut core, "c", 507, "too many objects")
+}
+
+#[test]
+fn a_write_at_the_greatest_revision_is_refused(rt: HostRuntime) -> Result<(), Fail> {
+    let rules = Rules {
+        object_limit: 3,
+        ..SMALL
+    };
+    let mut core = Core::new(rt.alloc(), rules)?;
+    assert_created(&rt, rt.alloc(), &mut core, "a", 201, "")?;
+    assert_created(&rt, rt.alloc(), &mut core, "b", 201, "")?;
+    assert_created(&rt, rt.alloc(), &mut core, "c", 507, "revision exhausted")?;
+    assert_created(&rt, rt.alloc(), &mut core, "a", 409, "already exists")
+}
+
+// A store with so many objects.
+fn filled(alloc: Global, count: u32) -> Result<Core, Fail> {
+    let mut core = Core::new(alloc, Format::First.rules())?;
+    for number in 0..count {
+        let name = format!(in alloc; "n{number:05}")?;
+        let key = Key::new(alloc, Resource::ConfigMap, "default", name.as_str())?;
+        let document = Document::new(Doc::null());
+        core.fill(alloc, key, document)?;
+    }
+    Ok(core)
+}
+
+#[test]
+fn a_store_takes_65536_objects(rt: HostRuntime) -> Result<(), Fail> {
+    let mut core = filled(rt.alloc(), 65535)?;
+    let last = answer(rt.alloc(), &mut core, &create(rt.alloc(), "last")?)?;
+    assert_eq!(rt; last.code(), 201);
+    assert_eq!(rt; core.object_count(), 65536);
+    let full = answer(rt.alloc(), &mut core, &create(rt.alloc(), "one-more")?)?;
+    assert_eq!(rt; full.code(), 507);
+    assert!(rt; full.body().contains("too many objects"));
+    assert_eq!(rt; core.object_count(), 65536);
+    Ok(())
+}
+
+#[test]
+fn the_laws_hold(_rt: HostRuntime) {
+    revision_counts();
+    key_has_last_write();
+    events_are_last();
+    writes_follow();
+    runs_are_steps();
+    view_decides();
+    stored_is_read();
+}
