@@ -1,0 +1,10 @@
+pub mod Commas
+pub mod Values
+pub mod Numbers
+pub mod Fronts
+pub mod Cuts
+pub mod Leads
+pub mod Flows
+pub mod Pieces
+pub mod Parts
+pub mod Unique
