@@ -1,0 +1,11 @@
+pub mod Class
+pub mod Run
+pub mod Digits
+pub mod Numeral
+pub mod Escape
+pub mod Text
+pub mod Sign
+pub mod Terminal
+pub mod Lexeme
+pub mod Lexes
+pub mod Seen
