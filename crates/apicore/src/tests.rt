@@ -344,7 +344,14 @@ const SMALL: Rules = Rules {
 #[test]
 fn a_text_above_the_limit_is_refused(rt: HostRuntime) -> Result<(), Fail> {
     let mut core = Core::new(rt.alloc(), SMALL)?;
-    assert_created(&rt, rt.alloc(), &mut core, "a", 201, "\"resourceVersion\":\"2\"")?;
+    assert_created(
+        &rt,
+        rt.alloc(),
+        &mut core,
+        "a",
+        201,
+        "\"resourceVersion\":\"2\"",
+    )?;
     assert_created(&rt, rt.alloc(), &mut core, "aa", 413, "object too large")
 }
 
@@ -352,7 +359,14 @@ fn a_text_above_the_limit_is_refused(rt: HostRuntime) -> Result<(), Fail> {
 fn an_object_above_the_limit_is_refused(rt: HostRuntime) -> Result<(), Fail> {
     let mut core = Core::new(rt.alloc(), SMALL)?;
     assert_created(&rt, rt.alloc(), &mut core, "a", 201, "")?;
-    assert_created(&rt, rt.alloc(), &mut core, "b", 201, "\"resourceVersion\":\"3\"")?;
+    assert_created(
+        &rt,
+        rt.alloc(),
+        &mut core,
+        "b",
+        201,
+        "\"resourceVersion\":\"3\"",
+    )?;
     assert_created(&rt, rt.alloc(), &mut core, "c", 507, "too many objects")
 }
 
