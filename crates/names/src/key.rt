@@ -41,7 +41,8 @@ impl From<AllocError> for KeyFault {
 // The texts before and behind the first zero byte, if the bytes are UTF-8 and hold one.
 fn split_at_zero(bytes: &[u8]) -> Option<(&str, &str)>
     ensures parts { IfSome result (λ parts. parts.0.now ++ 0 ∷ parts.1.now ≡ bytes.now) }
-    ensures plain { (front back : List ℕ) → IsPlain front → IsPlain back → front ++ 0 ∷ back ≡ bytes.now
+    ensures plain { (front back : List ℕ) → IsPlain front → IsPlain back
+        → front ++ 0 ∷ back ≡ bytes.now
         → IsSomeAnd result (λ parts. (parts.0.now ≡ front) × (parts.1.now ≡ back)) }
 {
     let text = str::from_utf8(bytes).ok()?;
@@ -69,7 +70,8 @@ impl Model for Key {
 
     ghost view = { λ k. key_of k.resource (string_bytes k.namespace) (string_bytes k.name) };
 
-    ghost invariant = { λ k. IsTrue (is_key (key_of k.resource (string_bytes k.namespace) (string_bytes k.name))) };
+    ghost invariant = { λ k.
+        IsTrue (is_key (key_of k.resource (string_bytes k.namespace) (string_bytes k.name))) };
 }
 
 impl Key {
@@ -85,7 +87,8 @@ impl Key {
     ) -> Result<Key, KeyFault>
         ensures value { IfOk result (λ k. k ≡ key_of resource namespace.now name.now) }
         ensures key { IfOk result (λ k. IsTrue (is_key k)) }
-        ensures no_key { (result ≡ Err KeyFault.NoKey) ↔ (is_key (key_of resource namespace.now name.now) ≡ false) }
+        ensures no_key { (result ≡ Err KeyFault.NoKey)
+            ↔ (is_key (key_of resource namespace.now name.now) ≡ false) }
     {
         let fits_scope = match resource.scope() {
             Scope::Namespaced => check_namespace(namespace),
@@ -114,6 +117,7 @@ impl Key {
         Key::new(alloc, resource, namespace, name)
     }
 
+    /// The resource of the object.
     pub fn resource(&self) -> Resource
         ensures value { result ≡ self.now.resource }
         ensures key { IsTrue (is_key self.now) }
@@ -121,7 +125,7 @@ impl Key {
         self.resource
     }
 
-    /// Empty where the resource is cluster-scoped.
+    /// The namespace of the object, which is empty where the resource is cluster-scoped.
     pub fn namespace(&self) -> &str
         ensures value { result.now ≡ self.now.namespace }
         ensures key { IsTrue (is_key self.now) }
@@ -129,6 +133,7 @@ impl Key {
         &self.namespace
     }
 
+    /// The name of the object.
     pub fn name(&self) -> &str
         ensures value { result.now ≡ self.now.name }
         ensures key { IsTrue (is_key self.now) }
@@ -183,6 +188,10 @@ impl Ord for Key {
 
         // Only equal keys tie.
         ensures same { (a b : KeyData) → key_cmp a b ≡ Ordering.Equal → a ≡ b }
+
+        // Each key has one spelling.
+        ensures spelling { (a b : KeyData) → IsTrue (is_key a) → IsTrue (is_key b)
+            → key_bytes a ≡ key_bytes b → a ≡ b }
 
         // Byte by byte, the bytes of keys are in the order of the keys.
         ensures bytes { (a b : KeyData) → IsTrue (is_key a) → IsTrue (is_key b)

@@ -6,10 +6,11 @@
 //! assert_eq!(key.bytes(alloc)?, b"\x01default\0settings");
 //! ```
 //!
-//! `check_name` and `check_namespace` answer exactly the DNS subdomains and labels of RFC 1123 section
-//! 2.1 in small letters, within their lengths, and take no memory. A `Key` is well formed from its
-//! making on, is read back from its bytes alone, and has one spelling. Keys are ordered by the number
-//! of their resource, then by namespace, then by name, and their bytes, compared one by one, likewise.
+//! `check_name` and `check_namespace` answer exactly the DNS subdomains and labels of RFC 1123
+//! section 2.1 in small letters, within their lengths, and take no memory. A `Key` is well formed
+//! from its making on, is read back from its bytes alone, and has one spelling. Keys are ordered by
+//! the number of their resource, then by namespace, then by name, and their bytes, compared one by
+//! one, likewise.
 #![tactic(auto)]
 
 mod format;

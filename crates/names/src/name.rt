@@ -1,7 +1,7 @@
-ghost use Rattle.std.specs.Prelude.{◌≡◌, ◌==◌, false};
+ghost use Rattle.std.specs.Prelude.{◌≡◌, ◌↔◌, ◌==◌, ◌≤◌, false, length, IsTrue};
 ghost use Rattle.std.specs.List.{list_all, slice_split};
 ghost use Rattle.std.specs.Option.{option_map_or};
-ghost use Rattle.names.specs.Name.{is_letter_or_digit, is_label_byte, is_label, is_namespace, is_name, dot};
+ghost use Rattle.names.specs.Name.{is_letter_or_digit, is_label_byte, is_label, is_namespace, is_name, dot, IsLabel, IsSubdomain};
 
 /// The longest name, in characters.
 pub const NAME_LIMIT: usize = 253;
@@ -46,7 +46,8 @@ fn check_labels(text: &[u8]) -> bool
 /// Whether the text is a namespace: one DNS label of at most 63 characters (RFC 1123 section 2.1),
 /// in small letters.
 pub fn check_namespace(text: &str) -> bool
-    ensures { result ≡ is_namespace text.now }
+    ensures value { result ≡ is_namespace text.now }
+    ensures grammar { IsTrue result ↔ (IsLabel text.now × (length text.now ≤ 63)) }
 {
     text.len() <= NAMESPACE_LIMIT && check_label(text.as_bytes())
 }
@@ -54,7 +55,8 @@ pub fn check_namespace(text: &str) -> bool
 /// Whether the text is a name: a DNS subdomain of at most 253 characters (RFC 1123 section 2.1),
 /// in small letters. A label in it may be longer than 63 characters.
 pub fn check_name(text: &str) -> bool
-    ensures { result ≡ is_name text.now }
+    ensures value { result ≡ is_name text.now }
+    ensures grammar { IsTrue result ↔ IsSubdomain text.now }
 {
     text.len() <= NAME_LIMIT && check_labels(text.as_bytes())
 }

@@ -151,13 +151,14 @@ impl Resource {
         self.row().api_version
     }
 
+    /// Whether its objects stand in a namespace.
     pub fn scope(self) -> Scope
         ensures { result ≡ (row self).scope }
     {
         self.row().scope
     }
 
-    /// Whether its objects stand in a namespace.
+    /// Whether its scope is `Namespaced`.
     pub fn is_namespaced(self) -> bool
         ensures { IsTrue result ↔ ((row self).scope ≡ Scope.Namespaced) }
     {
@@ -172,6 +173,7 @@ impl Resource {
 pub struct ResourceTable;
 
 impl ResourceTable {
+    /// Every resource, in the order of their numbers.
     pub const RESOURCES: [Resource; 7] = [
         Resource::ConfigMap,
         Resource::Node,
@@ -195,25 +197,26 @@ impl ResourceTable {
             .find(|resource| resource.number() == number)
     }
 
-    /// The resource with this plural in this group and version.
-    pub fn with_plural(version: &str, plural: &str) -> Option<Resource>
-        ensures value { result ≡ with_plural version.now plural.now }
+    /// The resource with this plural, as in a path, and this `apiVersion`.
+    pub fn with_plural(group_version: &str, plural: &str) -> Option<Resource>
+        ensures value { result ≡ with_plural group_version.now plural.now }
 
         // No two resources share a path.
-        ensures every_resource { (r : Resource) → with_plural (api_version r) (row r).plural ≡ Some r }
+        ensures every_resource { (r : Resource) →
+            with_plural (api_version r) (row r).plural ≡ Some r }
     {
-        Self::RESOURCES.iter().copied().find(|resource| resource.api_version() == version
+        Self::RESOURCES.iter().copied().find(|resource| resource.api_version() == group_version
             && resource.plural() == plural)
     }
 
-    /// The resource with this kind in this group and version.
-    pub fn with_kind(version: &str, kind: &str) -> Option<Resource>
-        ensures value { result ≡ with_kind version.now kind.now }
+    /// The resource whose objects have this `kind` and this `apiVersion`.
+    pub fn with_kind(group_version: &str, kind: &str) -> Option<Resource>
+        ensures value { result ≡ with_kind group_version.now kind.now }
 
         // No two resources share a kind.
         ensures every_resource { (r : Resource) → with_kind (api_version r) (row r).kind ≡ Some r }
     {
-        Self::RESOURCES.iter().copied().find(|resource| resource.api_version() == version
+        Self::RESOURCES.iter().copied().find(|resource| resource.api_version() == group_version
             && resource.kind() == kind)
     }
 }
