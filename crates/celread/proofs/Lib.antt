@@ -1,0 +1,10 @@
+pub mod Literals
+pub mod CallTrees
+pub mod Ending
+pub mod Chains
+pub mod Prefixes
+pub mod Suffixes
+pub mod Primaries
+pub mod Conditionals
+pub mod Lists
+pub mod Refusals

@@ -1,0 +1,9 @@
+pub mod Tree
+pub mod Calls
+pub mod Operators
+pub mod Grammar
+pub mod Ends
+pub mod View
+pub mod Ahead
+pub mod Limits
+pub mod Reading

@@ -1,0 +1,56 @@
+//! Texts to trees.
+
+ghost use Rattle.std.specs.Prelude.{IfOk, IfErr};
+ghost use Rattle.celtokens.specs.Seen.{terminals};
+ghost use Rattle.celread.specs.Reading.{IsParse, IsParseFault, IsReadAs, IsRefusedBy};
+ghost use Rattle.celread.specs.View.{view};
+
+use crate::expression::expression;
+use crate::fault::ReadFault;
+use crate::limits::{nests_within, opens_too_many};
+use crate::tree::Tree;
+use celtokens::{Token, characters, tokens};
+use std::alloc::Global;
+
+/// The longest text that is read, in bytes.
+pub const TEXT_LIMIT: usize = 4096;
+
+fn parse(alloc: Global, tokens: &[Token<'_>]) -> Result<Tree, ReadFault>
+    ensures tree { IfOk result (λ t. IsParse (terminals tokens.now) (view t)) }
+    ensures fault { IfErr result (IsParseFault (terminals tokens.now)) }
+{
+    if opens_too_many(tokens) {
+        return Err(ReadFault::TooDeep);
+    }
+    let (tree, rest) = expression(alloc, tokens)?;
+    if !rest.is_empty() {
+        return Err(ReadFault::NotInGrammar);
+    }
+    if nests_within(&tree, 2) {
+        Ok(tree)
+    } else {
+        Err(ReadFault::TooDeep)
+    }
+}
+
+/// The tree that the text spells.
+///
+/// # Errors
+///
+/// The first that applies: [`ReadFault::TooLong`] for a text of more than 4096 bytes, [`ReadFault::NotInGrammar`] for one without
+/// tokens, [`ReadFault::TooDeep`] for more than 32 open brackets, [`ReadFault::NotInGrammar`] where the tokens spell no tree,
+/// [`ReadFault::TooDeep`] for macros that nest three deep. [`ReadFault::Memory`] where no memory is left.
+pub fn read(alloc: Global, text: &str) -> Result<Tree, ReadFault>
+    ensures tree { IfOk result (λ t. IsReadAs text.now (view t)) }
+    ensures fault { IfErr result (IsRefusedBy text.now) }
+{
+    if text.len() > TEXT_LIMIT {
+        return Err(ReadFault::TooLong);
+    }
+    let chars = characters(alloc, text)?;
+    let found = tokens(alloc, &chars)?;
+    match found {
+        Some(tokens) => parse(alloc, &tokens),
+        None => Err(ReadFault::NotInGrammar),
+    }
+}
