@@ -1,0 +1,3 @@
+pub mod Counting
+pub mod Zeros
+pub mod Fronts
