@@ -1,0 +1,5 @@
+pub mod Documents
+pub mod Fields
+pub mod Keys
+pub mod Parts
+pub mod Writes

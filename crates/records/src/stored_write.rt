@@ -1,0 +1,94 @@
+ghost use Rattle.std.specs.Prelude.{◌≡◌, ◌≢◌, ◌<◌, ◌^◌, ◌++◌, length, List, ℕ, IsTrue, IfOk, IsErrOf};
+ghost use Rattle.jsondoc.specs.Document.{text};
+ghost use Rattle.names.specs.Key.{Key as KeyData, is_key};
+ghost use Rattle.apicore.specs.Codes.{document_in};
+ghost use Rattle.apicore.specs.Document.{Document};
+ghost use Rattle.apicore.specs.History.{Write, put, delete};
+ghost use Rattle.apicore.specs.Manifest.{HasForm};
+ghost use Rattle.records.specs.declared.fault.RecordFault.TheVariants as RecordFault;
+ghost use Rattle.records.specs.Payload.{fields, payload, IsStorable};
+ghost use Rattle.records.specs.WriteOf.{write_of};
+
+use crate::RecordFault;
+use crate::field::{split_key, split_kind, split_text};
+use crate::write_payload::{DELETE, PUT};
+use apicore::Manifest;
+use names::Key;
+use std::alloc::Global;
+
+// The field of no plans.
+const NO_PLANS: [u8; 4] = [0; 4];
+
+/// A write, as it is read from its payload.
+#[derive(Drop)]
+pub enum StoredWrite {
+    /// The manifest's document was put at its key.
+    Put(Manifest),
+    /// The object at the key was deleted.
+    Delete(Key),
+}
+
+/// Reads a payload. `Damaged` where no well-formed write has it.
+pub fn read_write(alloc: Global, bytes: &[u8]) -> Result<StoredWrite, RecordFault>
+    ensures write { IfOk result (λ w. payload (write_of w) ≡ bytes.now) }
+    ensures form { IfOk result (λ w. IsStorable (write_of w)) }
+    ensures damaged { IsErrOf result RecordFault.Damaged → (w : Write) → IsStorable w → payload w ≢ bytes.now }
+{
+    let (kind, fields) = split_kind(bytes).ok_or(RecordFault::Damaged)?;
+    match kind {
+        PUT => Ok(StoredWrite::Put(read_put(alloc, fields)?)),
+        DELETE => Ok(StoredWrite::Delete(read_delete(alloc, fields)?)),
+        _ => Err(RecordFault::Damaged),
+    }
+}
+
+// Reads the fields of a put.
+fn read_put(alloc: Global, bytes: &[u8]) -> Result<Manifest, RecordFault>
+    ensures write { IfOk result (λ m. fields (put m.key (document_in m.body)) ≡ bytes.now) }
+    ensures form { IfOk result (λ m. IsStorable (put m.key (document_in m.body))) }
+    ensures damaged { IsErrOf result RecordFault.Damaged
+        → (k : KeyData) (d : Document) → IsStorable (put k d) → fields (put k d) ≢ bytes.now }
+{
+    let (key, rest) = split_key(bytes).ok_or(RecordFault::Damaged)?;
+    let (document, plans) = split_text(rest).ok_or(RecordFault::Damaged)?;
+    if plans != NO_PLANS.as_slice() {
+        return Err(RecordFault::Damaged);
+    }
+    let key = Key::read(alloc, key)?;
+    read_document(alloc, &key, document)
+}
+
+// Reads the text of a document that is stored at a key.
+fn read_document(alloc: Global, key: &Key, document_text: &[u8]) -> Result<Manifest, RecordFault>
+    ensures key { IfOk result (λ m. m.key ≡ key.now) }
+    ensures form { IfOk result (λ m. HasForm key.now (document_in m.body)) }
+    ensures text { IfOk result (λ m. text (document_in m.body).json ≡ document_text.now) }
+    ensures damaged { IsErrOf result RecordFault.Damaged
+        → (d : Document) → HasForm key.now d → text d.json ≢ document_text.now }
+{
+    let manifest = Manifest::read(
+        alloc,
+        key.resource(),
+        key.namespace(),
+        Some(key.name()),
+        document_text,
+    )?;
+    if manifest.text().as_bytes() != document_text {
+        return Err(RecordFault::Damaged);
+    }
+    Ok(manifest)
+}
+
+// Reads the fields of a deletion.
+fn read_delete(alloc: Global, bytes: &[u8]) -> Result<Key, RecordFault>
+    ensures write { IfOk result (λ k. fields (delete k) ≡ bytes.now) }
+    ensures form { IfOk result (λ k. IsTrue (is_key k)) }
+    ensures damaged { IsErrOf result RecordFault.Damaged
+        → (k : KeyData) → IsTrue (is_key k) → fields (delete k) ≢ bytes.now }
+{
+    let (key, rest) = split_key(bytes).ok_or(RecordFault::Damaged)?;
+    if !rest.is_empty() {
+        return Err(RecordFault::Damaged);
+    }
+    Ok(Key::read(alloc, key)?)
+}
