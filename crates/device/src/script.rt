@@ -24,7 +24,7 @@ pub(crate) struct Script {
 impl Script {
     ghost use Rattle.device.specs.Script.{is_to_fail, after_call};
 
-    // Goes on by one call, which fails if it was asked to or is not possible.
+    /// Goes on by one call, which fails if it was asked to or is not possible.
     pub(crate) fn next_call(&mut self, possible: bool) -> Result<(), DeviceFault>
         ensures answer { is_ok result ≡ (possible && not (is_to_fail self.old)) }
         ensures ok { OnOk result (self.new ≡ after_call false self.old) }

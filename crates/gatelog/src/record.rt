@@ -13,7 +13,7 @@ pub(crate) const LENGTH_BYTES: usize = 4;
 
 pub(crate) const MOST_PAYLOAD: usize = 67108864;
 
-// The number of sectors of the body of a payload of this many bytes.
+/// The number of sectors of the body of a payload of this many bytes.
 pub(crate) fn sectors_of(payload_length: usize) -> usize
     requires { payload_length ≤ 67108864 }
     ensures { result ≡ body_sectors payload_length }
@@ -109,7 +109,7 @@ impl Body {
         put(&mut self.bytes, LENGTH_BYTES + at, with);
     }
 
-    // The record's body, and the closed gate behind it.
+    /// The record's body, and the closed gate behind it.
     pub(crate) fn record_and_gate(&self) -> &[u8]
         ensures bytes { result.now ≡ self.now.bytes.items }
         ensures size { length result.now ≡ 512 * sectors (payload_of self.now) + 512 }
@@ -119,7 +119,7 @@ impl Body {
         &self.bytes
     }
 
-    // The number of sectors of the record's body.
+    /// The number of sectors of the record's body.
     pub(crate) fn sectors(&self) -> u64
         ensures { result ≡ sectors (payload_of self.now) }
     {

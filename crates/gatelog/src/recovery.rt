@@ -63,7 +63,7 @@ fn check_body<D: Device>(device: &mut D, at: u64, end: u64) -> Result<u64, LogFa
     Ok(count as u64)
 }
 
-// The first closed gate of the log that begins at a gate.
+/// The first closed gate of the log that begins at a gate.
 pub(crate) fn last_gate_of<D: Device>(device: &mut D, at: u64) -> Result<u64, LogFault>
     ensures found { D.disk.keeps device.old → IfOk result (λ last. (payloads : List (List ℕ)) × HoldsLog at payloads last (D.disk.content device.old)) }
     ensures damaged { D.disk.keeps device.old → IsErrOf result LogFault.Damaged
@@ -118,7 +118,7 @@ fn read_payload<D: Device>(
     Ok(copy_of(alloc, &body, LENGTH_BYTES, payload_length)?)
 }
 
-// The payloads of the log between two gates.
+/// The payloads of the log between two gates.
 pub(crate) fn payloads_of<D: Device>(
     alloc: Global,
     device: &mut D,

@@ -48,7 +48,7 @@ fn write_gate<D: Device>(device: &mut D, gate: u64) -> Result<(), DeviceFault>
     write_through(device, gate, &open_gate())
 }
 
-// Writes a record and the closed gate behind it, behind the closed gate at `last`, syncs, opens that gate, and syncs.
+/// Writes a record and the closed gate behind it, behind the closed gate at `last`, syncs, opens that gate, and syncs.
 pub(crate) fn write_record<D: Device>(
     device: &mut D,
     last: u64,

@@ -26,6 +26,7 @@ impl Model for Message {
 }
 
 impl Message {
+    /// A message of these parts, which are copied.
     pub(crate) fn new(
         alloc: Global,
         method: Method,
