@@ -1,6 +1,6 @@
 -- The steps of a file of bytes, seen as sectors.
-use Rattle.std.proofs.Common.{rules, arith, refl, ◌≡◌, ◌∙◌, sym, ap, subst, ◌<◌, ◌≤◌, ◌+◌, ◌*◌, ◌/◌, ◌%◌, ◌-◌, ◌⊎◌, inl, inr, ⊎_elim, ℕ, List, length, take, drop, min, max, slice_index}
-use Rattle.std.proofs.lemmas.List.{places, same_lists, length-take, length-drop, get_or-take, get_or-drop, take-take}
+use Rattle.std.proofs.Common.{rules, arith, refl, ◌≡◌, ◌∙◌, sym, ap, subst, ◌<◌, ◌≤◌, ◌+◌, ◌*◌, ◌/◌, ◌%◌, ◌-◌, inl, inr, ⊎_elim, ℕ, List, length, take, drop, min, max, slice_index}
+use Rattle.std.proofs.lemmas.List.{places, same_lists, length-take, length-drop, get_or-take, take-take}
 use Rattle.device.specs.declared.sector_file.SectorFile.{SectorFile}
 use Rattle.device.specs.Disk.{Disk, Only}
 use Rattle.device.specs.Step.{Holds, Same, Torn, Cut, After}

@@ -96,6 +96,24 @@ settled m = record m {
   greatest = m.len;
 }
 
+-- A new device with this room: it is empty, all is zeros, and no call is to fail.
+abbrev pub fresh : ℕ → Memory
+fresh room = record {
+  current = replicate (512 * room) 0;
+  synced = replicate (512 * room) 0;
+  latest = replicate (512 * room) 0;
+  unsynced = replicate room false;
+  len = 0;
+  least = 0;
+  greatest = 0;
+  script = record { fail_in = 0; stop_in = 0; failures = 0 };
+  counts = record { reads = 0; writes = 0; cuts = 0; syncs = 0 };
+}
+
+-- After a crash that left this row and length: they are on the disk, and no call is to fail.
+abbrev pub found : Memory → List ℕ → ℕ → Memory
+found m current len = record (settled (record m { current = current; len = len })) { script = record m.script { fail_in = 0; stop_in = 0 } }
+
 -- The next call was asked to fail.
 abbrev pub fails_next : Memory → Bool
 fails_next m = is_to_fail m.script

@@ -94,9 +94,7 @@ fn locked(file: File) -> io::Result<FileDevice>
     ensures { IfOk result (λ device. device.file.failures ≡ 0) }
 {
     match file.try_lock() {
-        Ok(()) => Ok(SectorFile {
-            file: HostFile::new(file),
-        }),
+        Ok(()) => Ok(SectorFile::new(HostFile::new(file))),
         Err(_) => Err(ErrorKind::ResourceBusy.into()),
     }
 }

@@ -20,7 +20,7 @@ pub struct HostFile {
 }
 
 impl HostFile {
-    /// A file that has not failed yet.
+    /// A file that has not failed.
     pub(crate) fn new(file: File) -> HostFile
         ensures { result.failures ≡ 0 }
     {

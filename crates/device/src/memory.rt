@@ -86,15 +86,13 @@ fn pick_at(picks: &[Pick], number: usize) -> Option<Pick>
 impl MemDevice {
     ghost use Rattle.device.specs.Disk.{Only};
     ghost use Rattle.device.specs.Picks.{may_change, picked};
-    ghost use Rattle.device.specs.Memory.{memory, memory_content, memory_left, fits, reached, settled, crash_byte};
+    ghost use Rattle.device.specs.Memory.{memory, memory_content, memory_left, fresh, fits, reached, settled, found, crash_byte};
 
     /// An empty device with room for this many sectors.
     pub fn new(alloc: Global, room: u64) -> Result<MemDevice, AllocError>
         ensures empty { IfOk result (λ device. memory_content device ≡ []) }
-        ensures room { IfOk result (λ device. length (memory device).unsynced ≡ room) }
         ensures settled { IfOk result (λ device. Only [] (memory_left device)) }
-        ensures script { IfOk result (λ device. device.script ≡ record { fail_in = 0; stop_in = 0; failures = 0 }) }
-        ensures counts { IfOk result (λ device. device.counts ≡ record { reads = 0; writes = 0; cuts = 0; syncs = 0 }) }
+        ensures memory { IfOk result (λ device. memory device ≡ fresh room) }
     {
         if room > MOST_SECTORS {
             return Err(AllocError);
@@ -224,9 +222,7 @@ impl MemDevice {
         ensures bytes { (k : ℕ) → k < length (memory_content result) → slice_index (memory_content result) k ≡ crash_byte (memory self) picks.now k }
         ensures left { memory_left self (memory_content result) }
         ensures stays { Only (memory_content result) (memory_left result) }
-        ensures script { result.script ≡ record { fail_in = 0; stop_in = 0; failures = self.script.failures } }
-        ensures counts { result.counts ≡ self.counts }
-        ensures room { length (memory result).unsynced ≡ length (memory self).unsynced }
+        ensures memory { memory result ≡ found (memory self) (memory result).current (max self.least (min len self.greatest)) }
     {
         let mut found = self;
         let len = (len as usize).min(found.greatest).max(found.least);

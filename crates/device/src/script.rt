@@ -11,7 +11,7 @@ pub struct Counts {
     pub syncs: u64,
 }
 
-// Which calls are to fail, and how many did.
+/// Which calls are to fail, and how many did.
 #[derive(Clone, Copy)]
 pub(crate) struct Script {
     // the call that fails, counted from the next, which is 1; 0 for none

@@ -7,7 +7,7 @@ const SECTOR: u64 = 512;
 /// A file of bytes as a device. A rest behind its last whole sector is no part of it.
 #[derive(Drop)]
 pub struct SectorFile<F> {
-    pub(crate) file: F,
+    file: F,
 }
 
 // The offset at which a sector begins, or the greatest there is.
@@ -15,6 +15,15 @@ fn offset_of(sector: u64) -> u64
     ensures { result ≡ min (512 * sector) (2 ^ 64 - 1) }
 {
     sector.saturating_mul(SECTOR)
+}
+
+impl<F: RawFile> SectorFile<F> {
+    /// The whole sectors of a file.
+    pub fn new(file: F) -> SectorFile<F>
+        ensures { result.file ≡ file }
+    {
+        SectorFile { file }
+    }
 }
 
 impl<F: RawFile> Device for SectorFile<F> {
