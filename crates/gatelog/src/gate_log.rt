@@ -118,6 +118,7 @@ impl Log {
             → IfOk result (λ found. map (λ payload. payload.items) found.items ≡ payloads) }
         ensures damaged { D.disk.keeps device.old → IsErrOf result LogFault.Damaged
             → (payloads : List (List ℕ)) → HoldsLog self.old.start payloads self.old.last (D.disk.content device.old) → ⊥ }
+        ensures refusal { IsErrOf result LogFault.TooLong → ⊥ }
         ensures place { (self.new.start ≡ self.old.start) × (self.new.last ≡ self.old.last) }
         ensures failed { IsTrue self.new.failed ↔ IsErrOf result LogFault.Device }
         ensures stays_failed { IsTrue self.old.failed → IsErrOf result LogFault.Device }

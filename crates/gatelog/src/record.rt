@@ -1,4 +1,4 @@
-ghost use Rattle.std.specs.Prelude.{◌≡◌, ◌<◌, ◌≤◌, ◌+◌, ◌-◌, ◌*◌, ◌/◌, ◌++◌, ℕ, [], List, length, take, drop, vec_len, slice_index, IfOk, OnOk, OnErr, IsErrOf};
+ghost use Rattle.std.specs.Prelude.{◌≡◌, ◌⊎◌, ◌<◌, ◌≤◌, ◌+◌, ◌-◌, ◌*◌, ◌/◌, ◌++◌, ℕ, [], List, length, take, drop, vec_len, slice_index, IfOk, OnOk, OnErr, IsErrOf};
 ghost use Rattle.byteorder.specs.Endian.{big_number};
 ghost use Rattle.gatelog.specs.Record.{body_sectors, sectors, IsRecord};
 
@@ -88,6 +88,7 @@ impl Body {
         ensures added { OnOk result (payload_of self.new ≡ payload_of self.old ++ more.now) }
         ensures same { OnErr result (payload_of self.new ≡ payload_of self.old) }
         ensures fits { OnOk result (length (payload_of self.old) + length more.now ≤ 67108864) }
+        ensures refusal { OnErr result (IsErrOf result LogFault.TooLong ⊎ IsErrOf result LogFault.Memory) }
         ensures long { IsErrOf result LogFault.TooLong → 67108864 < length (payload_of self.old) + length more.now }
     {
         if more.len() > MOST_PAYLOAD - self.payload_length {

@@ -105,6 +105,7 @@ fn read_payload<D: Device>(
     ensures found { D.disk.keeps device.old → (payload : List ℕ) → HoldsRecord at payload (D.disk.content device.old) → IfOk result (λ found. found.items ≡ payload) }
     ensures damaged { D.disk.keeps device.old → IsErrOf result LogFault.Damaged → (payload : List ℕ) → HoldsRecord at payload (D.disk.content device.old) → ⊥ }
     ensures inside { IfOk result (λ found. (vec_len found ≤ 67108864) × (at + body_sectors (vec_len found) ≤ end)) }
+    ensures refusal { IsErrOf result LogFault.TooLong → ⊥ }
     ensures ran { Ran D.disk device.old device.new Same }
     ensures cause { IsErrOf result LogFault.Device → HasFailed D.disk device.old device.new }
 {
@@ -129,6 +130,7 @@ pub(crate) fn payloads_of<D: Device>(
         → IfOk result (λ found. map (λ payload. payload.items) found.items ≡ payloads) }
     ensures damaged { D.disk.keeps device.old → IsErrOf result LogFault.Damaged
         → (payloads : List (List ℕ)) → HoldsLog start payloads last (D.disk.content device.old) → ⊥ }
+    ensures refusal { IsErrOf result LogFault.TooLong → ⊥ }
     ensures ran { Ran D.disk device.old device.new Same }
     ensures cause { IsErrOf result LogFault.Device → HasFailed D.disk device.old device.new }
 {

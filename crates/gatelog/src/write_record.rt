@@ -23,18 +23,22 @@ fn open_gate() -> [u8; 512]
 }
 
 // Writes a record's body and the closed gate behind it, behind the gate at `last`, and syncs.
-fn write_behind<D: Device>(device: &mut D, last: u64, record: &[u8]) -> Result<(), DeviceFault>
+fn write_behind<D: Device>(
+    device: &mut D,
+    last: u64,
+    body_and_gate: &[u8],
+) -> Result<(), DeviceFault>
     requires room { last < 2 ^ 54 }
-    requires whole { length record.now % 512 ≡ 0 }
-    requires some { 0 < length record.now }
+    requires whole { length body_and_gate.now % 512 ≡ 0 }
+    requires some { 0 < length body_and_gate.now }
     requires inside { D.disk.keeps device.old → 512 * (last + 1) ≤ length (D.disk.content device.old) }
-    ensures written { D.disk.keeps device.old → OnOk result (Holds (D.disk.content device.old) (512 * (last + 1)) record.now (D.disk.content device.new)) }
+    ensures written { D.disk.keeps device.old → OnOk result (Holds (D.disk.content device.old) (512 * (last + 1)) body_and_gate.now (D.disk.content device.new)) }
     ensures durable { D.disk.keeps device.old → OnOk result (Only (D.disk.content device.new) (D.disk.left device.new)) }
-    ensures at_most { OnOk result (512 * (last + 1) + length record.now ≤ 2 ^ 63) }
-    ensures ran { Ran D.disk device.old device.new (Torn (512 * (last + 1)) (length record.now)) }
+    ensures at_most { OnOk result (512 * (last + 1) + length body_and_gate.now ≤ 2 ^ 63) }
+    ensures ran { Ran D.disk device.old device.new (Torn (512 * (last + 1)) (length body_and_gate.now)) }
     ensures cause { HasCause D.disk device.old device.new result }
 {
-    write_through(device, last + 1, record)
+    write_through(device, last + 1, body_and_gate)
 }
 
 // Opens a gate, and syncs.
