@@ -1,7 +1,4 @@
 ghost use Rattle.std.specs.Prelude.{◌≡◌};
-ghost use Rattle.names.specs.declared.key.KeyFault.TheVariants as KeyFault;
-ghost use Rattle.apicore.specs.declared.manifest.BodyFault.TheVariants as BodyFault;
-ghost use Rattle.records.specs.declared.fault.RecordFault.TheVariants.{Damaged, Memory};
 
 use apicore::BodyFault;
 use names::KeyFault;

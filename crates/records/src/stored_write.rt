@@ -1,4 +1,4 @@
-ghost use Rattle.std.specs.Prelude.{◌≡◌, ◌≢◌, ◌<◌, ◌^◌, ◌++◌, length, List, ℕ, IsTrue, IfOk, IsErrOf};
+ghost use Rattle.std.specs.Prelude.{◌≡◌, ◌≢◌, IsTrue, IfOk, IsErrOf};
 ghost use Rattle.jsondoc.specs.Document.{text};
 ghost use Rattle.names.specs.Key.{Key as KeyData, is_key};
 ghost use Rattle.apicore.specs.Codes.{document_in};

@@ -1,9 +1,9 @@
-ghost use Rattle.std.specs.Prelude.{◌≡◌, ◌<◌, ◌≤◌, ◌+◌, ◌^◌, ◌++◌, ◌∷◌, [], ℕ, List, length, IsTrue, IfOk, OnOk, IsErrOf};
+ghost use Rattle.std.specs.Prelude.{◌≡◌, ◌<◌, ◌≤◌, ◌+◌, ◌++◌, ◌∷◌, [], length, IfOk, OnOk, IsErrOf};
 ghost use Rattle.byteorder.specs.Endian.{big_bytes};
 ghost use Rattle.gatelog.specs.declared.fault.LogFault.TheVariants as LogFault;
 ghost use Rattle.gatelog.specs.Payload.{payload_of};
 ghost use Rattle.jsondoc.specs.Document.{text};
-ghost use Rattle.names.specs.Key.{is_key, key_bytes};
+ghost use Rattle.names.specs.Key.{key_bytes};
 ghost use Rattle.apicore.specs.Document.{Document};
 ghost use Rattle.apicore.specs.History.{put, delete};
 ghost use Rattle.records.specs.Payload.{field, payload};
@@ -29,7 +29,7 @@ fn begin(alloc: Global, kind: u8) -> Result<Body, LogFault>
     Ok(body)
 }
 
-// Adds a key's bytes, with their number in front in two bytes.
+// Adds a key's bytes, with their number in front in two bytes. A well-formed key has at most 318 bytes.
 fn add_key(body: &mut Body, alloc: Global, key: &Key) -> Result<(), LogFault>
     ensures added { OnOk result (payload_of body.new ≡ payload_of body.old ++ field 2 (key_bytes key.now)) }
     ensures long { IsErrOf result LogFault.TooLong
