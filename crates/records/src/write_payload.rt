@@ -21,6 +21,7 @@ pub(crate) const DELETE: u8 = 2;
 fn begin(alloc: Global, kind: u8) -> Result<Body, LogFault>
     ensures begun { IfOk result (λ body. payload_of body ≡ big_bytes 2 1 ++ kind ∷ []) }
     ensures long { IsErrOf result LogFault.TooLong → ⊥ }
+    ensures refusal { IsErrOf result LogFault.Device → ⊥ }
 {
     let mut start = [0, 0, kind];
     BigEndian::write_u16(&mut start, 1);
@@ -35,6 +36,7 @@ fn add_key(body: &mut Body, alloc: Global, key: &Key) -> Result<(), LogFault>
     ensures long { IsErrOf result LogFault.TooLong
         → 67108864 < length (payload_of body.old) + length (field 2 (key_bytes key.now)) }
     ensures short { IsErrOf result LogFault.TooLong → length (field 2 (key_bytes key.now)) ≤ 320 }
+    ensures refusal { IsErrOf result LogFault.Device → ⊥ }
 {
     let bytes = key.bytes(alloc)?;
     prove!(key.name().len() <= 253);
@@ -49,6 +51,7 @@ fn add_text(body: &mut Body, text: &[u8]) -> Result<(), LogFault>
     ensures added { OnOk result (payload_of body.new ≡ payload_of body.old ++ field 4 text.now) }
     ensures long { IsErrOf result LogFault.TooLong
         → 67108864 < length (payload_of body.old) + length (field 4 text.now) }
+    ensures refusal { IsErrOf result LogFault.Device → ⊥ }
 {
     if text.len() > u32::MAX as usize {
         return Err(LogFault::TooLong);
@@ -65,6 +68,7 @@ pub fn put_payload(alloc: Global, key: &Key, document_text: &str) -> Result<Body
     ensures bytes { (d : Document) → document_text.now ≡ text d.json → IfOk result (λ body. payload_of body ≡ payload (put key.now d)) }
     ensures long { (d : Document) → document_text.now ≡ text d.json → IsErrOf result LogFault.TooLong
         → 67108864 < length (payload (put key.now d)) }
+    ensures refusal { IsErrOf result LogFault.Device → ⊥ }
 {
     let mut body = begin(alloc, PUT)?;
     add_key(&mut body, alloc, key)?;
@@ -77,6 +81,7 @@ pub fn put_payload(alloc: Global, key: &Key, document_text: &str) -> Result<Body
 pub fn delete_payload(alloc: Global, key: &Key) -> Result<Body, LogFault>
     ensures bytes { IfOk result (λ body. payload_of body ≡ payload (delete key.now)) }
     ensures long { IsErrOf result LogFault.TooLong → ⊥ }
+    ensures refusal { IsErrOf result LogFault.Device → ⊥ }
 {
     let mut body = begin(alloc, DELETE)?;
     add_key(&mut body, alloc, key)?;
