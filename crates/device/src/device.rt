@@ -11,6 +11,10 @@ use std::fmt::{Display, Formatter};
 pub struct DeviceFault;
 
 impl Display for DeviceFault {
+    ghost use Rattle.std.specs.Prelude.{Some, codes};
+
+    ghost output = { λ _. Some (codes "device failed") };
+
     fn fmt<W: fmt::Write>(&self, f: &mut Formatter<W>) -> fmt::Result {
         f.write_str("device failed")
     }
@@ -39,7 +43,8 @@ pub trait Device: Drop {
     fn read(&mut self, at: u64, buffer: &mut [u8]) -> Result<(), DeviceFault>
         requires whole { length buffer.old % 512 ≡ 0 }
         requires inside { disk.keeps self.old → 512 * at + length buffer.old ≤ length (disk.content self.old) }
-        ensures bytes { disk.keeps self.old → OnOk result (buffer.new ≡ take (length buffer.old) (drop (512 * at) (disk.content self.old))) }
+        ensures bytes { disk.keeps self.old
+            → OnOk result (buffer.new ≡ take (length buffer.old) (drop (512 * at) (disk.content self.old))) }
         ensures ran { Ran disk self.old self.new Same }
         ensures cause { HasCause disk self.old self.new result };
 
@@ -85,7 +90,8 @@ pub fn write_through<D: Device>(device: &mut D, at: u64, bytes: &[u8]) -> Result
     requires whole { length bytes.now % 512 ≡ 0 }
     requires some { 0 < length bytes.now }
     requires inside { D.disk.keeps device.old → 512 * at ≤ length (D.disk.content device.old) }
-    ensures written { D.disk.keeps device.old → OnOk result (Holds (D.disk.content device.old) (512 * at) bytes.now (D.disk.content device.new)) }
+    ensures written { D.disk.keeps device.old
+        → OnOk result (Holds (D.disk.content device.old) (512 * at) bytes.now (D.disk.content device.new)) }
     ensures durable { D.disk.keeps device.old → OnOk result (Only (D.disk.content device.new) (D.disk.left device.new)) }
     ensures at_most { OnOk result (512 * at + length bytes.now ≤ 2 ^ 63) }
     ensures ran { Ran D.disk device.old device.new (Torn (512 * at) (length bytes.now)) }

@@ -34,6 +34,11 @@ pub enum OpenFault {
 }
 
 impl Display for CreateFault {
+    ghost use Rattle.std.specs.Prelude.{Some};
+    ghost use Rattle.device.specs.Faults.{create_text};
+
+    ghost output = { λ fault. Some (create_text fault) };
+
     fn fmt<W: fmt::Write>(&self, f: &mut Formatter<W>) -> fmt::Result {
         f.write_str(match self {
             CreateFault::Exists => "file exists",
@@ -44,6 +49,11 @@ impl Display for CreateFault {
 }
 
 impl Display for OpenFault {
+    ghost use Rattle.std.specs.Prelude.{Some};
+    ghost use Rattle.device.specs.Faults.{open_text};
+
+    ghost output = { λ fault. Some (open_text fault) };
+
     fn fmt<W: fmt::Write>(&self, f: &mut Formatter<W>) -> fmt::Result {
         f.write_str(match self {
             OpenFault::Missing => "no such file",

@@ -177,7 +177,9 @@ impl MemDevice {
     // Gives one sector the bytes of a pick.
     fn take_pick(&mut self, sector: usize, pick: Option<Pick>)
         requires { sector < self.old.greatest }
-        ensures inside { (k : ℕ) → k / 512 ≡ sector → slice_index self.new.current.items k ≡ picked pick (slice_index self.old.synced.items k) (slice_index self.old.latest.items k) }
+        ensures inside { (k : ℕ) → k / 512 ≡ sector
+            → slice_index self.new.current.items k
+            ≡ picked pick (slice_index self.old.synced.items k) (slice_index self.old.latest.items k) }
         ensures outside { (k : ℕ) → (k / 512 ≡ sector → ⊥) → slice_index self.new.current.items k ≡ slice_index self.old.current.items k }
         ensures others { memory self.new ≡ record (memory self.old) { current = self.new.current.items } }
     {
@@ -219,7 +221,8 @@ impl MemDevice {
     /// forgotten.
     pub fn crash(self, picks: &[Pick], len: u64) -> MemDevice
         ensures length { length (memory_content result) ≡ 512 * max self.least (min len self.greatest) }
-        ensures bytes { (k : ℕ) → k < length (memory_content result) → slice_index (memory_content result) k ≡ crash_byte (memory self) picks.now k }
+        ensures bytes { (k : ℕ) → k < length (memory_content result)
+            → slice_index (memory_content result) k ≡ crash_byte (memory self) picks.now k }
         ensures left { memory_left self (memory_content result) }
         ensures stays { Only (memory_content result) (memory_left result) }
         ensures memory { memory result ≡ found (memory self) (memory result).current (max self.least (min len self.greatest)) }
@@ -289,7 +292,8 @@ impl Device for MemDevice {
         ensures ran { Ran memory_disk self.old self.new (Torn (512 * at) (length bytes.now)) }
         ensures cause { HasCause memory_disk self.old self.new result }
         ensures answer { is_ok result ≡ (fits at bytes.now (memory self.old) && not (fails_next (memory self.old))) }
-        ensures ok { OnOk result (memory self.new ≡ called false (written at bytes.now (reached at bytes.now (one_write (memory self.old))))) }
+        ensures ok { OnOk result
+            (memory self.new ≡ called false (written at bytes.now (reached at bytes.now (one_write (memory self.old))))) }
         ensures err { OnErr result (memory self.new ≡ called true (reached at bytes.now (one_write (memory self.old)))) }
     {
         self.counts.writes = self.counts.writes.saturating_add(1);
@@ -307,7 +311,8 @@ impl Device for MemDevice {
         ensures ran { Ran memory_disk self.old self.new (Cut (512 * sectors)) }
         ensures cause { HasCause memory_disk self.old self.new result }
         ensures answer { is_ok result ≡ not (fails_next (memory self.old)) }
-        ensures ok { OnOk result (memory self.new ≡ called false (record (shortened sectors (one_cut (memory self.old))) { len = sectors })) }
+        ensures ok { OnOk result
+            (memory self.new ≡ called false (record (shortened sectors (one_cut (memory self.old))) { len = sectors })) }
         ensures err { OnErr result (memory self.new ≡ called true (shortened sectors (one_cut (memory self.old)))) }
     {
         self.counts.cuts = self.counts.cuts.saturating_add(1);

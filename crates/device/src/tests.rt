@@ -135,16 +135,77 @@ fn each_call_fails_in_turn(rt: HostRuntime) -> Result<(), Fail> {
     Ok(())
 }
 
+// One of seven calls: a write of twos over three sectors, one of threes over the first, and a cut of all, each with a sync behind
+// it, and a read.
+fn one_call(device: &mut MemDevice, number: u64) -> Result<(), DeviceFault> {
+    match number {
+        1 => device.write(0, &[2; 1536]),
+        3 => device.write(0, &[3; 512]),
+        5 => device.cut(0),
+        7 => device.read(0, &mut []),
+        _ => device.sync(),
+    }
+}
+
 #[test]
-fn a_stop_lasts_until_the_crash(rt: HostRuntime) -> Result<(), Fail> {
+fn each_call_stops_until_the_crash(rt: HostRuntime) -> Result<(), Fail> {
     let alloc = rt.alloc();
-    let mut device = MemDevice::new(alloc, 4)?;
-    put_through(&mut device, 0, &[1; 1024])?;
-    device.stop_on(2);
-    assert_eq!(rt; script(&mut device), Err(DeviceFault));
-    assert_eq!(rt; device.len(), Err(DeviceFault));
-    let mut found = device.crash(&[Pick::New], 2);
-    assert_eq!(rt; firsts(alloc, &mut found)?.as_slice(), [1, 3].as_slice());
+    // The sectors that a crash leaves after a stop at each call: by the picks `Old`, by the picks `New`.
+    let left: [(&[u8], &[u8]); 8] = [
+        (&[1, 1, 0], &[3, 2, 2]),
+        (&[1, 1, 0], &[3, 2, 2]),
+        (&[2, 2, 2], &[3, 2, 2]),
+        (&[2, 2, 2], &[3, 2, 2]),
+        (&[3, 2, 2], &[3, 2, 2]),
+        (&[3, 2, 2], &[3, 2, 2]),
+        (&[], &[]),
+        (&[], &[]),
+    ];
+    for (index, (old, new)) in left.iter().enumerate() {
+        let stop = index as u64 + 1;
+        for (pick, wanted) in &[(Pick::Old, old), (Pick::New, new)] {
+            let mut device = MemDevice::new(alloc, 4)?;
+            put_through(&mut device, 0, &[1; 1024])?;
+            device.stop_on(stop);
+            for call in 1..8u64 {
+                assert_eq!(rt;
+                    one_call(&mut device, call).is_ok(),
+                    call < stop,
+                    "call {call}, stop at {stop}"
+                );
+            }
+            let mut found = device.crash(&[*pick, *pick, *pick], u64::MAX);
+            assert_eq!(rt;
+                firsts(alloc, &mut found)?.as_slice(),
+                **wanted,
+                "stop at {stop}"
+            );
+            for call in 1..8u64 {
+                assert!(rt;
+                    one_call(&mut found, call).is_ok(),
+                    "call {call} after the crash"
+                );
+            }
+        }
+    }
+    Ok(())
+}
+
+#[test]
+fn exactly_one_call_fails(rt: HostRuntime) -> Result<(), Fail> {
+    let alloc = rt.alloc();
+    for failing in 1..8u64 {
+        let mut device = MemDevice::new(alloc, 4)?;
+        put_through(&mut device, 0, &[1; 1024])?;
+        device.fail_on(failing);
+        for call in 1..8u64 {
+            assert_eq!(rt;
+                one_call(&mut device, call).is_ok(),
+                call != failing,
+                "call {call} of {failing}"
+            );
+        }
+    }
     Ok(())
 }
 

@@ -3,3 +3,4 @@ pub mod Payload
 pub mod Log
 pub mod Settled
 pub mod Walk
+pub mod Fault

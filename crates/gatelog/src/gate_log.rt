@@ -34,7 +34,8 @@ impl Log {
         requires { D.disk.keeps device.old → 512 * at ≤ length (D.disk.content device.old) }
         ensures log { IfOk result (λ log. (log.start ≡ at) × (log.last ≡ at) × (log.failed ≡ false)) }
         ensures stands { D.disk.keeps device.old → OnOk result (HoldsLog at [] at (D.disk.content device.new)) }
-        ensures written { D.disk.keeps device.old → OnOk result (Holds (D.disk.content device.old) (512 * at) (replicate 512 0) (D.disk.content device.new)) }
+        ensures written { D.disk.keeps device.old
+            → OnOk result (Holds (D.disk.content device.old) (512 * at) (replicate 512 0) (D.disk.content device.new)) }
         ensures ran { Ran D.disk device.old device.new (Torn (512 * at) 512) }
         ensures refusal { OnErr result (result ≡ Err LogFault.Device) }
         ensures cause { HasCause D.disk device.old device.new result }
@@ -51,7 +52,8 @@ impl Log {
     /// list of payloads stands there. It takes no memory.
     pub fn open<D: Device>(device: &mut D, at: u64) -> Result<Log, LogFault>
         ensures log { IfOk result (λ log. (log.start ≡ at) × (log.failed ≡ false)) }
-        ensures found { D.disk.keeps device.old → IfOk result (λ log. (payloads : List (List ℕ)) × HoldsLog at payloads log.last (D.disk.content device.old)) }
+        ensures found { D.disk.keeps device.old
+            → IfOk result (λ log. (payloads : List (List ℕ)) × HoldsLog at payloads log.last (D.disk.content device.old)) }
         ensures damaged { D.disk.keeps device.old → IsErrOf result LogFault.Damaged
             → (payloads : List (List ℕ)) (last : ℕ) → HoldsLog at payloads last (D.disk.content device.old) → ⊥ }
         ensures refusal { OnErr result (IsErrOf result LogFault.Device ⊎ IsErrOf result LogFault.Damaged) }
@@ -114,7 +116,8 @@ impl Log {
         alloc: Global,
         device: &mut D,
     ) -> Result<Vec<Vec<u8>>, LogFault>
-        ensures found { D.disk.keeps device.old → (payloads : List (List ℕ)) → HoldsLog self.old.start payloads self.old.last (D.disk.content device.old)
+        ensures found { D.disk.keeps device.old → (payloads : List (List ℕ))
+            → HoldsLog self.old.start payloads self.old.last (D.disk.content device.old)
             → IfOk result (λ found. map (λ payload. payload.items) found.items ≡ payloads) }
         ensures damaged { D.disk.keeps device.old → IsErrOf result LogFault.Damaged
             → (payloads : List (List ℕ)) → HoldsLog self.old.start payloads self.old.last (D.disk.content device.old) → ⊥ }
@@ -140,11 +143,14 @@ impl Log {
         ensures ok { D.disk.keeps device.old → (payloads : List (List ℕ)) → IsSettled D.disk device.old self.old payloads
             → OnOk result (IsSettled D.disk device.new self.new (payloads ++ payload_of body ∷ [])) }
         ensures any_moment { D.disk.keeps device.old → (payloads : List (List ℕ)) → IsSettled D.disk device.old self.old payloads
-            → LeavesOnly D.disk device.old device.new (IsBeforeOrAfter self.old.start payloads self.old.last (payload_of body) (D.disk.content device.old)) }
+            → LeavesOnly D.disk device.old device.new
+            (IsBeforeOrAfter self.old.start payloads self.old.last (payload_of body) (D.disk.content device.old)) }
         ensures found { D.disk.keeps device.old → (payloads : List (List ℕ)) → IsSettled D.disk device.old self.old payloads
-            → IsBeforeOrAfter self.old.start payloads self.old.last (payload_of body) (D.disk.content device.old) (D.disk.content device.new) }
+            → IsBeforeOrAfter self.old.start payloads self.old.last (payload_of body) (D.disk.content device.old)
+            (D.disk.content device.new) }
         ensures left { D.disk.keeps device.old → (payloads : List (List ℕ)) → IsSettled D.disk device.old self.old payloads
-            → (c : List ℕ) → D.disk.left device.new c → IsBeforeOrAfter self.old.start payloads self.old.last (payload_of body) (D.disk.content device.old) c }
+            → (c : List ℕ) → D.disk.left device.new c
+            → IsBeforeOrAfter self.old.start payloads self.old.last (payload_of body) (D.disk.content device.old) c }
 
         // After a failure the log answers `Device` without a call.
         ensures failed { self.new.failed ≡ not (is_ok result) }

@@ -6,7 +6,8 @@ use crate::LogFault;
 use byteorder::{BigEndian, ByteOrder};
 use std::alloc::{AllocError, Global};
 
-pub(crate) const SECTOR: usize = 512;
+/// Bytes in a sector.
+pub const SECTOR: usize = 512;
 
 // The bytes of a payload's length, in front of it.
 pub(crate) const LENGTH_BYTES: usize = 4;

@@ -36,8 +36,10 @@ fn is_zero(bytes: &[u8]) -> bool
 fn check_body<D: Device>(device: &mut D, at: u64, end: u64) -> Result<u64, LogFault>
     requires end { D.disk.keeps device.old → length (D.disk.content device.old) ≡ 512 * end }
     requires at_most { end ≤ 2 ^ 54 }
-    ensures found { D.disk.keeps device.old → IfOk result (λ count. (payload : List ℕ) × (count ≡ sectors payload) × HoldsRecord at payload (D.disk.content device.old)) }
-    ensures damaged { D.disk.keeps device.old → IsErrOf result LogFault.Damaged → (payload : List ℕ) → HoldsRecord at payload (D.disk.content device.old) → ⊥ }
+    ensures found { D.disk.keeps device.old
+        → IfOk result (λ count. (payload : List ℕ) × (count ≡ sectors payload) × HoldsRecord at payload (D.disk.content device.old)) }
+    ensures damaged { D.disk.keeps device.old → IsErrOf result LogFault.Damaged → (payload : List ℕ)
+        → HoldsRecord at payload (D.disk.content device.old) → ⊥ }
     ensures inside { IfOk result (λ count. (0 < count) × (at + count ≤ end)) }
     ensures refusal { OnErr result (IsErrOf result LogFault.Device ⊎ IsErrOf result LogFault.Damaged) }
     ensures ran { Ran D.disk device.old device.new Same }
@@ -65,7 +67,8 @@ fn check_body<D: Device>(device: &mut D, at: u64, end: u64) -> Result<u64, LogFa
 
 /// The first closed gate of the log that begins at a gate.
 pub(crate) fn last_gate_of<D: Device>(device: &mut D, at: u64) -> Result<u64, LogFault>
-    ensures found { D.disk.keeps device.old → IfOk result (λ last. (payloads : List (List ℕ)) × HoldsLog at payloads last (D.disk.content device.old)) }
+    ensures found { D.disk.keeps device.old
+        → IfOk result (λ last. (payloads : List (List ℕ)) × HoldsLog at payloads last (D.disk.content device.old)) }
     ensures damaged { D.disk.keeps device.old → IsErrOf result LogFault.Damaged
         → (payloads : List (List ℕ)) (last : ℕ) → HoldsLog at payloads last (D.disk.content device.old) → ⊥ }
     ensures in_order { IfOk result (λ last. (at ≤ last) × (last < 2 ^ 54)) }
@@ -102,8 +105,10 @@ fn read_payload<D: Device>(
 ) -> Result<Vec<u8>, LogFault>
     requires end { D.disk.keeps device.old → length (D.disk.content device.old) ≡ 512 * end }
     requires at_most { end ≤ 2 ^ 54 }
-    ensures found { D.disk.keeps device.old → (payload : List ℕ) → HoldsRecord at payload (D.disk.content device.old) → IfOk result (λ found. found.items ≡ payload) }
-    ensures damaged { D.disk.keeps device.old → IsErrOf result LogFault.Damaged → (payload : List ℕ) → HoldsRecord at payload (D.disk.content device.old) → ⊥ }
+    ensures found { D.disk.keeps device.old → (payload : List ℕ) → HoldsRecord at payload (D.disk.content device.old)
+        → IfOk result (λ found. found.items ≡ payload) }
+    ensures damaged { D.disk.keeps device.old → IsErrOf result LogFault.Damaged → (payload : List ℕ)
+        → HoldsRecord at payload (D.disk.content device.old) → ⊥ }
     ensures inside { IfOk result (λ found. (vec_len found ≤ 67108864) × (at + body_sectors (vec_len found) ≤ end)) }
     ensures refusal { IsErrOf result LogFault.TooLong → ⊥ }
     ensures ran { Ran D.disk device.old device.new Same }

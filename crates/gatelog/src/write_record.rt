@@ -10,7 +10,8 @@ use crate::Body;
 use crate::record::SECTOR;
 use device::{Device, DeviceFault, write_through};
 
-pub(crate) const OPEN: u8 = 0xA5;
+/// The first byte of an open gate. A gate with any other first byte is closed.
+pub const OPEN: u8 = 0xA5;
 
 // An open gate: 0xA5 and zeros.
 fn open_gate() -> [u8; 512]
@@ -32,7 +33,8 @@ fn write_behind<D: Device>(
     requires whole { length body_and_gate.now % 512 ≡ 0 }
     requires some { 0 < length body_and_gate.now }
     requires inside { D.disk.keeps device.old → 512 * (last + 1) ≤ length (D.disk.content device.old) }
-    ensures written { D.disk.keeps device.old → OnOk result (Holds (D.disk.content device.old) (512 * (last + 1)) body_and_gate.now (D.disk.content device.new)) }
+    ensures written { D.disk.keeps device.old
+        → OnOk result (Holds (D.disk.content device.old) (512 * (last + 1)) body_and_gate.now (D.disk.content device.new)) }
     ensures durable { D.disk.keeps device.old → OnOk result (Only (D.disk.content device.new) (D.disk.left device.new)) }
     ensures at_most { OnOk result (512 * (last + 1) + length body_and_gate.now ≤ 2 ^ 63) }
     ensures ran { Ran D.disk device.old device.new (Torn (512 * (last + 1)) (length body_and_gate.now)) }
@@ -44,7 +46,8 @@ fn write_behind<D: Device>(
 // Opens a gate, and syncs.
 fn write_gate<D: Device>(device: &mut D, gate: u64) -> Result<(), DeviceFault>
     requires { D.disk.keeps device.old → 512 * gate ≤ length (D.disk.content device.old) }
-    ensures written { D.disk.keeps device.old → OnOk result (Holds (D.disk.content device.old) (512 * gate) (165 ∷ replicate 511 0) (D.disk.content device.new)) }
+    ensures written { D.disk.keeps device.old
+        → OnOk result (Holds (D.disk.content device.old) (512 * gate) (165 ∷ replicate 511 0) (D.disk.content device.new)) }
     ensures durable { D.disk.keeps device.old → OnOk result (Only (D.disk.content device.new) (D.disk.left device.new)) }
     ensures ran { Ran D.disk device.old device.new (Torn (512 * gate) 512) }
     ensures cause { HasCause D.disk device.old device.new result }
@@ -60,13 +63,16 @@ pub(crate) fn write_record<D: Device>(
 ) -> Result<(), DeviceFault>
     requires room { last < 2 ^ 54 }
     requires inside { D.disk.keeps device.old → 512 * last + 512 ≤ length (D.disk.content device.old) }
-    ensures stands { D.disk.keeps device.old → (start : ℕ) (payloads : List (List ℕ)) → HoldsLog start payloads last (D.disk.content device.old)
+    ensures stands { D.disk.keeps device.old → (start : ℕ) (payloads : List (List ℕ))
+        → HoldsLog start payloads last (D.disk.content device.old)
         → ((c : List ℕ) → D.disk.left device.old c → take (512 * last + 512) c ≡ take (512 * last + 512) (D.disk.content device.old))
         → Stands D.disk device.old device.new (IsBeforeOrAfter start payloads last (payload_of body.now) (D.disk.content device.old))
         (IsBeforeOrAfter start payloads last (payload_of body.now) (D.disk.content device.old)) }
-    ensures longer { D.disk.keeps device.old → (start : ℕ) (payloads : List (List ℕ)) → HoldsLog start payloads last (D.disk.content device.old)
+    ensures longer { D.disk.keeps device.old → (start : ℕ) (payloads : List (List ℕ))
+        → HoldsLog start payloads last (D.disk.content device.old)
         → ((c : List ℕ) → D.disk.left device.old c → take (512 * last + 512) c ≡ take (512 * last + 512) (D.disk.content device.old))
-        → OnOk result (HoldsLog start (payloads ++ payload_of body.now ∷ []) (last + 1 + sectors (payload_of body.now)) (D.disk.content device.new)) }
+        → OnOk result
+        (HoldsLog start (payloads ++ payload_of body.now ∷ []) (last + 1 + sectors (payload_of body.now)) (D.disk.content device.new)) }
     ensures durable { D.disk.keeps device.old → OnOk result (Only (D.disk.content device.new) (D.disk.left device.new)) }
     ensures at_most { OnOk result (last + 1 + sectors (payload_of body.now) < 2 ^ 54) }
     ensures kept { D.disk.keeps device.old → D.disk.keeps device.new }
