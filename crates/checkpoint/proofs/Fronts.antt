@@ -69,6 +69,10 @@ counts_from_front content root counts = record {
 pub header_of_front : (content : List ℕ) → part 0 512 (front_of content) ≡ part 0 512 content
 header_of_front content = part_of_front 0 512 content (omega arith)
 
+-- the first sector that a read of the front shows
+pub first_shown : (content now buffer sector : List ℕ) → buffer ≡ take 2560 now → now ≡ content → sector ≡ part 0 512 buffer → sector ≡ part 0 512 content
+first_shown content now buffer sector read same first = first ∙ ap (part 0 512) (shown content now buffer read same) ∙ header_of_front content
+
 -- what the front and the length show of the root that the content holds
 pub holds_from_front : (content : List ℕ) (root : Root) (sectors : ℕ) → length content ≡ 512 * sectors → IsHeader (part 0 512 (front_of content))
     → Counts (front_of content) root → log_start root + 1 ≤ sectors → HoldsRoot content root

@@ -1,3 +1,5 @@
 pub mod Counting
 pub mod Zeros
 pub mod Fronts
+pub mod Laying
+pub mod NewStore

@@ -2,13 +2,24 @@
 //!
 //! A root says where a generation of the store lies: its pages, and behind them the first gate of its log. Of the roots
 //! whose gates are open the one of greater generation counts. Opening answers it, or that the content holds none.
+//!
+//! ```text
+//! let first = start(alloc, &mut device)?;
+//! let root = counted_root(&mut device)?;
+//! let log = Log::open(&mut device, root.log_start())?;
+//! ```
+//!
+//! A new store is made on an empty device alone, and after its making answered `Ok` a crash leaves it as it is.
 #![tactic(auto)]
 
+mod new_store;
 mod open;
 mod root;
 mod roots;
+mod sector;
 #[cfg(test)]
 mod tests;
 
+pub use new_store::{StartFault, start};
 pub use open::{RootFault, counted_root};
 pub use root::{Root, Slot};

@@ -4,7 +4,8 @@ ghost use Rattle.std.specs.Prelude.{◌≡◌, ◌<◌, ◌≤◌, ◌+◌, ◌*
 ghost use Rattle.device.specs.Disk.{HasFailed};
 ghost use Rattle.device.specs.Step.{Same};
 ghost use Rattle.device.specs.Run.{Ran};
-ghost use Rattle.checkpoint.specs.Root.{log_start, HoldsRoot};
+ghost use Rattle.gatelog.specs.Record.{part};
+ghost use Rattle.checkpoint.specs.Root.{IsHeader, log_start, HoldsRoot};
 
 use crate::root::{Root, is_header};
 use crate::roots::{counted, sector_at};
@@ -42,10 +43,19 @@ fn lies_inside(root: &Root, sectors: u64) -> bool
 }
 
 /// The root that counts. Nothing is written, and no memory is taken.
+///
+/// # Errors
+///
+/// `Header` where the device has fewer than nine sectors, or its first is no header. `Root` where the device has both, and no root
+/// counts, or the one that counts points past the end. `Device` where the device failed.
 pub fn counted_root<D: Device>(device: &mut D) -> Result<Root, RootFault>
     ensures found { D.disk.keeps device.old → IfOk result (HoldsRoot (D.disk.content device.old)) }
     ensures damaged { D.disk.keeps device.old → (IsErrOf result RootFault.Header ⊎ IsErrOf result RootFault.Root)
         → (root : Root) → HoldsRoot (D.disk.content device.old) root → ⊥ }
+    ensures header { D.disk.keeps device.old → IsErrOf result RootFault.Header
+        → IsHeader (part 0 512 (D.disk.content device.old)) → length (D.disk.content device.old) < 9 * 512 }
+    ensures root { D.disk.keeps device.old → IsErrOf result RootFault.Root
+        → IsHeader (part 0 512 (D.disk.content device.old)) × (9 * 512 ≤ length (D.disk.content device.old)) }
     ensures ran { Ran D.disk device.old device.new Same }
     ensures cause { IsErrOf result RootFault.Device → HasFailed D.disk device.old device.new }
 {

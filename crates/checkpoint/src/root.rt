@@ -5,12 +5,9 @@ ghost use Rattle.checkpoint.specs.Root.{IsHeader};
 
 use byteorder::{BigEndian, ByteOrder};
 
-/// Bytes in a sector.
-pub(crate) const SECTOR: usize = 512;
+pub(crate) const ROOT_MARK: &[u8; 8] = b"GATEROOT";
 
-const ROOT_MARK: &[u8; 8] = b"GATEROOT";
-
-const HEADER_MARK: &[u8; 8] = b"GATESTOR";
+pub(crate) const HEADER_MARK: &[u8; 8] = b"GATESTOR";
 
 /// The two places of a root, each with a gate behind it.
 #[derive(Clone, Copy, Debug, PartialEq, Eq)]

@@ -5,10 +5,8 @@ ghost use Rattle.gatelog.specs.Record.{part};
 ghost use Rattle.checkpoint.specs.Root.{Counts, root_sector, gate_sector};
 ghost use Rattle.checkpoint.specs.Front.{StandsIn};
 
-use crate::root::{Root, SECTOR, Slot};
-
-// The first byte of an open gate.
-const OPEN: u8 = 0xA5;
+use crate::root::{Root, Slot};
+use gatelog::{OPEN, SECTOR};
 
 // What stands in a slot.
 #[derive(Clone, Copy)]

@@ -1,9 +1,9 @@
 ghost use Rattle.std.specs.Prelude.{◌≡◌, ◌%◌, ◌<◌, length};
 ghost use Rattle.checkpoint.specs.Root.{log_start};
 
-use crate::{Root, RootFault, Slot, counted_root};
+use crate::{Root, RootFault, Slot, StartFault, counted_root, start};
 use byteorder::{BigEndian, ByteOrder};
-use device::{Device, DeviceFault, MemDevice};
+use device::{Device, DeviceFault, MemDevice, Pick};
 use std::alloc::Global;
 use std::test::Fail;
 
@@ -137,6 +137,18 @@ fn damage_is_named(rt: HostRuntime) -> Result<(), Fail> {
     if counted_root(&mut device) != Err(RootFault::Root) {
         return Err(Fail::from("an open gate in front of no root"));
     }
+    let mut device = MemDevice::new(alloc, 80)?;
+    put(&mut device, 0, &HEADER)?;
+    for at in 1..8 {
+        put(&mut device, at, &[])?;
+    }
+    if counted_root(&mut device) != Err(RootFault::Header) {
+        return Err(Fail::from("eight sectors"));
+    }
+    put(&mut device, 8, &[])?;
+    if counted_root(&mut device) != Err(RootFault::Root) {
+        return Err(Fail::from("nine sectors and no root"));
+    }
     Ok(())
 }
 
@@ -173,5 +185,80 @@ fn a_failure_is_told(rt: HostRuntime) -> Result<(), Fail> {
     if counted_root(&mut device) != Err(RootFault::Device) {
         return Err(Fail::from("the device failed"));
     }
+    Ok(())
+}
+
+// One sector, or zeros where there is none.
+fn sector(device: &mut MemDevice, at: u64) -> Result<[u8; 512], DeviceFault> {
+    let mut buffer = [0; 512];
+    if at < device.len()? {
+        device.read(at, &mut buffer)?;
+    }
+    Ok(buffer)
+}
+
+// Whether a sector begins with these bytes, and all others of it are zero.
+fn shows(device: &mut MemDevice, at: u64, bytes: &[u8]) -> Result<bool, DeviceFault> {
+    let mut wanted = [0; 512];
+    for (to, from) in wanted.iter_mut().zip(bytes) {
+        *to = *from;
+    }
+    Ok(sector(device, at)? == wanted)
+}
+
+#[test]
+fn a_new_store_has_the_bytes_of_the_format(rt: HostRuntime) -> Result<(), Fail> {
+    let alloc = rt.alloc();
+    let mut device = MemDevice::new(alloc, 80)?;
+    assert_eq!(rt; start(alloc, &mut device), Ok(first()));
+    assert_eq!(rt; device.len(), Ok(9));
+    assert!(rt; shows(&mut device, 0, &HEADER)?);
+    assert!(rt; shows(&mut device, 1, &FIRST_ROOT)?);
+    assert!(rt; shows(&mut device, 2, &OPEN)?);
+    for at in 3..9u64 {
+        assert!(rt; shows(&mut device, at, &[])?, "sector {at}");
+    }
+    assert_eq!(rt; device.counts().writes, 1);
+    assert_eq!(rt; device.counts().syncs, 1);
+    Ok(())
+}
+
+#[test]
+fn a_new_store_outlives_a_crash(rt: HostRuntime) -> Result<(), Fail> {
+    let alloc = rt.alloc();
+    let mut device = MemDevice::new(alloc, 80)?;
+    assert!(rt; start(alloc, &mut device).is_ok());
+    let mut device = device.crash(&[Pick::Fill(0xA5)], 80);
+    assert_eq!(rt; device.len(), Ok(9));
+    assert_eq!(rt; counted_root(&mut device), Ok(first()));
+    Ok(())
+}
+
+#[test]
+fn a_device_that_has_sectors_stays(rt: HostRuntime) -> Result<(), Fail> {
+    let alloc = rt.alloc();
+    let mut device = MemDevice::new(alloc, 80)?;
+    put(&mut device, 0, &[7])?;
+    assert_eq!(rt; start(alloc, &mut device), Err(StartFault::NotEmpty));
+    assert_eq!(rt; device.len(), Ok(1));
+    assert!(rt; shows(&mut device, 0, &[7])?);
+    Ok(())
+}
+
+#[test]
+fn a_failure_at_the_start_is_told(rt: HostRuntime) -> Result<(), Fail> {
+    let alloc = rt.alloc();
+    for call in 1..4u64 {
+        let mut device = MemDevice::new(alloc, 80)?;
+        device.fail_on(call);
+        assert_eq!(rt;
+            start(alloc, &mut device),
+            Err(StartFault::Device),
+            "call {call}"
+        );
+    }
+    let mut device = MemDevice::new(alloc, 80)?;
+    device.fail_on(4);
+    assert_eq!(rt; start(alloc, &mut device), Ok(first()));
     Ok(())
 }

@@ -1,9 +1,9 @@
-use Rattle.std.proofs.Common.{◌≡◌, ℕ, List, Bool, IsTrue, false, true≢false, ◌∙◌, sym, subst}
+use Rattle.std.proofs.Common.{◌≡◌, ℕ, List, Bool, IsTrue, arith, false, true≢false, ◌∙◌, sym, subst}
 use Rattle.std.specs.Option.{IfNone}
 use Rattle.gatelog.specs.Record.{part}
 use Rattle.checkpoint.specs.declared.root.Root.{Root}
 use Rattle.checkpoint.specs.Root.{IsHeader, Counts}
-use Rattle.checkpoint.proofs.Fronts.{front_of, shown, holds_from_front, header_in_front, past_the_end, none_in_front}
+use Rattle.checkpoint.proofs.Fronts.{front_of, shown, first_shown, holds_from_front, header_in_front, past_the_end, none_in_front}
 use Rattle.checkpoint.proofs.open.counted_root.Goals as goal
 
 is_not : (b : Bool) → b ≡ false → IsTrue b → ⊥
@@ -48,3 +48,30 @@ returns-in_default-2-clause-damaged g c = λ keeps is held holds.
     let none : (root : Root) → Counts c.read.new.buffer root → ⊥ =
     subst (λ r. IfNone r ((root : Root) → Counts c.read.new.buffer root → ⊥)) c.in_default.is c.counted.ensures.none in
     none_in_front content (subst (λ x. (root : Root) → Counts x root → ⊥) front none) held holds
+
+pub returns-then-not-is_header-clause-header : goal.returns-then-not-is_header-clause-header
+returns-then-not-is_header-clause-header g c = λ keeps is header.
+    let ran = c.len.ensures.ran in
+    let content = g.D.Device.disk.content c.args.device.now in
+    let first = first_shown content (g.D.Device.disk.content c.len.new.self) c.read.new.buffer c.sector_at.result.now
+    (c.in_ok-read.ensures.bytes (ran.kept keeps)) (ran.seen keeps) c.sector_at.ensures.bytes
+    in
+    absurd (is_not c.is_header.result c.if-not-is_header.true (c.is_header.ensures.1 (subst (λ x. IsHeader x) (sym first) header)))
+
+pub returns-in_default-clause-root : goal.returns-in_default-clause-root
+returns-in_default-clause-root g c = λ keeps is.
+    let ran = c.len.ensures.ran in
+    let content = g.D.Device.disk.content c.args.device.now in
+    let first = first_shown content (g.D.Device.disk.content c.len.new.self) c.read.new.buffer c.sector_at.result.now
+    (c.in_ok-read.ensures.bytes (ran.kept keeps)) (ran.seen keeps) c.sector_at.ensures.bytes
+    in
+    (subst (λ x. IsHeader x) first (c.is_header.ensures.0 c.if-not-is_header.false), omega (arith, c.in_ok-sectors.ensures.sectors keeps, c.if-sectors-lt9.false))
+
+pub returns-in_default-2-clause-root : goal.returns-in_default-2-clause-root
+returns-in_default-2-clause-root g c = λ keeps is.
+    let ran = c.len.ensures.ran in
+    let content = g.D.Device.disk.content c.args.device.now in
+    let first = first_shown content (g.D.Device.disk.content c.len.new.self) c.read.new.buffer c.sector_at.result.now
+    (c.in_ok-read.ensures.bytes (ran.kept keeps)) (ran.seen keeps) c.sector_at.ensures.bytes
+    in
+    (subst (λ x. IsHeader x) first (c.is_header.ensures.0 c.if-not-is_header.false), omega (arith, c.in_ok-sectors.ensures.sectors keeps, c.if-sectors-lt9.false))

@@ -1,0 +1,59 @@
+-- The nine sectors of a new store.
+use Rattle.std.proofs.Common.{append_assoc, arith, ap, subst, ◌≡◌, ◌∙◌, sym, ◌+◌, ◌*◌, ◌++◌, ◌∷◌, [], ℕ, List, length, take, drop, replicate, slice_index}
+use Rattle.std.proofs.lemmas.List.{append-nil, drop_all, take_at, drop_at, get_or-append_right, length-append, length-replicate}
+use Rattle.device.specs.Disk.{Disk}
+use Rattle.device.specs.Step.{Holds, Same, Torn}
+use Rattle.device.specs.Run.{Ran}
+use Rattle.device.proofs.Steps.{torn_idle}
+use Rattle.device.proofs.Runs.{ran_then}
+use Rattle.gatelog.specs.Record.{part}
+use Rattle.gatelog.specs.Log.{IsOpen}
+use Rattle.gatelog.proofs.Gathering.{replicate-zero}
+use Rattle.checkpoint.specs.declared.root.Slot.{Slot}
+use Rattle.checkpoint.specs.declared.root.Slot.TheVariants.{A}
+use Rattle.checkpoint.specs.declared.root.Root.{Root}
+use Rattle.checkpoint.specs.Root.{root_sector, gate_sector, IsHeader, IsRoot, IsOpenRoot, HoldsRoot}
+use Rattle.checkpoint.proofs.Counting.{counts_alone}
+
+-- a header, a root, an open gate and zeros
+pub new_holds : (header spelled bytes : List ℕ) (n : ℕ) (root : Root) → IsHeader header → IsRoot root spelled → root.slot ≡ A → root.first ≡ 8 → root.pages ≡ 0
+    → n ≡ 3583 → bytes ≡ ((header ++ spelled) ++ 165 ∷ []) ++ replicate n 0 → HoldsRoot bytes root
+new_holds header spelled bytes n root is_header is_root in_a first pages rest is =
+    let Head : List ℕ → Type 0 = λ x. IsHeader x in
+    let Spelled : List ℕ → Type 0 = λ x. IsRoot root x in
+    let Opens : Slot → Type 0 = λ s. IsOpen (gate_sector s) bytes in
+    let Stands : Slot → Type 0 = λ s. IsRoot root (part (512 * root_sector s) 512 bytes) in
+    let front : List ℕ = header ++ spelled in
+    let gates : List ℕ = 165 ∷ replicate n 0 in
+    let from_front : bytes ≡ front ++ gates = is ∙ append_assoc front (165 ∷ []) (replicate n 0) in
+    let from_header : bytes ≡ header ++ (spelled ++ gates) = from_front ∙ append_assoc header spelled gates in
+    let front_size : length front ≡ 1024 = omega (arith, length-append header spelled, is_header.whole, is_root.whole) in
+    let gates_size : length gates ≡ 3584 = omega (arith, rest, length-replicate {A = ℕ} n 0) in
+    let head : part 0 512 bytes ≡ header = ap (take 512) from_header ∙ take_at header (spelled ++ gates) 512 is_header.whole in
+    let second : part 512 512 bytes ≡ spelled = ap (part 512 512) from_header ∙ ap (take 512) (drop_at header (spelled ++ gates) 512 is_header.whole)
+    ∙ take_at spelled gates 512 is_root.whole
+    in
+    let opens : slice_index bytes 1024 ≡ 165 = ap (λ (x : List ℕ). slice_index x 1024) from_front ∙ get_or-append_right front gates 1024 1024 0 front_size (omega arith) in
+    let closed : slice_index bytes 2048 ≡ 0 = ap (λ (x : List ℕ). slice_index x 2048) from_front ∙ get_or-append_right front gates 1024 2048 0 front_size (omega arith)
+    ∙ replicate-zero n 1023
+    in
+    let stands : IsOpenRoot bytes root = record { is_open = subst Opens (sym in_a) opens; spelled = subst Stands (sym in_a) (subst Spelled (sym second) is_root) } in
+    let whole : length bytes ≡ 4608 = ap length from_front ∙ length-append front gates ∙ omega (arith, front_size, gates_size) in
+    record {
+      header = subst Head (sym head) is_header;
+      counts = counts_alone A bytes root in_a stands (λ open_too. omega (arith, closed, open_too));
+      inside = omega (arith, whole, first, pages);
+    }
+
+-- what an empty content holds after a write at its start
+pub written_whole : (old new bytes : List ℕ) → old ≡ [] → Holds old 0 bytes new → new ≡ bytes
+written_whole old new bytes none holds =
+    holds ∙ ap (λ (x : List ℕ). take 0 x ++ bytes ++ drop (0 + length bytes) x) none ∙ ap (λ (x : List ℕ). bytes ++ x) (drop_all (0 + length bytes) [] (omega arith))
+    ∙ append-nil bytes
+
+-- a look at the device, and then a write at its start
+pub look_then_write : {D : Type 0} (disk : Disk D) (old mid new : D) (n : ℕ) → Ran disk old mid Same → Ran disk mid new (Torn 0 n) → Ran disk old new (Torn 0 n)
+look_then_write disk old mid new n look write =
+    ran_then disk old mid new Same (Torn 0 n) (Torn 0 n) look write
+    (λ a b same. subst (λ (x : List ℕ). Torn 0 n a x) (sym same) (torn_idle 0 n a))
+    (λ a b c same torn. subst (λ (x : List ℕ). Torn 0 n x c) same torn)

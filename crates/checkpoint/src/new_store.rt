@@ -1,0 +1,143 @@
+//! A new store.
+
+ghost use Rattle.std.specs.Prelude.{◌≡◌, ◌≤◌, ◌+◌, ◌*◌, ℕ, [], length, slice_index, IfOk, OnOk, IsErrOf};
+ghost use Rattle.device.specs.Disk.{Only, HasFailed, HasCause};
+ghost use Rattle.device.specs.Step.{Same, Torn};
+ghost use Rattle.device.specs.Run.{Ran};
+ghost use Rattle.gatelog.specs.Log.{HoldsLog};
+ghost use Rattle.checkpoint.specs.Root.{HoldsRoot};
+
+use crate::root::{Root, Slot};
+use crate::sector::{header_bytes, root_bytes};
+use device::{Device, DeviceFault, write_through};
+use gatelog::{OPEN, SECTOR};
+use std::alloc::{AllocError, Global};
+
+/// Why no new store could be made.
+#[derive(Clone, Copy, Debug, PartialEq, Eq)]
+pub enum StartFault {
+    /// The device has sectors.
+    NotEmpty,
+    /// The device failed in this call.
+    Device,
+    Memory,
+}
+
+impl From<DeviceFault> for StartFault {
+    ghost use Rattle.checkpoint.specs.declared.new_store.StartFault.TheVariants.{Device};
+    ghost use Rattle.std.specs.Prelude.{◌≡◌};
+
+    ghost from_gives = { λ _ fault. fault ≡ Device };
+
+    fn from(_: DeviceFault) -> StartFault {
+        StartFault::Device
+    }
+}
+
+impl From<AllocError> for StartFault {
+    ghost use Rattle.checkpoint.specs.declared.new_store.StartFault.TheVariants.{Memory};
+    ghost use Rattle.std.specs.Prelude.{◌≡◌};
+
+    ghost from_gives = { λ _ fault. fault ≡ Memory };
+
+    fn from(_: AllocError) -> StartFault {
+        StartFault::Memory
+    }
+}
+
+// The sectors of a new store: the header, the root in slot A and its open gate, and behind them closed gates and zeros.
+fn nine_sectors(alloc: Global, root: &Root) -> Result<Vec<u8>, AllocError>
+    requires slot { root.now.slot ≡ Slot.A }
+    requires first { root.now.first ≡ 8 }
+    requires no_pages { root.now.pages ≡ 0 }
+    ensures root { IfOk result (λ bytes. HoldsRoot bytes.items root.now) }
+    ensures log { IfOk result (λ bytes. HoldsLog 8 [] 8 bytes.items) }
+    ensures zeros { IfOk result (λ bytes. (k : ℕ) → 1025 ≤ k → slice_index bytes.items k ≡ 0) }
+    ensures size { IfOk result (λ bytes. length bytes.items ≡ 9 * 512) }
+{
+    let mut bytes = Vec::with_capacity(alloc, 9 * SECTOR)?;
+    bytes.extend_from_slice(&header_bytes())?;
+    bytes.extend_from_slice(&root_bytes(root))?;
+    bytes.extend_from_slice(&[OPEN])?;
+    bytes.resize(9 * SECTOR, 0)?;
+    Ok(bytes)
+}
+
+// The first root of a store.
+fn first_root() -> Root
+    ensures slot { result.slot ≡ Slot.A }
+    ensures generation { result.generation ≡ 1 }
+    ensures first { result.first ≡ 8 }
+    ensures pages { result.pages ≡ 0 }
+    ensures revision { result.revision ≡ 1 }
+{
+    Root {
+        slot: Slot::A,
+        generation: 1,
+        first: 8,
+        pages: 0,
+        revision: 1,
+    }
+}
+
+// Refuses a device that has sectors.
+fn check_empty<D: Device>(device: &mut D) -> Result<(), StartFault>
+    ensures empty { D.disk.keeps device.old → OnOk result (D.disk.content device.old ≡ []) }
+    ensures not_empty { D.disk.keeps device.old → IsErrOf result StartFault.NotEmpty → D.disk.content device.old ≡ [] → ⊥ }
+    ensures refusal { IsErrOf result StartFault.Memory → ⊥ }
+    ensures ran { Ran D.disk device.old device.new Same }
+    ensures cause { IsErrOf result StartFault.Device → HasFailed D.disk device.old device.new }
+{
+    if device.len()? != 0 {
+        return Err(StartFault::NotEmpty);
+    }
+    Ok(())
+}
+
+// Writes the sectors of a new store on an empty device, and syncs.
+#[tactic(auto, using(crate::proofs::NewStore::written_whole))]
+fn write_sectors<D: Device>(device: &mut D, sectors: &[u8]) -> Result<(), DeviceFault>
+    requires { length sectors.now ≡ 9 * 512 }
+    ensures written { D.disk.keeps device.old → D.disk.content device.old ≡ [] → OnOk result (D.disk.content device.new ≡ sectors.now) }
+    ensures durable { D.disk.keeps device.old → OnOk result (Only (D.disk.content device.new) (D.disk.left device.new)) }
+    ensures ran { Ran D.disk device.old device.new (Torn 0 4608) }
+    ensures cause { HasCause D.disk device.old device.new result }
+{
+    write_through(device, 0, sectors)
+}
+
+/// Makes the store of an empty device: writes the nine sectors of a new store, and syncs. They are the header, the first root behind
+/// an open gate in slot A, and zeros, among them the closed gates of slot B and of the empty log at sector 8. All memory is taken
+/// before the first call of the device.
+///
+/// # Errors
+///
+/// `NotEmpty` where the device has sectors; they stay. `Memory` before the device was touched. `Device` where the device failed,
+/// which may leave any bytes in the nine sectors.
+pub fn start<D: Device>(alloc: Global, device: &mut D) -> Result<Root, StartFault>
+    ensures empty { D.disk.keeps device.old → OnOk result (D.disk.content device.old ≡ []) }
+    ensures slot { IfOk result (λ root. root.slot ≡ Slot.A) }
+    ensures generation { IfOk result (λ root. root.generation ≡ 1) }
+    ensures first { IfOk result (λ root. root.first ≡ 8) }
+    ensures pages { IfOk result (λ root. root.pages ≡ 0) }
+    ensures revision { IfOk result (λ root. root.revision ≡ 1) }
+
+    // What the device then holds, also after a crash.
+    ensures nine { D.disk.keeps device.old → OnOk result (length (D.disk.content device.new) ≡ 9 * 512) }
+    ensures root { D.disk.keeps device.old → IfOk result (HoldsRoot (D.disk.content device.new)) }
+    ensures log { D.disk.keeps device.old → OnOk result (HoldsLog 8 [] 8 (D.disk.content device.new)) }
+    ensures zeros { D.disk.keeps device.old → OnOk result ((k : ℕ) → 1025 ≤ k → slice_index (D.disk.content device.new) k ≡ 0) }
+    ensures durable { D.disk.keeps device.old → OnOk result (Only (D.disk.content device.new) (D.disk.left device.new)) }
+
+    ensures ran { Ran D.disk device.old device.new (Torn 0 4608) }
+    ensures not_empty { D.disk.keeps device.old → IsErrOf result StartFault.NotEmpty
+        → (D.disk.content device.old ≡ [] → ⊥) × (D.disk.content device.new ≡ D.disk.content device.old) }
+    ensures memory { IsErrOf result StartFault.Memory → device.new ≡ device.old }
+    ensures cause { IsErrOf result StartFault.Device → HasFailed D.disk device.old device.new }
+{
+    let root = first_root();
+    let sectors = nine_sectors(alloc, &root)?;
+    check_empty(device)?;
+    write_sectors(device, &sectors)?;
+    Ok(root)
+}
