@@ -1,7 +1,7 @@
 -- The table of refusals: code (RFC 9110 section 15), reason and message of each (Kubernetes API conventions, "Response Status Kind").
 use Rattle.std.specs.Prelude.{ℕ, List, [], ◌∷◌, Bool, codes, if◌then◌else◌, Option, Some, None}
 use Rattle.apicore.specs.declared.refusal.Refusal.{Refusal}
-use Rattle.apicore.specs.declared.refusal.Refusal.TheVariants.{MalformedRequest, NoSuchPath, BadQuery, BadNameInPath, UnexpectedBody, BodyIsNotJson, NumberOutsideRange, WrongKind, BadMetadata, WrongName, VersionOnCreate, AlreadyExists, NotFound, ObjectTooLarge, TooManyObjects, RevisionExhausted, OutOfMemory, StorageFailed}
+use Rattle.apicore.specs.declared.refusal.Refusal.TheVariants.{MalformedRequest, UnservedVersion, TooManyFields, UnservedTransferCoding, BadHost, BadContentLength, BodyTooLarge, UnservedExpectation, BadTarget, NoSuchPath, MethodNotAllowed, BadQuery, BadNameInPath, UnexpectedBody, BodyIsNotJson, NumberOutsideRange, WrongKind, BadMetadata, WrongName, VersionOnCreate, AlreadyExists, NotFound, ObjectTooLarge, TooManyObjects, RevisionExhausted, OutOfMemory, StorageFailed}
 
 -- what a refusal says
 pub record Answer : Type 0 where
@@ -12,7 +12,16 @@ pub record Answer : Type 0 where
 -- the table, in the order in which refusals are looked for
 abbrev pub answer : Refusal → Answer
 answer MalformedRequest = record { code = 400; reason = codes "BadRequest"; message = codes "malformed or unfinished request" }
+answer UnservedVersion = record { code = 505; reason = codes "VersionNotSupported"; message = codes "only HTTP/1.1 is served" }
+answer TooManyFields = record { code = 431; reason = codes "RequestHeaderFieldsTooLarge"; message = codes "more than 32 header fields" }
+answer UnservedTransferCoding = record { code = 501; reason = codes "NotImplemented"; message = codes "no transfer coding is served" }
+answer BadHost = record { code = 400; reason = codes "BadRequest"; message = codes "exactly one Host is needed" }
+answer BadContentLength = record { code = 400; reason = codes "BadRequest"; message = codes "bad Content-Length" }
+answer BodyTooLarge = record { code = 413; reason = codes "RequestEntityTooLarge"; message = codes "body too large" }
+answer UnservedExpectation = record { code = 417; reason = codes "ExpectationFailed"; message = codes "no expectation is served" }
+answer BadTarget = record { code = 400; reason = codes "BadRequest"; message = codes "target must be a path" }
 answer NoSuchPath = record { code = 404; reason = codes "NotFound"; message = codes "no such path" }
+answer MethodNotAllowed = record { code = 405; reason = codes "MethodNotAllowed"; message = codes "method not allowed" }
 answer BadQuery = record { code = 400; reason = codes "BadRequest"; message = codes "bad query" }
 answer BadNameInPath = record { code = 400; reason = codes "BadRequest"; message = codes "bad name in path" }
 answer UnexpectedBody = record { code = 400; reason = codes "BadRequest"; message = codes "unexpected body" }

@@ -8,7 +8,8 @@
 //!
 //! A history is a list of writes, its view is what is seen of it, and a step takes a history and a request to a history and a
 //! reply. `Manifest::read` decides what refuses a body, wherever it comes from. `Core` holds a view: `prepare` takes all the
-//! memory of a step and changes nothing that is seen, `take` takes none, and together they are one step.
+//! memory of a step and changes nothing that is seen, `take` takes none, and together they are one step. When a store is opened
+//! again, `replay_put` and `replay_delete` take the writes that were stored, each of which must be allowed to follow.
 #![tactic(auto)]
 
 mod laws;
@@ -16,6 +17,7 @@ mod manifest;
 mod metadata;
 mod prepared;
 mod refusal;
+mod replay;
 mod reply;
 mod request;
 mod shown;
@@ -31,6 +33,7 @@ pub use laws::{
 pub use manifest::{BodyFault, Manifest};
 pub use prepared::{Prepared, Put};
 pub use refusal::Refusal;
+pub use replay::ReplayFault;
 pub use reply::Reply;
 pub use request::Request;
 pub use state::Core;

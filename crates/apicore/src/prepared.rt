@@ -80,6 +80,13 @@ impl Put {
         &self.text
     }
 
+    /// The revision that the write makes.
+    pub fn revision(&self) -> u64
+        ensures { result ≡ self.now.revision }
+    {
+        self.entry.value().revision
+    }
+
     /// The entry for the objects, and the key and the document for the window.
     pub(crate) fn into_parts(self) -> (Entry<Stored>, Key, Document)
         ensures entry { result.0 ≡ (self.key, record { document = self.document; revision = self.revision }) }

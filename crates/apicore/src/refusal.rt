@@ -4,26 +4,49 @@ ghost use Rattle.apicore.specs.Refusal.{answer};
 /// Why a request is refused, in the order in which refusals are looked for.
 #[derive(Clone, Copy, Debug, PartialEq, Eq, Hash)]
 pub enum Refusal {
-    /// No whole message, or no HTTP/1.1.
+    /// The input ends inside a message, or what it begins with is no head (RFC 9112 section 2.1).
     MalformedRequest,
+    /// The version is HTTP/1.0.
+    UnservedVersion,
+    /// There are more than 32 header fields.
+    TooManyFields,
+    /// There is a `Transfer-Encoding` (RFC 9112 section 6.1).
+    UnservedTransferCoding,
+    /// There is no `Host`, or more than one (RFC 9112 section 3.2).
+    BadHost,
+    /// There is more than one `Content-Length`, or one that is no decimal number (RFC 9110 section 8.6).
+    BadContentLength,
+    /// The `Content-Length` is above the limit.
+    BodyTooLarge,
+    /// There is an `Expect` (RFC 9110 section 10.1.1).
+    UnservedExpectation,
+    /// The target does not begin with a slash (RFC 9112 section 3.2.1).
+    BadTarget,
     /// The path names nothing that is served.
     NoSuchPath,
+    /// The path is served, but not for this method.
+    MethodNotAllowed,
+    /// The query has a pair that is not served at the path, or one twice.
     BadQuery,
     /// A namespace or a name in the path is not well-formed.
     BadNameInPath,
     /// A GET has a body.
     UnexpectedBody,
+    /// The body is no JSON value (RFC 8259), or one that is nested too deep.
     BodyIsNotJson,
     /// A number has a fraction or an exponent, or does not fit 64 signed bits.
     NumberOutsideRange,
     /// The body's `apiVersion` or `kind` is not that of the path's resource.
     WrongKind,
+    /// The body has no metadata, or none that is well-formed, or it has no name.
     BadMetadata,
     /// The body's name or namespace is not that of the path.
     WrongName,
     /// A POST asks for a revision.
     VersionOnCreate,
+    /// A POST names an object that is there.
     AlreadyExists,
+    /// There is no such object.
     NotFound,
     /// The stored text is above the limit.
     ObjectTooLarge,
@@ -31,7 +54,9 @@ pub enum Refusal {
     TooManyObjects,
     /// The store has reached the greatest revision.
     RevisionExhausted,
+    /// There was no memory to answer.
     OutOfMemory,
+    /// The storage failed.
     StorageFailed,
 }
 
@@ -51,7 +76,22 @@ impl Refusal {
     {
         let (code, reason, message) = match self {
             Refusal::MalformedRequest => (400, "BadRequest", "malformed or unfinished request"),
+            Refusal::UnservedVersion => (505, "VersionNotSupported", "only HTTP/1.1 is served"),
+            Refusal::TooManyFields => (
+                431,
+                "RequestHeaderFieldsTooLarge",
+                "more than 32 header fields",
+            ),
+            Refusal::UnservedTransferCoding => {
+                (501, "NotImplemented", "no transfer coding is served")
+            }
+            Refusal::BadHost => (400, "BadRequest", "exactly one Host is needed"),
+            Refusal::BadContentLength => (400, "BadRequest", "bad Content-Length"),
+            Refusal::BodyTooLarge => (413, "RequestEntityTooLarge", "body too large"),
+            Refusal::UnservedExpectation => (417, "ExpectationFailed", "no expectation is served"),
+            Refusal::BadTarget => (400, "BadRequest", "target must be a path"),
             Refusal::NoSuchPath => (404, "NotFound", "no such path"),
+            Refusal::MethodNotAllowed => (405, "MethodNotAllowed", "method not allowed"),
             Refusal::BadQuery => (400, "BadRequest", "bad query"),
             Refusal::BadNameInPath => (400, "BadRequest", "bad name in path"),
             Refusal::UnexpectedBody => (400, "BadRequest", "unexpected body"),

@@ -1,4 +1,5 @@
-ghost use Rattle.std.specs.Prelude.{◌≡◌, ◌+◌, ◌^◌, ◌<◌, ◌≤◌, length, IfOk, None};
+ghost use Rattle.std.specs.Prelude.{◌≡◌, ◌+◌, ◌^◌, ◌<◌, ◌≤◌, length, IsTrue, IfOk, OnOk, None};
+ghost use Rattle.apicore.specs.Codes.{document_in};
 ghost use Rattle.apicore.specs.Document.{Document as DocumentData};
 ghost use Rattle.apicore.specs.History as write;
 ghost use Rattle.apicore.specs.Manifest.{sound, BodyHasForm};
@@ -153,29 +154,29 @@ impl Core {
         None
     }
 
-    // Whether there is an object with this key.
-    fn holds(&self, key: &Key) -> bool
+    /// Whether there is an object with this key.
+    pub(crate) fn holds(&self, key: &Key) -> bool
         ensures { result ≡ exists self.now.view key.now }
     {
         self.objects.get(key).is_some()
     }
 
-    // Whether the text to be stored is above the limit.
-    fn is_too_large(&self, manifest: &Manifest) -> bool
+    /// Whether the text to be stored is above the limit.
+    pub(crate) fn is_too_large(&self, manifest: &Manifest) -> bool
         ensures { (d : DocumentData) → manifest.now.body ≡ sound d → result ≡ is_too_large self.now.rules d }
     {
         self.rules.text_limit_bytes < manifest.text().len()
     }
 
-    // Whether there are as many objects as there may be.
-    fn is_full(&self) -> bool
+    /// Whether there are as many objects as there may be.
+    pub(crate) fn is_full(&self) -> bool
         ensures { result ≡ is_full self.now.rules self.now.view }
     {
         self.rules.object_limit <= self.objects.len()
     }
 
-    // Whether the greatest revision is reached.
-    fn is_exhausted(&self) -> bool
+    /// Whether the greatest revision is reached.
+    pub(crate) fn is_exhausted(&self) -> bool
         ensures { result ≡ is_exhausted self.now.rules self.now.view }
     {
         self.rules.greatest_revision <= self.window.revision()
@@ -189,21 +190,42 @@ impl Core {
         ensures step { IfOk result (IsStepOf self.old.rules self.old.view (create manifest.now)) }
         ensures room { IfOk result (λ p. HasRoom self.new p.put) }
     {
-        // The revision is below the greatest one, so that the next one fits.
-        let _greatest = self.rules.greatest_revision;
-        let revision = self.window.revision() + 1;
-        let document = manifest.document();
-        let put = Put::new(alloc, manifest.key(), document, manifest.text(), revision)?;
-        let reply = Reply::showing(alloc, 201, document, revision)?;
-        self.objects.reserve(1)?;
+        let put = self.prepare_put(alloc, manifest)?;
+        let reply = Reply::showing(alloc, 201, put.document(), put.revision())?;
         Ok(Prepared {
             reply,
             put: Some(put),
         })
     }
 
-    // Takes a put.
-    fn put(&mut self, put: Put)
+    /// Takes the memory of a put, and room for its key.
+    pub(crate) fn prepare_put(
+        &mut self,
+        alloc: Global,
+        manifest: &Manifest,
+    ) -> Result<Put, AllocError>
+        requires { self.old.view.revision < self.old.rules.greatest_revision }
+        ensures rules { self.new.rules ≡ self.old.rules }
+        ensures view { self.new.view ≡ self.old.view }
+        ensures put { IfOk result (λ p. p ≡
+            record { key = manifest.now.key; document = document_in manifest.now.body; revision = self.old.view.revision + 1 }) }
+        ensures room { OnOk result (0 < self.new.room) }
+    {
+        // The window's revision is below the greatest one, so that the next one fits.
+        let _greatest = self.rules.greatest_revision;
+        let revision = self.window.revision() + 1;
+        self.objects.reserve(1)?;
+        Put::new(
+            alloc,
+            manifest.key(),
+            manifest.document(),
+            manifest.text(),
+            revision,
+        )
+    }
+
+    /// Takes a put. This takes no memory.
+    pub(crate) fn put(&mut self, put: Put)
         requires room { 0 < self.old.room }
         requires revision { put.revision ≡ self.old.view.revision + 1 }
         requires greatest { self.old.view.revision < self.old.rules.greatest_revision }
@@ -219,6 +241,20 @@ impl Core {
             Change::Added
         };
         self.window.push(change, key, document);
+    }
+
+    /// Takes a deletion. This takes no memory.
+    pub(crate) fn delete(&mut self, key: Key)
+        requires object { IsTrue (exists self.old.view key) }
+        requires greatest { self.old.view.revision < self.old.rules.greatest_revision }
+        ensures rules { self.new.rules ≡ self.old.rules }
+        ensures view { self.new.view ≡ after self.old.rules self.old.view (write.delete key) }
+    {
+        // The window's revision is below the greatest one, so that the next one fits.
+        let _greatest = self.rules.greatest_revision;
+        if let Some(stored) = self.objects.remove(&key) {
+            self.window.push(Change::Deleted, key, stored.document);
+        }
     }
 
     // Stores an object without a write, for a test of a full store.

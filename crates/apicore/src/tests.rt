@@ -1,6 +1,6 @@
 // Bodies after the Kubernetes API conventions, and replies whose bytes were written by hand.
 use crate::{
-    BodyFault, Core, Document, Manifest, Refusal, Reply, Request, events_are_last,
+    BodyFault, Core, Document, Manifest, Refusal, ReplayFault, Reply, Request, events_are_last,
     key_has_last_write, revision_counts, runs_are_steps, stored_is_read, view_decides,
     writes_follow,
 };
@@ -237,6 +237,15 @@ fn a_refusal_is_a_status(rt: HostRuntime) -> Result<(), Fail> {
         "{\"apiVersion\":\"v1\",\"code\":404,\"kind\":\"Status\",\"message\":\"not found\",\"reason\":\"NotFound\",\"status\":\"Failure\"}";
     assert_eq!(rt; missing.len(), 107);
     assert_status(&rt, rt.alloc(), Refusal::NotFound, 404, missing)?;
+    let method =
+        "{\"apiVersion\":\"v1\",\"code\":405,\"kind\":\"Status\",\"message\":\"method not allowed\",\"reason\":\"MethodNotAllowed\",\"status\":\"Failure\"}";
+    assert_status(&rt, rt.alloc(), Refusal::MethodNotAllowed, 405, method)?;
+    let fields =
+        "{\"apiVersion\":\"v1\",\"code\":431,\"kind\":\"Status\",\"message\":\"more than 32 header fields\",\"reason\":\"RequestHeaderFieldsTooLarge\",\"status\":\"Failure\"}";
+    assert_status(&rt, rt.alloc(), Refusal::TooManyFields, 431, fields)?;
+    let version =
+        "{\"apiVersion\":\"v1\",\"code\":505,\"kind\":\"Status\",\"message\":\"only HTTP/1.1 is served\",\"reason\":\"VersionNotSupported\",\"status\":\"Failure\"}";
+    assert_status(&rt, rt.alloc(), Refusal::UnservedVersion, 505, version)?;
     let memory =
         "{\"apiVersion\":\"v1\",\"code\":503,\"kind\":\"Status\",\"message\":\"out of memory\",\"reason\":\"ServiceUnavailable\",\"status\":\"Failure\"}";
     assert_eq!(rt; memory.len(), 121);
@@ -417,4 +426,108 @@ fn the_laws_hold(_rt: HostRuntime) {
     runs_are_steps();
     view_decides();
     stored_is_read();
+}
+
+// The manifest that is read from the stored text of a configmap with this name and value.
+fn stored(alloc: Global, name: &str, value: &str) -> Result<Manifest, Fail> {
+    let text = format!(in alloc;
+        "{{\"apiVersion\":\"v1\",\"data\":{{\"k\":\"{value}\"}},\"kind\":\"ConfigMap\",\"metadata\":{{\"name\":\"{name}\",\"namespace\":\"default\"}}}}"
+    )?;
+    Ok(Manifest::read(
+        alloc,
+        Resource::ConfigMap,
+        "default",
+        Some(name),
+        text.as_bytes(),
+    )?)
+}
+
+fn config_map(alloc: Global, name: &str) -> Result<Key, Fail> {
+    Ok(Key::new(alloc, Resource::ConfigMap, "default", name)?)
+}
+
+// The body of a GET.
+fn shown(alloc: Global, core: &mut Core, name: &str) -> Result<Reply, Fail> {
+    let request = get(alloc, name)?;
+    answer(alloc, core, &request)
+}
+
+#[test]
+fn stored_writes_are_taken_again(rt: HostRuntime) -> Result<(), Fail> {
+    let alloc = rt.alloc();
+    let mut core = Core::new(alloc, Format::First.rules())?;
+    core.replay_put(alloc, stored(alloc, "a", "v")?)?;
+    assert_eq!(rt; (core.revision(), core.object_count()), (2, 1));
+    core.replay_put(alloc, stored(alloc, "a", "w")?)?;
+    assert_eq!(rt; (core.revision(), core.object_count()), (3, 1));
+    assert_eq!(rt;
+        shown(alloc, &mut core, "a")?.body(),
+        "{\"apiVersion\":\"v1\",\"data\":{\"k\":\"w\"},\"kind\":\"ConfigMap\",\"metadata\":{\"name\":\"a\",\"namespace\":\"default\",\"resourceVersion\":\"3\"}}"
+    );
+    core.replay_delete(alloc, &config_map(alloc, "a")?)?;
+    assert_eq!(rt; (core.revision(), core.object_count()), (4, 0));
+    assert_eq!(rt; shown(alloc, &mut core, "a")?.code(), 404);
+    core.replay_put(alloc, stored(alloc, "a", "v")?)?;
+    assert_eq!(rt; (core.revision(), core.object_count()), (5, 1));
+    assert_eq!(rt;
+        shown(alloc, &mut core, "a")?.body(),
+        "{\"apiVersion\":\"v1\",\"data\":{\"k\":\"v\"},\"kind\":\"ConfigMap\",\"metadata\":{\"name\":\"a\",\"namespace\":\"default\",\"resourceVersion\":\"5\"}}"
+    );
+    Ok(())
+}
+
+#[test]
+fn a_stored_deletion_of_nothing_may_not_follow(rt: HostRuntime) -> Result<(), Fail> {
+    let alloc = rt.alloc();
+    let mut core = Core::new(alloc, Format::First.rules())?;
+    let key = config_map(alloc, "a")?;
+    assert_eq!(rt;
+        core.replay_delete(alloc, &key),
+        Err(ReplayFault::NotAllowed)
+    );
+    core.replay_put(alloc, stored(alloc, "b", "v")?)?;
+    assert_eq!(rt;
+        core.replay_delete(alloc, &key),
+        Err(ReplayFault::NotAllowed)
+    );
+    assert_eq!(rt; (core.revision(), core.object_count()), (2, 1));
+    Ok(())
+}
+
+#[test]
+fn a_stored_write_above_a_limit_may_not_follow(rt: HostRuntime) -> Result<(), Fail> {
+    let alloc = rt.alloc();
+    let rules = Rules {
+        greatest_revision: 6,
+        ..SMALL
+    };
+    let mut core = Core::new(alloc, rules)?;
+    // A text of 102 bytes.
+    assert_eq!(rt;
+        core.replay_put(alloc, stored(alloc, "aa", "v")?),
+        Err(ReplayFault::NotAllowed)
+    );
+    core.replay_put(alloc, stored(alloc, "a", "v")?)?;
+    core.replay_put(alloc, stored(alloc, "b", "v")?)?;
+    // A third object, which has room only behind a deletion.
+    assert_eq!(rt;
+        core.replay_put(alloc, stored(alloc, "c", "v")?),
+        Err(ReplayFault::NotAllowed)
+    );
+    core.replay_put(alloc, stored(alloc, "a", "w")?)?;
+    core.replay_delete(alloc, &config_map(alloc, "b")?)?;
+    assert_eq!(rt; (core.revision(), core.object_count()), (5, 1));
+    core.replay_put(alloc, stored(alloc, "c", "v")?)?;
+    assert_eq!(rt; (core.revision(), core.object_count()), (6, 2));
+    // The greatest revision.
+    assert_eq!(rt;
+        core.replay_put(alloc, stored(alloc, "c", "w")?),
+        Err(ReplayFault::NotAllowed)
+    );
+    assert_eq!(rt;
+        core.replay_delete(alloc, &config_map(alloc, "c")?),
+        Err(ReplayFault::NotAllowed)
+    );
+    assert_eq!(rt; (core.revision(), core.object_count()), (6, 2));
+    Ok(())
 }
