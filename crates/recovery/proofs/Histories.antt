@@ -1,0 +1,126 @@
+-- Histories and the payloads that they have.
+use Rattle.std.proofs.Common.{◌≡◌, ℕ, ◌+◌, ◌^◌, ◌<◌, List, [], ◌∷◌, ◌++◌, length, map, get_or, take, drop, refl, sym, ap, subst, ◌∙◌, arith}
+use Rattle.std.proofs.lemmas.List.{map-append, map_push, drop_more, take-append-drop}
+use Rattle.names.specs.declared.format.Rules.{Rules}
+use Rattle.names.specs.Key.{Key}
+use Rattle.apicore.specs.Document.{Document}
+use Rattle.apicore.specs.History.{Write, put, History}
+use Rattle.apicore.specs.View.{View, view, empty, after, after_all, MayPut, MayFollow, AllMayFollow}
+use Rattle.apicore.proofs.ViewLemmas.{after_all-append, AllMayFollow-append}
+use Rattle.records.specs.Payload.{payload, IsStorable}
+use Rattle.records.proofs.Writes.{one_write}
+use Rattle.recovery.specs.Written.{AllStorable, IsWritten}
+
+AllStorable-append : (g h : List Write) → AllStorable g → AllStorable h → AllStorable (g ++ h)
+AllStorable-append [] h first more = more
+AllStorable-append (w ∷ g) h first more = (first.0, AllStorable-append g h first.1 more)
+
+-- ---- how a history grows
+
+abbrev payloads_with : List (List ℕ) → List ℕ → List (List ℕ)
+payloads_with front bytes = front ++ bytes ∷ []
+
+-- no payloads are those of the empty history
+pub IsWritten-none : (rules : Rules) → IsWritten rules [] []
+IsWritten-none rules = record { payloads_are = refl; storable = tt; history = tt }
+
+-- one more write that may follow has one more payload
+pub IsWritten-push : (rules : Rules) (h : History) (payloads : List (List ℕ)) (w : Write) → IsWritten rules h payloads → MayFollow rules (view rules h) w → IsStorable w
+    → IsWritten rules (h ++ w ∷ []) (payloads ++ payload w ∷ [])
+IsWritten-push rules h payloads w written follows storable = record {
+  payloads_are = ap (λ ps. ps ++ payload w ∷ []) written.payloads_are ∙ sym (map_push payload h w);
+  storable = AllStorable-append h (w ∷ []) written.storable (storable, tt);
+  history = AllMayFollow-append rules empty h (w ∷ []) written.history (follows, tt);
+}
+
+pub view-push : (rules : Rules) (h : History) (w : Write) → view rules (h ++ w ∷ []) ≡ after rules (view rules h) w
+view-push rules h w = after_all-append rules empty h (w ∷ [])
+
+-- a put that may follow can be held by a record, where the text's limit fits four bytes
+pub IsStorable-put : (rules : Rules) (v : View) (k : Key) (d : Document) → MayPut rules v k d → rules.text_limit_bytes < 2 ^ 32 → IsStorable (put k d)
+IsStorable-put rules v k d may limit = (may.form, omega (arith, may.size))
+
+-- ---- at most one history
+
+same_writes : (g h : List Write) → AllStorable g → AllStorable h → map payload g ≡ map payload h → g ≡ h
+same_writes [] [] a b same = refl
+same_writes [] (w ∷ h) a b same = cc
+same_writes (v ∷ g) [] a b same = cc
+same_writes (v ∷ g) (w ∷ h) a b same =
+    let first : payload v ≡ payload w = cc in
+    let rest : map payload g ≡ map payload h = cc in
+    let one : v ≡ w = one_write v w a.0 b.0 first in
+    let others : g ≡ h = same_writes g h a.1 b.1 rest in
+    λ i. one i ∷ others i
+
+pub one_history : (rules : Rules) (g h : History) (payloads : List (List ℕ)) → IsWritten rules g payloads → IsWritten rules h payloads → g ≡ h
+one_history rules g h payloads a b = same_writes g h a.storable b.storable (sym a.payloads_are ∙ b.payloads_are)
+
+-- ---- a history that goes on
+
+-- A write that a record can hold, has this payload and may follow.
+pub record IsNext (rules : Rules) (v : View) (bytes : List ℕ) : Type 0 where
+  pub write : Write
+  pub storable : IsStorable write
+  pub payload_is : payload write ≡ bytes
+  pub follows : MayFollow rules v write
+
+goes_on : (rules : Rules) (v : View) (g h : List Write) (bytes : List ℕ) (rest : List (List ℕ)) → AllStorable g → AllStorable h → AllMayFollow rules v h
+    → map payload h ≡ map payload g ++ bytes ∷ rest → IsNext rules (after_all rules v g) bytes
+goes_on rules v [] [] bytes rest a b follow same = cc
+goes_on rules v [] (w ∷ h) bytes rest a b follow same =
+    record { write = w; storable = b.0; payload_is = cc; follows = follow.0 }
+goes_on rules v (u ∷ g) [] bytes rest a b follow same = cc
+goes_on rules v (u ∷ g) (w ∷ h) bytes rest a b follow same =
+    let first : payload w ≡ payload u = cc in
+    let others : map payload h ≡ map payload g ++ bytes ∷ rest = cc in
+    let one : w ≡ u = one_write w u b.0 a.0 first in
+    let P : Write → Type 0 = λ x. AllMayFollow rules (after rules v x) h in
+    goes_on rules (after rules v u) g h bytes rest a.1 b.1 (subst P one follow.1) others
+
+-- a history of more payloads goes on, behind the history of the first, with a write of the next
+pub next_write : (rules : Rules) (g h : History) (front : List (List ℕ)) (bytes : List ℕ) (rest : List (List ℕ)) → IsWritten rules g front
+    → IsWritten rules h (front ++ bytes ∷ rest) → IsNext rules (view rules g) bytes
+next_write rules g h front bytes rest a b =
+    goes_on rules empty g h bytes rest a.storable b.storable b.history (sym b.payloads_are ∙ ap (λ ps. ps ++ bytes ∷ rest) a.payloads_are)
+
+-- ---- one payload more, where a store has the rules and the view
+
+-- the history of the payloads before, and the write that was taken
+pub grown : (rules own : Rules) (v new : View) (h : History) (front more : List (List ℕ)) (bytes : List ℕ) (w : Write) → own ≡ rules → IsWritten rules h front
+    → v ≡ view rules h → IsStorable w → payload w ≡ bytes → MayFollow own v w → new ≡ after own v w → more ≡ front ++ bytes ∷ []
+    → (g : History) × IsWritten rules g more × (new ≡ view rules g)
+grown rules own v new h front more bytes w rules_are written seen storable is follows taken more_is =
+    let Follows : Rules → View → Type 0 = λ r x. MayFollow r x w in
+    let may : MayFollow rules (view rules h) w = subst (λ x. Follows rules x) seen (subst (λ r. Follows r v) rules_are follows) in
+    let same : payloads_with front (payload w) ≡ more = ap (payloads_with front) is ∙ sym more_is in (
+      h ++ w ∷ [],
+      subst (IsWritten rules (h ++ w ∷ [])) same (IsWritten-push rules h front w written may storable),
+      taken ∙ (λ i. after (rules_are i) (seen i) w) ∙ sym (view-push rules h w),
+    )
+
+-- no history has these payloads, where no write of the next may follow
+pub stuck : (rules own : Rules) (v : View) (g h : History) (front all : List (List ℕ)) (bytes : List ℕ) (rest : List (List ℕ)) → own ≡ rules → v ≡ view rules g
+    → IsWritten rules g front → IsWritten rules h all → all ≡ front ++ bytes ∷ rest
+    → ((w : Write) → IsStorable w → payload w ≡ bytes → MayFollow own v w → ⊥) → ⊥
+stuck rules own v g h front all bytes rest rules_are seen written other all_is none =
+    let next = next_write rules g h front bytes rest written (subst (IsWritten rules h) all_is other) in
+    let Follows : Rules → View → Type 0 = λ r x. MayFollow r x next.write in
+    none next.write next.storable next.payload_is
+    (subst (λ r. Follows r v) (sym rules_are) (subst (λ x. Follows rules x) (sym seen) next.follows))
+
+-- no other write has the payload of one that may not follow
+pub no_other : (rules : Rules) (v : View) (w other : Write) (bytes : List ℕ) → IsStorable w → payload w ≡ bytes → (MayFollow rules v w → ⊥)
+    → IsStorable other → payload other ≡ bytes → MayFollow rules v other → ⊥
+no_other rules v w other bytes storable is never other_storable other_is follows =
+    let same : other ≡ w = one_write other w other_storable storable (other_is ∙ sym is) in
+    let P : Write → Type 0 = λ x. MayFollow rules v x in
+    never (subst P same follows)
+
+-- ---- the payloads up to a place
+
+-- a list is what stands before a place, the element there, and what stands behind it
+pub map-at : {X Y : Type 0} (f : X → Y) (xs : List X) (i : ℕ) (x : X) → i < length xs → x ≡ get_or xs i x → map f xs ≡ map f (take i xs) ++ f x ∷ map f (drop (i + 1) xs)
+map-at f xs i x inside is =
+    ap (map f) (sym (take-append-drop i xs) ∙ ap (λ rest. take i xs ++ rest) (drop_more xs i x inside ∙ ap (λ y. y ∷ drop (i + 1) xs) (sym is)))
+    ∙ map-append f (take i xs) (x ∷ drop (i + 1) xs)

@@ -1,0 +1,17 @@
+-- What is wrong with payloads of which one gives no write, or one that may not follow.
+use Rattle.apicore.specs.declared.replay.ReplayFault as replay
+use Rattle.apicore.specs.declared.replay.ReplayFault.TheVariants as replay_fault
+use Rattle.records.specs.declared.fault.RecordFault as record_of
+use Rattle.records.specs.declared.fault.RecordFault.TheVariants as record_fault
+use Rattle.recovery.specs.declared.fault.RecoveryFault.{RecoveryFault}
+use Rattle.recovery.specs.declared.fault.RecoveryFault.TheVariants.{Damaged, Memory}
+
+-- A payload that no write has is damage.
+abbrev pub of_record_fault : record_of.RecordFault → RecoveryFault
+of_record_fault record_fault.Damaged = Damaged
+of_record_fault record_fault.Memory = Memory
+
+-- A write that may not follow is damage.
+abbrev pub of_replay_fault : replay.ReplayFault → RecoveryFault
+of_replay_fault replay_fault.NotAllowed = Damaged
+of_replay_fault replay_fault.Memory = Memory
