@@ -1,0 +1,9 @@
+pub mod Findings
+pub mod Fronts
+pub mod Keeping
+pub mod Appending
+pub mod Answering
+pub mod Running
+pub mod Beginning
+pub mod Reading
+pub mod Readiness

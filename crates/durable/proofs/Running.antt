@@ -1,0 +1,171 @@
+-- A run of requests, one after the other.
+use Rattle.std.proofs.Common.{◌≡◌, ◌∙◌, sym, ap, subst, ◌+◌, ◌<◌, ◌++◌, ℕ, List, [], ◌∷◌, length, refl, map, take, drop, get_or, false}
+use Rattle.std.proofs.lemmas.List.{append-nil, append_assoc, map-append, take-map, take-append-drop}
+use Rattle.std.proofs.lemmas.Grind.{take_at_read}
+use Rattle.device.specs.declared.device.Device.{Ghosts}
+use Rattle.device.proofs.Moments.{followed_by}
+use Rattle.names.specs.declared.format.Rules.{Rules}
+use Rattle.apicore.specs.History.{Write, History}
+use Rattle.apicore.specs.Reply.{Reply}
+use Rattle.apicore.specs.Request.{Request}
+use Rattle.apicore.specs.Step.{writes, reply, accepted, replies}
+use Rattle.apicore.specs.View.{View, view, empty, after_all}
+use Rattle.apicore.proofs.ViewLemmas.{after_all-append}
+use Rattle.durable.specs.declared.store.Store.{Store}
+use Rattle.durable.specs.Stands.{StandsFor}
+use Rattle.durable.specs.Settled.{added, IsFound, IsSettledAt, IsLeftAt, LeavesSome, HasServed, HasStopped, device_of}
+use Rattle.durable.proofs.Findings.{leaves-idle}
+
+-- ---- what is found, for longer lists of writes
+
+pub found_wider : (rules : Rules) (h : History) (kept ws tail : List Write) (c : List ℕ) → IsFound rules h kept ws c → IsFound rules h kept (ws ++ tail) c
+found_wider rules h kept ws tail c found = record {
+  more = found.more;
+  rest = found.rest ++ tail;
+  parts = ap (λ (w : List Write). w ++ tail) found.parts ∙ append_assoc kept (found.more ++ found.rest) tail
+      ∙ ap (λ (w : List Write). kept ++ w) (append_assoc found.more found.rest tail);
+  stands = found.stands;
+}
+
+pub found_behind : (rules : Rules) (h : History) (us ws : List Write) (c : List ℕ) → IsFound rules (h ++ us) [] ws c → IsFound rules h us (us ++ ws) c
+found_behind rules h us ws c found = record {
+  more = found.more;
+  rest = found.rest;
+  parts = ap (λ (w : List Write). us ++ w) found.parts;
+  stands = let Of : History → Type 0 = λ x. StandsFor rules c x in subst Of (append_assoc h us found.more) found.stands;
+}
+
+pub found_first : (rules : Rules) (h : History) (us ws : List Write) (c : List ℕ) → IsFound rules h us ws c → IsFound rules h [] ws c
+found_first rules h us ws c found = record {
+  more = us ++ found.more;
+  rest = found.rest;
+  parts = found.parts ∙ sym (append_assoc us found.more found.rest);
+  stands = found.stands;
+}
+
+-- ---- the writes and the replies of a longer run
+
+pub accepted-append : (rules : Rules) (v : View) (rs qs : List Request)
+    → accepted rules v (rs ++ qs) ≡ accepted rules v rs ++ accepted rules (after_all rules v (accepted rules v rs)) qs
+accepted-append rules v [] qs = refl
+accepted-append rules v (r ∷ rs) qs =
+    let ws : List Write = writes rules v r in
+    let mid : View = after_all rules v ws in
+    ap (λ (w : List Write). ws ++ w) (accepted-append rules mid rs qs)
+    ∙ sym (append_assoc ws (accepted rules mid rs) (accepted rules (after_all rules mid (accepted rules mid rs)) qs))
+    ∙ ap (λ x. (ws ++ accepted rules mid rs) ++ accepted rules x qs) (sym (after_all-append rules v ws (accepted rules mid rs)))
+
+pub replies-append : (rules : Rules) (v : View) (rs qs : List Request)
+    → replies rules v (rs ++ qs) ≡ replies rules v rs ++ replies rules (after_all rules v (accepted rules v rs)) qs
+replies-append rules v [] qs = refl
+replies-append rules v (r ∷ rs) qs =
+    let ws : List Write = writes rules v r in
+    let mid : View = after_all rules v ws in
+    ap (λ (w : List Reply). reply rules v r ∷ w) (replies-append rules mid rs qs)
+    ∙ ap (λ x. reply rules v r ∷ (replies rules mid rs ++ replies rules x qs)) (sym (after_all-append rules v ws (accepted rules mid rs)))
+
+view-added : (rules : Rules) (h : History) (ws : List Write) → after_all rules (view rules h) ws ≡ view rules (h ++ ws)
+view-added rules h ws = sym (after_all-append rules empty h ws)
+
+-- the writes of some requests and of those behind them
+pub added-append : (rules : Rules) (h : History) (rs qs : List Request) → added rules h (rs ++ qs) ≡ added rules h rs ++ added rules (h ++ added rules h rs) qs
+added-append rules h rs qs =
+    accepted-append rules (view rules h) rs qs ∙ ap (λ x. added rules h rs ++ accepted rules x qs) (view-added rules h (added rules h rs))
+
+pub added-one : (rules : Rules) (h : History) (rs : List Request) (r : Request)
+    → added rules h (rs ++ r ∷ []) ≡ added rules h rs ++ writes rules (view rules (h ++ added rules h rs)) r
+added-one rules h rs r =
+    added-append rules h rs (r ∷ []) ∙ ap (λ (w : List Write). added rules h rs ++ w) (append-nil (writes rules (view rules (h ++ added rules h rs)) r))
+
+pub replies-one : (rules : Rules) (h : History) (rs : List Request) (r : Request)
+    → replies rules (view rules h) (rs ++ r ∷ []) ≡ replies rules (view rules h) rs ++ reply rules (view rules (h ++ added rules h rs)) r ∷ []
+replies-one rules h rs r =
+    replies-append rules (view rules h) rs (r ∷ []) ∙ ap (λ x. replies rules (view rules h) rs ++ reply rules x r ∷ []) (view-added rules h (added rules h rs))
+
+-- ---- runs of a store
+
+module _ {D : Type 0} {g : Ghosts D} (rules : Rules) (old mid new : Store D g) (h : History) (done : List Request) (given : List Reply)
+    (so_far : HasServed rules old mid h done given) where
+  us : List Write
+  us = added rules h done
+
+  -- the moments of a run and of a further call
+  moments_then : (ws all : List Write) → LeavesSome rules mid new (h ++ us) ws → ((c : List ℕ) → IsFound rules h [] us c → IsFound rules h [] all c)
+      → ((c : List ℕ) → IsFound rules (h ++ us) [] ws c → IsFound rules h [] all c) → LeavesSome rules old new h all
+  unfolding us
+  moments_then ws all next first_to second_to =
+      followed_by g.disk (device_of old) (device_of mid) (device_of new) (IsFound rules h [] us) (IsFound rules (h ++ us) [] ws) (IsFound rules h [] all)
+      so_far.moments next first_to second_to
+
+  -- one request more
+  pub served_more : (r : Request) (answer : Reply) → answer ≡ reply rules (view rules (h ++ added rules h done)) r
+      → IsSettledAt rules new ((h ++ added rules h done) ++ writes rules (view rules (h ++ added rules h done)) r)
+      → LeavesSome rules mid new (h ++ added rules h done) (writes rules (view rules (h ++ added rules h done)) r)
+      → HasServed rules old new h (done ++ r ∷ []) (given ++ answer ∷ [])
+  unfolding us
+  served_more r answer is settled next =
+      let ws : List Write = writes rules (view rules (h ++ us)) r in
+      let both : added rules h (done ++ r ∷ []) ≡ us ++ ws = added-one rules h done r in
+      let At : History → Type 0 = λ x. IsSettledAt rules new x in
+      let Leaves : List Write → Type 0 = λ x. LeavesSome rules old new h x in
+      record {
+        settled = subst At (append_assoc h us ws ∙ ap (λ (w : List Write). h ++ w) (sym both)) settled;
+        answered = ap (λ (x : List Reply). x ++ answer ∷ []) so_far.answered ∙ ap (λ x. replies rules (view rules h) done ++ x ∷ []) is
+            ∙ sym (replies-one rules h done r);
+        moments = subst Leaves (sym both) (moments_then ws (us ++ ws) next (λ c found. found_wider rules h [] us ws c found)
+            (λ c found. found_first rules h us (us ++ ws) c (found_behind rules h us ws c found)));
+      }
+
+  -- a request that changed nothing
+  pub served_same : IsSettledAt rules new (h ++ added rules h done) → LeavesSome rules mid new (h ++ added rules h done) [] → HasServed rules old new h done given
+  unfolding us
+  served_same settled next = record {
+    settled = settled;
+    answered = so_far.answered;
+    moments = moments_then [] us next (λ c found. found)
+        (λ c found. let Of : List Write → Type 0 = λ x. IsFound rules h us x c in
+        found_first rules h us us c (subst Of (append-nil us) (found_behind rules h us [] c found)));
+  }
+
+  -- the device failed in a further request
+  pub stopped_at : (r : Request) (later : List Request) → IsLeftAt rules new (h ++ added rules h done) [] (writes rules (view rules (h ++ added rules h done)) r)
+      → LeavesSome rules mid new (h ++ added rules h done) (writes rules (view rules (h ++ added rules h done)) r)
+      → HasStopped rules old new h done (done ++ r ∷ later) given
+  unfolding us
+  stopped_at r later left next =
+      let ws : List Write = writes rules (view rules (h ++ us)) r in
+      let tail : List Write = accepted rules (after_all rules (view rules (h ++ us)) ws) later in
+      let all : added rules h (done ++ r ∷ later) ≡ (us ++ ws) ++ tail = added-append rules h done (r ∷ later) ∙ sym (append_assoc us ws tail) in
+      let Left : List Write → Type 0 = λ x. IsLeftAt rules new h us x in
+      let Leaves : List Write → Type 0 = λ x. LeavesSome rules old new h x in
+      let behind : (c : List ℕ) → IsFound rules (h ++ us) [] ws c → IsFound rules h us ((us ++ ws) ++ tail) c =
+      (λ c found. found_wider rules h us (us ++ ws) tail c (found_behind rules h us ws c found))
+      in
+      record {
+        left = subst Left (sym all) (record { stopped = left.stopped; keeps = left.keeps; read = behind _ left.read; left = λ c l. behind c (left.left c l) });
+        answered = so_far.answered;
+        moments = subst Leaves (sym all) (moments_then ws ((us ++ ws) ++ tail) next
+            (λ c found. found_wider rules h [] (us ++ ws) tail c (found_wider rules h [] us ws c found))
+            (λ c found. found_first rules h us ((us ++ ws) ++ tail) c (behind c found)));
+      }
+
+-- a run that has answered nothing
+pub served_none : {D : Type 0} {g : Ghosts D} (rules : Rules) (store : Store D g) (h : History)
+    → ((c : List ℕ) → g.disk.since (device_of store) (g.disk.moment (device_of store)) c → g.disk.left (device_of store) c)
+    → IsSettledAt rules store h → HasServed rules store store h [] []
+served_none rules store h only_now settled =
+    let At : History → Type 0 = λ x. IsSettledAt rules store x in
+    record { settled = subst At (sym (append-nil h)) settled; answered = refl; moments = leaves-idle rules store h [] only_now settled }
+
+-- ---- the requests of a slice
+
+module _ {A B : Type 0} (f : A → B) (xs : List A) (i : ℕ) (x : A) (below : i < length xs) (is : x ≡ get_or xs i x) where
+  pub take-next : take (i + 1) (map f xs) ≡ take i (map f xs) ++ f x ∷ []
+  take-next =
+      take-map f (i + 1) xs ∙ ap (map f) ((take_at_read xs i x below).1) ∙ map-append f (take i xs) (get_or xs i x ∷ [])
+      ∙ ap (λ (y : A). map f (take i xs) ++ f y ∷ []) (sym is) ∙ ap (λ (ys : List B). ys ++ f x ∷ []) (sym (take-map f i xs))
+
+  pub take-rest : map f xs ≡ take i (map f xs) ++ f x ∷ drop (i + 1) (map f xs)
+  take-rest =
+      sym (take-append-drop (i + 1) (map f xs)) ∙ ap (λ (ys : List B). ys ++ drop (i + 1) (map f xs)) take-next
+      ∙ append_assoc (take i (map f xs)) (f x ∷ []) (drop (i + 1) (map f xs))

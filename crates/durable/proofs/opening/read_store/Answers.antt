@@ -1,0 +1,62 @@
+use Rattle.std.proofs.Common.{◌≡◌, ◌∙◌, sym, ap, subst, List, ℕ, map, Err}
+use Rattle.gatelog.specs.Log.{HoldsLog}
+use Rattle.checkpoint.specs.Root.{log_start, HoldsRoot}
+use Rattle.names.specs.declared.format.Rules.{Rules}
+use Rattle.apicore.specs.History.{History}
+use Rattle.apicore.specs.View.{view}
+use Rattle.recovery.specs.Written.{IsWritten}
+use Rattle.recovery.specs.declared.fault.RecoveryFault.TheVariants as recovery
+use Rattle.durable.specs.declared.fault.Fault.TheVariants as Fault
+use Rattle.durable.specs.Rules.{first_rules}
+use Rattle.durable.proofs.Reading.{no_log_here, written_here, stands_read}
+use Rattle.durable.proofs.opening.read_store.Goals as goal
+
+pub returns-in-Err-clause-damaged : goal.returns-in-Err-clause-damaged
+returns-in-Err-clause-damaged g c keeps damage is =
+    let same : c.in-Err.fault ≡ Fault.Damaged damage = cc in c.root_without_pages.ensures.damaged keeps damage (c.in-Err.is ∙ ap Err same)
+
+pub returns-in-Err-read_log-clause-damaged : goal.returns-in-Err-read_log-clause-damaged
+returns-in-Err-read_log-clause-damaged g c keeps damage is h stands =
+    let same : c.in-Err-read_log.fault ≡ Fault.Damaged damage = cc in
+    let content = g.D.Device.disk.content c.args.device.now in
+    let root = c.in-Ok.root in
+    let None : ℕ → List ℕ → Type 0 = λ at x. (payloads : List (List ℕ)) (last : ℕ) → HoldsLog at payloads last x → ⊥ in
+    let At : ℕ → Type 0 = λ at. None at (g.D.Device.disk.content c.root_without_pages.new.device) in
+    no_log_here first_rules content h stands root (c.in-Ok.ensures.found keeps)
+    (subst (None (log_start root)) (c.root_without_pages.ensures.ran.seen keeps)
+    (subst At c.log_start.ensures.place (c.read_log.ensures.damaged (c.root_without_pages.ensures.ran.kept keeps) damage (c.in-Err-read_log.is ∙ ap Err same))))
+
+pub returns-in-Err-Damaged-clause-damaged : goal.returns-in-Err-Damaged-clause-damaged
+returns-in-Err-Damaged-clause-damaged g c keeps damage is h stands =
+    let content = g.D.Device.disk.content c.args.device.now in
+    let root = c.in-Ok.root in
+    let log = c.in-Ok-read_log.found.0 in
+    let payloads : List (List ℕ) = map (λ p. p.items) c.in-Ok-read_log.found.1.items in
+    let In : List ℕ → Type 0 = λ x. HoldsLog (log_start root) payloads log.last x in
+    let At : ℕ → Type 0 = λ at. HoldsLog at payloads log.last (g.D.Device.disk.content c.root_without_pages.new.device) in
+    let there : HoldsLog (log_start root) payloads log.last content =
+    subst In (c.root_without_pages.ensures.ran.seen keeps) (subst At c.log_start.ensures.place (c.in-Ok-read_log.ensures.found (c.root_without_pages.ensures.ran.kept keeps)))
+    in
+    let Of : Rules → Type 0 = λ r. IsWritten r stands.later (map (λ p. p.items) c.deref.result.now) in
+    c.replayed.ensures.damaged (c.in-Err-Damaged.is ∙ ap Err c.in-Err-Damaged.field-0-is) stands.later
+    (subst Of (sym c.rules.ensures)
+    (subst (IsWritten first_rules stands.later) (ap (map (λ p. p.items)) (sym c.deref.ensures.value))
+    (written_here first_rules content h stands root (c.in-Ok.ensures.found keeps) payloads log.last there)))
+
+pub returns-in-Ok-replayed-clause-found : goal.returns-in-Ok-replayed-clause-found
+returns-in-Ok-replayed-clause-found g c keeps =
+    let content = g.D.Device.disk.content c.args.device.now in
+    let root = c.in-Ok.root in
+    let log = c.in-Ok-read_log.found.0 in
+    let core = c.in-Ok-replayed.core in
+    let payloads : List (List ℕ) = map (λ p. p.items) c.in-Ok-read_log.found.1.items in
+    let In : List ℕ → Type 0 = λ x. HoldsLog (log_start root) payloads log.last x in
+    let At : ℕ → Type 0 = λ at. HoldsLog at payloads log.last (g.D.Device.disk.content c.root_without_pages.new.device) in
+    let there : HoldsLog (log_start root) payloads log.last content =
+    subst In (c.root_without_pages.ensures.ran.seen keeps) (subst At c.log_start.ensures.place (c.in-Ok-read_log.ensures.found (c.root_without_pages.ensures.ran.kept keeps)))
+    in
+    let Found : Rules → Type 0 = λ r. (h : History) × IsWritten r h (map (λ p. p.items) c.deref.result.now) × (core.view ≡ view r h) in
+    let Found' : List (List ℕ) → Type 0 = λ ps. (h : History) × IsWritten first_rules h ps × (core.view ≡ view first_rules h) in
+    stands_read first_rules content root log payloads core (c.in-Ok.ensures.found keeps) c.in-Ok.ensures.no_pages c.in-Ok.ensures.revision
+    (c.in-Ok-read_log.ensures.place.0 ∙ c.log_start.ensures.place) there
+    (subst Found' (ap (map (λ p. p.items)) c.deref.ensures.value) (subst Found c.rules.ensures c.in-Ok-replayed.ensures.found))

@@ -1,0 +1,16 @@
+use Rattle.std.proofs.Common.{◌≡◌, ◌≤◌, length, take, map, true}
+use Rattle.std.specs.Vec.{vec_capacity}
+use Rattle.apicore.specs.History.{History}
+use Rattle.apicore.specs.RequestOf.{request_of}
+use Rattle.durable.specs.Rules.{first_rules}
+use Rattle.durable.specs.Settled.{device_of, serves, IsSettledAt, HasServed}
+use Rattle.durable.proofs.store.Store.run.Given as goal
+
+abbrev pub invariant-loop-request : goal.invariant-loop-request
+invariant-loop-request g l =
+    (length l.replies.items ≡ l.request-index)
+    × (length l.requests ≤ vec_capacity l.replies)
+    × (serves l.fn.self ≡ true → serves l.self ≡ true)
+    × (g.D.Device.disk.failures (device_of l.fn.self) ≤ g.D.Device.disk.failures (device_of l.self))
+    × ((h : History) → IsSettledAt first_rules l.fn.self h
+    → HasServed first_rules l.fn.self l.self h (take l.request-index (map request_of l.requests)) l.replies.items)

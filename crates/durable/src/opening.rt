@@ -1,0 +1,115 @@
+//! What is found on a device that is opened.
+
+ghost use Rattle.std.specs.Prelude.{◌≡◌, ◌≢◌, false, ℕ, List, map, IfOk, OnOk, OnErr, IsErrOf};
+ghost use Rattle.device.specs.Disk.{Only, HasFailed};
+ghost use Rattle.device.specs.Step.{Same};
+ghost use Rattle.device.specs.Run.{Ran};
+ghost use Rattle.gatelog.specs.Log.{HoldsLog};
+ghost use Rattle.checkpoint.specs.Root.{HoldsRoot};
+ghost use Rattle.apicore.specs.History.{History};
+ghost use Rattle.durable.specs.declared.fault.Damage.{Damage};
+ghost use Rattle.durable.specs.declared.fault.Fault.TheVariants as Fault;
+ghost use Rattle.durable.specs.Opened.{IsStoreOf};
+ghost use Rattle.durable.specs.Rules.{first_rules};
+ghost use Rattle.durable.specs.Stands.{StandsFor};
+
+use crate::fault::{Damage, Fault};
+use apicore::Core;
+use checkpoint::{Root, counted_root};
+use device::Device;
+use gatelog::Log;
+use names::{Format, Rules};
+use recovery::{RecoveryFault, replayed};
+use std::alloc::Global;
+
+/// What is shown of a history, and the log that it was read from.
+#[derive(Drop)]
+pub(crate) struct Opened {
+    pub(crate) core: Core,
+    pub(crate) log: Log,
+}
+
+// The numbers that a store keeps to.
+#[tactic(auto, unfolding(crate::specs::Rules::first_rules))]
+fn rules() -> Rules
+    ensures { result ≡ first_rules }
+{
+    Format::First.rules()
+}
+
+// The root that counts, which has no pages.
+fn root_without_pages<D: Device>(device: &mut D) -> Result<Root, Fault>
+    ensures found { D.disk.keeps device.old → IfOk result (HoldsRoot (D.disk.content device.old)) }
+    ensures no_pages { IfOk result (λ root. root.pages ≡ 0) }
+    ensures revision { IfOk result (λ root. root.revision ≡ 1) }
+    ensures damaged { D.disk.keeps device.old → (damage : Damage) → IsErrOf result (Fault.Damaged damage)
+        → (h : History) → StandsFor first_rules (D.disk.content device.old) h → ⊥ }
+    ensures ran { Ran D.disk device.old device.new Same }
+    ensures refusal { (result ≢ Err Fault.Failed) × (result ≢ Err Fault.Memory) }
+    ensures cause { IsErrOf result Fault.Device → HasFailed D.disk device.old device.new }
+{
+    let root = counted_root(device)?;
+    if root.pages != 0 || root.revision != 1 {
+        return Err(Fault::Damaged(Damage::Root));
+    }
+    Ok(root)
+}
+
+// The log at a gate, and its payloads.
+fn read_log<D: Device>(alloc: Global, device: &mut D, at: u64) -> Result<(Log, Vec<Vec<u8>>), Fault>
+    ensures place { IfOk result (λ found. (found.0.start ≡ at) × (found.0.failed ≡ false)) }
+    ensures found { D.disk.keeps device.old → IfOk result (λ found. HoldsLog at (map (λ p. p.items) found.1.items) found.0.last (D.disk.content device.old)) }
+    ensures damaged { D.disk.keeps device.old → (damage : Damage) → IsErrOf result (Fault.Damaged damage)
+        → (payloads : List (List ℕ)) (last : ℕ) → HoldsLog at payloads last (D.disk.content device.old) → ⊥ }
+    ensures ran { Ran D.disk device.old device.new Same }
+    ensures refusal { result ≢ Err Fault.Failed }
+    ensures cause { IsErrOf result Fault.Device → HasFailed D.disk device.old device.new }
+{
+    let mut log = Log::open(device, at)?;
+    let payloads = log.records(alloc, device)?;
+    Ok((log, payloads))
+}
+
+// Reads the store on a device. Nothing is written.
+fn read_store<D: Device>(alloc: Global, device: &mut D) -> Result<Opened, Fault>
+    ensures rules { IfOk result (λ opened. opened.core.rules ≡ first_rules) }
+    ensures works { IfOk result (λ opened. opened.log.failed ≡ false) }
+    ensures found { D.disk.keeps device.old → IfOk result (λ opened. (h : History) × IsStoreOf first_rules (D.disk.content device.old) opened.core opened.log h) }
+    ensures damaged { D.disk.keeps device.old → (damage : Damage) → IsErrOf result (Fault.Damaged damage)
+        → (h : History) → StandsFor first_rules (D.disk.content device.old) h → ⊥ }
+    ensures ran { Ran D.disk device.old device.new Same }
+    ensures refusal { result ≢ Err Fault.Failed }
+    ensures cause { IsErrOf result Fault.Device → HasFailed D.disk device.old device.new }
+{
+    let root = match root_without_pages(device) {
+        Ok(root) => root,
+        Err(fault) => return Err(fault),
+    };
+    let (log, payloads) = match read_log(alloc, device, root.log_start()) {
+        Ok(found) => found,
+        Err(fault) => return Err(fault),
+    };
+    match replayed(alloc, rules(), &payloads) {
+        Ok(core) => Ok(Opened { core, log }),
+        Err(RecoveryFault::Damaged) => Err(Fault::Damaged(Damage::Log)),
+        Err(RecoveryFault::Memory) => Err(Fault::Memory),
+    }
+}
+
+/// Syncs a device, and reads the store on it. Nothing is written.
+pub(crate) fn synced_store<D: Device>(alloc: Global, device: &mut D) -> Result<Opened, Fault>
+    ensures rules { IfOk result (λ opened. opened.core.rules ≡ first_rules) }
+    ensures works { IfOk result (λ opened. opened.log.failed ≡ false) }
+    ensures found { D.disk.keeps device.old → IfOk result (λ opened. (h : History) × IsStoreOf first_rules (D.disk.content device.old) opened.core opened.log h) }
+    ensures durable { D.disk.keeps device.old → OnOk result (Only (D.disk.content device.new) (D.disk.left device.new)) }
+    ensures damaged { D.disk.keeps device.old → (damage : Damage) → IsErrOf result (Fault.Damaged damage)
+        → (h : History) → StandsFor first_rules (D.disk.content device.old) h → ⊥ }
+    ensures ran { Ran D.disk device.old device.new Same }
+    ensures refusal { result ≢ Err Fault.Failed }
+    ensures cause { IsErrOf result Fault.Device → HasFailed D.disk device.old device.new }
+{
+    if device.sync().is_err() {
+        return Err(Fault::Device);
+    }
+    read_store(alloc, device)
+}

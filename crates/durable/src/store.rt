@@ -1,0 +1,196 @@
+ghost use Rattle.std.specs.Prelude.{◌≡◌, ◌≢◌, ◌≤◌, ◌++◌, ◌∷◌, [], List, ℕ, length, take, map, true, false, is_ok, None, Some, IsSome, IfSome, IfOk, IfErr, OnOk, OnErr, IsErrOf, ◌⊎◌};
+ghost use Rattle.durable.specs.Rules.{first_rules};
+ghost use Rattle.durable.specs.Ready.{IsReady};
+
+use crate::Fault;
+use crate::opening::synced_store;
+use crate::record::record_of;
+use apicore::{Core, Prepared, Reply, Request};
+use device::Device;
+use gatelog::{Body, Log};
+use std::alloc::Global;
+
+/// A store of objects on a device.
+#[derive(Drop)]
+pub struct Store<D: Device> {
+    device: D,
+    core: Core,
+    log: Log,
+    serves: bool,
+    ghost rules: { core.rules ≡ first_rules },
+    ghost works: { serves ≡ true → log.failed ≡ false },
+    ghost ready: { serves ≡ true → D.disk.keeps device → ∥ IsReady D.disk device log ∥₁ },
+}
+
+impl<D: Device> Store<D> {
+    ghost use Rattle.device.specs.Disk.{LeavesOnly, HasCause, HasFailed};
+    ghost use Rattle.device.specs.Run.{Stands};
+    ghost use Rattle.gatelog.specs.Payload.{payload_of};
+    ghost use Rattle.records.specs.Payload.{payload, IsStorable};
+    ghost use Rattle.apicore.specs.Prepared.{IsReady as CoreIsReady, writes_of};
+    ghost use Rattle.durable.specs.Ready.{HoldsHistory};
+    ghost use Rattle.durable.specs.declared.fault.Fault.TheVariants as Fault;
+    ghost use Rattle.apicore.specs.History.{Write, History};
+    ghost use Rattle.apicore.specs.RequestOf.{request_of};
+    ghost use Rattle.apicore.specs.Step.{reply, writes};
+    ghost use Rattle.apicore.specs.View.{view, after_all, MayFollow};
+    ghost use Rattle.durable.specs.Stands.{StandsFor};
+    ghost use Rattle.durable.specs.Settled.{device_of, serves, shown, IsFound, IsSettledAt, IsLeftAt, LeavesSome, HasServed, HasStopped};
+
+    /// Opens the store on a device: syncs it, reads it, and writes nothing. With a refusal it gives the device back.
+    ///
+    /// # Errors
+    ///
+    /// `Device` only where the device failed in this call; `Memory`; `Damaged` only where the content stands for no history.
+    pub fn open(alloc: Global, device: D) -> Result<Store<D>, (Fault, D)>
+        ensures settled { (h : History) → D.disk.keeps device → StandsFor first_rules (D.disk.content device) h
+            → IfOk result (λ store. IsSettledAt first_rules store h) }
+
+        // No store is opened on a content that stands for no history.
+        ensures found { D.disk.keeps device → IfOk result (λ store. (h : History) × IsSettledAt first_rules store h) }
+
+        // At every moment a crash leaves what it might have left before.
+        ensures any_moment { D.disk.keeps device → IfOk result (λ store. LeavesOnly D.disk device (device_of store) (D.disk.left device)) }
+        ensures any_moment_err { D.disk.keeps device → IfErr result (λ e. LeavesOnly D.disk device e.1 (D.disk.left device)) }
+
+        ensures content { D.disk.keeps device → IfOk result (λ store. D.disk.content (device_of store) ≡ D.disk.content device) }
+        ensures content_err { D.disk.keeps device → IfErr result (λ e. D.disk.keeps e.1 × (D.disk.content e.1 ≡ D.disk.content device)) }
+        ensures left_err { D.disk.keeps device → IfErr result (λ e. (c : List ℕ) → D.disk.left e.1 c → D.disk.left device c) }
+        ensures refusal { (h : History) → D.disk.keeps device → StandsFor first_rules (D.disk.content device) h
+            → IfErr result (λ e. (e.0 ≡ Fault.Device) ⊎ (e.0 ≡ Fault.Memory)) }
+        ensures never_failed { IfErr result (λ e. e.0 ≢ Fault.Failed) }
+        ensures cause { IfErr result (λ e. e.0 ≡ Fault.Device → HasFailed D.disk device e.1) }
+    {
+        let mut device = device;
+        match synced_store(alloc, &mut device) {
+            Ok(opened) => Ok(Store {
+                device,
+                core: opened.core,
+                log: opened.log,
+                serves: true,
+            }),
+            Err(fault) => Err((fault, device)),
+        }
+    }
+
+    /// Whether the store serves: it does until its device fails.
+    pub fn settled(&self) -> bool
+        ensures { result ≡ serves self.now }
+    {
+        self.serves
+    }
+
+    /// The device, to be opened again.
+    pub fn into_device(self) -> D
+        ensures { result ≡ device_of self }
+    {
+        let Store { device, .. } = self;
+        device
+    }
+
+    /// Answers a request. Its write, if it makes one, is on the disk when the reply is given.
+    ///
+    /// # Errors
+    ///
+    /// `Device` only where the device failed in this call: the write may stand or not, and the store answers `Failed` from then
+    /// on. `Memory` changes nothing. `Failed` after a failure, with no call of the device.
+    pub fn apply(&mut self, alloc: Global, request: &Request) -> Result<Reply, Fault>
+        ensures reply { (h : History) → IsSettledAt first_rules self.old h
+            → IfOk result (λ r. r ≡ reply first_rules (view first_rules h) (request_of request.now)) }
+        ensures settled { (h : History) → IsSettledAt first_rules self.old h
+            → OnOk result (IsSettledAt first_rules self.new (h ++ writes first_rules (view first_rules h) (request_of request.now))) }
+        ensures any_moment { (h : History) → IsSettledAt first_rules self.old h
+            → LeavesSome first_rules self.old self.new h (writes first_rules (view first_rules h) (request_of request.now)) }
+        ensures device { (h : History) → IsSettledAt first_rules self.old h → IsErrOf result Fault.Device
+            → IsLeftAt first_rules self.new h [] (writes first_rules (view first_rules h) (request_of request.now)) }
+        ensures memory { (h : History) → IsSettledAt first_rules self.old h → IsErrOf result Fault.Memory
+            → IsSettledAt first_rules self.new h × LeavesSome first_rules self.old self.new h [] }
+
+        ensures refusal { serves self.old ≡ true → OnErr result (IsErrOf result Fault.Device ⊎ IsErrOf result Fault.Memory) }
+        ensures failed { serves self.old ≡ false → IsErrOf result Fault.Failed × (self.new ≡ self.old) }
+        ensures goes_on { OnOk result (serves self.new ≡ true) }
+        ensures stops { IsErrOf result Fault.Device → serves self.new ≡ false }
+        ensures memory_goes_on { IsErrOf result Fault.Memory → serves self.new ≡ serves self.old }
+        ensures cause { IsErrOf result Fault.Device → HasFailed D.disk (device_of self.old) (device_of self.new) }
+        ensures count { D.disk.failures (device_of self.old) ≤ D.disk.failures (device_of self.new) }
+    {
+        if !self.serves {
+            return Err(Fault::Failed);
+        }
+        let prepared = self.core.prepare(alloc, request)?;
+        match record_of(alloc, &prepared.put)? {
+            None => Ok(self.core.take(prepared)),
+            Some(body) => self.commit(prepared, body),
+        }
+    }
+
+    // Takes a prepared write, and appends its record.
+    fn commit(&mut self, prepared: Prepared, body: Body) -> Result<Reply, Fault>
+        requires serves { serves self.old ≡ true }
+        requires ready { CoreIsReady self.old.core prepared }
+        ensures reply { IfOk result (λ r. r ≡ prepared.reply) }
+        ensures shows { (shown self.new) ≡ after_all self.old.core.rules (shown self.old) (writes_of prepared.put) }
+        ensures stands { (h : History) (w : Write) → HoldsHistory first_rules D.disk (device_of self.old) h → MayFollow first_rules (view first_rules h) w → IsStorable w
+            → payload_of body ≡ payload w → Stands D.disk (device_of self.old) (device_of self.new) (IsFound first_rules h [] (w ∷ [])) (IsFound first_rules h [] (w ∷ [])) }
+        ensures appended { (h : History) (w : Write) → HoldsHistory first_rules D.disk (device_of self.old) h → MayFollow first_rules (view first_rules h) w → IsStorable w
+            → payload_of body ≡ payload w → OnOk result (HoldsHistory first_rules D.disk (device_of self.new) (h ++ w ∷ [])) }
+        ensures serves { serves self.new ≡ is_ok result }
+        ensures refusal { OnErr result (result ≡ Err Fault.Device) }
+        ensures cause { HasCause D.disk (device_of self.old) (device_of self.new) result }
+    {
+        let reply = self.core.take(prepared);
+        self.append(body)?;
+        Ok(reply)
+    }
+
+    // Appends the record of a write. After a failure the store serves no more.
+    fn append(&mut self, body: Body) -> Result<(), Fault>
+        requires { serves self.old ≡ true }
+        ensures core { self.new.core ≡ self.old.core }
+        ensures stands { (h : History) (w : Write) → HoldsHistory first_rules D.disk (device_of self.old) h → MayFollow first_rules (view first_rules h) w → IsStorable w
+            → payload_of body ≡ payload w → Stands D.disk (device_of self.old) (device_of self.new) (IsFound first_rules h [] (w ∷ [])) (IsFound first_rules h [] (w ∷ [])) }
+        ensures appended { (h : History) (w : Write) → HoldsHistory first_rules D.disk (device_of self.old) h → MayFollow first_rules (view first_rules h) w → IsStorable w
+            → payload_of body ≡ payload w → OnOk result (HoldsHistory first_rules D.disk (device_of self.new) (h ++ w ∷ [])) }
+        ensures serves { serves self.new ≡ is_ok result }
+        ensures refusal { OnErr result (result ≡ Err Fault.Device) }
+        ensures cause { HasCause D.disk (device_of self.old) (device_of self.new) result }
+    {
+        self.serves = false;
+        if self.log.append(&mut self.device, body).is_err() {
+            return Err(Fault::Device);
+        }
+        self.serves = true;
+        Ok(())
+    }
+
+    /// Answers requests in order, until a fault. The replies are those that were given before it.
+    ///
+    /// # Errors
+    ///
+    /// As [`Store::apply`]: the fault is that of the request behind those that were answered. There is memory for the replies of all
+    /// requests before the first is applied, or the fault is `Memory` with no reply.
+    pub fn run(&mut self, alloc: Global, requests: &[Request]) -> (Vec<Reply>, Option<Fault>)
+        ensures all { (h : History) → IsSettledAt first_rules self.old h → result.1 ≡ None
+            → HasServed first_rules self.old self.new h (map request_of requests.now) result.0.items }
+        ensures memory { (h : History) → IsSettledAt first_rules self.old h → result.1 ≡ Some Fault.Memory
+            → HasServed first_rules self.old self.new h (take (length result.0.items) (map request_of requests.now)) result.0.items }
+        ensures device { (h : History) → IsSettledAt first_rules self.old h → result.1 ≡ Some Fault.Device
+            → HasStopped first_rules self.old self.new h (take (length result.0.items) (map request_of requests.now)) (map request_of requests.now) result.0.items }
+        ensures refusal { serves self.old ≡ true → IfSome result.1 (λ fault. (fault ≡ Fault.Device) ⊎ (fault ≡ Fault.Memory)) }
+        ensures cause { result.1 ≡ Some Fault.Device → HasFailed D.disk (device_of self.old) (device_of self.new) }
+        ensures count { D.disk.failures (device_of self.old) ≤ D.disk.failures (device_of self.new) }
+    {
+        let _ = requests;
+        let mut replies = match Vec::with_capacity(alloc, requests.len()) {
+            Ok(replies) => replies,
+            Err(_) => return (Vec::new(alloc), Some(Fault::Memory)),
+        };
+        for request in requests {
+            match self.apply(alloc, request) {
+                Ok(reply) => replies.push_reserved(reply),
+                Err(fault) => return (replies, Some(fault)),
+            }
+        }
+        (replies, None)
+    }
+}
