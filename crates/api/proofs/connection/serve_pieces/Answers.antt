@@ -1,0 +1,109 @@
+use Rattle.std.proofs.Common.{[], ◌++◌, Ok, ap, arith, refl, sym, ◌∙◌, subst, take}
+use Rattle.httpmsg.specs.Stream.{Progress}
+use Rattle.api.specs.declared.piece.Step.{Step}
+use Rattle.api.specs.Answers.{all_writes}
+use Rattle.api.specs.Piece.{Steps}
+use Rattle.api.proofs.Runs.{SoFar, so_far_none, so_far_told, so_far_read, no_more, no_more_in_part, ended_at, wrong_at, finished_at, causes_err}
+use Rattle.api.proofs.connection.serve_pieces.Goals as goal
+
+pub loop-init : goal.loop-init
+loop-init g c = (
+  λ h settled.
+      let gave = g.I.Input.gave in
+      let took = g.O.Output.took in
+      let Now : Progress → Type 0 =
+      λ now. SoFar gave took c.args.input.now c.args.input.now c.args.output.now c.args.output.now c.args.store.now c.args.store.now h now []
+      in
+      subst Now (sym c.requires.cutter)
+      (so_far_none gave took c.args.input.now c.args.output.now c.args.store.now h (g.met.I.Input.gave_none c.args.input.now)
+      (g.met.O.Output.took_none c.args.output.now) (λ content since. g.met.D.Device.only_now _ content settled.keeps since) settled),
+  omega arith,
+  c.requires.buffer,
+  omega arith,
+  omega arith,
+  omega arith,
+  refl,
+)
+
+pub returns-in-Ok-Finish-clause-outcome : goal.returns-in-Ok-Finish-clause-outcome
+returns-in-Ok-Finish-clause-outcome g c h settled =
+    let gave = g.I.Input.gave in
+    let took = g.O.Output.took in
+    let so_far = c.loop.invariant.0 h settled in
+    let Stepped : Step → Type 0 =
+    λ step. Steps gave took c.loop.input c.next_step.new.input c.loop.output c.next_step.new.output c.loop.store c.next_step.new.store
+    (h ++ all_writes h so_far.answers.answered) so_far.read so_far.ms c.loop.cutter (take c.loop.count c.loop.buffer) c.next_step.new.cutter
+    c.next_step.new.buffer (g.I.Input.has_ended c.next_step.new.input) step
+    in
+    let step = subst Stepped c.in-Ok-Finish.field-0-is (c.in-Ok-Finish.ensures.outcome _ so_far.read so_far.ms so_far.answers.store.settled so_far.cut) in
+    let later =
+    so_far_told gave took g.met.O.Output.took_then c.args.input.now c.loop.input c.args.output.now c.loop.output c.next_step.new.output c.args.store.now
+    c.loop.store c.next_step.new.store h c.loop.cutter c.next_step.new.cutter (take c.loop.count c.loop.buffer) so_far step.0
+    in
+    finished_at gave took g.met.O.Output.took_then c.args.input.now c.loop.input c.next_step.new.input c.args.output.now c.next_step.new.output
+    c.finish.new.output c.args.store.now c.next_step.new.store h c.next_step.new.cutter (g.I.Input.has_ended c.next_step.new.input) c.finish.result
+    g.met.I.Input.gave_then later step.2 step.3 (c.finish.ensures.outcome later.read later.ms later.cut step.1)
+
+pub returns-in-Ok-End-clause-outcome : goal.returns-in-Ok-End-clause-outcome
+returns-in-Ok-End-clause-outcome g c h settled =
+    let gave = g.I.Input.gave in
+    let took = g.O.Output.took in
+    let so_far = c.loop.invariant.0 h settled in
+    let Stepped : Step → Type 0 =
+    λ step. Steps gave took c.loop.input c.next_step.new.input c.loop.output c.next_step.new.output c.loop.store c.next_step.new.store
+    (h ++ all_writes h so_far.answers.answered) so_far.read so_far.ms c.loop.cutter (take c.loop.count c.loop.buffer) c.next_step.new.cutter
+    c.next_step.new.buffer (g.I.Input.has_ended c.next_step.new.input) step
+    in
+    ended_at gave took g.met.O.Output.took_then c.args.input.now c.loop.input c.next_step.new.input c.args.output.now c.loop.output c.next_step.new.output
+    c.args.store.now c.loop.store c.next_step.new.store h c.loop.cutter c.next_step.new.cutter (take c.loop.count c.loop.buffer)
+    (g.I.Input.has_ended c.next_step.new.input) c.in-Ok-End.end g.met.I.Input.gave_then so_far
+    (subst Stepped c.in-Ok-End.field-0-is (c.in-Ok-End.ensures.outcome _ so_far.read so_far.ms so_far.answers.store.settled so_far.cut))
+
+pub returns-in-Err-clause-outcome : goal.returns-in-Err-clause-outcome
+returns-in-Err-clause-outcome g c h settled =
+    let so_far = c.loop.invariant.0 h settled in
+    wrong_at g.I.Input.gave g.O.Output.took g.met.O.Output.took_then c.args.input.now c.loop.input c.next_step.new.input c.args.output.now c.loop.output
+    c.next_step.new.output c.args.store.now c.loop.store c.next_step.new.store h c.loop.cutter c.next_step.new.cutter
+    (take c.loop.count c.loop.buffer) c.in-Err.fault g.met.I.Input.gave_then so_far
+    (c.in-Err.ensures.outcome _ so_far.read so_far.ms so_far.answers.store.settled so_far.cut)
+
+pub returns-in-Err-clause-causes : goal.returns-in-Err-clause-causes
+returns-in-Err-clause-causes g c =
+    causes_err _ _ _ _ _ _ _ _ _ _ _ _ c.in-Err.fault c.loop.invariant.3 c.loop.invariant.4 c.loop.invariant.5 c.loop.invariant.6 c.in-Err.ensures.causes
+
+pub loop-preserved : goal.loop-preserved
+loop-preserved g c = (
+  λ h settled.
+      let gave = g.I.Input.gave in
+      let took = g.O.Output.took in
+      let so_far = c.loop.invariant.0 h settled in
+      let Stepped : Step → Type 0 =
+      λ step. Steps gave took c.loop.input c.next_step.new.input c.loop.output c.next_step.new.output c.loop.store c.next_step.new.store
+      (h ++ all_writes h so_far.answers.answered) so_far.read so_far.ms c.loop.cutter (take c.loop.count c.loop.buffer) c.next_step.new.cutter
+      c.next_step.new.buffer (g.I.Input.has_ended c.next_step.new.input) step
+      in
+      let step = subst Stepped c.in-Ok-Feed.field-0-is (c.in-Ok-Feed.ensures.outcome _ so_far.read so_far.ms so_far.answers.store.settled so_far.cut) in
+      so_far_read gave took c.args.input.now c.loop.input c.next_step.new.input c.args.output.now c.next_step.new.output c.args.store.now
+      c.next_step.new.store h c.next_step.new.cutter (take c.in-Ok-Feed.more c.next_step.new.buffer) g.met.I.Input.gave_then
+      (so_far_told gave took g.met.O.Output.took_then c.args.input.now c.loop.input c.args.output.now c.loop.output c.next_step.new.output
+      c.args.store.now c.loop.store c.next_step.new.store h c.loop.cutter c.next_step.new.cutter (take c.loop.count c.loop.buffer) so_far step.0)
+      step.1,
+  c.in-Ok-Feed.ensures.fits c.in-Ok-Feed.more (ap Ok c.in-Ok-Feed.field-0-is),
+  omega (arith, c.loop.invariant.2, c.next_step.auto.buffer),
+  omega (arith, c.loop.invariant.3, c.in-Ok-Feed.ensures.causes.input_later),
+  omega (arith, c.loop.invariant.4, c.in-Ok-Feed.ensures.causes.output_later),
+  omega (arith, c.loop.invariant.5, c.in-Ok-Feed.ensures.causes.device_later),
+  c.in-Ok-Feed.ensures.causes.goes_on ∙ c.loop.invariant.6,
+)
+
+pub returns-in-Ok-clause-outcome : goal.returns-in-Ok-clause-outcome
+returns-in-Ok-clause-outcome g c h settled =
+    no_more g.I.Input.gave g.O.Output.took g.met.O.Output.took_then c.args.input.now c.loop.input c.args.output.now c.loop.output
+    c.write_no_more.new.output c.args.store.now c.loop.store h c.loop.cutter (take c.loop.count c.loop.buffer) (c.loop.invariant.0 h settled)
+    c.in-Ok.ensures.writes
+
+pub returns-clause-outcome : goal.returns-clause-outcome
+returns-clause-outcome g c h settled =
+    no_more_in_part g.I.Input.gave g.O.Output.took g.met.O.Output.took_then c.args.input.now c.loop.input c.args.output.now c.loop.output
+    c.write_no_more.new.output c.args.store.now c.loop.store h c.loop.cutter (take c.loop.count c.loop.buffer) (c.loop.invariant.0 h settled)
+    c.in-Err-write_no_more.ensures.writes

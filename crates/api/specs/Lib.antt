@@ -1,0 +1,5 @@
+pub mod ReplyBytes
+pub mod Answers
+pub mod Serving
+pub mod Piece
+pub mod Laws

@@ -1,0 +1,43 @@
+-- The bytes of replies to messages.
+use Rattle.std.specs.Prelude.{ℕ, Bool, true, List, [], None}
+use Rattle.apicore.specs.declared.refusal.Refusal.{Refusal}
+use Rattle.apicore.specs.declared.refusal.Refusal.TheVariants.{MalformedRequest, UnservedVersion, TooManyFields, UnservedTransferCoding, BadHost, BadContentLength, BodyTooLarge, UnservedExpectation, BadTarget}
+use Rattle.apicore.specs.Reply.{Reply, status}
+use Rattle.httpmsg.specs.declared.head.MessageFault.{MessageFault}
+use Rattle.httpmsg.specs.declared.head.MessageFault.TheVariants as Fault
+use Rattle.httpmsg.specs.declared.head.End.{End}
+use Rattle.httpmsg.specs.declared.head.End.TheVariants.{Clean, Closed, Broken}
+use Rattle.httpmsg.specs.Response.{Response, response_bytes}
+use Rattle.httpmsg.specs.Stream.{Message, is_head}
+
+-- the refusal of a message that has a fault
+abbrev pub refusal_of : MessageFault → Refusal
+refusal_of Fault.Malformed = MalformedRequest
+refusal_of Fault.Version = UnservedVersion
+refusal_of Fault.TooManyFields = TooManyFields
+refusal_of Fault.TransferCoding = UnservedTransferCoding
+refusal_of Fault.Host = BadHost
+refusal_of Fault.ContentLength = BadContentLength
+refusal_of Fault.BodyTooLarge = BodyTooLarge
+refusal_of Fault.Expectation = UnservedExpectation
+refusal_of Fault.Target = BadTarget
+
+-- a reply on the wire
+abbrev pub response_of : (without_body closes : Bool) → Reply → Response
+response_of without_body closes r =
+    record { status = r.code; allow = None; warnings = r.warnings; closes = closes; without_body = without_body; body = r.body }
+
+-- The bytes of the reply to a message. One to HEAD has no body bytes (RFC 9110 section 9.3.2), and one to a message that
+-- said `close` says so too (RFC 9112 section 9.6).
+abbrev pub reply_bytes : Message → Reply → List ℕ
+reply_bytes m r = response_bytes (response_of (is_head m.method) m.closes r)
+
+-- the bytes of a refusal after which the connection ends
+abbrev pub closing_bytes : (without_body : Bool) → Refusal → List ℕ
+closing_bytes without_body r = response_bytes (response_of without_body true (status r))
+
+-- what is written for the end of a stream: the reply of a fault
+abbrev pub end_bytes : End → List ℕ
+end_bytes Clean = []
+end_bytes Closed = []
+end_bytes (Broken broken) = closing_bytes broken.is_head (refusal_of broken.fault)

@@ -1,0 +1,122 @@
+//! A connection, served.
+
+ghost use Rattle.std.specs.Prelude.{◌≡◌, ◌≢◌, ◌<◌, ◌⊎◌, [], length, false, None, IfOk, IsErrOf, MatchResult};
+ghost use Rattle.apicore.specs.History.{History};
+ghost use Rattle.durable.specs.Rules.{first_rules};
+ghost use Rattle.durable.specs.Settled.{device_of, serves, IsSettledAt};
+ghost use Rattle.durable.specs.declared.fault.Damage.{Damage as DamageData};
+ghost use Rattle.api.specs.Answers.{HasGrown};
+ghost use Rattle.api.specs.Serving.{HasEnded, HasReadSome, HasWrittenSome, HasFailed, HasLackedMemory, HasStopped, HasAllCauses, Exchanged};
+
+use crate::fault::ServeFault;
+use crate::piece::{Step, finish, next_step};
+use crate::reply::write_no_more;
+use device::Device;
+use durable::Store;
+use httpmsg::{Cutter, End, Input, Output};
+use routes::Routes;
+use std::alloc::{AllocError, Global};
+
+/// How many bytes are read at once, at most.
+const BUFFER_BYTES: usize = 16384;
+
+fn new_buffer(alloc: Global) -> Result<Vec<u8>, AllocError>
+    ensures { IfOk result (λ buffer. 0 < length buffer.items) }
+{
+    vec![in alloc; 0; BUFFER_BYTES]
+}
+
+// Reads and answers piece after piece, to the end of the stream.
+fn serve_pieces<I: Input, O: Output, D: Device>(
+    alloc: Global,
+    routes: &Routes,
+    mut cutter: Cutter,
+    buffer: &mut [u8],
+    input: &mut I,
+    output: &mut O,
+    store: &mut Store<D>,
+) -> Result<End, ServeFault>
+    requires cutter { cutter ≡ record { pending = []; end = None } }
+    requires buffer { 0 < length buffer.old }
+    ensures outcome { (h : History) → IsSettledAt first_rules store.old h → MatchResult result
+        (λ end. Exchanged I.gave O.took input.old input.new output.old output.new
+        (λ read written. HasEnded store.old store.new h read written (I.has_ended input.new) end))
+        (λ fault. Exchanged I.gave O.took input.old input.new output.old output.new (HasStopped store.old store.new h fault)) }
+    ensures causes { HasAllCauses (I.failures input.old) (I.failures input.new) (O.failures output.old) (O.failures output.new)
+        (D.disk.failures (device_of store.old)) (D.disk.failures (device_of store.new)) (serves store.old) (serves store.new) result }
+{
+    let mut count = 0;
+    for _ in 0..u64::MAX {
+        match next_step(
+            alloc,
+            routes,
+            &mut cutter,
+            buffer,
+            count,
+            input,
+            output,
+            store,
+        ) {
+            Ok(Step::Feed(more)) => count = more,
+            Ok(Step::Finish) => return finish(cutter, output),
+            Ok(Step::End(end)) => return Ok(end),
+            Err(fault) => return Err(fault),
+        }
+    }
+    // No connection gives that many pieces.
+    match write_no_more(output) {
+        Ok(()) => Err(ServeFault::Memory),
+        Err(_) => Err(ServeFault::Write),
+    }
+}
+
+/// Serves a connection: reads its messages, and writes the reply to each before the next is applied.
+///
+/// # Errors
+///
+/// `Read` and `Write` where the input or the output failed: the store holds all that was applied. `Device` where the store's
+/// device failed, and `Failed` where it had failed before. `Memory` where it was refused before the first read, and then nothing
+/// changed, or to further bytes of the input. To a single message it is no fault: that message is refused, and the connection
+/// goes on.
+pub fn serve<I: Input, O: Output, D: Device>(
+    alloc: Global,
+    input: &mut I,
+    output: &mut O,
+    store: &mut Store<D>,
+) -> Result<End, ServeFault>
+    ensures ended { (h : History) → IsSettledAt first_rules store.old h
+        → IfOk result (λ end. Exchanged I.gave O.took input.old input.new output.old output.new
+        (λ read written. HasEnded store.old store.new h read written (I.has_ended input.new) end)) }
+    ensures read { (h : History) → IsSettledAt first_rules store.old h → IsErrOf result ServeFault.Read
+        → Exchanged I.gave O.took input.old input.new output.old output.new (HasReadSome store.old store.new h) }
+    ensures write { (h : History) → IsSettledAt first_rules store.old h → IsErrOf result ServeFault.Write
+        → Exchanged I.gave O.took input.old input.new output.old output.new (HasWrittenSome store.old store.new h) }
+    ensures device { (h : History) → IsSettledAt first_rules store.old h → IsErrOf result ServeFault.Device
+        → Exchanged I.gave O.took input.old input.new output.old output.new (HasFailed store.old store.new h) }
+
+    // Nothing was read, written or changed, or memory was refused to further bytes.
+    ensures memory { (h : History) → IsSettledAt first_rules store.old h → IsErrOf result ServeFault.Memory
+        → ((input.new ≡ input.old) × (output.new ≡ output.old) × (store.new ≡ store.old))
+        ⊎ Exchanged I.gave O.took input.old input.new output.old output.new (HasLackedMemory store.old store.new h) }
+
+    ensures never_damaged { (h : History) → IsSettledAt first_rules store.old h → (damage : DamageData) → result ≢ Err (ServeFault.Damaged damage) }
+    ensures failed { IsErrOf result ServeFault.Failed → serves store.old ≡ false }
+    ensures read_cause { IsErrOf result ServeFault.Read → HasGrown (I.failures input.old) (I.failures input.new) }
+    ensures write_cause { IsErrOf result ServeFault.Write → HasGrown (O.failures output.old) (O.failures output.new) }
+    ensures device_cause { IsErrOf result ServeFault.Device
+        → HasGrown (D.disk.failures (device_of store.old)) (D.disk.failures (device_of store.new)) }
+{
+    let (routes, cutter, mut buffer) = match tools(alloc) {
+        Ok(tools) => tools,
+        Err(AllocError) => return Err(ServeFault::Memory),
+    };
+    serve_pieces(alloc, &routes, cutter, &mut buffer, input, output, store)
+}
+
+// All that serving a connection needs memory for.
+fn tools(alloc: Global) -> Result<(Routes, Cutter, Vec<u8>), AllocError>
+    ensures cutter { IfOk result (λ tools. tools.1 ≡ record { pending = []; end = None }) }
+    ensures buffer { IfOk result (λ tools. 0 < length tools.2.items) }
+{
+    Ok((Routes::new(alloc)?, Cutter::new(alloc)?, new_buffer(alloc)?))
+}

@@ -1,0 +1,27 @@
+//! From the bytes of a connection to the bytes of its replies.
+//!
+//! ```text
+//! let mut store = Store::open(alloc, device)?;
+//! let end = serve(alloc, &mut input, &mut output, &mut store)?;
+//! ```
+//!
+//! From a store that is settled at a history, what `serve` writes are the replies of the model to the messages of the stream
+//! that was read, and then the reply of its end; the store is then settled behind their accepted writes, and a crash at any
+//! moment leaves the history followed by some first ones of them. Each fault says what was read, what was written and what
+//! the store holds, and none is answered but where what it names failed.
+#![tactic(auto)]
+
+mod answer;
+mod bodies;
+mod connection;
+mod fault;
+mod laws;
+mod piece;
+mod reply;
+#[cfg(test)]
+mod tests;
+
+pub use bodies::fault_body;
+pub use connection::serve;
+pub use fault::ServeFault;
+pub use laws::answers_are_runs;
