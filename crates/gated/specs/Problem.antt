@@ -1,0 +1,57 @@
+-- What the program tells of a problem, and how it then ends.
+use Rattle.std.specs.Prelude.{ℕ, List, codes}
+use Rattle.device.specs.declared.file_device.CreateFault as file_create
+use Rattle.device.specs.declared.file_device.CreateFault.TheVariants as file_create_fault
+use Rattle.device.specs.declared.file_device.OpenFault as file_open
+use Rattle.device.specs.declared.file_device.OpenFault.TheVariants as file_open_fault
+use Rattle.durable.specs.declared.fault.Damage.TheVariants as damage
+use Rattle.durable.specs.declared.fault.Fault as store
+use Rattle.durable.specs.declared.fault.Fault.TheVariants as store_fault
+use Rattle.durable.specs.declared.new_store.CreateFault as store_create
+use Rattle.durable.specs.declared.new_store.CreateFault.TheVariants as store_create_fault
+use Rattle.gated.specs.declared.problem.Problem.{Problem}
+use Rattle.gated.specs.declared.problem.Problem.TheVariants as problem
+use Rattle.gated.specs.declared.status.Status.{Status}
+use Rattle.gated.specs.declared.status.Status.TheVariants as status
+
+-- its line on standard error, behind the program's name
+abbrev pub text_of : Problem → List ℕ
+text_of problem.FileExists = codes "file exists"
+text_of problem.NoStore = codes "no store"
+text_of (problem.Damaged damage.Header) = codes "damaged: header"
+text_of (problem.Damaged damage.Root) = codes "damaged: root"
+text_of (problem.Damaged damage.Log) = codes "damaged: log"
+text_of problem.DeviceFailed = codes "device failed"
+text_of problem.StreamFailed = codes "input or output failed"
+text_of problem.OutOfMemory = codes "out of memory"
+
+abbrev pub status_of : Problem → Status
+status_of problem.FileExists = status.NoStore
+status_of problem.NoStore = status.NoStore
+status_of (problem.Damaged d) = status.NoStore
+status_of problem.DeviceFailed = status.Failed
+status_of problem.StreamFailed = status.Failed
+status_of problem.OutOfMemory = status.OutOfMemory
+
+-- ---- the problem that a fault is
+
+abbrev pub of_file_create : file_create.CreateFault → Problem
+of_file_create file_create_fault.Exists = problem.FileExists
+of_file_create file_create_fault.Device = problem.DeviceFailed
+of_file_create file_create_fault.Memory = problem.OutOfMemory
+
+abbrev pub of_file_open : file_open.OpenFault → Problem
+of_file_open file_open_fault.Missing = problem.NoStore
+of_file_open file_open_fault.Device = problem.DeviceFailed
+of_file_open file_open_fault.Memory = problem.OutOfMemory
+
+abbrev pub of_store_create : store_create.CreateFault → Problem
+of_store_create store_create_fault.Device = problem.DeviceFailed
+of_store_create store_create_fault.Memory = problem.OutOfMemory
+of_store_create store_create_fault.NotEmpty = problem.FileExists
+
+abbrev pub of_store : store.Fault → Problem
+of_store store_fault.Device = problem.DeviceFailed
+of_store store_fault.Memory = problem.OutOfMemory
+of_store (store_fault.Damaged d) = problem.Damaged d
+of_store store_fault.Failed = problem.DeviceFailed

@@ -1,0 +1,126 @@
+//! What keeps the program from doing what it was asked.
+
+ghost use Rattle.std.specs.Prelude.{◌≡◌, codes, ◌++◌};
+ghost use Rattle.gated.specs.Problem.{text_of, status_of, of_file_create, of_file_open, of_store_create, of_store};
+
+use crate::status::Status;
+use api::ServeFault;
+use device::{CreateFault as FileCreateFault, OpenFault};
+use durable::{CreateFault, Damage, Fault};
+use httpmsg::{Output, write_all};
+
+/// Why the program did not do what it was asked.
+#[derive(Clone, Copy, Debug, PartialEq, Eq)]
+pub enum Problem {
+    FileExists,
+    NoStore,
+    Damaged(Damage),
+    DeviceFailed,
+    /// The input or the output failed.
+    StreamFailed,
+    OutOfMemory,
+}
+
+impl Problem {
+    /// What is told of it.
+    pub fn text(self) -> &'static str
+        ensures { result.now ≡ text_of self }
+    {
+        match self {
+            Problem::FileExists => "file exists",
+            Problem::NoStore => "no store",
+            Problem::Damaged(Damage::Header) => "damaged: header",
+            Problem::Damaged(Damage::Root) => "damaged: root",
+            Problem::Damaged(Damage::Log) => "damaged: log",
+            Problem::DeviceFailed => "device failed",
+            Problem::StreamFailed => "input or output failed",
+            Problem::OutOfMemory => "out of memory",
+        }
+    }
+
+    /// How the program then ends.
+    pub fn status(self) -> Status
+        ensures { result ≡ status_of self }
+    {
+        match self {
+            Problem::FileExists | Problem::NoStore | Problem::Damaged(_) => Status::NoStore,
+            Problem::DeviceFailed | Problem::StreamFailed => Status::Failed,
+            Problem::OutOfMemory => Status::OutOfMemory,
+        }
+    }
+}
+
+impl From<FileCreateFault> for Problem {
+    ghost from_gives = { λ fault problem. problem ≡ of_file_create fault };
+
+    fn from(fault: FileCreateFault) -> Problem {
+        match fault {
+            FileCreateFault::Exists => Problem::FileExists,
+            FileCreateFault::Device => Problem::DeviceFailed,
+            FileCreateFault::Memory => Problem::OutOfMemory,
+        }
+    }
+}
+
+impl From<OpenFault> for Problem {
+    ghost from_gives = { λ fault problem. problem ≡ of_file_open fault };
+
+    fn from(fault: OpenFault) -> Problem {
+        match fault {
+            OpenFault::Missing => Problem::NoStore,
+            OpenFault::Device => Problem::DeviceFailed,
+            OpenFault::Memory => Problem::OutOfMemory,
+        }
+    }
+}
+
+impl From<CreateFault> for Problem {
+    ghost from_gives = { λ fault problem. problem ≡ of_store_create fault };
+
+    fn from(fault: CreateFault) -> Problem {
+        match fault {
+            CreateFault::Device => Problem::DeviceFailed,
+            CreateFault::Memory => Problem::OutOfMemory,
+            CreateFault::NotEmpty => Problem::FileExists,
+        }
+    }
+}
+
+impl From<Fault> for Problem {
+    ghost from_gives = { λ fault problem. problem ≡ of_store fault };
+
+    fn from(fault: Fault) -> Problem {
+        match fault {
+            Fault::Device | Fault::Failed => Problem::DeviceFailed,
+            Fault::Memory => Problem::OutOfMemory,
+            Fault::Damaged(damage) => Problem::Damaged(damage),
+        }
+    }
+}
+
+impl From<ServeFault> for Problem {
+    fn from(fault: ServeFault) -> Problem {
+        match fault {
+            ServeFault::Read | ServeFault::Write => Problem::StreamFailed,
+            ServeFault::Device | ServeFault::Failed => Problem::DeviceFailed,
+            ServeFault::Memory => Problem::OutOfMemory,
+            ServeFault::Damaged(damage) => Problem::Damaged(damage),
+        }
+    }
+}
+
+/// Tells of a problem in a line, as far as it can be told, and gives the status to end with. It takes no memory.
+pub fn tell<E: Output>(problem: Problem, errors: &mut E) -> Status
+    ensures { result ≡ status_of problem }
+{
+    for piece in [
+        b"gated: ".as_slice(),
+        problem.text().as_bytes(),
+        b"\n".as_slice(),
+    ] {
+        if write_all(errors, piece).is_err() {
+            break;
+        }
+    }
+    problem.status()
+}
