@@ -8,6 +8,7 @@
 
 mod ahead;
 mod call;
+mod copying;
 mod expression;
 mod fault;
 mod items;

@@ -4,6 +4,7 @@ use crate::{Macro, Operator, Prefix, ReadFault, Tree, read};
 use std::alloc::Global;
 use std::fmt::Write;
 use std::process::Abort;
+use std::test::Fail;
 
 fn operator_sign(operator: Operator) -> &'static str {
     match operator {
@@ -170,7 +171,15 @@ fn repeated(alloc: Global, front: &str, count: usize, middle: &str, back: &str) 
     out
 }
 
-// Whether a shape of 4096 bytes is read and dropped, and too long with one byte more.
+// Whether a text is read, and its tree copied and dropped.
+fn is_read_and_copied(alloc: Global, text: &str) -> bool {
+    match read(alloc, text) {
+        Ok(tree) => tree.clone().is_ok(),
+        Err(_) => false,
+    }
+}
+
+// Whether a shape of 4096 bytes is read, copied and dropped, and too long with one byte more.
 fn is_read_at_the_limit(
     alloc: Global,
     front: &str,
@@ -179,7 +188,7 @@ fn is_read_at_the_limit(
     back: &str,
 ) -> bool {
     let mut text = repeated(alloc, front, count, middle, back);
-    let is_read = text.len() == 4096 && read(alloc, &text).is_ok();
+    let is_read = text.len() == 4096 && is_read_and_copied(alloc, &text);
     put(&mut text, " ");
     is_read && matches!(read(alloc, &text), Err(ReadFault::TooLong))
 }
@@ -365,6 +374,132 @@ variables.containers.all(c, c.image.contains(':')) => (variables.containers all 
 oldObject.spec.replicas == object.spec.replicas || request.operation == 'CREATE' => ((oldObject.spec.replicas == object.spec.replicas) || (request.operation == "CREATE"))
 'replicas must be no greater than ' + string(params.maxReplicas) => ("replicas must be no greater than " + string( params.maxReplicas ))
 object.spec.template.spec.containers.map(c, c.name) => (object.spec.template.spec.containers map c c.name)
+object.metadata.namespace == 'kube-system' => (object.metadata.namespace == "kube-system")
+request.operation in ['CREATE', 'UPDATE'] => (request.operation in [ "CREATE" "UPDATE" ])
+size(object.spec.template.spec.containers) == 1 => (size( object.spec.template.spec.containers ) == 1)
+object.spec.template.spec.containers.all(c, has(c.resources) && has(c.resources.limits)) => (object.spec.template.spec.containers all c ((has c.resources) && (has c.resources.limits)))
+object.metadata.name.startsWith(object.metadata.prefix) => object.metadata.name.startsWith( object.metadata.prefix )
+object.namespace.endsWith('-suffix') ? true : false => (object.namespace.endsWith( "-suffix" ) ? true : false)
+variables.foo == 'bar' => (variables.foo == "bar")
+'object.spec.replicas must be no greater than ' + string(params.maxReplicas) => ("object.spec.replicas must be no greater than " + string( params.maxReplicas ))
+has(object.spec.x) => (has object.spec.x)
+!(has(oldObject.spec.x) && object.spec.x != oldObject.spec.x) => (! ((has oldObject.spec.x) && (object.spec.x != oldObject.spec.x)))
+object.spec.namespace.matches('^[a-z]+$') => object.spec.namespace.matches( "^[a-z]+$" )
+object.set1.all(e, !(e in object.set2)) => (object.set1 all e (! (e in object.set2)))
+object.map1.exists(k, k.startsWith('gke-')) => (object.map1 exists k k.startsWith( "gke-" ))
+object.spec.type == 'a' ? 2 * object.spec.n < 10 : true => ((object.spec.type == "a") ? ((2 * object.spec.n) < 10) : true)
+"#;
+
+// Examples of the CEL language definition that lie in the profile, and some that do not.
+const DEFINITION_EXAMPLES: &str = r#"
+a.b.c.d => a.b.c.d
+1 < 2 && 2 < 3 => ((1 < 2) && (2 < 3))
+true ? 1 : 2 => (true ? 1 : 2)
+[1, 2, 3][0] => [ 1 2 3 ][0]
+[1, 2, 3].size() => [ 1 2 3 ].size( )
+size([1, 2, 3]) => size( [ 1 2 3 ] )
+{"a": 1, "b": 2}["a"] => { "a": 1 "b": 2 }["a"]
+{'key': 'value'}.key => { "key": "value" }.key
+"" => ""
+"\"" => """
+'"' => """
+"'" => "'"
+"hello" + " " + "world" => (("hello" + " ") + "world")
+r"^\d{3}$" => "^\d{3}$"
+R'\n' => "\n"
+"\u270c" => "✌"
+"\U0001f600" => "😀"
+"\x41\101\u0041" => "AAA"
+"\?\`" => "?`"
+"a" "b" => no
+-5 + 6 => (-5 + 6)
+-5 - -6 => (-5 - -6)
+- x => (- x)
+!(a && b) => (! (a && b))
+!a.b => (! a.b)
+-a[0] => (- a[0])
+(a + b) * c => ((a + b) * c)
+a % b * c => ((a % b) * c)
+a + b - c + d => (((a + b) - c) + d)
+a == b == c => ((a == b) == c)
+a != null => (a != null)
+x in [1, 2, 3] => (x in [ 1 2 3 ])
+"k" in {"k": 1} => ("k" in { "k": 1 })
+!("k" in m) => (! ("k" in m))
+!"k" in m => ((! "k") in m)
+e1 && e2 || e3 && e4 => ((e1 && e2) || (e3 && e4))
+e1 ? e2 : e3 ? e4 : e5 => (e1 ? e2 : (e3 ? e4 : e5))
+e1 || e2 ? e3 : e4 => ((e1 || e2) ? e3 : e4)
+a ? b : c + d => (a ? b : (c + d))
+(a ? b : c) + d => ((a ? b : c) + d)
+has(msg.field) => (has msg.field)
+has(m.a) && m.a > 0 => ((has m.a) && (m.a > 0))
+!has(a.b) => (! (has a.b))
+[1, 2, 3].all(x, x > 0) => ([ 1 2 3 ] all x (x > 0))
+[1, 2, 3].exists(x, x > 2) => ([ 1 2 3 ] exists x (x > 2))
+[1, 2, 3].exists_one(x, x > 2) => ([ 1 2 3 ] exists_one x (x > 2))
+[1, 2, 3].map(x, x * x) => ([ 1 2 3 ] map x (x * x))
+[1, 2, 3].map(x, x > 1, x * x) => (([ 1 2 3 ] filter x (x > 1)) map x (x * x))
+[1, 2, 3].filter(x, x > 1) => ([ 1 2 3 ] filter x (x > 1))
+{"a": 1}.exists(k, k == "a") => ({ "a": 1 } exists k (k == "a"))
+a.map(x, x.b).filter(y, y > 0).size() => ((a map x x.b) filter y (y > 0)).size( )
+"abc".contains("b") => "abc".contains( "b" )
+"abc".startsWith("a") => "abc".startsWith( "a" )
+"abc".endsWith("c") => "abc".endsWith( "c" )
+"abc".matches("a.*") => "abc".matches( "a.*" )
+int("1") + int(2u) => (int( "1" ) + int( 2u ))
+uint(1) == 1u => (uint( 1 ) == 1u)
+string(1) + "a" => (string( 1 ) + "a")
+dyn([1, "a"]) => dyn( [ 1 "a" ] )
+type(1) == int => (type( 1 ) == int)
+duration("1h") => duration( "1h" )
+timestamp("2024-01-01T00:00:00Z") => timestamp( "2024-01-01T00:00:00Z" )
+resource.name.startsWith("/groups/" + auth.claims.group) => resource.name.startsWith( ("/groups/" + auth.claims.group) )
+account.balance >= transaction.withdrawal || account.overdraftProtection && account.overdraftLimit >= transaction.withdrawal - account.balance => ((account.balance >= transaction.withdrawal) || (account.overdraftProtection && (account.overdraftLimit >= (transaction.withdrawal - account.balance))))
+auth.claims.email_verified && resource.name.startsWith("/users/") => (auth.claims.email_verified && resource.name.startsWith( "/users/" ))
+0xA => 10
+0XA => no
+0xau => 10u
+0u => 0u
+1U => 1u
+007 => 7
+.5 => no
+1. => no
+3.14 => no
+b"abc" => no
+a?.b => no
+a[?0] => no
+.a.b => no
+a.`b` => no
+Msg{} => no
+google.protobuf.Duration{seconds: 1} => no
+"""tripled "quotes" inside""" => "tripled "quotes" inside"
+'''it's''' => "it's"
+"unclosed => no
+'a\q' => no
+"\400" => no
+"\ud800" => no
+"\U00110000" => no
+"\x4" => no
+a // comment => a
+a /* comment */ => no
+a; b => no
+a | b => no
+a ^ b => no
+~a => no
+a === b => no
+a <> b => no
+if => no
+if (a) b => no
+import => no
+a.import => a.import
+a.package.b => a.package.b
+true.a => true.a
+null.a => null.a
+a.null => no
+_a1 => _a1
+a-b.c => (a - b.c)
+é => no
 "#;
 
 // Whether each row `TEXT => TREE` of the table holds.
@@ -385,6 +520,11 @@ fn literals_and_operators(rt: HostRuntime) {
 #[test]
 fn members_calls_and_macros(rt: HostRuntime) {
     check_rows(&rt, rt.alloc(), MEMBERS_CALLS_AND_MACROS);
+}
+
+#[test]
+fn examples_of_the_definition(rt: HostRuntime) {
+    check_rows(&rt, rt.alloc(), DEFINITION_EXAMPLES);
 }
 
 // Expressions of the documentation on ValidatingAdmissionPolicy that lie in the grammar.
@@ -423,6 +563,22 @@ fn limits(rt: HostRuntime) {
     );
 }
 
+// A copy looks like the tree.
+#[test]
+fn copies_look_the_same(rt: HostRuntime) -> Result<(), Fail> {
+    let alloc = rt.alloc();
+    let text =
+        "[1, -2u, 'x', null, true][a.b ? f(c) : !has(d.e)].map(x, x > 1, {x: y.g(2)}).all(z, z in w)";
+    let tree = read(alloc, text)?;
+    let copy = tree.clone()?;
+    let mut first = String::new(alloc);
+    let mut second = String::new(alloc);
+    put_tree(&mut first, &tree);
+    put_tree(&mut second, &copy);
+    assert_eq!(rt; second.as_str(), first.as_str());
+    Ok(())
+}
+
 #[test]
 fn many_nots(rt: HostRuntime) {
     assert!(rt; is_read_at_the_limit(rt.alloc(), "!", 4095, "a", ""));
@@ -453,7 +609,7 @@ fn nested_lists_maps_and_calls(rt: HostRuntime) {
     let alloc = rt.alloc();
     for (front, back) in [("[", "]"), ("{1:", "}"), ("f(", ")")] {
         assert!(rt;
-            read(alloc, &repeated(alloc, front, 32, "a", back)).is_ok(),
+            is_read_and_copied(alloc, &repeated(alloc, front, 32, "a", back)),
             "{front}"
         );
         let deeper = repeated(alloc, front, 33, "a", back);
