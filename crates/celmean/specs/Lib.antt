@@ -1,0 +1,12 @@
+pub mod Value
+pub mod Equality
+pub mod Order
+pub mod Arithmetic
+pub mod Texts
+pub mod Collections
+pub mod Macros
+pub mod Operators
+pub mod Functions
+pub mod Meaning
+pub mod Seen
+pub mod Arguments

@@ -1,0 +1,24 @@
+//! What an expression of the Common Expression Language (CEL) means.
+//!
+//! `specs/Meaning.antt` defines the meaning of a tree that `celread` read, by cases on the tree: a value, or the one error. Compiled
+//! expressions are judged by it. [`evaluate`] is a plain program for it, by direct recursion over the tree and over copies of values:
+//! its contract says that it gives exactly the meaning.
+#![tactic(auto)]
+
+mod arithmetic;
+mod collections;
+mod environment;
+mod equality;
+mod evaluation;
+mod functions;
+mod macros;
+mod operators;
+mod order;
+#[cfg(test)]
+mod tests;
+mod texts;
+mod value;
+
+pub use environment::{Binding, Environment};
+pub use evaluation::evaluate;
+pub use value::{Outcome, Value};
