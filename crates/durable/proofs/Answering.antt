@@ -1,5 +1,5 @@
 -- What a prepared step makes of a settled store.
-use Rattle.std.proofs.Common.{arith, ◌≡◌, ◌∙◌, sym, ap, subst, ◌≤◌, ◌<◌, ◌^◌, ◌++◌, ℕ, List, [], ◌∷◌, length, refl, true, false, Option, Some, None, Result, Ok, Err, OnOk, IsErrOf, is_ok}
+use Rattle.std.proofs.Common.{arith, ◌≡◌, ◌∙◌, sym, ap, subst, ◌≤◌, ◌<◌, ◌^◌, ◌++◌, ℕ, List, [], ◌∷◌, length, refl, true, false, Option, Some, None, Result, Ok, Err, OnOk, IsErrOf, is_ok, true≢false}
 use Rattle.std.proofs.lemmas.List.{append-nil}
 use Rattle.device.specs.declared.device.Device.{Ghosts}
 use Rattle.device.specs.Disk.{LeavesOnly}
@@ -41,6 +41,9 @@ on_ok_with P Q (Err e) to holds = holds
 
 pub fault_is_no_success : {T E : Type 0} (e : E) (r : Result T E) → IsErrOf r e → is_ok r ≡ false
 fault_is_no_success e r is = ap is_ok is
+
+pub success_is_no_fault : {T E : Type 0} (e : E) (v : T) → ◌≡◌ {A = Result T E} (Ok v) (Err e) → ⊥
+success_is_no_fault e v is = true≢false (ap is_ok is)
 
 -- what is seen after the writes
 pub view-after : (h : History) (ws : List Write) → after_all first_rules (view first_rules h) ws ≡ view first_rules (h ++ ws)

@@ -1,4 +1,4 @@
-ghost use Rattle.std.specs.Prelude.{◌≡◌, ◌≢◌, ◌≤◌, ◌++◌, ◌∷◌, [], List, ℕ, length, take, map, true, false, is_ok, None, Some, IsSome, IfSome, IfOk, IfErr, OnOk, OnErr, IsErrOf, ◌⊎◌};
+ghost use Rattle.std.specs.Prelude.{◌≡◌, ◌≢◌, ◌≤◌, ◌++◌, ◌∷◌, [], List, ℕ, length, take, map, true, false, is_ok, None, Some, IsSome, IfSome, MatchOption, IfOk, IfErr, OnOk, OnErr, IsErrOf, ◌⊎◌};
 ghost use Rattle.durable.specs.Rules.{first_rules};
 ghost use Rattle.durable.specs.Ready.{IsReady};
 
@@ -177,10 +177,11 @@ impl<D: Device> Store<D> {
         ensures device { (h : History) → IsSettledAt first_rules self.old h → result.1 ≡ Some Fault.Device
             → HasStopped first_rules self.old self.new h (take (length result.0.items) (map request_of requests.now)) (map request_of requests.now) result.0.items }
         ensures refusal { serves self.old ≡ true → IfSome result.1 (λ fault. (fault ≡ Fault.Device) ⊎ (fault ≡ Fault.Memory)) }
+        ensures failed { serves self.old ≡ false → (self.new ≡ self.old) × (result.0.items ≡ []) }
+        ensures failed_fault { serves self.old ≡ false → MatchOption result.1 (requests.now ≡ []) (λ fault. (fault ≡ Fault.Failed) ⊎ (fault ≡ Fault.Memory)) }
         ensures cause { result.1 ≡ Some Fault.Device → HasFailed D.disk (device_of self.old) (device_of self.new) }
         ensures count { D.disk.failures (device_of self.old) ≤ D.disk.failures (device_of self.new) }
     {
-        let _ = requests;
         let mut replies = match Vec::with_capacity(alloc, requests.len()) {
             Ok(replies) => replies,
             Err(_) => return (Vec::new(alloc), Some(Fault::Memory)),

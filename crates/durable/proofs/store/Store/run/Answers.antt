@@ -1,11 +1,13 @@
-use Rattle.std.proofs.Common.{arith, ◌≡◌, ◌∙◌, sym, ap, subst, ◌+◌, ◌++◌, ◌∷◌, [], List, ℕ, length, take, map, Some, Err}
-use Rattle.std.proofs.lemmas.List.{length-append, length-map, take_all}
+use Rattle.std.proofs.Common.{arith, ◌≡◌, ◌∙◌, sym, ap, subst, ◌+◌, ◌++◌, ◌∷◌, [], List, ℕ, length, take, map, Some, Result, Err, refl, inl}
+use Rattle.std.proofs.lemmas.List.{length-append, length-map, nil_from_length, take_all}
 use Rattle.apicore.specs.Reply.{Reply}
 use Rattle.apicore.specs.Request.{Request}
 use Rattle.apicore.specs.RequestOf.{request_of}
+use Rattle.durable.specs.declared.fault.Fault.{Fault}
 use Rattle.durable.specs.declared.fault.Fault.TheVariants as Fault
 use Rattle.durable.specs.Rules.{first_rules}
-use Rattle.durable.specs.Settled.{HasServed, HasStopped}
+use Rattle.durable.specs.Settled.{serves, HasServed, HasStopped}
+use Rattle.durable.proofs.Answering.{success_is_no_fault}
 use Rattle.durable.proofs.Running.{served_none, served_more, served_same, stopped_at, take-next, take-rest}
 use Rattle.durable.proofs.store.Store.run.Goals as goal
 
@@ -23,6 +25,7 @@ loop-request-init g c = (
   (λ h settled.
       let Served : List Reply → Type 0 = λ given. HasServed first_rules c.args.self.now c.args.self.now h [] given in
       subst Served (sym c.in-Ok.ensures.items) (served_none first_rules c.args.self.now h (λ content since. g.met.D.Device.only_now c.args.self.now.device content settled.keeps since) settled)),
+  (λ stopped. (refl, refl)),
 )
 
 pub returns-in-Err-apply-clause-memory : goal.returns-in-Err-apply-clause-memory
@@ -71,6 +74,7 @@ loop-request-preserved g c =
           (subst Done (sym (take-next request_of c.args.requests.now index c.request-item.result c.loop-request-test.true c.request-item.is))
           (served_more first_rules store c.loop-request.self c.apply.new.self h (take index all) given so_far (request_of c.request-item.result) c.in-Ok-apply.reply
           (c.in-Ok-apply.ensures.reply _ so_far.settled) (c.in-Ok-apply.ensures.settled _ so_far.settled) (c.apply.ensures.any_moment _ so_far.settled)))),
+      (λ stopped. let was_stopped = ap serves (c.loop-request.invariant.5 stopped).0 ∙ stopped in absurd (success_is_no_fault _ c.in-Ok-apply.reply (sym c.in-Ok-apply.is ∙ (c.apply.ensures.failed was_stopped).0))),
     )
 
 pub returns-clause-all : goal.returns-clause-all
@@ -79,3 +83,21 @@ returns-clause-all g c h settled is =
     let Done : List Request → Type 0 = λ rs. HasServed first_rules c.args.self.now c.loop-request.self h rs c.loop-request.replies.items in
     subst Done (take_all c.loop-request.request-index all (omega (arith, c.loop-request-test.false, length-map c.args.requests.now request_of)))
     (c.loop-request.invariant.4 h settled)
+
+pub returns-clause-failed : goal.returns-clause-failed
+returns-clause-failed g c stopped =
+    ((c.loop-request.invariant.5 stopped).0, nil_from_length _ (c.loop-request.invariant.0 ∙ (c.loop-request.invariant.5 stopped).1))
+
+pub returns-clause-failed_fault : goal.returns-clause-failed_fault
+returns-clause-failed_fault g c stopped = nil_from_length _ (omega (arith, c.loop-request-test.false, (c.loop-request.invariant.5 stopped).1))
+
+pub returns-in-Err-apply-clause-failed : goal.returns-in-Err-apply-clause-failed
+returns-in-Err-apply-clause-failed g c stopped =
+    let before = c.loop-request.invariant.5 stopped in
+    ((c.apply.ensures.failed (ap serves before.0 ∙ stopped)).1 ∙ before.0, nil_from_length _ (c.loop-request.invariant.0 ∙ before.1))
+
+pub returns-in-Err-apply-clause-failed_fault : goal.returns-in-Err-apply-clause-failed_fault
+returns-in-Err-apply-clause-failed_fault g c stopped =
+    let before = c.loop-request.invariant.5 stopped in
+    let is : ◌≡◌ {A = Result Reply Fault} (Err c.in-Err-apply.fault) (Err Fault.Failed) = sym c.in-Err-apply.is ∙ (c.apply.ensures.failed (ap serves before.0 ∙ stopped)).0 in
+    inl cc

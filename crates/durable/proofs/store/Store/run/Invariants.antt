@@ -1,4 +1,4 @@
-use Rattle.std.proofs.Common.{◌≡◌, ◌≤◌, length, take, map, true}
+use Rattle.std.proofs.Common.{◌≡◌, ◌≤◌, length, take, map, true, false}
 use Rattle.std.specs.Vec.{vec_capacity}
 use Rattle.apicore.specs.History.{History}
 use Rattle.apicore.specs.RequestOf.{request_of}
@@ -14,3 +14,4 @@ invariant-loop-request g l =
     × (g.D.Device.disk.failures (device_of l.fn.self) ≤ g.D.Device.disk.failures (device_of l.self))
     × ((h : History) → IsSettledAt first_rules l.fn.self h
     → HasServed first_rules l.fn.self l.self h (take l.request-index (map request_of l.requests)) l.replies.items)
+    × (serves l.fn.self ≡ false → (l.self ≡ l.fn.self) × (l.request-index ≡ 0))
