@@ -8,3 +8,5 @@ pub mod Primaries
 pub mod Conditionals
 pub mod Lists
 pub mod Refusals
+pub mod Weights
+pub mod Sizes

@@ -7,3 +7,4 @@ pub mod View
 pub mod Ahead
 pub mod Limits
 pub mod Reading
+pub mod Size

@@ -1,8 +1,9 @@
 //! Texts to trees.
 
-ghost use Rattle.std.specs.Prelude.{IfOk, IfErr};
+ghost use Rattle.std.specs.Prelude.{◌+◌, ◌≤◌, length, IfOk, IfErr};
 ghost use Rattle.celtokens.specs.Seen.{terminals};
 ghost use Rattle.celread.specs.Reading.{IsParse, IsParseFault, IsReadAs, IsRefusedBy};
+ghost use Rattle.celread.specs.Size.{nodes, text_bytes};
 ghost use Rattle.celread.specs.View.{view};
 
 use crate::expression::expression;
@@ -33,7 +34,8 @@ fn parse(alloc: Global, tokens: &[Token<'_>]) -> Result<Tree, ReadFault>
     }
 }
 
-/// The tree that the text spells.
+/// The tree that the text spells. Its nodes and the bytes of its string literals and field names are together at most as many as the
+/// bytes of the text.
 ///
 /// # Errors
 ///
@@ -42,6 +44,7 @@ fn parse(alloc: Global, tokens: &[Token<'_>]) -> Result<Tree, ReadFault>
 /// [`ReadFault::TooDeep`] for macros that nest three deep. [`ReadFault::Memory`] where no memory is left.
 pub fn read(alloc: Global, text: &str) -> Result<Tree, ReadFault>
     ensures tree { IfOk result (λ t. IsReadAs text.now (view t)) }
+    ensures small { IfOk result (λ t. nodes (view t) + text_bytes (view t) ≤ length text.now) }
     ensures fault { IfErr result (IsRefusedBy text.now) }
 {
     if text.len() > TEXT_LIMIT {
