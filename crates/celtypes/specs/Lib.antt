@@ -1,0 +1,7 @@
+pub mod Types
+pub mod Tables
+pub mod Typing
+pub mod Computed
+pub mod Seen
+pub mod Arguments
+pub mod Kinds

@@ -1,0 +1,135 @@
+//! Calls, macros and literals of lists and maps.
+
+ghost use Rattle.std.specs.Prelude.{◌≡◌, option_map, IfOk};
+ghost use Rattle.celtypes.specs.Arguments.{AreArguments};
+ghost use Rattle.celtypes.specs.Computed.{given, function_type, call_type, is_text_test, size_method_type, text_test_type, method_type, macro_type, mapping_type};
+ghost use Rattle.celtypes.specs.Seen.{type_seen, types_seen};
+ghost use Rattle.celtypes.specs.Types.{int, uint, string};
+
+use crate::rows::{are_keys, bool_if, fits_bool, fits_convertible, fits_sized, fits_string};
+use crate::types::{CelType, copy, element, list_of, map_of};
+use celread::Macro;
+use std::alloc::{AllocError, Global};
+
+// The function of a name with one argument.
+fn function_type(name: &str, of: &CelType) -> Option<CelType>
+    ensures { option_map type_seen result ≡ function_type name.now (type_seen of.now) }
+{
+    if name == "size" {
+        fits_sized(of).then_some(CelType::Int)
+    } else if name == "int" {
+        fits_convertible(of).then_some(CelType::Int)
+    } else if name == "uint" {
+        fits_convertible(of).then_some(CelType::Uint)
+    } else if name == "string" {
+        fits_convertible(of).then_some(CelType::Text)
+    } else if name == "dyn" {
+        Some(CelType::Dyn)
+    } else {
+        None
+    }
+}
+
+// The arguments of a call, as far as functions take them.
+enum Arguments<'a> {
+    None,
+    One(&'a CelType),
+    More,
+}
+
+fn arguments_of(arguments: &Vec<CelType>) -> Arguments<'_>
+    ensures { AreArguments arguments.now.items result }
+{
+    match arguments.as_slice().split_first() {
+        Some((first, rest)) => {
+            if rest.is_empty() {
+                Arguments::One(first)
+            } else {
+                Arguments::More
+            }
+        }
+        None => Arguments::None,
+    }
+}
+
+/// `f(e)`: no function takes any other number of arguments.
+pub(crate) fn call_type(name: &str, arguments: &Vec<CelType>) -> Option<CelType>
+    ensures { option_map type_seen result ≡ call_type name.now (types_seen arguments.now.items) }
+{
+    match arguments_of(arguments) {
+        Arguments::One(argument) => function_type(name, argument),
+        Arguments::None | Arguments::More => None,
+    }
+}
+
+fn is_text_test(name: &str) -> bool
+    ensures { result ≡ is_text_test name.now }
+{
+    name == "contains" || name == "startsWith" || name == "endsWith"
+}
+
+fn size_method_type(name: &str, of: &CelType) -> Option<CelType>
+    ensures { option_map type_seen result ≡ size_method_type name.now (type_seen of.now) }
+{
+    (name == "size" && fits_sized(of)).then_some(CelType::Int)
+}
+
+fn text_test_type(name: &str, of: &CelType, argument: &CelType) -> Option<CelType>
+    ensures { option_map type_seen result ≡ text_test_type name.now (type_seen of.now) (type_seen argument.now) }
+{
+    (is_text_test(name) && fits_string(of) && fits_string(argument)).then_some(CelType::Bool)
+}
+
+/// `e.f()` and `e.f(t)`: no method takes any other number of arguments.
+pub(crate) fn method_type(name: &str, of: &CelType, arguments: &Vec<CelType>) -> Option<CelType>
+    ensures { option_map type_seen result ≡ method_type name.now (type_seen of.now) (types_seen arguments.now.items) }
+{
+    match arguments_of(arguments) {
+        Arguments::None => size_method_type(name, of),
+        Arguments::One(argument) => text_test_type(name, of, argument),
+        Arguments::More => None,
+    }
+}
+
+/// `e.all(x, body)` and the like, by the types of `x` and of the body.
+pub(crate) fn macro_type(
+    alloc: Global,
+    kind: Macro,
+    item: &CelType,
+    body: &CelType,
+) -> Result<Option<CelType>, AllocError>
+    ensures { IfOk result (λ o. option_map type_seen o ≡ macro_type kind (type_seen item.now) (type_seen body.now)) }
+{
+    match kind {
+        Macro::All | Macro::Exists | Macro::ExistsOne => Ok(bool_if(fits_bool(body))),
+        Macro::Map => {
+            let body = copy(body)?;
+            Ok(Some(list_of(alloc, body)?))
+        }
+        Macro::Filter => {
+            if fits_bool(body) {
+                let item = copy(item)?;
+                Ok(Some(list_of(alloc, item)?))
+            } else {
+                Ok(None)
+            }
+        }
+    }
+}
+
+/// `{k: v}`
+pub(crate) fn mapping_type(
+    alloc: Global,
+    keys: &Vec<CelType>,
+    values: &Vec<CelType>,
+) -> Result<Option<CelType>, AllocError>
+    ensures { IfOk result (λ o. option_map type_seen o ≡ mapping_type (types_seen keys.now.items) (types_seen values.now.items)) }
+{
+    if are_keys(keys) {
+        let key = element(keys)?;
+        let value = element(values)?;
+        Ok(Some(map_of(alloc, key, value)?))
+    } else {
+        Ok(None)
+    }
+}

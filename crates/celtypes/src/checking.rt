@@ -1,0 +1,310 @@
+//! The type of a tree.
+
+ghost use Rattle.std.specs.Prelude.{◌≡◌, ℕ, List, option_map, option_and_then, string_bytes, IfOk, IfErr};
+ghost use Rattle.celread.specs.Tree as expr;
+ghost use Rattle.celread.specs.View.{view, views, pair_views};
+ghost use Rattle.celtypes.specs.declared.fault.TypeFault.TheVariants as fault;
+ghost use Rattle.celtypes.specs.Computed.{presence_type, infix_type, type_of, types_of, key_types_of, value_types_of};
+ghost use Rattle.celtypes.specs.Seen.{type_seen, types_seen, scope_seen, declared};
+ghost use Rattle.celtypes.specs.Typing.{HasType, HasNoType, bind, is_variables};
+
+use crate::calls::call_type;
+use crate::fault::TypeFault;
+use crate::operands::{
+    conditional_of, index_of, infix_of, macro_of, mapping_of, method_of, range_of,
+};
+use crate::rows::{field_type, prefix_type, presence_type};
+use crate::scope::{Env, Local, Scope, bind, name_type, variable_type};
+use crate::types::{CelType, element, list_of};
+use celread::{Operator, Prefix, Tree};
+use std::alloc::{AllocError, Global};
+
+fn is_variables(tree: &Tree) -> bool
+    ensures { result ≡ is_variables (view tree.now) }
+{
+    match tree {
+        Tree::Name(name) => name.as_str() == "variables",
+        Tree::Null | Tree::Bool(_) | Tree::Int(_) | Tree::Uint(_) | Tree::Text(_) => false,
+        Tree::Field(_, _) | Tree::Has(_, _) | Tree::Index(_, _) => false,
+        Tree::List(_) | Tree::Map(_) | Tree::Unary(_, _) | Tree::Infix(_, _, _) => false,
+        Tree::Conditional(_, _, _) | Tree::Call(_, _) | Tree::Method(_, _, _) => false,
+        Tree::Macro(_, _, _, _) => false,
+    }
+}
+
+// The type of the tree, or none. Apart from `typed_variant`, so that a long sum or a long chain of prefix operators or fields takes
+// little stack.
+#[cycle(typed)]
+fn typed(alloc: Global, tree: &Tree, scope: &Scope<'_>) -> Result<Option<CelType>, AllocError>
+    ensures { IfOk result (λ o. option_map type_seen o ≡ type_of (view tree.now) (scope_seen scope.now)) }
+{
+    match tree {
+        Tree::Unary(prefix, of) => typed_unary(alloc, *prefix, of, scope),
+        Tree::Field(of, name) => typed_field(alloc, of, name, scope),
+        Tree::Infix(operator, left, right) => {
+            let left = typed(alloc, left, scope)?;
+            typed_infix(alloc, *operator, right, left, scope)
+        }
+        _ => typed_variant(alloc, tree, scope),
+    }
+}
+
+#[cycle(typed)]
+fn typed_variant(
+    alloc: Global,
+    tree: &Tree,
+    scope: &Scope<'_>,
+) -> Result<Option<CelType>, AllocError>
+    ensures { IfOk result (λ o. option_map type_seen o ≡ type_of (view tree.now) (scope_seen scope.now)) }
+{
+    match tree {
+        Tree::Null => Ok(Some(CelType::Null)),
+        Tree::Bool(_) => Ok(Some(CelType::Bool)),
+        Tree::Int(_) => Ok(Some(CelType::Int)),
+        Tree::Uint(_) => Ok(Some(CelType::Uint)),
+        Tree::Text(_) => Ok(Some(CelType::Text)),
+        Tree::Name(name) => name_type(name, scope),
+        Tree::Field(of, name) => typed_field(alloc, of, name, scope),
+        Tree::Has(of, _) => typed_presence(alloc, of, scope),
+        Tree::Index(of, index) => {
+            let of = typed(alloc, of, scope)?;
+            let index = typed(alloc, index, scope)?;
+            index_of(of, index)
+        }
+        Tree::List(items) => typed_list(alloc, items, scope),
+        Tree::Map(entries) => typed_map(alloc, entries, scope),
+        Tree::Unary(prefix, of) => typed_unary(alloc, *prefix, of, scope),
+        Tree::Infix(operator, left, right) => {
+            let left = typed(alloc, left, scope)?;
+            typed_infix(alloc, *operator, right, left, scope)
+        }
+        Tree::Conditional(test, first, second) => {
+            let test = typed(alloc, test, scope)?;
+            let first = typed(alloc, first, scope)?;
+            let second = typed(alloc, second, scope)?;
+            conditional_of(test, first, second)
+        }
+        Tree::Call(name, arguments) => typed_call(alloc, name, arguments, scope),
+        Tree::Method(of, name, arguments) => {
+            let of = typed(alloc, of, scope)?;
+            let arguments = typed_items(alloc, arguments, scope)?;
+            Ok(method_of(name, of, arguments))
+        }
+        Tree::Macro(kind, of, variable, body) => {
+            let of = typed(alloc, of, scope)?;
+            match range_of(variable, of)? {
+                Some(item) => {
+                    let body = typed_body(alloc, body, variable, &item, scope)?;
+                    macro_of(alloc, *kind, &item, body)
+                }
+                None => Ok(None),
+            }
+        }
+    }
+}
+
+#[cycle(typed)]
+fn typed_field(
+    alloc: Global,
+    of: &Box<Tree>,
+    name: &String,
+    scope: &Scope<'_>,
+) -> Result<Option<CelType>, AllocError>
+    ensures { IfOk result (λ o. option_map type_seen o ≡ type_of (expr.Field (view of.now.value) (string_bytes name.now)) (scope_seen scope.now)) }
+{
+    if is_variables(of) {
+        return variable_type(name, scope.variables);
+    }
+    match typed(alloc, of, scope)? {
+        Some(of) => field_type(&of),
+        None => Ok(None),
+    }
+}
+
+#[cycle(typed)]
+fn typed_presence(
+    alloc: Global,
+    of: &Box<Tree>,
+    scope: &Scope<'_>,
+) -> Result<Option<CelType>, AllocError>
+    ensures { IfOk result (λ o. option_map type_seen o ≡ option_and_then presence_type (type_of (view of.now.value) (scope_seen scope.now))) }
+{
+    match typed(alloc, of, scope)? {
+        Some(of) => Ok(presence_type(&of)),
+        None => Ok(None),
+    }
+}
+
+#[cycle(typed)]
+fn typed_list(
+    alloc: Global,
+    items: &Vec<Tree>,
+    scope: &Scope<'_>,
+) -> Result<Option<CelType>, AllocError>
+    ensures { IfOk result (λ o. option_map type_seen o ≡ type_of (expr.Sequence (views items.now.items)) (scope_seen scope.now)) }
+{
+    match typed_items(alloc, items, scope)? {
+        Some(types) => {
+            let item = element(&types)?;
+            Ok(Some(list_of(alloc, item)?))
+        }
+        None => Ok(None),
+    }
+}
+
+#[cycle(typed)]
+fn typed_map(
+    alloc: Global,
+    entries: &Vec<(Tree, Tree)>,
+    scope: &Scope<'_>,
+) -> Result<Option<CelType>, AllocError>
+    ensures { IfOk result (λ o. option_map type_seen o ≡ type_of (expr.Mapping (pair_views entries.now.items)) (scope_seen scope.now)) }
+{
+    let keys = typed_keys(alloc, entries, scope)?;
+    let values = typed_values(alloc, entries, scope)?;
+    mapping_of(alloc, keys, values)
+}
+
+#[cycle(typed)]
+fn typed_unary(
+    alloc: Global,
+    prefix: Prefix,
+    of: &Box<Tree>,
+    scope: &Scope<'_>,
+) -> Result<Option<CelType>, AllocError>
+    ensures { IfOk result (λ o. option_map type_seen o ≡ type_of (expr.Unary prefix (view of.now.value)) (scope_seen scope.now)) }
+{
+    match typed(alloc, of, scope)? {
+        Some(of) => Ok(prefix_type(prefix, &of)),
+        None => Ok(None),
+    }
+}
+
+// The same for an operator, by the type of its left side.
+#[cycle(typed)]
+fn typed_infix(
+    alloc: Global,
+    operator: Operator,
+    right: &Box<Tree>,
+    left: Option<CelType>,
+    scope: &Scope<'_>,
+) -> Result<Option<CelType>, AllocError>
+    ensures { IfOk result (λ o. option_map type_seen o ≡ option_and_then (λ t. option_and_then (infix_type operator t) (type_of (view right.now.value) (scope_seen scope.now))) (option_map type_seen left)) }
+{
+    let right = typed(alloc, right, scope)?;
+    infix_of(alloc, operator, left, right)
+}
+
+#[cycle(typed)]
+fn typed_call(
+    alloc: Global,
+    name: &String,
+    arguments: &Vec<Tree>,
+    scope: &Scope<'_>,
+) -> Result<Option<CelType>, AllocError>
+    ensures { IfOk result (λ o. option_map type_seen o ≡ type_of (expr.Call (string_bytes name.now) (views arguments.now.items)) (scope_seen scope.now)) }
+{
+    match typed_items(alloc, arguments, scope)? {
+        Some(arguments) => Ok(call_type(name, &arguments)),
+        None => Ok(None),
+    }
+}
+
+// The type of a macro's body, where its variable is an item.
+#[cycle(typed)]
+fn typed_body(
+    alloc: Global,
+    body: &Box<Tree>,
+    variable: &str,
+    item: &CelType,
+    scope: &Scope<'_>,
+) -> Result<Option<CelType>, AllocError>
+    ensures { IfOk result (λ o. option_map type_seen o ≡ type_of (view body.now.value) (bind variable.now (type_seen item.now) (scope_seen scope.now))) }
+{
+    let first = Local {
+        name: variable,
+        value_type: item,
+    };
+    let locals = bind(alloc, first, scope.locals)?;
+    let inner = Scope {
+        locals: &locals,
+        has_params: scope.has_params,
+        variables: scope.variables,
+    };
+    typed(alloc, body, &inner)
+}
+
+// The types of the trees, if each has one.
+#[cycle(typed)]
+fn typed_items(
+    alloc: Global,
+    items: &Vec<Tree>,
+    scope: &Scope<'_>,
+) -> Result<Option<Vec<CelType>>, AllocError>
+    ensures { IfOk result (λ o. option_map (λ v. types_seen v.items) o ≡ types_of (views items.now.items) (scope_seen scope.now)) }
+{
+    let mut types = Vec::new(alloc);
+    for item in items {
+        match typed(alloc, item, scope)? {
+            Some(found) => types.push(found)?,
+            None => return Ok(None),
+        }
+    }
+    Ok(Some(types))
+}
+
+#[cycle(typed)]
+fn typed_keys(
+    alloc: Global,
+    entries: &Vec<(Tree, Tree)>,
+    scope: &Scope<'_>,
+) -> Result<Option<Vec<CelType>>, AllocError>
+    ensures { IfOk result (λ o. option_map (λ v. types_seen v.items) o ≡ key_types_of (pair_views entries.now.items) (scope_seen scope.now)) }
+{
+    let mut types = Vec::new(alloc);
+    for (key, _) in entries {
+        match typed(alloc, key, scope)? {
+            Some(found) => types.push(found)?,
+            None => return Ok(None),
+        }
+    }
+    Ok(Some(types))
+}
+
+#[cycle(typed)]
+fn typed_values(
+    alloc: Global,
+    entries: &Vec<(Tree, Tree)>,
+    scope: &Scope<'_>,
+) -> Result<Option<Vec<CelType>>, AllocError>
+    ensures { IfOk result (λ o. option_map (λ v. types_seen v.items) o ≡ value_types_of (pair_views entries.now.items) (scope_seen scope.now)) }
+{
+    let mut types = Vec::new(alloc);
+    for (_, value) in entries {
+        match typed(alloc, value, scope)? {
+            Some(found) => types.push(found)?,
+            None => return Ok(None),
+        }
+    }
+    Ok(Some(types))
+}
+
+/// The type of the tree, under the declarations.
+///
+/// # Errors
+///
+/// [`TypeFault::NoType`] where the tree has no type, [`TypeFault::Memory`] where no memory is left.
+pub fn check(alloc: Global, tree: &Tree, env: &Env<'_>) -> Result<CelType, TypeFault>
+    ensures found { IfOk result (λ t. HasType (declared env.now) (view tree.now) (type_seen t)) }
+    ensures none { IfErr result (λ e. e ≡ fault.NoType → HasNoType (declared env.now) (view tree.now)) }
+{
+    let scope = Scope {
+        locals: &[],
+        has_params: env.has_params,
+        variables: env.variables,
+    };
+    match typed(alloc, tree, &scope)? {
+        Some(found) => Ok(found),
+        None => Err(TypeFault::NoType),
+    }
+}
