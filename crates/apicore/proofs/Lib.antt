@@ -1,5 +1,6 @@
 pub mod ViewLemmas
 pub mod StepLemmas
+pub mod Ready
 pub mod MemberLemmas
 pub mod Ordered
 pub mod Forms

@@ -1,18 +1,19 @@
 -- What requests write, and what their replies depend on.
-use Rattle.std.proofs.Common.{◌≡◌, ◌≤◌, ◌<◌, ℕ, List, [], ◌∷◌, length, Bool, true, false, nat_lt, nat_le, cond, Option, Some, None, is_some, inr, ◌++◌, append_assoc, refl, sym, ap, ◌∙◌, arith}
+use Rattle.std.proofs.Common.{◌≡◌, ◌≤◌, ◌<◌, ℕ, List, [], ◌∷◌, length, Bool, true, false, nat_lt, nat_le, cond, Option, Some, None, is_some, not, inl, inr, ◌++◌, append_assoc, IsTrue, refl, sym, ap, subst, ◌∙◌, arith}
 use Rattle.std.specs.Option.{option_map_or}
 use Rattle.apicore.specs.Reply.{Reply, status}
 use Rattle.apicore.specs.declared.refusal.Refusal.{Refusal}
-use Rattle.apicore.specs.declared.refusal.Refusal.TheVariants.{AlreadyExists, ObjectTooLarge, TooManyObjects, RevisionExhausted}
+use Rattle.apicore.specs.declared.refusal.Refusal.TheVariants.{AlreadyExists, NotFound, VersionNotCurrent, ObjectTooLarge, TooManyObjects, RevisionExhausted}
 use Rattle.jsondoc.specs.Document.{text}
 use Rattle.names.specs.declared.format.Rules.{Rules}
-use Rattle.names.specs.Key.{Key}
+use Rattle.names.specs.Key.{Key, is_key}
 use Rattle.apicore.specs.Document.{Document}
+use Rattle.apicore.specs.History as write
 use Rattle.apicore.specs.History.{Write, put, History}
 use Rattle.apicore.specs.Manifest.{Manifest, Body, sound, HasForm, BodyHasForm}
 use Rattle.apicore.specs.Refusal.{first_of}
-use Rattle.apicore.specs.Request.{Request, get, create, refused, RequestHasForm}
-use Rattle.apicore.specs.Step.{refusal, writes, reply, accepted, replies, step, runs}
+use Rattle.apicore.specs.Request.{Request, get, create, replace, delete, refused, RequestHasForm}
+use Rattle.apicore.specs.Step.{put_of, update_conflicts, deletion_conflicts, refusal, writes, reply, accepted, replies, step, runs}
 use Rattle.apicore.specs.View.{View, exists, is_too_large, is_full, is_exhausted, after_all, empty, view, AllMayFollow, IsHistory}
 use Rattle.apicore.proofs.ViewLemmas.{after_all-append, AllMayFollow-append}
 
@@ -46,6 +47,39 @@ create_follows : (rules : Rules) (v : View) (k : Key) (b : Body) (asked : Option
 create_follows rules v k (sound d) asked form =
     put_follows rules v k d form (exists v k) (is_too_large rules d) (is_full rules v) (is_exhausted rules v) refl refl refl
 
+-- a document that nothing refuses may stand in place of an object
+replaced_follows : (rules : Rules) (v : View) (k : Key) (d : Document) → HasForm k d → (there stale large last : Bool) → exists v k ≡ there → is_too_large rules d ≡ large
+    → is_exhausted rules v ≡ last
+    → AllMayFollow rules v
+    (cond (is_some (first_of ((NotFound, not there) ∷ (VersionNotCurrent, stale) ∷ (ObjectTooLarge, large) ∷ (RevisionExhausted, last) ∷ []))) [] (put k d ∷ []))
+replaced_follows rules v k d form false stale large last a b c = tt
+replaced_follows rules v k d form true true large last a b c = tt
+replaced_follows rules v k d form true false true last a b c = tt
+replaced_follows rules v k d form true false false true a b c = tt
+replaced_follows rules v k d form true false false false a b c = (
+  record {
+    form = form;
+    size = not_below rules.text_limit_bytes (length (text d.json)) b;
+    room = inl a;
+    revision = below rules.greatest_revision v.revision c;
+  },
+  tt,
+)
+
+replace_follows : (rules : Rules) (v : View) (k : Key) (b : Body) (asked : Option (List ℕ)) → BodyHasForm k b
+    → AllMayFollow rules v (writes rules v (replace (record { key = k; body = b; version = asked })))
+replace_follows rules v k (sound d) asked form =
+    replaced_follows rules v k d form (exists v k) (update_conflicts v k asked) (is_too_large rules d) (is_exhausted rules v) refl refl refl
+
+-- an object that nothing refuses may be deleted
+deleted_follows : (rules : Rules) (v : View) (k : Key) → (there stale last : Bool) → exists v k ≡ there → is_exhausted rules v ≡ last
+    → AllMayFollow rules v
+    (cond (is_some (first_of ((NotFound, not there) ∷ (VersionNotCurrent, stale) ∷ (RevisionExhausted, last) ∷ []))) [] (write.delete k ∷ []))
+deleted_follows rules v k false stale last a b = tt
+deleted_follows rules v k true true last a b = tt
+deleted_follows rules v k true false true a b = tt
+deleted_follows rules v k true false false a b = (record { object = a; revision = below rules.greatest_revision v.revision b }, tt)
+
 nothing_follows : (rules : Rules) (v : View) (b : Bool) → AllMayFollow rules v (cond b [] [])
 nothing_follows rules v true = tt
 nothing_follows rules v false = tt
@@ -55,6 +89,9 @@ pub AllMayFollow-writes : (rules : Rules) (v : View) (r : Request) → RequestHa
 AllMayFollow-writes rules v (refused r) form = tt
 AllMayFollow-writes rules v (get k) form = nothing_follows rules v (is_some (refusal rules v (get k)))
 AllMayFollow-writes rules v (create m) form = create_follows rules v m.key m.body m.version form
+AllMayFollow-writes rules v (replace m) form = replace_follows rules v m.key m.body m.version form
+AllMayFollow-writes rules v (delete k asked) form =
+    deleted_follows rules v k (exists v k) (deletion_conflicts v k asked) (is_exhausted rules v) refl refl
 
 pub IsHistory-step : (rules : Rules) (h : History) (r : Request) → IsHistory rules h → RequestHasForm r → IsHistory rules (step rules h r).0
 IsHistory-step rules h r before form =
@@ -70,26 +107,34 @@ view_decides_step rules g h r same = (
   view-step rules g r ∙ ap (λ v. after_all rules v (writes rules v r)) same ∙ sym (view-step rules h r),
 )
 
--- ---- what a request's refusal makes of its step
-
-abbrev AnswersRefusal : Rules → View → Request → Refusal → Type 0
-AnswersRefusal rules v r x = (status x ≡ reply rules v r) × ([] ≡ writes rules v r)
-
-refused_by : (o : Option Refusal) (x : Refusal) (good : Reply) (ws : List Write) → Some x ≡ o
-    → (status x ≡ option_map_or status o good) × ([] ≡ cond (is_some o) [] ws)
-refused_by None x good ws is = cc
-refused_by (Some y) x good ws is = let same : x ≡ y = cc in (ap status same, refl)
-
--- a create that is refused answers so, and writes nothing
-pub refused_create : (rules : Rules) (v : View) (m : Manifest) (x : Refusal) → Some x ≡ refusal rules v (create m) → AnswersRefusal rules v (create m) x
-refused_create rules v m x is = refused_by (refusal rules v (create m)) x _ _ is
-
 either_way : (b : Bool) (ws : List Write) → ws ≡ cond b ws ws
 either_way true ws = refl
 either_way false ws = refl
 
 pub writes-get : (rules : Rules) (v : View) (k : Key) → [] ≡ writes rules v (get k)
 writes-get rules v k = either_way (is_some (refusal rules v (get k))) []
+
+-- ---- the key of a deletion
+
+written_if : (b : Bool) (w : Write) (ws : List Write) → w ∷ [] ≡ cond b [] ws → w ∷ [] ≡ ws
+written_if true w ws is = absurd (let never : w ∷ [] ≡ [] = is in cc)
+written_if false w ws is = is
+
+no_deletion : (k l : Key) (b : Body) → write.delete k ∷ [] ≡ put_of l b → ⊥
+no_deletion k l (sound d) is = let never : write.delete k ∷ [] ≡ put l d ∷ [] = is in cc
+
+-- the key that a request deletes is well-formed
+pub is_key-deleted : (rules : Rules) (v : View) (r : Request) (k : Key) → RequestHasForm r → write.delete k ∷ [] ≡ writes rules v r → IsTrue (is_key k)
+is_key-deleted rules v (refused x) k form is = absurd (let never : write.delete k ∷ [] ≡ [] = is in cc)
+is_key-deleted rules v (get l) k form is = absurd (let never : write.delete k ∷ [] ≡ [] = written_if (is_some (refusal rules v (get l))) (write.delete k) [] is in cc)
+is_key-deleted rules v (create m) k form is =
+    absurd (no_deletion k m.key m.body (written_if (is_some (refusal rules v (create m))) (write.delete k) (put_of m.key m.body) is))
+is_key-deleted rules v (replace m) k form is =
+    absurd (no_deletion k m.key m.body (written_if (is_some (refusal rules v (replace m))) (write.delete k) (put_of m.key m.body) is))
+is_key-deleted rules v (delete l asked) k form is =
+    let one : write.delete k ∷ [] ≡ write.delete l ∷ [] = written_if (is_some (refusal rules v (delete l asked))) (write.delete k) (write.delete l ∷ []) is in
+    let same : l ≡ k = cc in
+    let P : Key → Type 0 = λ x. IsTrue (is_key x) in subst P same form
 
 -- ---- runs
 

@@ -2,6 +2,7 @@ pub mod Refusal
 pub mod Document
 pub mod DocumentCode
 pub mod Manifest
+pub mod DeleteOptions
 pub mod Codes
 pub mod History
 pub mod View

@@ -1,7 +1,7 @@
 -- The table of refusals: code (RFC 9110 section 15), reason and message of each (Kubernetes API conventions, "Response Status Kind").
 use Rattle.std.specs.Prelude.{ℕ, List, [], ◌∷◌, Bool, codes, if◌then◌else◌, Option, Some, None}
 use Rattle.apicore.specs.declared.refusal.Refusal.{Refusal}
-use Rattle.apicore.specs.declared.refusal.Refusal.TheVariants.{MalformedRequest, UnservedVersion, TooManyFields, UnservedTransferCoding, BadHost, BadContentLength, BodyTooLarge, UnservedExpectation, BadTarget, NoSuchPath, MethodNotAllowed, BadQuery, BadNameInPath, UnexpectedBody, BodyIsNotJson, NumberOutsideRange, WrongKind, BadMetadata, WrongName, VersionOnCreate, AlreadyExists, NotFound, ObjectTooLarge, TooManyObjects, RevisionExhausted, OutOfMemory, StorageFailed}
+use Rattle.apicore.specs.declared.refusal.Refusal.TheVariants.{MalformedRequest, UnservedVersion, TooManyFields, UnservedTransferCoding, BadHost, BadContentLength, BodyTooLarge, UnservedExpectation, BadTarget, NoSuchPath, MethodNotAllowed, BadQuery, BadNameInPath, UnexpectedBody, BodyIsNotJson, NumberOutsideRange, WrongKind, BadMetadata, WrongName, VersionOnCreate, BadDeleteOptions, AlreadyExists, NotFound, VersionNotCurrent, ObjectTooLarge, TooManyObjects, RevisionExhausted, OutOfMemory, StorageFailed}
 
 -- what a refusal says
 pub record Answer : Type 0 where
@@ -31,8 +31,10 @@ answer WrongKind = record { code = 400; reason = codes "BadRequest"; message = c
 answer BadMetadata = record { code = 422; reason = codes "Invalid"; message = codes "bad metadata" }
 answer WrongName = record { code = 400; reason = codes "BadRequest"; message = codes "name or namespace does not fit the path" }
 answer VersionOnCreate = record { code = 400; reason = codes "BadRequest"; message = codes "resourceVersion must be empty on create" }
+answer BadDeleteOptions = record { code = 400; reason = codes "BadRequest"; message = codes "bad delete options" }
 answer AlreadyExists = record { code = 409; reason = codes "AlreadyExists"; message = codes "already exists" }
 answer NotFound = record { code = 404; reason = codes "NotFound"; message = codes "not found" }
+answer VersionNotCurrent = record { code = 409; reason = codes "Conflict"; message = codes "resourceVersion is not current" }
 answer ObjectTooLarge = record { code = 413; reason = codes "RequestEntityTooLarge"; message = codes "object too large" }
 answer TooManyObjects = record { code = 507; reason = codes "InsufficientStorage"; message = codes "too many objects" }
 answer RevisionExhausted = record { code = 507; reason = codes "InsufficientStorage"; message = codes "revision exhausted" }

@@ -1,16 +1,23 @@
 -- Requests, as a message spells them.
+use Rattle.std.specs.Prelude.{ℕ, List, IsTrue, Option}
 use Rattle.apicore.specs.declared.refusal.Refusal.{Refusal}
 use Rattle.apicore.specs.Manifest.{Manifest, BodyHasForm}
-use Rattle.names.specs.Key.{Key}
+use Rattle.names.specs.Key.{Key, is_key}
 
 pub data Request : Type 0 where
   get : Key → Request
   create : Manifest → Request
+  -- to put the manifest's document in place of the object with its key
+  replace : Manifest → Request
+  -- with the text of the revision that the object is to have, if one is asked for
+  delete : Key → Option (List ℕ) → Request
   -- refused by the message alone
   refused : Refusal → Request
 
--- the documents of a request have the form of stored ones
+-- the documents of a request have the form of stored ones, and the key of a deletion is well-formed
 abbrev pub RequestHasForm : Request → Type 0
 RequestHasForm (get k) = Unit {0}
 RequestHasForm (create m) = BodyHasForm m.key m.body
+RequestHasForm (replace m) = BodyHasForm m.key m.body
+RequestHasForm (delete k asked) = IsTrue (is_key k)
 RequestHasForm (refused r) = Unit {0}

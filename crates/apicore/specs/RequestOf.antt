@@ -1,9 +1,12 @@
 -- The request that the code's enum stands for.
+use Rattle.std.specs.Prelude.{option_map, string_bytes}
 use Rattle.apicore.specs.declared.request.Request as code
-use Rattle.apicore.specs.declared.request.Request.TheVariants.{Get, Create, Refused}
-use Rattle.apicore.specs.Request.{Request, get, create, refused}
+use Rattle.apicore.specs.declared.request.Request.TheVariants.{Get, Create, Replace, Delete, Refused}
+use Rattle.apicore.specs.Request.{Request, get, create, replace, delete, refused}
 
 abbrev pub request_of : code.Request → Request
 request_of (Get k) = get k
 request_of (Create m) = create m
+request_of (Replace m) = replace m
+request_of (Delete k asked) = delete k (option_map string_bytes asked)
 request_of (Refused r) = refused r

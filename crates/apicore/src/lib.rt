@@ -7,15 +7,18 @@
 //! ```
 //!
 //! A history is a list of writes, its view is what is seen of it, and a step takes a history and a request to a history and a
-//! reply. `Manifest::read` decides what refuses a body, wherever it comes from. `Core` holds a view: `prepare` takes all the
+//! reply. `Manifest::read` decides what refuses the body of an object, wherever it comes from, and `read_delete_options` what
+//! refuses that of a DELETE. `Core` holds a view: `prepare` takes all the
 //! memory of a step and changes nothing that is seen, `take` takes none, and together they are one step. When a store is opened
 //! again, `replay_put` and `replay_delete` take the writes that were stored, each of which must be allowed to follow.
 #![tactic(auto)]
 
+mod delete_options;
 mod laws;
 mod manifest;
 mod metadata;
 mod prepared;
+mod preparing;
 mod refusal;
 mod replay;
 mod reply;
@@ -26,12 +29,13 @@ mod stored;
 #[cfg(test)]
 mod tests;
 
+pub use delete_options::read_delete_options;
 pub use laws::{
     events_are_last, key_has_last_write, revision_counts, runs_are_steps, stored_is_read,
     view_decides, writes_follow,
 };
 pub use manifest::{BodyFault, Manifest};
-pub use prepared::{Prepared, Put};
+pub use prepared::{Prepared, PreparedWrite, Put};
 pub use refusal::Refusal;
 pub use replay::ReplayFault;
 pub use reply::Reply;

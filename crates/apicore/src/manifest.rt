@@ -18,7 +18,7 @@ use std::alloc::{AllocError, Global};
 use std::marker::Model;
 use thiserror::Error;
 
-/// Why a body is no manifest.
+/// Why a body is not taken.
 #[derive(Clone, Copy, Debug, PartialEq, Eq, Drop, Error)]
 pub enum BodyFault {
     /// The body, or the path that it is sent to, is refused.
@@ -92,7 +92,7 @@ impl Manifest {
         };
         match document_refusal(resource, namespace, name, &document) {
             Some(refusal) => Err(BodyFault::Refused(refusal)),
-            None => Manifest::of(alloc, resource, namespace, name, &document),
+            None => Manifest::of(alloc, resource, namespace, name, document),
         }
     }
 
@@ -102,17 +102,17 @@ impl Manifest {
         resource: Resource,
         namespace: &str,
         name: Option<&str>,
-        document: &Doc,
+        document: Doc,
     ) -> Result<Manifest, BodyFault>
         requires target { is_target (target resource namespace.now (option_map (λ n. n.now) name)) ≡ true }
-        requires sound { first_of (document_conditions (target resource namespace.now (option_map (λ n. n.now) name)) document.now) ≡ None }
-        requires shallow { depth document.now ≤ 127 }
-        ensures ok { IfOk result (λ m. m ≡ manifest_of (target resource namespace.now (option_map (λ n. n.now) name.entry)) document.now) }
+        requires sound { first_of (document_conditions (target resource namespace.now (option_map (λ n. n.now) name)) document) ≡ None }
+        requires shallow { depth document ≤ 127 }
+        ensures ok { IfOk result (λ m. m ≡ manifest_of (target resource namespace.now (option_map (λ n. n.now) name.entry)) document) }
         ensures form { IfOk result (λ m. BodyHasForm m.key m.body) }
         ensures memory { IfErr result (λ e. e ≡ BodyFault.Memory) }
     {
-        let key = key_of(alloc, resource, namespace, document)?;
-        let version = version_of(alloc, document)?;
+        let key = key_of(alloc, resource, namespace, &document)?;
+        let version = version_of(alloc, &document)?;
         let stored = stored_document(alloc, resource, namespace, document)?;
         let text = stored.json().text(alloc)?;
         Ok(Manifest {
@@ -240,11 +240,11 @@ fn stored_document(
     alloc: Global,
     resource: Resource,
     namespace: &str,
-    document: &Doc,
+    document: Doc,
 ) -> Result<Document, AllocError>
-    ensures { (name : Option (List ℕ)) → IfOk result (λ d. d ≡ stored_document (target resource namespace.now name) document.now) }
+    ensures { (name : Option (List ℕ)) → IfOk result (λ d. d ≡ stored_document (target resource namespace.now name) document) }
 {
-    let mut metadata = metadata_copy(document)?;
+    let mut metadata = metadata_copy(&document)?;
     metadata.remove("resourceVersion");
     if resource.is_namespaced() {
         metadata.put(
@@ -253,7 +253,7 @@ fn stored_document(
             Doc::from(String::from_str(alloc, namespace)?),
         )?;
     }
-    let mut stored = document.clone()?;
+    let mut stored = document;
     stored.put(alloc, "metadata", metadata)?;
     Ok(Document::new(stored))
 }

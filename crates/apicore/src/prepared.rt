@@ -1,6 +1,8 @@
-ghost use Rattle.std.specs.Prelude.{◌≡◌, ◌+◌, ◌^◌, ◌<◌, IfOk};
+ghost use Rattle.std.specs.Prelude.{◌≡◌, ◌+◌, ◌^◌, ◌<◌, None, IfOk};
 ghost use Rattle.jsondoc.specs.Document.{text};
+ghost use Rattle.apicore.specs.Reply.{status};
 
+use crate::refusal::Refusal;
 use crate::reply::Reply;
 use crate::stored::{Document, Stored};
 use names::Key;
@@ -103,9 +105,31 @@ impl Put {
     }
 }
 
+/// A write that has all its memory.
+#[derive(Drop)]
+pub enum PreparedWrite {
+    /// A document is put at its key.
+    Put(Put),
+    /// The object with this key is deleted.
+    Delete(Key),
+}
+
 /// A step that has all its memory: the reply, and the write that it makes if it makes one.
 #[derive(Drop)]
 pub struct Prepared {
     pub reply: Reply,
-    pub put: Option<Put>,
+    pub write: Option<PreparedWrite>,
+}
+
+impl Prepared {
+    /// The step of a request that is refused: it makes no write.
+    pub(crate) fn refused(alloc: Global, refusal: Refusal) -> Result<Prepared, AllocError>
+        ensures reply { IfOk result (λ p. p.reply ≡ status refusal) }
+        ensures write { IfOk result (λ p. p.write ≡ None) }
+    {
+        Ok(Prepared {
+            reply: Reply::status(alloc, refusal)?,
+            write: None,
+        })
+    }
 }

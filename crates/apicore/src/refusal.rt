@@ -44,10 +44,14 @@ pub enum Refusal {
     WrongName,
     /// A POST asks for a revision.
     VersionOnCreate,
+    /// The body of a DELETE is no `DeleteOptions`, or one with a member that is not served.
+    BadDeleteOptions,
     /// A POST names an object that is there.
     AlreadyExists,
     /// There is no such object.
     NotFound,
+    /// A PUT or a DELETE asks for a revision that is not the object's.
+    VersionNotCurrent,
     /// The stored text is above the limit.
     ObjectTooLarge,
     /// The store holds as many objects as it may.
@@ -109,8 +113,10 @@ impl Refusal {
                 "BadRequest",
                 "resourceVersion must be empty on create",
             ),
+            Refusal::BadDeleteOptions => (400, "BadRequest", "bad delete options"),
             Refusal::AlreadyExists => (409, "AlreadyExists", "already exists"),
             Refusal::NotFound => (404, "NotFound", "not found"),
+            Refusal::VersionNotCurrent => (409, "Conflict", "resourceVersion is not current"),
             Refusal::ObjectTooLarge => (413, "RequestEntityTooLarge", "object too large"),
             Refusal::TooManyObjects => (507, "InsufficientStorage", "too many objects"),
             Refusal::RevisionExhausted => (507, "InsufficientStorage", "revision exhausted"),

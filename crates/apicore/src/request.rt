@@ -9,6 +9,10 @@ pub enum Request {
     Get(Key),
     /// To store a new object.
     Create(Manifest),
+    /// To store an object in place of the one with its key: of the revision that the manifest asks for, if it asks for one.
+    Replace(Manifest),
+    /// To delete an object: of the revision with this text, if there is one.
+    Delete(Key, Option<String>),
     /// Nothing: the message alone is refused.
     Refused(Refusal),
 }

@@ -1,16 +1,17 @@
-ghost use Rattle.std.specs.Prelude.{◌≡◌, ◌+◌, ◌^◌, ◌<◌, ◌≤◌, length, IsTrue, IfOk, OnOk, None};
+ghost use Rattle.std.specs.Prelude.{◌≡◌, ◌+◌, ◌^◌, ◌<◌, ◌≤◌, length, IsTrue, IfOk, OnOk, option_copied};
 ghost use Rattle.apicore.specs.Codes.{document_in};
 ghost use Rattle.apicore.specs.Document.{Document as DocumentData};
 ghost use Rattle.apicore.specs.History as write;
-ghost use Rattle.apicore.specs.Manifest.{sound, BodyHasForm};
-ghost use Rattle.apicore.specs.Prepared.{HasRoom, IsStepOf, IsReady, writes_of};
-ghost use Rattle.apicore.specs.Request.{get, create, RequestHasForm};
+ghost use Rattle.apicore.specs.Manifest.{sound};
+ghost use Rattle.apicore.specs.Prepared.{IsStepOf, IsReady, writes_of};
+ghost use Rattle.apicore.specs.Reply.{showing};
+ghost use Rattle.apicore.specs.Request.{get, RequestHasForm};
 ghost use Rattle.apicore.specs.RequestOf.{request_of};
-ghost use Rattle.apicore.specs.Step.{reply, refusal};
-ghost use Rattle.apicore.specs.View.{empty, exists, is_too_large, is_full, is_exhausted, after, after_all};
+ghost use Rattle.apicore.specs.Step.{reply};
+ghost use Rattle.apicore.specs.View.{empty, stored_at, exists, document_at, is_too_large, is_full, is_exhausted, after, after_all};
 
 use crate::manifest::Manifest;
-use crate::prepared::{Prepared, Put};
+use crate::prepared::{Prepared, PreparedWrite, Put};
 use crate::refusal::Refusal;
 use crate::reply::Reply;
 use crate::request::Request;
@@ -92,19 +93,12 @@ impl Core {
         match request {
             Request::Get(key) => Ok(Prepared {
                 reply: self.shown(alloc, key)?,
-                put: None,
+                write: None,
             }),
-            Request::Create(manifest) => match self.create_refusal(manifest) {
-                Some(refusal) => Ok(Prepared {
-                    reply: Reply::status(alloc, refusal)?,
-                    put: None,
-                }),
-                None => self.prepare_create(alloc, manifest),
-            },
-            Request::Refused(refusal) => Ok(Prepared {
-                reply: Reply::status(alloc, *refusal)?,
-                put: None,
-            }),
+            Request::Create(manifest) => self.prepare_create(alloc, manifest),
+            Request::Replace(manifest) => self.prepare_replace(alloc, manifest),
+            Request::Delete(key, version) => self.prepare_delete(alloc, key, version),
+            Request::Refused(refusal) => Prepared::refused(alloc, *refusal),
         }
     }
 
@@ -113,11 +107,13 @@ impl Core {
         requires { IsReady self.old prepared }
         ensures reply { result ≡ prepared.reply }
         ensures rules { self.new.rules ≡ self.old.rules }
-        ensures view { self.new.view ≡ after_all self.old.rules self.old.view (writes_of prepared.put) }
+        ensures view { self.new.view ≡ after_all self.old.rules self.old.view (writes_of prepared.write) }
     {
-        let Prepared { reply, put } = prepared;
-        if let Some(put) = put {
-            self.put(put);
+        let Prepared { reply, write } = prepared;
+        match write {
+            Some(PreparedWrite::Put(put)) => self.put(put),
+            Some(PreparedWrite::Delete(key)) => self.delete(key),
+            None => {}
         }
         reply
     }
@@ -132,26 +128,25 @@ impl Core {
         }
     }
 
-    // The first refusal of a new object.
-    fn create_refusal(&self, manifest: &Manifest) -> Option<Refusal>
-        ensures refusal { result ≡ refusal self.now.rules self.now.view (create manifest.now) }
-        ensures form { BodyHasForm manifest.now.key manifest.now.body }
+    /// The reply to a DELETE: the object that it removes, with the revision that it makes.
+    pub(crate) fn deleted(&self, alloc: Global, key: &Key) -> Result<Reply, AllocError>
+        requires object { IsTrue (exists self.now.view key.now) }
+        requires greatest { self.now.view.revision < self.now.rules.greatest_revision }
+        ensures { IfOk result (λ r. r ≡ showing 200 (document_at self.now.view key.now) (self.now.view.revision + 1)) }
     {
-        // The document, of which the text and the form speak.
-        let _document = manifest.document();
-        if self.holds(manifest.key()) {
-            return Some(Refusal::AlreadyExists);
+        // The window's revision is below the greatest one, so that the next one fits.
+        let _greatest = self.rules.greatest_revision;
+        match self.objects.get(key) {
+            Some(stored) => Reply::showing(alloc, 200, &stored.document, self.revision() + 1),
+            None => unreachable!("there is an object with this key"),
         }
-        if self.is_too_large(manifest) {
-            return Some(Refusal::ObjectTooLarge);
-        }
-        if self.is_full() {
-            return Some(Refusal::TooManyObjects);
-        }
-        if self.is_exhausted() {
-            return Some(Refusal::RevisionExhausted);
-        }
-        None
+    }
+
+    /// What is stored at a key.
+    pub(crate) fn stored(&self, key: &Key) -> Option<&Stored>
+        ensures { option_copied result ≡ stored_at self.now.view key.now }
+    {
+        self.objects.get(key)
     }
 
     /// Whether there is an object with this key.
@@ -180,22 +175,6 @@ impl Core {
         ensures { result ≡ is_exhausted self.now.rules self.now.view }
     {
         self.rules.greatest_revision <= self.window.revision()
-    }
-
-    // Prepares a new object that nothing refuses.
-    fn prepare_create(&mut self, alloc: Global, manifest: &Manifest) -> Result<Prepared, AllocError>
-        requires { refusal self.old.rules self.old.view (create manifest.now) ≡ None }
-        ensures rules { self.new.rules ≡ self.old.rules }
-        ensures view { self.new.view ≡ self.old.view }
-        ensures step { IfOk result (IsStepOf self.old.rules self.old.view (create manifest.now)) }
-        ensures room { IfOk result (λ p. HasRoom self.new p.put) }
-    {
-        let put = self.prepare_put(alloc, manifest)?;
-        let reply = Reply::showing(alloc, 201, put.document(), put.revision())?;
-        Ok(Prepared {
-            reply,
-            put: Some(put),
-        })
     }
 
     /// Takes the memory of a put, and room for its key.

@@ -1,8 +1,8 @@
 // Bodies after the Kubernetes API conventions, and replies whose bytes were written by hand.
 use crate::{
-    BodyFault, Core, Document, Manifest, Refusal, ReplayFault, Reply, Request, events_are_last,
-    key_has_last_write, revision_counts, runs_are_steps, stored_is_read, view_decides,
-    writes_follow,
+    BodyFault, Core, Document, Manifest, PreparedWrite, Put, Refusal, ReplayFault, Reply, Request,
+    events_are_last, key_has_last_write, read_delete_options, revision_counts, runs_are_steps,
+    stored_is_read, view_decides, writes_follow,
 };
 use jsondoc::Doc;
 use names::{Format, Key, Resource, Rules};
@@ -233,6 +233,13 @@ fn a_refusal_is_a_status(rt: HostRuntime) -> Result<(), Fail> {
         "{\"apiVersion\":\"v1\",\"code\":409,\"kind\":\"Status\",\"message\":\"already exists\",\"reason\":\"AlreadyExists\",\"status\":\"Failure\"}";
     assert_eq!(rt; exists.len(), 117);
     assert_status(&rt, rt.alloc(), Refusal::AlreadyExists, 409, exists)?;
+    let conflict =
+        "{\"apiVersion\":\"v1\",\"code\":409,\"kind\":\"Status\",\"message\":\"resourceVersion is not current\",\"reason\":\"Conflict\",\"status\":\"Failure\"}";
+    assert_eq!(rt; conflict.len(), 128);
+    assert_status(&rt, rt.alloc(), Refusal::VersionNotCurrent, 409, conflict)?;
+    let options =
+        "{\"apiVersion\":\"v1\",\"code\":400,\"kind\":\"Status\",\"message\":\"bad delete options\",\"reason\":\"BadRequest\",\"status\":\"Failure\"}";
+    assert_status(&rt, rt.alloc(), Refusal::BadDeleteOptions, 400, options)?;
     let missing =
         "{\"apiVersion\":\"v1\",\"code\":404,\"kind\":\"Status\",\"message\":\"not found\",\"reason\":\"NotFound\",\"status\":\"Failure\"}";
     assert_eq!(rt; missing.len(), 107);
@@ -313,11 +320,18 @@ fn a_second_create_takes_no_revision(rt: HostRuntime) -> Result<(), Fail> {
     Ok(())
 }
 
+fn put_of(write: &Option<PreparedWrite>) -> Option<&Put> {
+    match write {
+        Some(PreparedWrite::Put(put)) => Some(put),
+        _ => None,
+    }
+}
+
 #[test]
 fn a_prepared_write_has_its_document(rt: HostRuntime) -> Result<(), Fail> {
     let mut core = Core::new(rt.alloc(), Format::First.rules())?;
     let prepared = core.prepare(rt.alloc(), &create(rt.alloc(), "a")?)?;
-    let put = prepared.put.as_ref().ok_or("a put")?;
+    let put = put_of(&prepared.write).ok_or("a put")?;
     assert_eq!(rt; put.key().name(), "a");
     assert_eq!(rt; put.text(), STORED);
     assert_eq!(rt; put.document().json().text(rt.alloc())?.as_str(), STORED);
@@ -390,6 +404,134 @@ fn a_write_at_the_greatest_revision_is_refused(rt: HostRuntime) -> Result<(), Fa
     assert_created(&rt, rt.alloc(), &mut core, "b", 201, "")?;
     assert_created(&rt, rt.alloc(), &mut core, "c", 507, "revision exhausted")?;
     assert_created(&rt, rt.alloc(), &mut core, "a", 409, "already exists")
+}
+
+// A store without objects, with the limits of the first format.
+fn new_store(alloc: Global) -> Result<Core, Fail> {
+    Ok(Core::new(alloc, Format::First.rules())?)
+}
+
+// A PUT of the configmap `a`, whose metadata has these members behind its name.
+fn replace(alloc: Global, members: &str) -> Result<Request, Fail> {
+    let body = format!(in alloc;
+        "{{\"apiVersion\":\"v1\",\"kind\":\"ConfigMap\",\"metadata\":{{\"name\":\"a\"{members}}},\"data\":{{\"k\":\"w\"}}}}"
+    )?;
+    let manifest = Manifest::read(
+        alloc,
+        Resource::ConfigMap,
+        "default",
+        Some("a"),
+        body.as_bytes(),
+    )?;
+    Ok(Request::Replace(manifest))
+}
+
+// A DELETE of the configmap `a` with this body.
+fn delete(alloc: Global, body: &str) -> Result<Request, Fail> {
+    let version = read_delete_options(alloc, body.as_bytes())?;
+    let key = Key::new(alloc, Resource::ConfigMap, "default", "a")?;
+    Ok(Request::Delete(key, version))
+}
+
+// Updates the configmap `a`, and compares the code and a part of the reply.
+fn assert_updated(
+    rt: &impl Abort,
+    alloc: Global,
+    core: &mut Core,
+    members: &str,
+    code: u16,
+    part: &str,
+) -> Result<(), Fail> {
+    let request = replace(alloc, members)?;
+    let reply = answer(alloc, core, &request)?;
+    assert_eq!(rt; reply.code(), code);
+    assert!(rt; reply.body().contains(part));
+    Ok(())
+}
+
+// Deletes the configmap `a`, and compares the code and a part of the reply.
+fn assert_deleted(
+    rt: &impl Abort,
+    alloc: Global,
+    core: &mut Core,
+    body: &str,
+    code: u16,
+    part: &str,
+) -> Result<(), Fail> {
+    let request = delete(alloc, body)?;
+    let reply = answer(alloc, core, &request)?;
+    assert_eq!(rt; reply.code(), code);
+    assert!(rt; reply.body().contains(part));
+    Ok(())
+}
+
+const AT_TWO: &str = ",\"resourceVersion\":\"2\"";
+
+const UPDATED: &str =
+    "{\"apiVersion\":\"v1\",\"data\":{\"k\":\"w\"},\"kind\":\"ConfigMap\",\"metadata\":{\"name\":\"a\",\"namespace\":\"default\",\"resourceVersion\":\"3\"}}";
+
+#[test]
+fn an_update_asks_for_the_current_revision_or_for_none(rt: HostRuntime) -> Result<(), Fail> {
+    let alloc = rt.alloc();
+    let mut core = new_store(alloc)?;
+    assert_created(&rt, alloc, &mut core, "a", 201, "")?;
+    assert_updated(&rt, alloc, &mut core, AT_TWO, 200, UPDATED)?;
+    assert_updated(&rt, alloc, &mut core, AT_TWO, 409, "is not current")?;
+    assert_updated(&rt, alloc, &mut core, "", 200, "\"4\"")
+}
+
+#[test]
+fn revisions_are_compared_as_texts(rt: HostRuntime) -> Result<(), Fail> {
+    let alloc = rt.alloc();
+    let mut core = new_store(alloc)?;
+    let nine = ",\"resourceVersion\":\"9\"";
+    assert_updated(&rt, alloc, &mut core, nine, 404, "not found")?;
+    assert_created(&rt, alloc, &mut core, "a", 201, "")?;
+    let padded = ",\"resourceVersion\":\"02\"";
+    assert_updated(&rt, alloc, &mut core, padded, 409, "is not current")
+}
+
+const DELETED: &str =
+    "{\"apiVersion\":\"v1\",\"data\":{\"k\":\"v\"},\"kind\":\"ConfigMap\",\"metadata\":{\"name\":\"a\",\"namespace\":\"default\",\"resourceVersion\":\"3\"}}";
+
+#[test]
+fn a_deletion_shows_the_object_with_its_own_revision(rt: HostRuntime) -> Result<(), Fail> {
+    let alloc = rt.alloc();
+    let mut core = new_store(alloc)?;
+    assert_created(&rt, alloc, &mut core, "a", 201, "")?;
+    let before = "{\"preconditions\":{\"resourceVersion\":\"1\"}}";
+    assert_deleted(&rt, alloc, &mut core, before, 409, "is not current")?;
+    assert_deleted(&rt, alloc, &mut core, "{}", 200, DELETED)?;
+    assert_created(&rt, alloc, &mut core, "a", 201, "\"4\"")
+}
+
+#[test]
+fn each_fault_of_delete_options_has_its_refusal(rt: HostRuntime) {
+    for (body, refusal) in [
+        ("{", Refusal::BodyIsNotJson),
+        ("{\"preconditions\":1.0}", Refusal::NumberOutsideRange),
+        ("[]", Refusal::BadDeleteOptions),
+        ("{\"apiVersion\":\"v2\"}", Refusal::BadDeleteOptions),
+        ("{\"kind\":\"ConfigMap\"}", Refusal::BadDeleteOptions),
+        ("{\"gracePeriodSeconds\":0}", Refusal::BadDeleteOptions),
+        (
+            "{\"preconditions\":{\"resourceVersion\":2}}",
+            Refusal::BadDeleteOptions,
+        ),
+    ] {
+        let found = read_delete_options(rt.alloc(), body.as_bytes()).err();
+        assert_eq!(rt; found, Some(BodyFault::Refused(refusal)), "{body}");
+    }
+}
+
+#[test]
+fn delete_options_ask_for_a_revision_or_for_none(rt: HostRuntime) -> Result<(), Fail> {
+    let body =
+        b"{\"apiVersion\":\"v1\",\"kind\":\"DeleteOptions\",\"preconditions\":{\"resourceVersion\":\"02\"}}";
+    let version = read_delete_options(rt.alloc(), body)?;
+    assert_eq!(rt; version.as_deref(), Some("02"));
+    assert!(rt; read_delete_options(rt.alloc(), b"")?.is_none());
+    Ok(())
 }
 
 // A store with so many objects.

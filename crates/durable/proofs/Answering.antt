@@ -11,11 +11,12 @@ use Rattle.names.specs.declared.format.Rules.{Rules}
 use Rattle.apicore.specs.declared.prepared.Prepared.{Prepared}
 use Rattle.apicore.specs.History.{Write, put, delete, History}
 use Rattle.apicore.specs.Prepared.{IsStepOf, writes_of}
-use Rattle.apicore.specs.Put.{Put}
+use Rattle.apicore.specs.declared.prepared.PreparedWrite.{PreparedWrite}
+use Rattle.apicore.specs.declared.prepared.PreparedWrite.TheVariants.{Put, Delete}
 use Rattle.apicore.specs.Request.{Request, RequestHasForm}
 use Rattle.apicore.specs.Step.{writes}
 use Rattle.apicore.specs.View.{View, view, empty, after_all, MayFollow, AllMayFollow}
-use Rattle.apicore.proofs.StepLemmas.{AllMayFollow-writes}
+use Rattle.apicore.proofs.StepLemmas.{AllMayFollow-writes, is_key-deleted}
 use Rattle.apicore.proofs.ViewLemmas.{after_all-append}
 use Rattle.records.specs.Payload.{payload, IsStorable}
 use Rattle.durable.specs.declared.store.Store.{Store}
@@ -51,30 +52,30 @@ view-after h ws = sym (after_all-append first_rules empty h ws)
 
 -- the writes of a step that was prepared from what a history shows
 pub step_writes : (rules : Rules) (v : View) (h : History) (r : Request) (p : Prepared) → rules ≡ first_rules → v ≡ view first_rules h → IsStepOf rules v r p
-    → writes_of p.put ≡ writes first_rules (view first_rules h) r
+    → writes_of p.write ≡ writes first_rules (view first_rules h) r
 step_writes rules v h r p same_rules same_view step =
     step.writes ∙ ap (λ x. writes x v r) same_rules ∙ ap (λ x. writes first_rules x r) same_view
 
-no_record : (asked : Option Put) → IsRecordOf asked None → writes_of asked ≡ []
+no_record : (asked : Option PreparedWrite) → IsRecordOf asked None → writes_of asked ≡ []
 no_record None is = refl
 no_record (Some p) is = absurd is
 
 -- A request that writes nothing leaves the store settled.
 pub nothing_written : {D : Type 0} {g : Ghosts D} (old new : Store D g) (h : History) (r : Request) (p : Prepared) → IsSettledAt first_rules old h
-    → old.core.rules ≡ first_rules → IsStepOf old.core.rules (shown old) r p → IsRecordOf p.put None → device_of old ≡ device_of new → serves old ≡ serves new
-    → shown new ≡ after_all first_rules (shown old) (writes_of p.put)
+    → old.core.rules ≡ first_rules → IsStepOf old.core.rules (shown old) r p → IsRecordOf p.write None → device_of old ≡ device_of new → serves old ≡ serves new
+    → shown new ≡ after_all first_rules (shown old) (writes_of p.write)
     → IsSettledAt first_rules new (h ++ writes first_rules (view first_rules h) r)
 nothing_written {D} {g} old new h r p settled same_rules step without device working shows =
-    let none : writes_of p.put ≡ [] = no_record p.put without in
+    let none : writes_of p.write ≡ [] = no_record p.write without in
     let ws : List Write = writes first_rules (view first_rules h) r in
-    let are : writes_of p.put ≡ ws = step_writes old.core.rules (shown old) h r p same_rules settled.shows step in
+    let are : writes_of p.write ≡ ws = step_writes old.core.rules (shown old) h r p same_rules settled.shows step in
     let unchanged : h ≡ h ++ ws = sym (append-nil h) ∙ ap (λ (w : List Write). h ++ w) (sym none ∙ are) in
     let Held : D → Type 0 = λ d. HoldsHistory first_rules g.disk d h in
     let At : History → Type 0 = λ x. IsSettledAt first_rules new x in
     subst At unchanged (settled_from new h (sym working ∙ settled.working) (shows ∙ ap (after_all first_rules (shown old)) none ∙ settled.shows) (subst Held device (held old h settled)))
 
 -- The one write of a request that writes.
-pub record OneWrite (h : History) (r : Request) (asked : Option Put) (body : Body) : Type 0 where
+pub record OneWrite (h : History) (r : Request) (asked : Option PreparedWrite) (body : Body) : Type 0 where
   pub write : Write
   pub asked_is : writes_of asked ≡ write ∷ []
   pub writes_are : writes first_rules (view first_rules h) r ≡ write ∷ []
@@ -87,13 +88,13 @@ unfolding first_rules
 small = omega arith
 
 pub one_write : (rules : Rules) (v : View) (h : History) (r : Request) (p : Prepared) (body : Body) → rules ≡ first_rules → v ≡ view first_rules h
-    → IsStepOf rules v r p → RequestHasForm r → IsRecordOf p.put (Some body) → OneWrite h r p.put body
+    → IsStepOf rules v r p → RequestHasForm r → IsRecordOf p.write (Some body) → OneWrite h r p.write body
 one_write rules v h r p body same_rules same_view step form is =
-    go p.put (step_writes rules v h r p same_rules same_view step) is
+    go p.write (step_writes rules v h r p same_rules same_view step) is
   where
-    go : (asked : Option Put) → writes_of asked ≡ writes first_rules (view first_rules h) r → IsRecordOf asked (Some body) → OneWrite h r asked body
+    go : (asked : Option PreparedWrite) → writes_of asked ≡ writes first_rules (view first_rules h) r → IsRecordOf asked (Some body) → OneWrite h r asked body
     go None are is = absurd is
-    go (Some q) are is =
+    go (Some (Put q)) are is =
         let All : List Write → Type 0 = λ ws. AllMayFollow first_rules (view first_rules h) ws in
         let follow = subst All (sym are) (AllMayFollow-writes first_rules (view first_rules h) r form) in
         record {
@@ -104,9 +105,20 @@ one_write rules v h r p body same_rules same_view step form is =
           storable = (follow.0.form, omega (arith, small, follow.0.size));
           payload_is = is;
         }
+    go (Some (Delete k)) are is =
+        let All : List Write → Type 0 = λ ws. AllMayFollow first_rules (view first_rules h) ws in
+        let follow = subst All (sym are) (AllMayFollow-writes first_rules (view first_rules h) r form) in
+        record {
+          write = delete k;
+          asked_is = refl;
+          writes_are = sym are;
+          follows = follow.0;
+          storable = is_key-deleted first_rules (view first_rules h) r k form are;
+          payload_is = is;
+        }
 
 -- What the append of the write leaves of the device, for the writes of the request.
-module _ {D : Type 0} {g : Ghosts D} (old new : Store D g) (h : History) (r : Request) (asked : Option Put) (body : Body) (one : OneWrite h r asked body) where
+module _ {D : Type 0} {g : Ghosts D} (old new : Store D g) (h : History) (r : Request) (asked : Option PreparedWrite) (body : Body) (one : OneWrite h r asked body) where
   pub leaves_written : Stands g.disk (device_of old) (device_of new) (IsFound first_rules h [] (one.write ∷ [])) (IsFound first_rules h [] (one.write ∷ []))
       → LeavesSome first_rules old new h (writes first_rules (view first_rules h) r)
   leaves_written stands =

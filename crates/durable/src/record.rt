@@ -1,26 +1,42 @@
 //! The record of a write that is prepared.
 
 ghost use Rattle.std.specs.Prelude.{◌≡◌, IfOk, OnErr};
+ghost use Rattle.gatelog.specs.Payload.{payload_of};
+ghost use Rattle.apicore.specs.Prepared.{write_of};
+ghost use Rattle.records.specs.Payload.{payload};
 ghost use Rattle.durable.specs.declared.fault.Fault.TheVariants as Fault;
 ghost use Rattle.durable.specs.RecordOf.{IsRecordOf};
 
 use crate::Fault;
-use apicore::Put;
-use gatelog::Body;
-use records::put_payload;
+use apicore::PreparedWrite;
+use gatelog::{Body, LogFault};
+use records::{delete_payload, put_payload};
 use std::alloc::Global;
 
-/// The body of the record of a put, if there is one.
-pub(crate) fn record_of(alloc: Global, put: &Option<Put>) -> Result<Option<Body>, Fault>
-    ensures record { IfOk result (λ body. IsRecordOf put.now body) }
+/// The body of the record of a write, if there is one.
+pub(crate) fn record_of(
+    alloc: Global,
+    write: &Option<PreparedWrite>,
+) -> Result<Option<Body>, Fault>
+    ensures record { IfOk result (λ body. IsRecordOf write.now body) }
     ensures refusal { OnErr result (result ≡ Err Fault.Memory) }
 {
-    let Some(put) = put else {
+    let Some(write) = write else {
         return Ok(None);
     };
-    match put_payload(alloc, put.key(), put.text()) {
+    match body_of(alloc, write) {
         Ok(body) => Ok(Some(body)),
         // A text within the limit is never too long for a record, so memory was wanting.
         Err(_) => Err(Fault::Memory),
+    }
+}
+
+// The body that holds the payload of a write.
+fn body_of(alloc: Global, write: &PreparedWrite) -> Result<Body, LogFault>
+    ensures { IfOk result (λ body. payload_of body ≡ payload (write_of write.now)) }
+{
+    match write {
+        PreparedWrite::Put(put) => put_payload(alloc, put.key(), put.text()),
+        PreparedWrite::Delete(key) => delete_payload(alloc, key),
     }
 }

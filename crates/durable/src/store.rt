@@ -118,7 +118,7 @@ impl<D: Device> Store<D> {
             return Err(Fault::Failed);
         }
         let prepared = self.core.prepare(alloc, request)?;
-        match record_of(alloc, &prepared.put)? {
+        match record_of(alloc, &prepared.write)? {
             None => Ok(self.core.take(prepared)),
             Some(body) => self.commit(prepared, body),
         }
@@ -129,7 +129,7 @@ impl<D: Device> Store<D> {
         requires serves { serves self.old ≡ true }
         requires ready { CoreIsReady self.old.core prepared }
         ensures reply { IfOk result (λ r. r ≡ prepared.reply) }
-        ensures shows { (shown self.new) ≡ after_all self.old.core.rules (shown self.old) (writes_of prepared.put) }
+        ensures shows { (shown self.new) ≡ after_all self.old.core.rules (shown self.old) (writes_of prepared.write) }
         ensures stands { (h : History) (w : Write) → HoldsHistory first_rules D.disk (device_of self.old) h → MayFollow first_rules (view first_rules h) w → IsStorable w
             → payload_of body ≡ payload w → Stands D.disk (device_of self.old) (device_of self.new) (IsFound first_rules h [] (w ∷ [])) (IsFound first_rules h [] (w ∷ [])) }
         ensures appended { (h : History) (w : Write) → HoldsHistory first_rules D.disk (device_of self.old) h → MayFollow first_rules (view first_rules h) w → IsStorable w

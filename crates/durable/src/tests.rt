@@ -233,6 +233,47 @@ fn only_an_accepted_write_calls_the_device(rt: HostRuntime) -> Result<(), Fail> 
     Ok(())
 }
 
+fn replace_of(alloc: Global, name: &str) -> Result<Request, Fail> {
+    let body = format!(in alloc;
+        "{{\"apiVersion\":\"v1\",\"kind\":\"ConfigMap\",\"metadata\":{{\"name\":\"{name}\"}},\"data\":{{\"k\":\"w\"}}}}"
+    )?;
+    let manifest = Manifest::read(
+        alloc,
+        Resource::ConfigMap,
+        "default",
+        Some(name),
+        body.as_bytes(),
+    )?;
+    Ok(Request::Replace(manifest))
+}
+
+fn delete_of(alloc: Global, name: &str) -> Result<Request, Fail> {
+    let key = Key::new(alloc, Resource::ConfigMap, "default", name)?;
+    Ok(Request::Delete(key, None))
+}
+
+#[test]
+fn updates_and_deletions_are_found_again(rt: HostRuntime) -> Result<(), Fail> {
+    let alloc = rt.alloc();
+    let mut store = opened(alloc, with_objects(alloc, &["a", "b"])?)?;
+    assert_eq!(rt;
+        code_of(alloc, &mut store, replace_of(alloc, "a")?),
+        Ok(200)
+    );
+    assert_eq!(rt; code_of(alloc, &mut store, delete_of(alloc, "b")?), Ok(200));
+    assert_eq!(rt; code_of(alloc, &mut store, delete_of(alloc, "b")?), Ok(404));
+    let mut found = opened(alloc, store.into_device())?;
+    let updated = found.apply(alloc, &get_of(alloc, "a")?)?;
+    assert_eq!(rt;
+        updated.body(),
+        "{\"apiVersion\":\"v1\",\"data\":{\"k\":\"w\"},\"kind\":\"ConfigMap\",\"metadata\":{\"name\":\"a\",\"namespace\":\"default\",\"resourceVersion\":\"4\"}}"
+    );
+    assert_eq!(rt; code_of(alloc, &mut found, get_of(alloc, "b")?), Ok(404));
+    let created = found.apply(alloc, &create_of(alloc, "b")?)?;
+    assert!(rt; created.body().contains("\"resourceVersion\":\"6\""));
+    Ok(())
+}
+
 fn three_creates(alloc: Global) -> Result<[Request; 3], Fail> {
     Ok([
         create_of(alloc, "b")?,

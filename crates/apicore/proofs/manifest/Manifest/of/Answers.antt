@@ -8,13 +8,13 @@ use Rattle.apicore.proofs.manifest.Manifest.of.Goals as goal
 
 pub key_of-requires : goal.key_of-requires
 key_of-requires c =
-    is_key-key_at (target c.args.resource c.args.namespace.now (option_map (λ (n : Bor (List ℕ)). n.now) c.args.name)) c.args.document.now c.requires.target
+    is_key-key_at (target c.args.resource c.args.namespace.now (option_map (λ (n : Bor (List ℕ)). n.now) c.args.name)) c.args.document c.requires.target
     c.requires.sound
 
 pub invariant_of-result : goal.invariant_of-result
 invariant_of-result c =
     let t : Target = target c.args.resource c.args.namespace.now (option_map (λ (n : Bor (List ℕ)). n.now) c.args.name) in
-    let d : Data = c.args.document.now in
+    let d : Data = c.args.document in
     let stored : Document = c.in_ok-stored.stored in
     let stored_is = c.in_ok-stored.ensures t.name in
     let back : IsDocument stored.json =
@@ -25,13 +25,13 @@ invariant_of-result c =
 pub returns-clause-ok : goal.returns-clause-ok
 returns-clause-ok c =
     let t : Target = target c.args.resource c.args.namespace.now (option_map (λ (n : Bor (List ℕ)). n.now) c.args.name) in
-    made t c.args.document.now c.in_ok-key.key c.in_ok-stored.stored (option_map string_bytes c.in_ok-version.version) c.in_ok-key.ensures
+    made t c.args.document c.in_ok-key.key c.in_ok-stored.stored (option_map string_bytes c.in_ok-version.version) c.in_ok-key.ensures
     (c.in_ok-stored.ensures t.name) c.in_ok-version.ensures
 
 pub returns-clause-form : goal.returns-clause-form
 returns-clause-form c =
     let t : Target = target c.args.resource c.args.namespace.now (option_map (λ (n : Bor (List ℕ)). n.now) c.args.name) in
-    let d : Data = c.args.document.now in
+    let d : Data = c.args.document in
     let stored : Document = c.in_ok-stored.stored in
     let stored_is = c.in_ok-stored.ensures t.name in
     let back : IsDocument stored.json =

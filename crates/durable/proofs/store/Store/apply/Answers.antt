@@ -37,42 +37,42 @@ returns-in-None-clause-any_moment g c h settled =
 pub returns-in-None-clause-settled : goal.returns-in-None-clause-settled
 returns-in-None-clause-settled g c h settled =
     let prepared = c.in_ok-prepared.prepared in
-    let Of : Option Body → Type 0 = λ body. IsRecordOf prepared.put body in
+    let Of : Option Body → Type 0 = λ body. IsRecordOf prepared.write body in
     let rules_are : c.prepare.new.self.rules ≡ first_rules = c.prepare.ensures.rules ∙ c.args.self.now.rules in
     nothing_written c.args.self.now _ h (request_of c.args.request.now) prepared settled c.args.self.now.rules c.in_ok-prepared.ensures.step
     (subst Of c.in-None.is c.in_ok-record_of.ensures.record) refl refl
-    (c.take.ensures.view ∙ ap (λ x. after_all x c.prepare.new.self.view (writes_of prepared.put)) rules_are
-    ∙ ap (λ v. after_all first_rules v (writes_of prepared.put)) c.prepare.ensures.view)
+    (c.take.ensures.view ∙ ap (λ x. after_all x c.prepare.new.self.view (writes_of prepared.write)) rules_are
+    ∙ ap (λ v. after_all first_rules v (writes_of prepared.write)) c.prepare.ensures.view)
 
 pub returns-in-Some-clause-settled : goal.returns-in-Some-clause-settled
 returns-in-Some-clause-settled g c h settled =
     let prepared = c.in_ok-prepared.prepared in
-    let Of : Option Body → Type 0 = λ body. IsRecordOf prepared.put body in
+    let Of : Option Body → Type 0 = λ body. IsRecordOf prepared.write body in
     let rules_are : c.prepare.new.self.rules ≡ first_rules = c.prepare.ensures.rules ∙ c.args.self.now.rules in
     let one = one_write c.args.self.now.core.rules (shown c.args.self.now) h (request_of c.args.request.now) prepared c.in-Some.body c.args.self.now.rules settled.shows
     c.in_ok-prepared.ensures.step c.prepare.ensures.form (subst Of c.in-Some.is c.in_ok-record_of.ensures.record) in
     on_ok_with _ _ c.commit.result
-    (λ ok holds. settled_written c.args.self.now c.commit.new.self h (request_of c.args.request.now) prepared.put c.in-Some.body one (c.commit.ensures.serves ∙ ok) settled.shows
-    (c.commit.ensures.shows ∙ ap (λ x. after_all x c.prepare.new.self.view (writes_of prepared.put)) rules_are
-    ∙ ap (λ v. after_all first_rules v (writes_of prepared.put)) c.prepare.ensures.view)
+    (λ ok holds. settled_written c.args.self.now c.commit.new.self h (request_of c.args.request.now) prepared.write c.in-Some.body one (c.commit.ensures.serves ∙ ok) settled.shows
+    (c.commit.ensures.shows ∙ ap (λ x. after_all x c.prepare.new.self.view (writes_of prepared.write)) rules_are
+    ∙ ap (λ v. after_all first_rules v (writes_of prepared.write)) c.prepare.ensures.view)
     holds)
     (c.commit.ensures.appended h one.write (held c.args.self.now h settled) one.follows one.storable one.payload_is)
 
 pub returns-in-Some-clause-any_moment : goal.returns-in-Some-clause-any_moment
 returns-in-Some-clause-any_moment g c h settled =
     let prepared = c.in_ok-prepared.prepared in
-    let Of : Option Body → Type 0 = λ body. IsRecordOf prepared.put body in
+    let Of : Option Body → Type 0 = λ body. IsRecordOf prepared.write body in
     let one = one_write c.args.self.now.core.rules (shown c.args.self.now) h (request_of c.args.request.now) prepared c.in-Some.body c.args.self.now.rules settled.shows
     c.in_ok-prepared.ensures.step c.prepare.ensures.form (subst Of c.in-Some.is c.in_ok-record_of.ensures.record) in
-    leaves_written c.args.self.now c.commit.new.self h (request_of c.args.request.now) prepared.put c.in-Some.body one
+    leaves_written c.args.self.now c.commit.new.self h (request_of c.args.request.now) prepared.write c.in-Some.body one
     (c.commit.ensures.stands h one.write (held c.args.self.now h settled) one.follows one.storable one.payload_is)
 
 pub returns-in-Some-clause-device : goal.returns-in-Some-clause-device
 returns-in-Some-clause-device g c h settled fault =
     let prepared = c.in_ok-prepared.prepared in
-    let Of : Option Body → Type 0 = λ body. IsRecordOf prepared.put body in
+    let Of : Option Body → Type 0 = λ body. IsRecordOf prepared.write body in
     let one = one_write c.args.self.now.core.rules (shown c.args.self.now) h (request_of c.args.request.now) prepared c.in-Some.body c.args.self.now.rules settled.shows
     c.in_ok-prepared.ensures.step c.prepare.ensures.form (subst Of c.in-Some.is c.in_ok-record_of.ensures.record) in
-    left_written c.args.self.now c.commit.new.self h (request_of c.args.request.now) prepared.put c.in-Some.body one
+    left_written c.args.self.now c.commit.new.self h (request_of c.args.request.now) prepared.write c.in-Some.body one
     (c.commit.ensures.serves ∙ fault_is_no_success _ c.commit.result fault)
     (c.commit.ensures.stands h one.write (held c.args.self.now h settled) one.follows one.storable one.payload_is)
