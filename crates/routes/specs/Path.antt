@@ -1,10 +1,12 @@
 -- Where the target of a request points (RFC 9112 section 3.2.1).
-use Rattle.std.specs.Prelude.{ℕ, Bool, false, List, [], ◌∷◌, length, ◌==◌, ◌&&◌, ◌||◌, codes, if◌then◌else◌, Option, Some, None, option_map}
+use Rattle.std.specs.Prelude.{ℕ, Bool, false, List, [], ◌∷◌, ◌++◌, length, find, ◌==◌, ◌||◌, codes, if◌then◌else◌, Option, Some, None, option_and_then}
 use Rattle.std.specs.List.{slice_split, before_first, after_first}
 use Rattle.std.specs.Option.{option_map_or}
 use Rattle.std.specs.Str.{bytes_eq}
 use Rattle.names.specs.declared.resource.Resource.{Resource}
-use Rattle.names.specs.declared.resource.Resource.TheVariants.{ConfigMap}
+use Rattle.names.specs.declared.resource.Resource.TheVariants.{ConfigMap, Node, Pod, Service, Deployment}
+use Rattle.names.specs.declared.resource.Scope.{Scope}
+use Rattle.names.specs.declared.resource.Scope.TheVariants.{Namespaced, Cluster}
 use Rattle.names.specs.Resource.{row}
 use Rattle.apicore.specs.Manifest.{Target, target}
 
@@ -29,26 +31,88 @@ parts_of path = slice_split (λ byte. byte == slash) path
 abbrev pub is_empty : List ℕ → Bool
 is_empty text = length text == 0
 
--- the resource that is served under this name in paths
-abbrev pub resource_named : List ℕ → Option Resource
-resource_named plural = if bytes_eq plural (row ConfigMap).plural then Some ConfigMap else None
+-- ---- the pieces of a path
 
--- a collection in a namespace, or with a name an item of it; no part is empty
-abbrev pub in_namespace : (namespace plural : List ℕ) → (name : Option (List ℕ)) → Option Target
-in_namespace namespace plural name =
-    if is_empty namespace || option_map_or is_empty name false then None
-    else option_map (λ resource. target resource namespace name) (resource_named plural)
+-- What the parts of a path say: the API group, which paths of the core group leave out, its version, a resource's plural, and
+-- perhaps a namespace and a name (Kubernetes API concepts, "Resource URIs").
+pub record Pieces : Type 0 where
+  pub group : Option (List ℕ)
+  pub version : List ℕ
+  pub namespace : Option (List ℕ)
+  pub plural : List ℕ
+  pub name : Option (List ℕ)
 
--- the parts that begin a path of the core group's namespaces: `/api/v1/namespaces/`
-abbrev pub are_front : (root api version word : List ℕ) → Bool
-are_front root api version word =
-    is_empty root && bytes_eq api (codes "api") && bytes_eq version (codes "v1") && bytes_eq word (codes "namespaces")
+abbrev pub pieces : (group : Option (List ℕ)) → (version : List ℕ) → (namespace : Option (List ℕ)) → (plural : List ℕ) → (name : Option (List ℕ)) → Pieces
+pieces group version namespace plural name = record { group = group; version = version; namespace = namespace; plural = plural; name = name }
 
--- Where the parts of a path point, if that is served: `/api/v1/namespaces/NAMESPACE/PLURAL` to a collection, and with
--- `/NAME` to an item of it (Kubernetes API concepts, "Resource URIs").
+-- `PLURAL`, `PLURAL/NAME`, `namespaces/NAMESPACE/PLURAL` or `namespaces/NAMESPACE/PLURAL/NAME` in a version of a group
+abbrev pub pieces_under : (group : Option (List ℕ)) → (version : List ℕ) → List (List ℕ) → Option Pieces
+pieces_under group version (plural ∷ []) = Some (pieces group version None plural None)
+pieces_under group version (plural ∷ name ∷ []) = Some (pieces group version None plural (Some name))
+pieces_under group version (word ∷ namespace ∷ plural ∷ []) =
+    if bytes_eq word (codes "namespaces") then Some (pieces group version (Some namespace) plural None) else None
+pieces_under group version (word ∷ namespace ∷ plural ∷ name ∷ []) =
+    if bytes_eq word (codes "namespaces") then Some (pieces group version (Some namespace) plural (Some name)) else None
+pieces_under group version other = None
+
+-- the version of a named group
+abbrev pub pieces_in : (group : List ℕ) → List (List ℕ) → Option Pieces
+pieces_in group (version ∷ rest) = pieces_under (Some group) version rest
+pieces_in group [] = None
+
+-- the parts behind a path's first slash: `api` begins those of the core group, `apis` those of the others
+abbrev pub pieces_behind : List (List ℕ) → Option Pieces
+pieces_behind (word ∷ part ∷ rest) =
+    if bytes_eq word (codes "api") then pieces_under None part rest else (if bytes_eq word (codes "apis") then pieces_in part rest else None)
+pieces_behind other = None
+
+-- a path begins with a slash
+abbrev pub pieces_of : List (List ℕ) → Option Pieces
+pieces_of (root ∷ rest) = if is_empty root then pieces_behind rest else None
+pieces_of [] = None
+
+-- ---- the table of routes
+
+-- the path of all objects of a resource, without namespace and name: `/api/VERSION/PLURAL` or `/apis/GROUP/VERSION/PLURAL`
+abbrev pub literal : (group : Option (List ℕ)) → (version plural : List ℕ) → List ℕ
+literal None version plural = codes "/api/" ++ (version ++ (codes "/" ++ plural))
+literal (Some group) version plural = codes "/apis/" ++ (group ++ (codes "/" ++ (version ++ (codes "/" ++ plural))))
+
+-- the group of a resource, as its paths have it
+abbrev pub path_group : List ℕ → Option (List ℕ)
+path_group [] = None
+path_group (byte ∷ group) = Some (byte ∷ group)
+
+abbrev pub literal_of : Resource → List ℕ
+literal_of r = literal (path_group (row r).group) (row r).version (row r).plural
+
+-- the resources that are served
+abbrev pub served : List Resource
+served = ConfigMap ∷ Node ∷ Pod ∷ Service ∷ Deployment ∷ []
+
+-- the resource that is served at this literal path
+abbrev pub resource_at : List ℕ → Option Resource
+resource_at path = find (λ r. bytes_eq (literal_of r) path) served
+
+-- ---- where a path points
+
+-- a place of a resource: namespaced objects stand in a namespace, and the others in none
+abbrev pub in_scope : Scope → Resource → (namespace name : Option (List ℕ)) → Option Target
+in_scope Namespaced r (Some namespace) name = Some (target r namespace name)
+in_scope Namespaced r None name = None
+in_scope Cluster r None name = Some (target r [] name)
+in_scope Cluster r (Some namespace) name = None
+
+-- a namespace or a name that is there is not empty
+abbrev pub is_left_out : Option (List ℕ) → Bool
+is_left_out piece = option_map_or is_empty piece false
+
+-- where the pieces of a path point, if that is served
+abbrev pub target_of : Pieces → Option Target
+target_of p =
+    if is_left_out p.namespace || is_left_out p.name then None
+    else option_and_then (λ r. in_scope (row r).scope r p.namespace p.name) (resource_at (literal p.group p.version p.plural))
+
+-- where the parts of a path point, if that is served
 abbrev pub target_at : List (List ℕ) → Option Target
-target_at (root ∷ api ∷ version ∷ word ∷ namespace ∷ plural ∷ []) =
-    if are_front root api version word then in_namespace namespace plural None else None
-target_at (root ∷ api ∷ version ∷ word ∷ namespace ∷ plural ∷ name ∷ []) =
-    if are_front root api version word then in_namespace namespace plural (Some name) else None
-target_at other = None
+target_at parts = option_and_then target_of (pieces_of parts)

@@ -12,7 +12,9 @@
 
 mod path;
 mod routes;
+mod table;
 #[cfg(test)]
 mod tests;
 
-pub use routes::{Routes, route};
+pub use routes::route;
+pub use table::Routes;

@@ -1,31 +1,39 @@
-//! Where the target of a request points.
+//! What the target of a request is made of.
 
-ghost use Rattle.std.specs.Prelude.{◌≡◌, map, IfOk, option_map};
-ghost use Rattle.routes.specs.Path.{path_of, query_of, parts_of, resource_named, in_namespace, are_front, target_at};
+ghost use Rattle.std.specs.Prelude.{◌≡◌, ◌||◌, map, IfOk, Some, None, option_map, codes, string_bytes, if◌then◌else◌};
+ghost use Rattle.std.specs.Str.{bytes_eq};
+ghost use Rattle.routes.specs.Path.{path_of, query_of, parts_of, is_left_out, pieces, pieces_of, pieces_behind, pieces_in, pieces_under, literal};
 
-use names::Resource;
 use std::alloc::{AllocError, Global};
 use std::marker::Model;
 
-/// A collection in a namespace, or with a name an item of it.
+/// What the parts of a path say.
 #[derive(Drop)]
-pub(crate) struct Place<'p> {
-    pub(crate) resource: Resource,
-    pub(crate) namespace: &'p str,
+pub(crate) struct Pieces<'p> {
+    pub(crate) group: Option<&'p str>,
+    pub(crate) version: &'p str,
+    pub(crate) namespace: Option<&'p str>,
+    pub(crate) plural: &'p str,
     pub(crate) name: Option<&'p str>,
 }
 
-impl<'p> Model for Place<'p> {
-    ghost use Rattle.apicore.specs.Manifest.{Target};
+impl<'p> Model for Pieces<'p> {
+    ghost use Rattle.routes.specs.Path.{Pieces};
 
-    ghost Value = { Target };
+    ghost Value = { Pieces };
 
     ghost use Rattle.std.specs.Prelude.{option_map};
 
-    ghost view = { λ p. record { resource = p.resource; namespace = p.namespace.now; name = option_map (λ n. n.now) p.name } };
+    ghost view = { λ p. record {
+      group = option_map (λ g. g.now) p.group;
+      version = p.version.now;
+      namespace = option_map (λ n. n.now) p.namespace;
+      plural = p.plural.now;
+      name = option_map (λ n. n.now) p.name;
+    } };
 }
 
-// The path and the query of a target.
+/// The path and the query of a target.
 pub(crate) fn path_and_query(target: &str) -> (&str, &str)
     ensures path { result.0.now ≡ path_of target.now }
     ensures query { result.1.now ≡ query_of target.now }
@@ -43,60 +51,112 @@ fn parts_of<'p>(alloc: Global, path: &'p str) -> Result<Vec<&'p str>, AllocError
     path.split('/').collect(alloc)
 }
 
-// The resource that is served under this name in paths.
-fn resource_named(plural: &str) -> Option<Resource>
-    ensures { result ≡ resource_named plural.now }
+// The pieces, if this word names the namespaces.
+fn namespaced<'p>(word: &str, pieces: Pieces<'p>) -> Option<Pieces<'p>>
+    ensures { result ≡ if bytes_eq word.now (codes "namespaces") then Some pieces.entry else None }
 {
-    if plural == Resource::ConfigMap.plural() {
-        Some(Resource::ConfigMap)
+    if word == "namespaces" {
+        Some(pieces)
     } else {
         None
     }
 }
 
-fn in_namespace<'p>(namespace: &'p str, plural: &str, name: Option<&'p str>) -> Option<Place<'p>>
-    ensures { result ≡ in_namespace namespace.now plural.now (option_map (λ n. n.now) name.entry) }
+// The pieces that make up a path of a version of a group.
+fn pieces_with<'p>(
+    group: Option<&'p str>,
+    version: &'p str,
+    namespace: Option<&'p str>,
+    plural: &'p str,
+    name: Option<&'p str>,
+) -> Pieces<'p>
+    ensures { result ≡ pieces (option_map (λ g. g.now) group.entry) version.now (option_map (λ n. n.now) namespace.entry) plural.now (option_map (λ n. n.now) name.entry) }
 {
-    if namespace.is_empty() || name.is_some_and(|name| name.is_empty()) {
-        return None;
-    }
-    match resource_named(plural) {
-        Some(resource) => Some(Place {
-            resource,
-            namespace,
-            name,
-        }),
-        None => None,
+    Pieces {
+        group,
+        version,
+        namespace,
+        plural,
+        name,
     }
 }
 
-// Whether the parts begin a path of the core group's namespaces.
-fn are_front(root: &str, api: &str, version: &str, word: &str) -> bool
-    ensures { result ≡ are_front root.now api.now version.now word.now }
-{
-    root.is_empty() && api == "api" && version == "v1" && word == "namespaces"
-}
-
-// Where the parts of a path point.
-fn place_at<'p>(parts: &[&'p str]) -> Option<Place<'p>>
-    ensures { result ≡ target_at (map (λ part. part.now) parts.now) }
+// What stands behind the version.
+fn pieces_under<'p>(
+    group: Option<&'p str>,
+    version: &'p str,
+    parts: &[&'p str],
+) -> Option<Pieces<'p>>
+    ensures { result ≡ pieces_under (option_map (λ g. g.now) group.entry) version.now (map (λ part. part.now) parts.now) }
 {
     match parts {
-        [root, api, version, word, namespace, plural] if are_front(root, api, version, word) => {
-            in_namespace(namespace, plural, None)
-        }
-        [root, api, version, word, namespace, plural, name]
-            if are_front(root, api, version, word) => {
-            in_namespace(namespace, plural, Some(name))
-        }
+        [plural] => Some(pieces_with(group, version, None, plural, None)),
+        [plural, name] => Some(pieces_with(group, version, None, plural, Some(name))),
+        [word, namespace, plural] => namespaced(
+            word,
+            pieces_with(group, version, Some(namespace), plural, None),
+        ),
+        [word, namespace, plural, name] => namespaced(
+            word,
+            pieces_with(group, version, Some(namespace), plural, Some(name)),
+        ),
         _ => None,
     }
 }
 
-/// Where a path points, if that is served.
-pub(crate) fn place_of<'p>(alloc: Global, path: &'p str) -> Result<Option<Place<'p>>, AllocError>
-    ensures { IfOk result (λ place. place ≡ target_at (parts_of path.now)) }
+// What stands behind the name of a group.
+fn pieces_in<'p>(group: &'p str, parts: &[&'p str]) -> Option<Pieces<'p>>
+    ensures { result ≡ pieces_in group.now (map (λ part. part.now) parts.now) }
+{
+    let (version, rest) = parts.split_first()?;
+    pieces_under(Some(group), version, rest)
+}
+
+// What stands behind the first slash.
+fn pieces_behind<'p>(parts: &[&'p str]) -> Option<Pieces<'p>>
+    ensures { result ≡ pieces_behind (map (λ part. part.now) parts.now) }
+{
+    let (word, behind) = parts.split_first()?;
+    let (part, rest) = behind.split_first()?;
+    match *word {
+        "api" => pieces_under(None, part, rest),
+        "apis" => pieces_in(part, rest),
+        _ => None,
+    }
+}
+
+/// The pieces of a path, if it has the form of one.
+pub(crate) fn pieces_of<'p>(alloc: Global, path: &'p str) -> Result<Option<Pieces<'p>>, AllocError>
+    ensures { IfOk result (λ pieces. pieces ≡ pieces_of (parts_of path.now)) }
 {
     let parts = parts_of(alloc, path)?;
-    Ok(place_at(&parts))
+    Ok(match parts.split_first() {
+        Some((root, rest)) if root.is_empty() => pieces_behind(rest),
+        _ => None,
+    })
+}
+
+impl<'p> Pieces<'p> {
+    // Whether the namespace or the name is there and empty.
+    pub(crate) fn leaves_out(&self) -> bool
+        ensures { result ≡ is_left_out self.now.namespace || is_left_out self.now.name }
+    {
+        self.namespace.is_some_and(|namespace| namespace.is_empty())
+            || self.name.is_some_and(|name| name.is_empty())
+    }
+}
+
+/// The path of all objects of a resource, without namespace and name.
+pub(crate) fn literal(
+    alloc: Global,
+    group: Option<&str>,
+    version: &str,
+    plural: &str,
+) -> Result<String, AllocError>
+    ensures { IfOk result (λ text. string_bytes text ≡ literal (option_map (λ g. g.now) group.entry) version.now plural.now) }
+{
+    match group {
+        None => format!(in alloc; "/api/{version}/{plural}"),
+        Some(group) => format!(in alloc; "/apis/{group}/{version}/{plural}"),
+    }
 }

@@ -3,31 +3,21 @@
 ghost use Rattle.std.specs.Prelude.{◌≡◌, IfOk, Some, None};
 ghost use Rattle.apicore.specs.RequestOf.{request_of};
 ghost use Rattle.routes.specs.Path.{query_of};
-ghost use Rattle.routes.specs.Asked.{shown, created, asked_of, asked};
+ghost use Rattle.routes.specs.Asked.{shown, created, replaced, deleted, deletion, asked_of, asked};
 
-use crate::path::{Place, path_and_query, place_of};
-use apicore::{BodyFault, Manifest, Refusal, Request};
+use crate::path::path_and_query;
+use crate::table::{Place, Routes};
+use apicore::{BodyFault, Manifest, Refusal, Request, read_delete_options};
 use httpmsg::{Message, Method};
 use names::{Key, KeyFault};
 use std::alloc::{AllocError, Global};
 
-/// The routes that are served.
-#[derive(Drop)]
-pub struct Routes;
-
-impl Routes {
-    /// Takes the memory of the table of routes.
-    pub fn new(_alloc: Global) -> Result<Routes, AllocError> {
-        Ok(Routes)
-    }
-}
-
 /// The request that a message spells: a call, or the first refusal that shows in the message alone.
-pub fn route(alloc: Global, _routes: &Routes, message: &Message) -> Result<Request, AllocError>
+pub fn route(alloc: Global, routes: &Routes, message: &Message) -> Result<Request, AllocError>
     ensures { IfOk result (λ request. request_of request ≡ asked message.now) }
 {
     let (path, query) = path_and_query(message.target());
-    match place_of(alloc, path)? {
+    match routes.place_of(alloc, path)? {
         Some(place) => asked_of(alloc, message, &place, query),
         None => Ok(Request::Refused(Refusal::NoSuchPath)),
     }
@@ -45,6 +35,8 @@ fn asked_of(
 {
     match (message.method(), place.name) {
         (Method::Get, Some(name)) => shown(alloc, message, place, name, query),
+        (Method::Put, Some(name)) => replaced(alloc, message, place, name, query),
+        (Method::Delete, Some(name)) => deleted(alloc, message, place, name, query),
         (Method::Post, None) => created(alloc, message, place, query),
         _ => Ok(Request::Refused(Refusal::NoSuchPath)),
     }
@@ -92,6 +84,67 @@ fn created(
     }
     match Manifest::read(alloc, place.resource, place.namespace, None, message.body()) {
         Ok(manifest) => Ok(Request::Create(manifest)),
+        Err(BodyFault::Refused(refusal)) => Ok(Request::Refused(refusal)),
+        Err(BodyFault::Memory) => Err(AllocError),
+    }
+}
+
+// PUT of an item.
+fn replaced(
+    alloc: Global,
+    message: &Message,
+    place: &Place,
+    name: &str,
+    query: &str,
+) -> Result<Request, AllocError>
+    requires query { query.now ≡ query_of message.now.target }
+    requires name { place.now.name ≡ Some name.now }
+    ensures { IfOk result (λ request. request_of request ≡ replaced message.now place.now) }
+{
+    if !query.is_empty() {
+        return Ok(Request::Refused(Refusal::BadQuery));
+    }
+    match Manifest::read(
+        alloc,
+        place.resource,
+        place.namespace,
+        Some(name),
+        message.body(),
+    ) {
+        Ok(manifest) => Ok(Request::Replace(manifest)),
+        Err(BodyFault::Refused(refusal)) => Ok(Request::Refused(refusal)),
+        Err(BodyFault::Memory) => Err(AllocError),
+    }
+}
+
+// DELETE of an item.
+fn deleted(
+    alloc: Global,
+    message: &Message,
+    place: &Place,
+    name: &str,
+    query: &str,
+) -> Result<Request, AllocError>
+    requires query { query.now ≡ query_of message.now.target }
+    requires name { place.now.name ≡ Some name.now }
+    ensures { IfOk result (λ request. request_of request ≡ deleted message.now place.now name.now) }
+{
+    if !query.is_empty() {
+        return Ok(Request::Refused(Refusal::BadQuery));
+    }
+    match Key::new(alloc, place.resource, place.namespace, name) {
+        Ok(key) => deletion(alloc, key, message.body()),
+        Err(KeyFault::NoKey) => Ok(Request::Refused(Refusal::BadNameInPath)),
+        Err(KeyFault::Memory) => Err(AllocError),
+    }
+}
+
+// The deletion that the body of a DELETE asks for.
+fn deletion(alloc: Global, key: Key, body: &[u8]) -> Result<Request, AllocError>
+    ensures { IfOk result (λ request. request_of request ≡ deletion key body.now) }
+{
+    match read_delete_options(alloc, body) {
+        Ok(version) => Ok(Request::Delete(key, version)),
         Err(BodyFault::Refused(refusal)) => Ok(Request::Refused(refusal)),
         Err(BodyFault::Memory) => Err(AllocError),
     }

@@ -1,0 +1,130 @@
+//! The table of routes.
+
+ghost use Rattle.std.specs.Prelude.{◌≡◌, IfOk, option_map, ◌||◌, string_bytes};
+ghost use Rattle.matchit.specs.declared.router.Router.{Router};
+ghost use Rattle.routes.specs.Path.{resource_at, in_scope, target_of, target_at, parts_of};
+ghost use Rattle.routes.specs.Table.{AnswersTable};
+ghost use Rattle.names.specs.Resource.{row};
+
+use crate::path::{Pieces, literal, pieces_of};
+use matchit::{InsertError, Router};
+use names::{Resource, Scope};
+use std::alloc::{AllocError, Global};
+use std::marker::Model;
+
+/// A collection, or with a name an item of it.
+#[derive(Drop)]
+pub(crate) struct Place<'p> {
+    pub(crate) resource: Resource,
+    pub(crate) namespace: &'p str,
+    pub(crate) name: Option<&'p str>,
+}
+
+impl<'p> Model for Place<'p> {
+    ghost use Rattle.apicore.specs.Manifest.{Target};
+
+    ghost Value = { Target };
+
+    ghost use Rattle.std.specs.Prelude.{option_map};
+
+    ghost view = { λ p. record { resource = p.resource; namespace = p.namespace.now; name = option_map (λ n. n.now) p.name } };
+}
+
+/// The routes that are served: the paths of the resources, without namespaces and names.
+#[derive(Drop)]
+pub struct Routes {
+    router: Router<Resource>,
+    ghost answers: { AnswersTable router },
+}
+
+// The path of each resource that is served.
+fn router_of_resources(alloc: Global) -> Result<Router<Resource>, InsertError>
+    ensures { IfOk result AnswersTable }
+{
+    let mut router = Router::new(alloc);
+    router.insert("/api/v1/configmaps", Resource::ConfigMap)?;
+    router.insert("/api/v1/nodes", Resource::Node)?;
+    router.insert("/api/v1/pods", Resource::Pod)?;
+    router.insert("/api/v1/services", Resource::Service)?;
+    router.insert("/apis/apps/v1/deployments", Resource::Deployment)?;
+    Ok(router)
+}
+
+// A place of a resource, where its scope allows it.
+fn in_scope<'p>(
+    resource: Resource,
+    namespace: Option<&'p str>,
+    name: Option<&'p str>,
+) -> Option<Place<'p>>
+    ensures { result ≡ in_scope (row resource).scope resource (option_map (λ n. n.now) namespace.entry) (option_map (λ n. n.now) name.entry) }
+{
+    match (resource.scope(), namespace) {
+        (Scope::Namespaced, Some(namespace)) => Some(Place {
+            resource,
+            namespace,
+            name,
+        }),
+        (Scope::Cluster, None) => Some(Place {
+            resource,
+            namespace: "",
+            name,
+        }),
+        _ => None,
+    }
+}
+
+impl Routes {
+    /// Takes the memory of the table of routes.
+    ///
+    /// # Errors
+    ///
+    /// Only where memory is refused.
+    pub fn new(alloc: Global) -> Result<Routes, AllocError> {
+        match router_of_resources(alloc) {
+            Ok(router) => Ok(Routes { router }),
+            Err(_) => Err(AllocError),
+        }
+    }
+
+    // The resource that is served at a literal path.
+    fn resource_at(&self, path: &str) -> Option<Resource>
+        ensures { result ≡ resource_at path.now }
+    {
+        match self.router.at(path) {
+            Ok(found) => Some(*found.value),
+            Err(_) => None,
+        }
+    }
+
+    // Where the pieces of a path point.
+    fn place_at<'p>(
+        &self,
+        alloc: Global,
+        pieces: &Pieces<'p>,
+    ) -> Result<Option<Place<'p>>, AllocError>
+        ensures { IfOk result (λ place. place ≡ target_of pieces.now) }
+    {
+        if pieces.leaves_out() {
+            return Ok(None);
+        }
+        let literal = literal(alloc, pieces.group, pieces.version, pieces.plural)?;
+        Ok(match self.resource_at(&literal) {
+            Some(resource) => in_scope(resource, pieces.namespace, pieces.name),
+            None => None,
+        })
+    }
+
+    /// Where a path points, if that is served.
+    pub(crate) fn place_of<'p>(
+        &self,
+        alloc: Global,
+        path: &'p str,
+    ) -> Result<Option<Place<'p>>, AllocError>
+        ensures { IfOk result (λ place. place ≡ target_at (parts_of path.now)) }
+    {
+        match pieces_of(alloc, path)? {
+            Some(pieces) => self.place_at(alloc, &pieces),
+            None => Ok(None),
+        }
+    }
+}
