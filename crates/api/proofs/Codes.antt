@@ -3,7 +3,7 @@ use Rattle.std.proofs.Common.{ℕ, List, ◌+◌, Option, Some, None, Bool, true
 use Rattle.std.specs.Option.{option_map_or}
 use Rattle.http.specs.StatusCode.{IsStatusCode}
 use Rattle.apicore.specs.declared.refusal.Refusal.{Refusal}
-use Rattle.apicore.specs.declared.refusal.Refusal.TheVariants.{MalformedRequest, UnservedVersion, TooManyFields, UnservedTransferCoding, BadHost, BadContentLength, BodyTooLarge, UnservedExpectation, BadTarget, NoSuchPath, MethodNotAllowed, BadQuery, BadNameInPath, UnexpectedBody, BodyIsNotJson, NumberOutsideRange, WrongKind, BadMetadata, WrongName, VersionOnCreate, AlreadyExists, NotFound, ObjectTooLarge, TooManyObjects, RevisionExhausted, OutOfMemory, StorageFailed}
+use Rattle.apicore.specs.declared.refusal.Refusal.TheVariants.{MalformedRequest, UnservedVersion, TooManyFields, UnservedTransferCoding, BadHost, BadContentLength, BodyTooLarge, UnservedExpectation, BadTarget, NoSuchPath, MethodNotAllowed, BadQuery, BadNameInPath, UnexpectedBody, BodyIsNotJson, NumberOutsideRange, WrongKind, BadMetadata, WrongName, VersionOnCreate, BadDeleteOptions, AlreadyExists, NotFound, VersionNotCurrent, ObjectTooLarge, TooManyObjects, RevisionExhausted, OutOfMemory, StorageFailed}
 use Rattle.names.specs.declared.format.Rules.{Rules}
 use Rattle.names.specs.Key.{Key}
 use Rattle.apicore.specs.declared.stored.Stored.{Stored}
@@ -11,9 +11,9 @@ use Rattle.apicore.specs.History.{History}
 use Rattle.apicore.specs.Manifest.{Body, sound}
 use Rattle.apicore.specs.Refusal.{answer}
 use Rattle.apicore.specs.Reply.{Reply, status, showing}
-use Rattle.apicore.specs.Request.{Request, get, create, refused}
+use Rattle.apicore.specs.Request.{Request, get, create, replace, delete, refused}
 use Rattle.apicore.specs.Step.{refusal, reply}
-use Rattle.apicore.specs.View.{View, view, stored_at}
+use Rattle.apicore.specs.View.{View, view, stored_at, document_at}
 use Rattle.durable.specs.Rules.{first_rules}
 use Rattle.httpmsg.specs.Stream.{Message}
 use Rattle.routes.specs.Asked.{asked}
@@ -40,8 +40,10 @@ refusal_code WrongKind = (omega arith, omega arith)
 refusal_code BadMetadata = (omega arith, omega arith)
 refusal_code WrongName = (omega arith, omega arith)
 refusal_code VersionOnCreate = (omega arith, omega arith)
+refusal_code BadDeleteOptions = (omega arith, omega arith)
 refusal_code AlreadyExists = (omega arith, omega arith)
 refusal_code NotFound = (omega arith, omega arith)
+refusal_code VersionNotCurrent = (omega arith, omega arith)
 refusal_code ObjectTooLarge = (omega arith, omega arith)
 refusal_code TooManyObjects = (omega arith, omega arith)
 refusal_code RevisionExhausted = (omega arith, omega arith)
@@ -61,10 +63,18 @@ created_code : (rules : Rules) (v : View) (k : Key) (b : Body) (version : Option
 created_code rules v k (sound d) version =
     choice_code (refusal rules v (create (record { key = k; body = sound d; version = version }))) (showing 201 d (v.revision + 1)) (omega arith, omega arith)
 
+replaced_code : (rules : Rules) (v : View) (k : Key) (b : Body) (version : Option (List ℕ))
+    → IsStatusCode (reply rules v (replace (record { key = k; body = b; version = version }))).code
+replaced_code rules v k (sound d) version =
+    choice_code (refusal rules v (replace (record { key = k; body = sound d; version = version }))) (showing 200 d (v.revision + 1)) (omega arith, omega arith)
+
 request_code : (rules : Rules) (v : View) (r : Request) → IsStatusCode (reply rules v r).code
 request_code rules v (refused r) = refusal_code r
 request_code rules v (get k) = choice_code (refusal rules v (get k)) _ (shown_code (stored_at v k))
 request_code rules v (create m) = created_code rules v m.key m.body m.version
+request_code rules v (replace m) = replaced_code rules v m.key m.body m.version
+request_code rules v (delete k asked) =
+    choice_code (refusal rules v (delete k asked)) (showing 200 (document_at v k) (v.revision + 1)) (omega arith, omega arith)
 
 either_code : (b : Bool) (h : History) (m : Message) → IsStatusCode (reply_of h (record { message = m; is_served = b })).code
 either_code true h m = request_code first_rules (view first_rules h) (asked m)

@@ -20,6 +20,11 @@ pub enum ServeFault {
 }
 
 impl Display for ServeFault {
+    ghost use Rattle.std.specs.Prelude.{Some};
+    ghost use Rattle.api.specs.Fault.{fault_text};
+
+    ghost output = { λ fault. Some (fault_text fault) };
+
     fn fmt<W: fmt::Write>(&self, f: &mut Formatter<W>) -> fmt::Result {
         match self {
             ServeFault::Read | ServeFault::Write => f.write_str("input or output failed"),

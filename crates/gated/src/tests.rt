@@ -31,6 +31,36 @@ const NOT_FOUND: &[u8] =
 const UNFINISHED: &[u8] =
     b"HTTP/1.1 400 Bad Request\r\nContent-Type: application/json\r\nContent-Length: 131\r\nConnection: close\r\n\r\n{\"apiVersion\":\"v1\",\"code\":400,\"kind\":\"Status\",\"message\":\"malformed or unfinished request\",\"reason\":\"BadRequest\",\"status\":\"Failure\"}";
 
+const PUT: &[u8] =
+    b"PUT /api/v1/namespaces/default/configmaps/a HTTP/1.1\r\nHost: localhost\r\nContent-Length: 101\r\n\r\n{\"apiVersion\":\"v1\",\"kind\":\"ConfigMap\",\"metadata\":{\"name\":\"a\",\"resourceVersion\":\"2\"},\"data\":{\"k\":\"w\"}}";
+
+const PUT_ZERO_TWO: &[u8] =
+    b"PUT /api/v1/namespaces/default/configmaps/a HTTP/1.1\r\nHost: localhost\r\nContent-Length: 102\r\n\r\n{\"apiVersion\":\"v1\",\"kind\":\"ConfigMap\",\"metadata\":{\"name\":\"a\",\"resourceVersion\":\"02\"},\"data\":{\"k\":\"w\"}}";
+
+const REPLACED: &[u8] =
+    b"HTTP/1.1 200 OK\r\nContent-Type: application/json\r\nContent-Length: 123\r\n\r\n{\"apiVersion\":\"v1\",\"data\":{\"k\":\"w\"},\"kind\":\"ConfigMap\",\"metadata\":{\"name\":\"a\",\"namespace\":\"default\",\"resourceVersion\":\"3\"}}";
+
+const NOT_CURRENT: &[u8] =
+    b"HTTP/1.1 409 Conflict\r\nContent-Type: application/json\r\nContent-Length: 128\r\n\r\n{\"apiVersion\":\"v1\",\"code\":409,\"kind\":\"Status\",\"message\":\"resourceVersion is not current\",\"reason\":\"Conflict\",\"status\":\"Failure\"}";
+
+const DELETE: &[u8] =
+    b"DELETE /api/v1/namespaces/default/configmaps/a HTTP/1.1\r\nHost: localhost\r\nContent-Length: 2\r\n\r\n{}";
+
+const DELETE_FIRST: &[u8] =
+    b"DELETE /api/v1/namespaces/default/configmaps/a HTTP/1.1\r\nHost: localhost\r\nContent-Length: 41\r\n\r\n{\"preconditions\":{\"resourceVersion\":\"1\"}}";
+
+const DELETE_NUMBER: &[u8] =
+    b"DELETE /api/v1/namespaces/default/configmaps/a HTTP/1.1\r\nHost: localhost\r\nContent-Length: 39\r\n\r\n{\"preconditions\":{\"resourceVersion\":1}}";
+
+const BAD_OPTIONS: &[u8] =
+    b"HTTP/1.1 400 Bad Request\r\nContent-Type: application/json\r\nContent-Length: 118\r\n\r\n{\"apiVersion\":\"v1\",\"code\":400,\"kind\":\"Status\",\"message\":\"bad delete options\",\"reason\":\"BadRequest\",\"status\":\"Failure\"}";
+
+const DELETED: &[u8] =
+    b"HTTP/1.1 200 OK\r\nContent-Type: application/json\r\nContent-Length: 123\r\n\r\n{\"apiVersion\":\"v1\",\"data\":{\"k\":\"w\"},\"kind\":\"ConfigMap\",\"metadata\":{\"name\":\"a\",\"namespace\":\"default\",\"resourceVersion\":\"4\"}}";
+
+const CREATED_AGAIN: &[u8] =
+    b"HTTP/1.1 201 Created\r\nContent-Type: application/json\r\nContent-Length: 123\r\n\r\n{\"apiVersion\":\"v1\",\"data\":{\"k\":\"v\"},\"kind\":\"ConfigMap\",\"metadata\":{\"name\":\"a\",\"namespace\":\"default\",\"resourceVersion\":\"5\"}}";
+
 // The parts, joined.
 fn joined(alloc: Global, parts: &[&[u8]]) -> Result<Vec<u8>, Fail> {
     let mut bytes = Vec::new(alloc);
@@ -133,6 +163,45 @@ fn a_second_post_conflicts(rt: HostRuntime) -> Result<(), Fail> {
     )?;
     assert_eq!(rt; fs::read(&rt, "twice.db")?.len(), 11 * 512);
     fs::remove_file(&rt, "twice.db")?;
+    Ok(())
+}
+
+// Versions are compared as texts, a deletion takes a revision, and all of it is there when the file is opened again.
+#[test]
+fn an_object_is_replaced_and_deleted(rt: HostRuntime) -> Result<(), Fail> {
+    let alloc = rt.alloc();
+    created(&rt, "written.db")?;
+    let words = ["gated", "replay", "written.db"];
+    let requests = joined(
+        alloc,
+        &[
+            PUT,
+            POST,
+            PUT_ZERO_TWO,
+            PUT,
+            PUT,
+            DELETE_FIRST,
+            DELETE_NUMBER,
+        ],
+    )?;
+    let replies = joined(
+        alloc,
+        &[
+            NOT_FOUND,
+            CREATED,
+            NOT_CURRENT,
+            REPLACED,
+            NOT_CURRENT,
+            NOT_CURRENT,
+            BAD_OPTIONS,
+        ],
+    )?;
+    assert_answer(&rt, &words, &requests, (Status::Success, &replies, b""))?;
+    let requests = joined(alloc, &[DELETE, GET, DELETE])?;
+    let replies = joined(alloc, &[DELETED, NOT_FOUND, NOT_FOUND])?;
+    assert_answer(&rt, &words, &requests, (Status::Success, &replies, b""))?;
+    assert_answer(&rt, &words, POST, (Status::Success, CREATED_AGAIN, b""))?;
+    fs::remove_file(&rt, "written.db")?;
     Ok(())
 }
 
