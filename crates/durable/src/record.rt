@@ -14,10 +14,7 @@ use records::{delete_payload, put_payload};
 use std::alloc::Global;
 
 /// The body of the record of a write, if there is one.
-pub(crate) fn record_of(
-    alloc: Global,
-    write: &Option<PreparedWrite>,
-) -> Result<Option<Body>, Fault>
+pub(crate) fn record_of(alloc: Global, write: &Option<PreparedWrite>) -> Result<Option<Body>, Fault>
     ensures record { IfOk result (λ body. IsRecordOf write.now body) }
     ensures refusal { OnErr result (result ≡ Err Fault.Memory) }
 {
