@@ -137,7 +137,7 @@ pub(crate) fn pieces_of<'p>(alloc: Global, path: &'p str) -> Result<Option<Piece
 }
 
 impl<'p> Pieces<'p> {
-    // Whether the namespace or the name is there and empty.
+    /// Whether the namespace or the name is there and empty.
     pub(crate) fn leaves_out(&self) -> bool
         ensures { result ≡ is_left_out self.now.namespace || is_left_out self.now.name }
     {
