@@ -1,0 +1,13 @@
+//! The values of JSON documents in the Common Expression Language (CEL).
+//!
+//! `specs/Documents.antt` says what value a JSON value has: null, truth values, numbers, texts, lists, and maps whose keys are texts.
+//! [`document_value`] gives it, as a copy.
+#![tactic(auto)]
+
+mod document;
+mod parts;
+#[cfg(test)]
+mod tests;
+
+pub use document::document_value;
+pub use parts::{has_member, item, member};
