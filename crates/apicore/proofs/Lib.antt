@@ -5,3 +5,6 @@ pub mod MemberLemmas
 pub mod Ordered
 pub mod Forms
 pub mod Recovery
+pub mod Selecting
+pub mod Spelling
+pub mod Listings

@@ -12,7 +12,7 @@ use Rattle.apicore.specs.History as write
 use Rattle.apicore.specs.History.{Write, put, History}
 use Rattle.apicore.specs.Manifest.{Manifest, Body, sound, HasForm, BodyHasForm}
 use Rattle.apicore.specs.Refusal.{first_of}
-use Rattle.apicore.specs.Request.{Request, get, create, replace, delete, refused, RequestHasForm}
+use Rattle.apicore.specs.Request.{Request, get, list, watch, create, replace, delete, refused, RequestHasForm}
 use Rattle.apicore.specs.Step.{put_of, update_conflicts, deletion_conflicts, refusal, writes, reply, accepted, replies, step, runs}
 use Rattle.apicore.specs.View.{View, exists, is_too_large, is_full, is_exhausted, after_all, empty, view, AllMayFollow, IsHistory}
 use Rattle.apicore.proofs.ViewLemmas.{after_all-append, AllMayFollow-append}
@@ -88,6 +88,8 @@ nothing_follows rules v false = tt
 pub AllMayFollow-writes : (rules : Rules) (v : View) (r : Request) → RequestHasForm r → AllMayFollow rules v (writes rules v r)
 AllMayFollow-writes rules v (refused r) form = tt
 AllMayFollow-writes rules v (get k) form = nothing_follows rules v (is_some (refusal rules v (get k)))
+AllMayFollow-writes rules v (list c selector) form = tt
+AllMayFollow-writes rules v (watch c revision) form = nothing_follows rules v (is_some (refusal rules v (watch c revision)))
 AllMayFollow-writes rules v (create m) form = create_follows rules v m.key m.body m.version form
 AllMayFollow-writes rules v (replace m) form = replace_follows rules v m.key m.body m.version form
 AllMayFollow-writes rules v (delete k asked) form =
@@ -127,6 +129,8 @@ no_deletion k l (sound d) is = let never : write.delete k ∷ [] ≡ put l d ∷
 pub is_key-deleted : (rules : Rules) (v : View) (r : Request) (k : Key) → RequestHasForm r → write.delete k ∷ [] ≡ writes rules v r → IsTrue (is_key k)
 is_key-deleted rules v (refused x) k form is = absurd (let never : write.delete k ∷ [] ≡ [] = is in cc)
 is_key-deleted rules v (get l) k form is = absurd (let never : write.delete k ∷ [] ≡ [] = written_if (is_some (refusal rules v (get l))) (write.delete k) [] is in cc)
+is_key-deleted rules v (list c selector) k form is = absurd (let never : write.delete k ∷ [] ≡ [] = is in cc)
+is_key-deleted rules v (watch c revision) k form is = absurd (let never : write.delete k ∷ [] ≡ [] = written_if (is_some (refusal rules v (watch c revision))) (write.delete k) [] is in cc)
 is_key-deleted rules v (create m) k form is =
     absurd (no_deletion k m.key m.body (written_if (is_some (refusal rules v (create m))) (write.delete k) (put_of m.key m.body) is))
 is_key-deleted rules v (replace m) k form is =

@@ -6,9 +6,13 @@ pub mod DeleteOptions
 pub mod Codes
 pub mod History
 pub mod View
+pub mod Collection
+pub mod Selector
+pub mod Spelling
 pub mod Request
 pub mod RequestOf
 pub mod Reply
+pub mod Listing
 pub mod Step
 pub mod Put
 pub mod State

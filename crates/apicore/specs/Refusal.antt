@@ -1,7 +1,7 @@
 -- The table of refusals: code (RFC 9110 section 15), reason and message of each (Kubernetes API conventions, "Response Status Kind").
 use Rattle.std.specs.Prelude.{ℕ, List, [], ◌∷◌, Bool, codes, if◌then◌else◌, Option, Some, None}
 use Rattle.apicore.specs.declared.refusal.Refusal.{Refusal}
-use Rattle.apicore.specs.declared.refusal.Refusal.TheVariants.{MalformedRequest, UnservedVersion, TooManyFields, UnservedTransferCoding, BadHost, BadContentLength, BodyTooLarge, UnservedExpectation, BadTarget, NoSuchPath, MethodNotAllowed, BadQuery, BadNameInPath, UnexpectedBody, BodyIsNotJson, NumberOutsideRange, WrongKind, BadMetadata, WrongName, VersionOnCreate, BadDeleteOptions, AlreadyExists, NotFound, VersionNotCurrent, ObjectTooLarge, TooManyObjects, RevisionExhausted, OutOfMemory, StorageFailed}
+use Rattle.apicore.specs.declared.refusal.Refusal.TheVariants.{MalformedRequest, UnservedVersion, TooManyFields, UnservedTransferCoding, BadHost, BadContentLength, BodyTooLarge, UnservedExpectation, BadTarget, NoSuchPath, MethodNotAllowed, BadQuery, BadNameInPath, UnexpectedBody, BadVersion, Expired, BodyIsNotJson, NumberOutsideRange, WrongKind, BadMetadata, WrongName, VersionOnCreate, BadDeleteOptions, AlreadyExists, NotFound, VersionNotCurrent, ObjectTooLarge, TooManyObjects, RevisionExhausted, OutOfMemory, StorageFailed}
 
 -- what a refusal says
 pub record Answer : Type 0 where
@@ -25,6 +25,8 @@ answer MethodNotAllowed = record { code = 405; reason = codes "MethodNotAllowed"
 answer BadQuery = record { code = 400; reason = codes "BadRequest"; message = codes "bad query" }
 answer BadNameInPath = record { code = 400; reason = codes "BadRequest"; message = codes "bad name in path" }
 answer UnexpectedBody = record { code = 400; reason = codes "BadRequest"; message = codes "unexpected body" }
+answer BadVersion = record { code = 400; reason = codes "BadRequest"; message = codes "bad resourceVersion" }
+answer Expired = record { code = 410; reason = codes "Expired"; message = codes "resourceVersion too old" }
 answer BodyIsNotJson = record { code = 400; reason = codes "BadRequest"; message = codes "body is not JSON" }
 answer NumberOutsideRange = record { code = 400; reason = codes "BadRequest"; message = codes "number outside 64 bits" }
 answer WrongKind = record { code = 400; reason = codes "BadRequest"; message = codes "apiVersion or kind does not fit the path" }

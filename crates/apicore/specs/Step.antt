@@ -8,10 +8,11 @@ use Rattle.names.specs.declared.format.Rules.{Rules}
 use Rattle.names.specs.Key.{Key}
 use Rattle.apicore.specs.History as write
 use Rattle.apicore.specs.History.{Write, put, History}
+use Rattle.apicore.specs.Listing.{watch_conditions, listing, watching}
 use Rattle.apicore.specs.Manifest.{Body, sound}
 use Rattle.apicore.specs.Refusal.{Condition, first_of}
 use Rattle.apicore.specs.Reply.{Reply, status, showing}
-use Rattle.apicore.specs.Request.{Request, get, create, replace, delete, refused}
+use Rattle.apicore.specs.Request.{Request, get, list, watch, create, replace, delete, refused}
 use Rattle.apicore.specs.View.{View, stored_at, exists, document_at, is_too_large, is_full, is_exhausted, after_all, view}
 
 -- ---- refusals
@@ -58,6 +59,8 @@ delete_conditions rules v k asked =
 abbrev pub conditions : Rules → View → Request → List Condition
 conditions rules v (refused r) = (r, true) ∷ []
 conditions rules v (get k) = (NotFound, not (exists v k)) ∷ []
+conditions rules v (list c selector) = []
+conditions rules v (watch c revision) = watch_conditions rules v revision
 conditions rules v (create m) = create_conditions rules v m.key m.body
 conditions rules v (replace m) = replace_conditions rules v m.key m.version m.body
 conditions rules v (delete k asked) = delete_conditions rules v k asked
@@ -74,6 +77,8 @@ put_of k (sound d) = put k d ∷ []
 abbrev write_of : Request → List Write
 write_of (refused r) = []
 write_of (get k) = []
+write_of (list c selector) = []
+write_of (watch c revision) = []
 write_of (create m) = put_of m.key m.body
 write_of (replace m) = put_of m.key m.body
 write_of (delete k asked) = write.delete k ∷ []
@@ -92,6 +97,8 @@ written code (sound d) revision = showing code d revision
 abbrev success : View → Request → Reply
 success v (refused r) = status r
 success v (get k) = option_map_or (λ s. showing 200 s.document s.revision) (stored_at v k) (status NotFound)
+success v (list c selector) = listing v c selector
+success v (watch c revision) = watching v c revision
 success v (create m) = written 201 m.body (v.revision + 1)
 success v (replace m) = written 200 m.body (v.revision + 1)
 success v (delete k asked) = showing 200 (document_at v k) (v.revision + 1)

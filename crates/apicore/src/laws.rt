@@ -1,5 +1,6 @@
 // The laws of the definitions, each the contract of a function.
 ghost use Rattle.apicore.specs.Laws.{RevisionCounts, KeyHasLastWrite, EventsAreLast, WritesFollow, RunsAreSteps, ViewDecides, StoredIsRead};
+ghost use Rattle.apicore.specs.Spelling.{PartsAreSpelled};
 
 /// The revision is one more than the number of writes.
 pub fn revision_counts()
@@ -34,4 +35,9 @@ pub fn view_decides()
 /// What is stored is read as itself, so that recovery finds by `Manifest::read` what was stored.
 pub fn stored_is_read()
     ensures { StoredIsRead }
+{}
+
+/// A part of a selector asks something just where it spells it, as `LABEL=VALUE` or one of the other forms.
+pub fn parts_are_spelled()
+    ensures { PartsAreSpelled }
 {}

@@ -32,6 +32,10 @@ pub enum Refusal {
     BadNameInPath,
     /// A GET has a body.
     UnexpectedBody,
+    /// The revision that a watch begins behind is not there, is no number in its one form, or is above the current one.
+    BadVersion,
+    /// Events above the revision that a watch begins behind may have left the window.
+    Expired,
     /// The body is no JSON value (RFC 8259), or one that is nested too deep.
     BodyIsNotJson,
     /// A number has a fraction or an exponent, or does not fit 64 signed bits.
@@ -99,6 +103,8 @@ impl Refusal {
             Refusal::BadQuery => (400, "BadRequest", "bad query"),
             Refusal::BadNameInPath => (400, "BadRequest", "bad name in path"),
             Refusal::UnexpectedBody => (400, "BadRequest", "unexpected body"),
+            Refusal::BadVersion => (400, "BadRequest", "bad resourceVersion"),
+            Refusal::Expired => (410, "Expired", "resourceVersion too old"),
             Refusal::BodyIsNotJson => (400, "BadRequest", "body is not JSON"),
             Refusal::NumberOutsideRange => (400, "BadRequest", "number outside 64 bits"),
             Refusal::WrongKind => (

@@ -1,4 +1,5 @@
 ghost use Rattle.std.specs.Prelude.{◌≡◌, [], map, string_bytes, IfOk};
+ghost use Rattle.apicore.specs.Listing.{served};
 ghost use Rattle.apicore.specs.Reply.{status, showing};
 
 use crate::refusal::Refusal;
@@ -89,6 +90,17 @@ impl Reply {
             warnings: Vec::new(alloc),
             body: shown_document(alloc, document, revision)?.text(alloc)?,
         })
+    }
+
+    /// The reply with this body to a request that is served.
+    pub fn served(alloc: Global, body: String) -> Reply
+        ensures { result ≡ served (string_bytes body) }
+    {
+        Reply {
+            code: 200,
+            warnings: Vec::new(alloc),
+            body,
+        }
     }
 
     /// The status code (RFC 9110 section 15).

@@ -1,5 +1,7 @@
+use crate::collection::Collection;
 use crate::manifest::Manifest;
 use crate::refusal::Refusal;
+use crate::selector::Selector;
 use names::Key;
 
 /// What a message asks for.
@@ -7,6 +9,10 @@ use names::Key;
 pub enum Request {
     /// To show an object.
     Get(Key),
+    /// To list the objects of a collection that the selector selects.
+    List(Collection, Selector),
+    /// To tell the events of a collection above this revision.
+    Watch(Collection, u64),
     /// To store a new object.
     Create(Manifest),
     /// To store an object in place of the one with its key: of the revision that the manifest asks for, if it asks for one.

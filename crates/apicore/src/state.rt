@@ -1,15 +1,20 @@
-ghost use Rattle.std.specs.Prelude.{◌≡◌, ◌+◌, ◌^◌, ◌<◌, ◌≤◌, length, IsTrue, IfOk, OnOk, option_copied};
+ghost use Rattle.std.specs.Prelude.{◌≡◌, ◌+◌, ◌^◌, ◌<◌, ◌≤◌, length, map, Some, None, IsTrue, IfOk, OnOk, IfErr, option_copied};
 ghost use Rattle.apicore.specs.Codes.{document_in};
+ghost use Rattle.apicore.specs.Collection.{collection_of};
 ghost use Rattle.apicore.specs.Document.{Document as DocumentData};
 ghost use Rattle.apicore.specs.History as write;
+ghost use Rattle.apicore.specs.Listing.{objects_in, watch_conditions};
 ghost use Rattle.apicore.specs.Manifest.{sound};
 ghost use Rattle.apicore.specs.Prepared.{IsStepOf, IsReady, writes_of};
+ghost use Rattle.apicore.specs.Refusal.{first_of};
 ghost use Rattle.apicore.specs.Reply.{showing};
 ghost use Rattle.apicore.specs.Request.{get, RequestHasForm};
 ghost use Rattle.apicore.specs.RequestOf.{request_of};
 ghost use Rattle.apicore.specs.Step.{reply};
+ghost use Rattle.window.specs.Window.{events_above};
 ghost use Rattle.apicore.specs.View.{empty, stored_at, exists, document_at, is_too_large, is_full, is_exhausted, after, after_all};
 
+use crate::collection::Collection;
 use crate::manifest::Manifest;
 use crate::prepared::{Prepared, PreparedWrite, Put};
 use crate::refusal::Refusal;
@@ -17,12 +22,10 @@ use crate::reply::Reply;
 use crate::request::Request;
 use crate::stored::{Document, Stored};
 use names::{Key, Rules};
-#[cfg(test)]
-use objects::Entry;
-use objects::Objects;
+use objects::{Entry, Objects};
 use std::alloc::{AllocError, Global};
 use std::marker::Model;
-use window::{Change, Window};
+use window::{Change, Events, Window, WindowFault};
 
 /// What is stored: the objects, the revision and the last events.
 #[derive(Drop)]
@@ -95,6 +98,10 @@ impl Core {
                 reply: self.shown(alloc, key)?,
                 write: None,
             }),
+            Request::List(collection, selector) => self.prepare_list(alloc, collection, selector),
+            Request::Watch(collection, revision) => {
+                self.prepare_watch(alloc, collection, *revision)
+            }
             Request::Create(manifest) => self.prepare_create(alloc, manifest),
             Request::Replace(manifest) => self.prepare_replace(alloc, manifest),
             Request::Delete(key, version) => self.prepare_delete(alloc, key, version),
@@ -147,6 +154,32 @@ impl Core {
         ensures { option_copied result ≡ stored_at self.now.view key.now }
     {
         self.objects.get(key)
+    }
+
+    /// What is stored of a collection, in key order.
+    pub(crate) fn objects_in(
+        &self,
+        alloc: Global,
+        collection: &Collection,
+    ) -> Result<Vec<&Entry<Stored>>, AllocError>
+        ensures { IfOk result (λ entries. map (λ entry. entry.now) entries.items
+            ≡ objects_in (collection_of collection.now) self.now.view) }
+    {
+        self.objects
+            .list(alloc, collection.resource, collection.namespace())
+    }
+
+    /// The events above a revision, oldest first, or what refuses a watch of them.
+    pub(crate) fn events_above(&self, revision: u64) -> Result<Events<'_, Document>, Refusal>
+        ensures events { IfOk result (λ events. events ≡ events_above revision self.now.view.events) }
+        ensures served { OnOk result (first_of (watch_conditions self.now.rules self.now.view revision) ≡ None) }
+        ensures refused { IfErr result (λ refusal. first_of (watch_conditions self.now.rules self.now.view revision) ≡ Some refusal) }
+    {
+        match self.window.since(revision) {
+            Ok(events) => Ok(events),
+            Err(WindowFault::TooNew) => Err(Refusal::BadVersion),
+            Err(WindowFault::TooOld) => Err(Refusal::Expired),
+        }
     }
 
     /// Whether there is an object with this key.

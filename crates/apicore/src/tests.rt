@@ -1,8 +1,9 @@
 // Bodies after the Kubernetes API conventions, and replies whose bytes were written by hand.
 use crate::{
-    BodyFault, Core, Document, Manifest, PreparedWrite, Put, Refusal, ReplayFault, Reply, Request,
-    events_are_last, key_has_last_write, read_delete_options, revision_counts, runs_are_steps,
-    stored_is_read, view_decides, writes_follow,
+    BodyFault, Collection, Core, Document, Manifest, PreparedWrite, Put, Refusal, ReplayFault,
+    Reply, Request, Selector, events_are_last, key_has_last_write, parts_are_spelled,
+    read_delete_options, revision_counts, runs_are_steps, stored_is_read, view_decides,
+    writes_follow,
 };
 use jsondoc::Doc;
 use names::{Format, Key, Resource, Rules};
@@ -267,6 +268,11 @@ fn a_refusal_is_a_status(rt: HostRuntime) -> Result<(), Fail> {
     )
 }
 
+// A store without objects, with the limits of the first format.
+fn new_store(alloc: Global) -> Result<Core, Fail> {
+    Ok(Core::new(alloc, Format::First.rules())?)
+}
+
 fn answer(alloc: Global, core: &mut Core, request: &Request) -> Result<Reply, Fail> {
     let prepared = core.prepare(alloc, request)?;
     Ok(core.take(prepared))
@@ -288,7 +294,7 @@ fn a_created_object_is_shown_with_its_revision(rt: HostRuntime) -> Result<(), Fa
     let shown =
         "{\"apiVersion\":\"v1\",\"data\":{\"k\":\"v\"},\"kind\":\"ConfigMap\",\"metadata\":{\"name\":\"a\",\"namespace\":\"default\",\"resourceVersion\":\"2\"}}";
     assert_eq!(rt; shown.len(), 123);
-    let mut core = Core::new(rt.alloc(), Format::First.rules())?;
+    let mut core = new_store(rt.alloc())?;
     let missing = answer(rt.alloc(), &mut core, &get(rt.alloc(), "a")?)?;
     assert_eq!(rt; missing.code(), 404);
     let created = answer(rt.alloc(), &mut core, &create(rt.alloc(), "a")?)?;
@@ -304,7 +310,7 @@ fn a_created_object_is_shown_with_its_revision(rt: HostRuntime) -> Result<(), Fa
 
 #[test]
 fn a_second_create_takes_no_revision(rt: HostRuntime) -> Result<(), Fail> {
-    let mut core = Core::new(rt.alloc(), Format::First.rules())?;
+    let mut core = new_store(rt.alloc())?;
     let _created = answer(rt.alloc(), &mut core, &create(rt.alloc(), "a")?)?;
     let again = answer(rt.alloc(), &mut core, &create(rt.alloc(), "a")?)?;
     assert_eq!(rt; again.code(), 409);
@@ -329,7 +335,7 @@ fn put_of(write: &Option<PreparedWrite>) -> Option<&Put> {
 
 #[test]
 fn a_prepared_write_has_its_document(rt: HostRuntime) -> Result<(), Fail> {
-    let mut core = Core::new(rt.alloc(), Format::First.rules())?;
+    let mut core = new_store(rt.alloc())?;
     let prepared = core.prepare(rt.alloc(), &create(rt.alloc(), "a")?)?;
     let put = put_of(&prepared.write).ok_or("a put")?;
     assert_eq!(rt; put.key().name(), "a");
@@ -406,9 +412,16 @@ fn a_write_at_the_greatest_revision_is_refused(rt: HostRuntime) -> Result<(), Fa
     assert_created(&rt, rt.alloc(), &mut core, "a", 409, "already exists")
 }
 
-// A store without objects, with the limits of the first format.
-fn new_store(alloc: Global) -> Result<Core, Fail> {
-    Ok(Core::new(alloc, Format::First.rules())?)
+#[test]
+fn an_update_or_a_deletion_at_the_greatest_revision_is_refused(
+    rt: HostRuntime,
+) -> Result<(), Fail> {
+    let alloc = rt.alloc();
+    let mut core = Core::new(alloc, SMALL)?;
+    assert_created(&rt, alloc, &mut core, "a", 201, "")?;
+    assert_created(&rt, alloc, &mut core, "b", 201, "\"3\"")?;
+    assert_updated(&rt, alloc, &mut core, "", 507, "revision exhausted")?;
+    assert_deleted(&rt, alloc, &mut core, "", 507, "revision exhausted")
 }
 
 // A PUT of the configmap `a`, whose metadata has these members behind its name.
@@ -501,6 +514,8 @@ fn a_deletion_shows_the_object_with_its_own_revision(rt: HostRuntime) -> Result<
     assert_created(&rt, alloc, &mut core, "a", 201, "")?;
     let before = "{\"preconditions\":{\"resourceVersion\":\"1\"}}";
     assert_deleted(&rt, alloc, &mut core, before, 409, "is not current")?;
+    let empty = "{\"preconditions\":{\"resourceVersion\":\"\"}}";
+    assert_deleted(&rt, alloc, &mut core, empty, 409, "is not current")?;
     assert_deleted(&rt, alloc, &mut core, "{}", 200, DELETED)?;
     assert_created(&rt, alloc, &mut core, "a", 201, "\"4\"")
 }
@@ -536,7 +551,7 @@ fn delete_options_ask_for_a_revision_or_for_none(rt: HostRuntime) -> Result<(), 
 
 // A store with so many objects.
 fn filled(alloc: Global, count: u32) -> Result<Core, Fail> {
-    let mut core = Core::new(alloc, Format::First.rules())?;
+    let mut core = new_store(alloc)?;
     for number in 0..count {
         let name = format!(in alloc; "n{number:05}")?;
         let key = Key::new(alloc, Resource::ConfigMap, "default", name.as_str())?;
@@ -568,6 +583,7 @@ fn the_laws_hold(_rt: HostRuntime) {
     runs_are_steps();
     view_decides();
     stored_is_read();
+    parts_are_spelled();
 }
 
 // The manifest that is read from the stored text of a configmap with this name and value.
@@ -597,7 +613,7 @@ fn shown(alloc: Global, core: &mut Core, name: &str) -> Result<Reply, Fail> {
 #[test]
 fn stored_writes_are_taken_again(rt: HostRuntime) -> Result<(), Fail> {
     let alloc = rt.alloc();
-    let mut core = Core::new(alloc, Format::First.rules())?;
+    let mut core = new_store(alloc)?;
     core.replay_put(alloc, stored(alloc, "a", "v")?)?;
     assert_eq!(rt; (core.revision(), core.object_count()), (2, 1));
     core.replay_put(alloc, stored(alloc, "a", "w")?)?;
@@ -621,7 +637,7 @@ fn stored_writes_are_taken_again(rt: HostRuntime) -> Result<(), Fail> {
 #[test]
 fn a_stored_deletion_of_nothing_may_not_follow(rt: HostRuntime) -> Result<(), Fail> {
     let alloc = rt.alloc();
-    let mut core = Core::new(alloc, Format::First.rules())?;
+    let mut core = new_store(alloc)?;
     let key = config_map(alloc, "a")?;
     assert_eq!(rt;
         core.replay_delete(alloc, &key),
@@ -671,5 +687,243 @@ fn a_stored_write_above_a_limit_may_not_follow(rt: HostRuntime) -> Result<(), Fa
         Err(ReplayFault::NotAllowed)
     );
     assert_eq!(rt; (core.revision(), core.object_count()), (6, 2));
+    Ok(())
+}
+
+// ---- lists and watches
+
+// A POST of a configmap in a namespace, whose metadata has these members behind its name.
+fn create_in(alloc: Global, namespace: &str, name: &str, members: &str) -> Result<Request, Fail> {
+    let body = format!(in alloc;
+        "{{\"apiVersion\":\"v1\",\"kind\":\"ConfigMap\",\"metadata\":{{\"name\":\"{name}\"{members}}}}}"
+    )?;
+    let manifest = Manifest::read(alloc, Resource::ConfigMap, namespace, None, body.as_bytes())?;
+    Ok(Request::Create(manifest))
+}
+
+// Creates a configmap.
+fn place(
+    alloc: Global,
+    core: &mut Core,
+    namespace: &str,
+    name: &str,
+    members: &str,
+) -> Result<(), Fail> {
+    let request = create_in(alloc, namespace, name, members)?;
+    let _created = answer(alloc, core, &request)?;
+    Ok(())
+}
+
+// The objects of a resource in a namespace, or in all where it is empty.
+fn collection(alloc: Global, resource: Resource, namespace: &str) -> Result<Collection, Fail> {
+    let namespace = if namespace.is_empty() {
+        None
+    } else {
+        Some(String::from_str(alloc, namespace)?)
+    };
+    Ok(Collection {
+        resource,
+        namespace,
+    })
+}
+
+// The reply to a GET of a collection.
+fn listed(
+    alloc: Global,
+    core: &mut Core,
+    resource: Resource,
+    namespace: &str,
+    selector: &str,
+) -> Result<Reply, Fail> {
+    let collection = collection(alloc, resource, namespace)?;
+    let selector = Selector::read(alloc, selector)?.ok_or("a selector")?;
+    answer(alloc, core, &Request::List(collection, selector))
+}
+
+#[test]
+fn a_fresh_list_has_88_bytes(rt: HostRuntime) -> Result<(), Fail> {
+    let alloc = rt.alloc();
+    let mut core = new_store(alloc)?;
+    let reply = listed(alloc, &mut core, Resource::ConfigMap, "default", "")?;
+    assert_eq!(rt; reply.code(), 200);
+    assert_eq!(rt;
+        reply.body(),
+        "{\"apiVersion\":\"v1\",\"items\":[],\"kind\":\"ConfigMapList\",\"metadata\":{\"resourceVersion\":\"1\"}}"
+    );
+    assert_eq!(rt; reply.body().len(), 88);
+    Ok(())
+}
+
+const ALL_NAMESPACES: &str =
+    "{\"apiVersion\":\"v1\",\"items\":[{\"apiVersion\":\"v1\",\"kind\":\"ConfigMap\",\"metadata\":{\"name\":\"c\",\"namespace\":\"alpha\",\"resourceVersion\":\"4\"}},{\"apiVersion\":\"v1\",\"kind\":\"ConfigMap\",\"metadata\":{\"name\":\"b\",\"namespace\":\"default\",\"resourceVersion\":\"2\"}},{\"apiVersion\":\"v1\",\"kind\":\"ConfigMap\",\"metadata\":{\"name\":\"a\",\"namespace\":\"other\",\"resourceVersion\":\"3\"}}],\"kind\":\"ConfigMapList\",\"metadata\":{\"resourceVersion\":\"4\"}}";
+
+const DEFAULT_NAMESPACE: &str =
+    "{\"apiVersion\":\"v1\",\"items\":[{\"apiVersion\":\"v1\",\"kind\":\"ConfigMap\",\"metadata\":{\"name\":\"b\",\"namespace\":\"default\",\"resourceVersion\":\"2\"}}],\"kind\":\"ConfigMapList\",\"metadata\":{\"resourceVersion\":\"4\"}}";
+
+const NO_DEPLOYMENTS: &str =
+    "{\"apiVersion\":\"apps/v1\",\"items\":[],\"kind\":\"DeploymentList\",\"metadata\":{\"resourceVersion\":\"4\"}}";
+
+#[test]
+fn a_list_has_its_objects_in_key_order(rt: HostRuntime) -> Result<(), Fail> {
+    let alloc = rt.alloc();
+    let mut core = new_store(alloc)?;
+    place(alloc, &mut core, "default", "b", "")?;
+    place(alloc, &mut core, "other", "a", "")?;
+    place(alloc, &mut core, "alpha", "c", "")?;
+    let all = listed(alloc, &mut core, Resource::ConfigMap, "", "")?;
+    assert_eq!(rt; all.body(), ALL_NAMESPACES);
+    let some = listed(alloc, &mut core, Resource::ConfigMap, "default", "")?;
+    assert_eq!(rt; some.body(), DEFAULT_NAMESPACE);
+    let none = listed(alloc, &mut core, Resource::Deployment, "", "")?;
+    assert_eq!(rt; none.body(), NO_DEPLOYMENTS);
+    assert_eq!(rt; core.revision(), 4);
+    Ok(())
+}
+
+// The configmaps a with the label `app: x`, b with `app: y`, and c without labels.
+fn labelled(alloc: Global) -> Result<Core, Fail> {
+    let mut core = new_store(alloc)?;
+    place(
+        alloc,
+        &mut core,
+        "default",
+        "a",
+        ",\"labels\":{\"app\":\"x\"}",
+    )?;
+    place(
+        alloc,
+        &mut core,
+        "default",
+        "b",
+        ",\"labels\":{\"app\":\"y\"}",
+    )?;
+    place(alloc, &mut core, "default", "c", "")?;
+    Ok(core)
+}
+
+#[test]
+fn a_selector_selects_by_labels(rt: HostRuntime) -> Result<(), Fail> {
+    let alloc = rt.alloc();
+    let mut core = labelled(alloc)?;
+    for (selector, names) in [
+        ("app=x", "a"),
+        ("app!=x", "bc"),
+        ("app", "ab"),
+        ("!app", "c"),
+        ("app,app==y", "b"),
+        ("app=x,app=y", ""),
+        ("app=", ""),
+        ("", "abc"),
+    ] {
+        let reply = listed(alloc, &mut core, Resource::ConfigMap, "default", selector)?;
+        let has_a = reply.body().contains("\"name\":\"a\"");
+        let has_b = reply.body().contains("\"name\":\"b\"");
+        let has_c = reply.body().contains("\"name\":\"c\"");
+        assert_eq!(rt; has_a, names.contains('a'), "{selector}");
+        assert_eq!(rt; has_b, names.contains('b'), "{selector}");
+        assert_eq!(rt; has_c, names.contains('c'), "{selector}");
+    }
+    Ok(())
+}
+
+#[test]
+fn a_selector_is_parts_joined_by_commas(rt: HostRuntime) -> Result<(), Fail> {
+    for (text, parts) in [
+        ("", 0),
+        ("app", 1),
+        ("!app", 1),
+        ("app=", 1),
+        ("app==x.Y_1-z", 1),
+        ("k8s.io/app_1-Z!=", 1),
+        ("app,app==y", 2),
+        ("a=b,!c,d!=e", 3),
+    ] {
+        let selector = Selector::read(rt.alloc(), text)?.ok_or("a selector")?;
+        assert_eq!(rt; selector.requirements.len(), parts, "{text}");
+    }
+    for text in [
+        "app,",
+        ",",
+        "=x",
+        "!=x",
+        "!",
+        "!!a",
+        "!a=b",
+        "a!b",
+        "a=b=c",
+        "a===b",
+        "a=b/c",
+        "app in (x)",
+        "a b",
+        " a",
+        "a=b ",
+    ] {
+        assert!(rt; Selector::read(rt.alloc(), text)?.is_none(), "{text}");
+    }
+    Ok(())
+}
+
+// The reply to a watch of the configmaps of a namespace.
+fn watched(alloc: Global, core: &mut Core, namespace: &str, revision: u64) -> Result<Reply, Fail> {
+    let collection = collection(alloc, Resource::ConfigMap, namespace)?;
+    answer(alloc, core, &Request::Watch(collection, revision))
+}
+
+const TWO_LINES: &str =
+    "{\"object\":{\"apiVersion\":\"v1\",\"data\":{\"k\":\"v\"},\"kind\":\"ConfigMap\",\"metadata\":{\"name\":\"a\",\"namespace\":\"default\",\"resourceVersion\":\"3\"}},\"type\":\"DELETED\"}\n{\"object\":{\"apiVersion\":\"v1\",\"data\":{\"k\":\"v\"},\"kind\":\"ConfigMap\",\"metadata\":{\"name\":\"a\",\"namespace\":\"default\",\"resourceVersion\":\"4\"}},\"type\":\"ADDED\"}\n";
+
+#[test]
+fn a_watch_tells_the_events_above_its_revision(rt: HostRuntime) -> Result<(), Fail> {
+    let alloc = rt.alloc();
+    let mut core = new_store(alloc)?;
+    assert_created(&rt, alloc, &mut core, "a", 201, "")?;
+    assert_deleted(&rt, alloc, &mut core, "", 200, "")?;
+    assert_created(&rt, alloc, &mut core, "a", 201, "")?;
+    let reply = watched(alloc, &mut core, "default", 2)?;
+    assert_eq!(rt; reply.code(), 200);
+    assert_eq!(rt; reply.body(), TWO_LINES);
+    let everywhere = watched(alloc, &mut core, "", 2)?;
+    assert_eq!(rt; everywhere.body(), TWO_LINES);
+    let elsewhere = watched(alloc, &mut core, "other", 2)?;
+    assert_eq!(rt; elsewhere.body(), "");
+    let current = watched(alloc, &mut core, "default", 4)?;
+    assert_eq!(rt; (current.code(), current.body()), (200, ""));
+    let above = watched(alloc, &mut core, "default", 5)?;
+    assert_eq!(rt; above.code(), 400);
+    assert!(rt; above.body().contains("bad resourceVersion"));
+    assert_updated(&rt, alloc, &mut core, "", 200, "")?;
+    let updated = watched(alloc, &mut core, "default", 4)?;
+    assert!(rt;
+        updated
+            .body()
+            .contains("\"resourceVersion\":\"5\"}},\"type\":\"MODIFIED\"}\n")
+    );
+    Ok(())
+}
+
+// The line feeds of a text.
+fn line_count(text: &str) -> usize {
+    text.as_bytes()
+        .iter()
+        .filter(|byte| **byte == b'\n')
+        .count()
+}
+
+#[test]
+fn a_watch_reaches_256_events_back(rt: HostRuntime) -> Result<(), Fail> {
+    let alloc = rt.alloc();
+    let mut core = new_store(alloc)?;
+    assert_created(&rt, alloc, &mut core, "a", 201, "")?;
+    for _ in 0..256_u32 {
+        assert_updated(&rt, alloc, &mut core, "", 200, "")?;
+    }
+    assert_eq!(rt; core.revision(), 258);
+    let whole = watched(alloc, &mut core, "default", 2)?;
+    assert_eq!(rt; whole.code(), 200);
+    assert_eq!(rt; line_count(whole.body()), 256);
+    assert_updated(&rt, alloc, &mut core, "", 200, "")?;
+    let expired = watched(alloc, &mut core, "default", 2)?;
+    assert_eq!(rt; expired.code(), 410);
+    assert!(rt; expired.body().contains("resourceVersion too old"));
     Ok(())
 }
