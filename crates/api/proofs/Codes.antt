@@ -3,15 +3,16 @@ use Rattle.std.proofs.Common.{ℕ, List, ◌+◌, Option, Some, None, Bool, true
 use Rattle.std.specs.Option.{option_map_or}
 use Rattle.http.specs.StatusCode.{IsStatusCode}
 use Rattle.apicore.specs.declared.refusal.Refusal.{Refusal}
-use Rattle.apicore.specs.declared.refusal.Refusal.TheVariants.{MalformedRequest, UnservedVersion, TooManyFields, UnservedTransferCoding, BadHost, BadContentLength, BodyTooLarge, UnservedExpectation, BadTarget, NoSuchPath, MethodNotAllowed, BadQuery, BadNameInPath, UnexpectedBody, BodyIsNotJson, NumberOutsideRange, WrongKind, BadMetadata, WrongName, VersionOnCreate, BadDeleteOptions, AlreadyExists, NotFound, VersionNotCurrent, ObjectTooLarge, TooManyObjects, RevisionExhausted, OutOfMemory, StorageFailed}
+use Rattle.apicore.specs.declared.refusal.Refusal.TheVariants.{MalformedRequest, UnservedVersion, TooManyFields, UnservedTransferCoding, BadHost, BadContentLength, BodyTooLarge, UnservedExpectation, BadTarget, NoSuchPath, MethodNotAllowed, BadQuery, BadNameInPath, UnexpectedBody, BadVersion, Expired, BodyIsNotJson, NumberOutsideRange, WrongKind, BadMetadata, WrongName, VersionOnCreate, BadDeleteOptions, AlreadyExists, NotFound, VersionNotCurrent, ObjectTooLarge, TooManyObjects, RevisionExhausted, OutOfMemory, StorageFailed}
 use Rattle.names.specs.declared.format.Rules.{Rules}
 use Rattle.names.specs.Key.{Key}
 use Rattle.apicore.specs.declared.stored.Stored.{Stored}
 use Rattle.apicore.specs.History.{History}
+use Rattle.apicore.specs.Listing.{watching}
 use Rattle.apicore.specs.Manifest.{Body, sound}
 use Rattle.apicore.specs.Refusal.{answer}
 use Rattle.apicore.specs.Reply.{Reply, status, showing}
-use Rattle.apicore.specs.Request.{Request, get, create, replace, delete, refused}
+use Rattle.apicore.specs.Request.{Request, get, list, watch, create, replace, delete, refused}
 use Rattle.apicore.specs.Step.{refusal, reply}
 use Rattle.apicore.specs.View.{View, view, stored_at, document_at}
 use Rattle.durable.specs.Rules.{first_rules}
@@ -34,6 +35,8 @@ refusal_code MethodNotAllowed = (omega arith, omega arith)
 refusal_code BadQuery = (omega arith, omega arith)
 refusal_code BadNameInPath = (omega arith, omega arith)
 refusal_code UnexpectedBody = (omega arith, omega arith)
+refusal_code BadVersion = (omega arith, omega arith)
+refusal_code Expired = (omega arith, omega arith)
 refusal_code BodyIsNotJson = (omega arith, omega arith)
 refusal_code NumberOutsideRange = (omega arith, omega arith)
 refusal_code WrongKind = (omega arith, omega arith)
@@ -71,6 +74,8 @@ replaced_code rules v k (sound d) version =
 request_code : (rules : Rules) (v : View) (r : Request) → IsStatusCode (reply rules v r).code
 request_code rules v (refused r) = refusal_code r
 request_code rules v (get k) = choice_code (refusal rules v (get k)) _ (shown_code (stored_at v k))
+request_code rules v (list c selector) = (omega arith, omega arith)
+request_code rules v (watch c revision) = choice_code (refusal rules v (watch c revision)) (watching v c revision) (omega arith, omega arith)
 request_code rules v (create m) = created_code rules v m.key m.body m.version
 request_code rules v (replace m) = replaced_code rules v m.key m.body m.version
 request_code rules v (delete k asked) =

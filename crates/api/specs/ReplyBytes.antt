@@ -1,5 +1,5 @@
 -- The bytes of replies to messages.
-use Rattle.std.specs.Prelude.{ℕ, Bool, true, List, [], None}
+use Rattle.std.specs.Prelude.{ℕ, Bool, true, List, [], ◌==◌, if◌then◌else◌, Option, None}
 use Rattle.apicore.specs.declared.refusal.Refusal.{Refusal}
 use Rattle.apicore.specs.declared.refusal.Refusal.TheVariants.{MalformedRequest, UnservedVersion, TooManyFields, UnservedTransferCoding, BadHost, BadContentLength, BodyTooLarge, UnservedExpectation, BadTarget}
 use Rattle.apicore.specs.Reply.{Reply, status}
@@ -9,6 +9,7 @@ use Rattle.httpmsg.specs.declared.head.End.{End}
 use Rattle.httpmsg.specs.declared.head.End.TheVariants.{Clean, Closed, Broken}
 use Rattle.httpmsg.specs.Response.{Response, response_bytes}
 use Rattle.httpmsg.specs.Stream.{Message, is_head}
+use Rattle.routes.specs.Allow.{allow_of}
 
 -- the refusal of a message that has a fault
 abbrev pub refusal_of : MessageFault → Refusal
@@ -23,18 +24,23 @@ refusal_of Fault.Expectation = UnservedExpectation
 refusal_of Fault.Target = BadTarget
 
 -- a reply on the wire
-abbrev pub response_of : (without_body closes : Bool) → Reply → Response
-response_of without_body closes r =
-    record { status = r.code; allow = None; warnings = r.warnings; closes = closes; without_body = without_body; body = r.body }
+abbrev pub response_of : (allow : Option (List ℕ)) → (without_body closes : Bool) → Reply → Response
+response_of allow without_body closes r =
+    record { status = r.code; allow = allow; warnings = r.warnings; closes = closes; without_body = without_body; body = r.body }
+
+-- the methods that a reply to a message lists: those of its path, where it says that the message's is none of them (RFC 9110
+-- section 15.5.6)
+abbrev pub allow_in : Message → Reply → Option (List ℕ)
+allow_in m r = if r.code == 405 then allow_of m else None
 
 -- The bytes of the reply to a message. One to HEAD has no body bytes (RFC 9110 section 9.3.2), and one to a message that
 -- said `close` says so too (RFC 9112 section 9.6).
 abbrev pub reply_bytes : Message → Reply → List ℕ
-reply_bytes m r = response_bytes (response_of (is_head m.method) m.closes r)
+reply_bytes m r = response_bytes (response_of (allow_in m r) (is_head m.method) m.closes r)
 
 -- the bytes of a refusal after which the connection ends
 abbrev pub closing_bytes : (without_body : Bool) → Refusal → List ℕ
-closing_bytes without_body r = response_bytes (response_of without_body true (status r))
+closing_bytes without_body r = response_bytes (response_of None without_body true (status r))
 
 -- what is written for the end of a stream: the reply of a fault
 abbrev pub end_bytes : End → List ℕ

@@ -1,28 +1,34 @@
 //! Messages, answered one after another.
 
-ghost use Rattle.std.specs.Prelude.{◌≡◌, ◌≢◌, ◌≤◌, ◌++◌, [], ◌∷◌, List, false, true, IfOk, OnOk, OnErr, IfErr, IsErrOf, MatchResult};
+ghost use Rattle.std.specs.Prelude.{◌≡◌, ◌≢◌, ◌≤◌, ◌++◌, [], ◌∷◌, List, false, true, IfOk, OnOk, OnErr, IfErr, IsErrOf, MatchResult, option_map, unwrap_or};
+ghost use Rattle.apicore.specs.declared.refusal.Refusal.TheVariants.{OutOfMemory};
 ghost use Rattle.apicore.specs.History.{History};
+ghost use Rattle.apicore.specs.Reply.{status};
+ghost use Rattle.apicore.specs.RequestOf.{request_of};
 ghost use Rattle.device.specs.Disk.{HasFailed};
 ghost use Rattle.durable.specs.Rules.{first_rules};
 ghost use Rattle.durable.specs.Settled.{device_of, serves, IsSettledAt};
+ghost use Rattle.routes.specs.Asked.{asked};
+ghost use Rattle.api.specs.ReplyBytes.{allow_in};
 ghost use Rattle.api.specs.Answers.{HasReplied, HasFailedAt, Answers, Stops, HasCauses};
 
 use crate::fault::ServeFault;
-use crate::reply::{write_found, write_storage_failed};
-use apicore::Reply;
+use crate::reply::{Answer, allow_in, write_found, write_storage_failed};
+use apicore::{Reply, Request};
 use device::Device;
 use durable::{Fault, Store};
 use httpmsg::{Message, Output};
 use routes::{Routes, route};
 use std::alloc::{AllocError, Global};
 
-// What the store replies to the request of a message; nothing where memory was refused to it.
+// What the store replies to a request; nothing where memory was refused to it.
 fn reply_to<D: Device>(
     alloc: Global,
-    routes: &Routes,
     message: &Message,
+    request: &Request,
     store: &mut Store<D>,
 ) -> Result<Option<Reply>, ServeFault>
+    requires { request_of request.now ≡ asked message.now }
     ensures replied { (h : History) → IsSettledAt first_rules store.old h → IfOk result (HasReplied store.old store.new h message.now) }
     ensures stopped { (h : History) → IsSettledAt first_rules store.old h → IfErr result (HasFailedAt store.old store.new h message.now) }
     ensures never_read { result ≢ Err ServeFault.Read }
@@ -32,16 +38,47 @@ fn reply_to<D: Device>(
     ensures cause { IsErrOf result ServeFault.Device → HasFailed D.disk (device_of store.old) (device_of store.new) }
     ensures count { D.disk.failures (device_of store.old) ≤ D.disk.failures (device_of store.new) }
 {
-    let request = match route(alloc, routes, message) {
-        Ok(request) => request,
-        Err(AllocError) => return Ok(None),
-    };
-    match store.apply(alloc, &request) {
+    match store.apply(alloc, request) {
         Ok(reply) => Ok(Some(reply)),
         Err(Fault::Memory) => Ok(None),
         Err(Fault::Device) => Err(ServeFault::Device),
         Err(Fault::Damaged(damage)) => Err(ServeFault::Damaged(damage)),
         Err(Fault::Failed) => Err(ServeFault::Failed),
+    }
+}
+
+// What the request of a message is answered.
+fn answer_to<D: Device>(
+    alloc: Global,
+    routes: &Routes,
+    message: &Message,
+    store: &mut Store<D>,
+) -> Result<Answer, ServeFault>
+    ensures replied { (h : History) → IsSettledAt first_rules store.old h → IfOk result (λ answer. HasReplied store.old store.new h message.now answer.reply) }
+    ensures allow { IfOk result (λ answer. option_map (λ methods. methods.now) answer.allow ≡ allow_in message.now (unwrap_or answer.reply (status OutOfMemory))) }
+    ensures stopped { (h : History) → IsSettledAt first_rules store.old h → IfErr result (HasFailedAt store.old store.new h message.now) }
+    ensures never_read { result ≢ Err ServeFault.Read }
+    ensures never_write { result ≢ Err ServeFault.Write }
+    ensures failed { IsErrOf result ServeFault.Failed → serves store.old ≡ false }
+    ensures goes_on { OnOk result (serves store.new ≡ serves store.old) }
+    ensures cause { IsErrOf result ServeFault.Device → HasFailed D.disk (device_of store.old) (device_of store.new) }
+    ensures count { D.disk.failures (device_of store.old) ≤ D.disk.failures (device_of store.new) }
+{
+    let routed = match route(alloc, routes, message) {
+        Ok(routed) => routed,
+        Err(AllocError) => {
+            return Ok(Answer {
+                reply: None,
+                allow: None,
+            });
+        }
+    };
+    match reply_to(alloc, message, &routed.request, store) {
+        Ok(reply) => Ok(Answer {
+            allow: allow_in(&reply, routed.allow),
+            reply,
+        }),
+        Err(fault) => Err(fault),
     }
 }
 
@@ -59,8 +96,8 @@ fn answer<O: Output, D: Device>(
     ensures causes { HasCauses (O.failures output.old) (O.failures output.new) (D.disk.failures (device_of store.old))
         (D.disk.failures (device_of store.new)) (serves store.old) (serves store.new) result }
 {
-    match reply_to(alloc, routes, message, store) {
-        Ok(reply) => match write_found(output, message, &reply) {
+    match answer_to(alloc, routes, message, store) {
+        Ok(answer) => match write_found(output, message, &answer) {
             Ok(()) => Ok(()),
             Err(_) => Err(ServeFault::Write),
         },

@@ -1,13 +1,13 @@
 //! The bytes of replies.
 
-ghost use Rattle.std.specs.Prelude.{◌≡◌, false, unwrap_or};
+ghost use Rattle.std.specs.Prelude.{◌≡◌, ◌==◌, false, if◌then◌else◌, None, option_map, unwrap_or};
 ghost use Rattle.http.specs.StatusCode.{IsStatusCode};
 ghost use Rattle.apicore.specs.Reply.{status};
 ghost use Rattle.apicore.specs.declared.refusal.Refusal.TheVariants as refusal;
 ghost use Rattle.httpmsg.specs.Flow.{HasCause, Writes};
 ghost use Rattle.httpmsg.specs.declared.head.End.TheVariants.{Broken};
 ghost use Rattle.httpmsg.specs.Response.{response_bytes};
-ghost use Rattle.api.specs.ReplyBytes.{refusal_of, response_of, reply_bytes, closing_bytes, end_bytes};
+ghost use Rattle.api.specs.ReplyBytes.{refusal_of, response_of, allow_in, reply_bytes, closing_bytes, end_bytes};
 
 use crate::bodies::fault_body;
 use apicore::{Refusal, Reply};
@@ -38,20 +38,65 @@ fn status_of(code: u16) -> StatusCode
     StatusCode::from_u16(code).unwrap_or(StatusCode::INTERNAL_SERVER_ERROR)
 }
 
+/// What a message is answered.
+#[derive(Drop)]
+pub(crate) struct Answer {
+    /// The reply; nothing where memory was refused to the message.
+    pub(crate) reply: Option<Reply>,
+    /// The methods that the reply lists.
+    pub(crate) allow: Option<&'static str>,
+}
+
+/// The methods that a reply lists: those of the path, where it says that the message's is none of them.
+pub(crate) fn allow_in(reply: &Option<Reply>, allow: Option<&'static str>) -> Option<&'static str>
+    ensures { option_map (λ methods. methods.now) result
+        ≡ if (unwrap_or reply.now (status refusal.OutOfMemory)).code == 405 then option_map (λ methods. methods.now) allow.entry else None }
+{
+    match reply {
+        Some(reply) => allow_at(reply.code(), allow),
+        None => None,
+    }
+}
+
+// Those of the path, at the code that says so (RFC 9110 section 15.5.6).
+fn allow_at(code: u16, allow: Option<&'static str>) -> Option<&'static str>
+    ensures { option_map (λ methods. methods.now) result ≡ if code == 405 then option_map (λ methods. methods.now) allow.entry else None }
+{
+    if code == 405 { allow } else { None }
+}
+
+// Writes a response, with the methods that it lists.
+fn write_response<O: Output>(
+    output: &mut O,
+    response: Response,
+    allow: Option<&str>,
+) -> Result<(), StreamFault>
+    requires { response.allow ≡ None }
+    ensures writes { Writes O.took output.old output.new (response_bytes (record response.entry { allow = option_map (λ methods. methods.now) allow.entry })) result }
+    ensures cause { HasCause (O.failures output.old) (O.failures output.new) result }
+{
+    match allow {
+        Some(methods) => response.allowing(methods).write(output),
+        None => response.write(output),
+    }
+}
+
 // Writes the reply to a message; after an error a beginning of it is written. It takes no memory.
 fn write_reply<O: Output>(
     output: &mut O,
     message: &Message,
     reply: &Reply,
+    allow: Option<&str>,
 ) -> Result<(), StreamFault>
+    requires { option_map (λ methods. methods.now) allow ≡ allow_in message.now reply.now }
     ensures writes { IsStatusCode reply.now.code → Writes O.took output.old output.new (reply_bytes message.now reply.now) result }
     ensures cause { HasCause (O.failures output.old) (O.failures output.new) result }
 {
-    Response::new(status_of(reply.code()), reply.body().as_bytes())
+    let response = Response::new(status_of(reply.code()), reply.body().as_bytes())
         .warning(reply.warnings())
         .closing(message.closes())
-        .leaving_body_out(message.method().is_head())
-        .write(output)
+        .leaving_body_out(message.method().is_head());
+    write_response(output, response, allow)
 }
 
 // Writes a refusal whose body is at hand.
@@ -63,7 +108,7 @@ fn write_refusal<O: Output>(
     closes: bool,
 ) -> Result<(), StreamFault>
     requires { body.now ≡ (status refusal).body }
-    ensures writes { Writes O.took output.old output.new (response_bytes (response_of without_body closes (status refusal))) result }
+    ensures writes { Writes O.took output.old output.new (response_bytes (response_of None without_body closes (status refusal))) result }
     ensures cause { HasCause (O.failures output.old) (O.failures output.new) result }
 {
     Response::new(status_of(refusal.code()), body.as_bytes())
@@ -88,18 +133,19 @@ fn write_out_of_memory<O: Output>(output: &mut O, message: &Message) -> Result<(
     )
 }
 
-/// Writes the reply to a message, or that memory was refused to it. It takes no memory.
+/// Writes the answer to a message. It takes no memory.
 pub(crate) fn write_found<O: Output>(
     output: &mut O,
     message: &Message,
-    found: &Option<Reply>,
+    answer: &Answer,
 ) -> Result<(), StreamFault>
-    ensures writes { IsStatusCode (unwrap_or found.now (status refusal.OutOfMemory)).code
-        → Writes O.took output.old output.new (reply_bytes message.now (unwrap_or found.now (status refusal.OutOfMemory))) result }
+    requires { option_map (λ methods. methods.now) answer.now.allow ≡ allow_in message.now (unwrap_or answer.now.reply (status refusal.OutOfMemory)) }
+    ensures writes { IsStatusCode (unwrap_or answer.now.reply (status refusal.OutOfMemory)).code
+        → Writes O.took output.old output.new (reply_bytes message.now (unwrap_or answer.now.reply (status refusal.OutOfMemory))) result }
     ensures cause { HasCause (O.failures output.old) (O.failures output.new) result }
 {
-    match found {
-        Some(reply) => write_reply(output, message, reply),
+    match &answer.reply {
+        Some(reply) => write_reply(output, message, reply, answer.allow),
         None => write_out_of_memory(output, message),
     }
 }

@@ -115,6 +115,23 @@ fn what_is_posted_is_shown(rt: HostRuntime) -> Result<(), Fail> {
 }
 
 #[test]
+fn the_list_of_a_new_store_is_empty(rt: HostRuntime) -> Result<(), Fail> {
+    let alloc = rt.alloc();
+    let mut store = opened(alloc, new_store(alloc)?)?;
+    let (end, written) = served(
+        alloc,
+        &mut store,
+        b"GET /api/v1/configmaps?labelSelector=app%3Dx HTTP/1.1\r\nHost: x\r\n\r\n",
+    );
+    assert_eq!(rt; end, Ok(End::Clean));
+    assert_eq!(rt;
+        written.as_slice(),
+        b"HTTP/1.1 200 OK\r\nContent-Type: application/json\r\nContent-Length: 88\r\n\r\n{\"apiVersion\":\"v1\",\"items\":[],\"kind\":\"ConfigMapList\",\"metadata\":{\"resourceVersion\":\"1\"}}".as_slice()
+    );
+    Ok(())
+}
+
+#[test]
 fn nothing_is_looked_at_behind_a_message_that_closes(rt: HostRuntime) -> Result<(), Fail> {
     let alloc = rt.alloc();
     let mut store = opened(alloc, new_store(alloc)?)?;
@@ -140,7 +157,24 @@ fn a_reply_to_head_has_no_body_bytes(rt: HostRuntime) -> Result<(), Fail> {
     assert_eq!(rt; end, Ok(End::Clean));
     assert_eq!(rt;
         written.as_slice(),
-        b"HTTP/1.1 404 Not Found\r\nContent-Type: application/json\r\nContent-Length: 110\r\n\r\n".as_slice()
+        b"HTTP/1.1 405 Method Not Allowed\r\nContent-Type: application/json\r\nContent-Length: 124\r\nAllow: GET, PUT, DELETE\r\n\r\n".as_slice()
+    );
+    Ok(())
+}
+
+#[test]
+fn a_method_that_is_not_allowed_is_told_those_that_are(rt: HostRuntime) -> Result<(), Fail> {
+    let alloc = rt.alloc();
+    let mut store = opened(alloc, new_store(alloc)?)?;
+    let (end, written) = served(
+        alloc,
+        &mut store,
+        b"PATCH /api/v1/namespaces/default/configmaps/a HTTP/1.1\r\nHost: x\r\nConnection: close\r\n\r\n",
+    );
+    assert_eq!(rt; end, Ok(End::Closed));
+    assert_eq!(rt;
+        written.as_slice(),
+        b"HTTP/1.1 405 Method Not Allowed\r\nContent-Type: application/json\r\nContent-Length: 124\r\nAllow: GET, PUT, DELETE\r\nConnection: close\r\n\r\n{\"apiVersion\":\"v1\",\"code\":405,\"kind\":\"Status\",\"message\":\"method not allowed\",\"reason\":\"MethodNotAllowed\",\"status\":\"Failure\"}".as_slice()
     );
     Ok(())
 }

@@ -1,17 +1,22 @@
 -- The request that a message spells.
-use Rattle.std.specs.Prelude.{ℕ, List, [], ◌∷◌, not}
+use Rattle.std.specs.Prelude.{ℕ, List, [], ◌∷◌, true, not, Option, Some, None, unwrap_or}
 use Rattle.std.specs.Option.{option_map_or}
 use Rattle.jsondoc.specs.Document.{Reading, not_json, not_whole, document, reading}
 use Rattle.names.specs.Key.{Key, key_of}
-use Rattle.apicore.specs.declared.refusal.Refusal.TheVariants.{NoSuchPath, BadQuery, BadNameInPath, UnexpectedBody, BodyIsNotJson, NumberOutsideRange}
+use Rattle.names.specs.Name.{is_namespace}
+use Rattle.names.specs.Resource.{row}
+use Rattle.apicore.specs.declared.refusal.Refusal.TheVariants.{NoSuchPath, MethodNotAllowed, BadQuery, BadNameInPath, UnexpectedBody, BadVersion, BodyIsNotJson, NumberOutsideRange}
+use Rattle.apicore.specs.Collection.{Collection}
 use Rattle.apicore.specs.DeleteOptions.{delete_body_conditions, version_of_body}
-use Rattle.apicore.specs.Manifest.{Target, is_target, manifest_of, body_conditions}
+use Rattle.apicore.specs.Manifest.{Target, is_target, namespace_at, manifest_of, body_conditions}
 use Rattle.apicore.specs.Refusal.{Condition, first_of}
-use Rattle.apicore.specs.Request.{Request, get, create, replace, delete, refused}
+use Rattle.apicore.specs.Request.{Request, get, list, watch, create, replace, delete, refused}
 use Rattle.httpmsg.specs.declared.head.Method.{Method}
 use Rattle.httpmsg.specs.declared.head.Method.TheVariants.{Get, Head, Post, Put, Delete, Other}
 use Rattle.httpmsg.specs.Stream.{Message}
-use Rattle.routes.specs.Path.{path_of, query_of, parts_of, is_empty, target_at}
+use Rattle.names.specs.declared.resource.Resource.{Resource}
+use Rattle.routes.specs.Path.{path_of, query_of, parts_of, is_empty, Place, everywhere, within, place_at}
+use Rattle.routes.specs.Query.{has_pairs, pairs_of, Question, objects, events, question_of}
 
 -- the first refusal whose condition holds, or else the request
 abbrev pub unless_refused : List Condition → Request → Request
@@ -22,7 +27,7 @@ unless_refused conditions request = option_map_or refused (first_of conditions) 
 -- each refusal of a GET, in order, and whether its condition holds
 abbrev pub get_conditions : Message → Target → List Condition
 get_conditions m t =
-    (BadQuery, not (is_empty (query_of m.target)))
+    (BadQuery, has_pairs (query_of m.target))
     ∷ (BadNameInPath, not (is_target t))
     ∷ (UnexpectedBody, not (is_empty m.body))
     ∷ []
@@ -34,7 +39,7 @@ shown m t name = unless_refused (get_conditions m t) (get (key_of t.resource t.n
 
 -- each refusal of a POST or a PUT, in order, and whether its condition holds
 abbrev pub object_conditions : Message → Target → List Condition
-object_conditions m t = (BadQuery, not (is_empty (query_of m.target))) ∷ body_conditions t m.body
+object_conditions m t = (BadQuery, has_pairs (query_of m.target)) ∷ body_conditions t m.body
 
 -- the creation that a body asks for, if it is read
 abbrev pub created_of : Target → Reading → Request
@@ -65,36 +70,79 @@ deletion k body = unless_refused (delete_body_conditions body) (delete k (versio
 -- each refusal of a DELETE that its target shows, in order, and whether its condition holds
 abbrev pub delete_conditions : Message → Target → List Condition
 delete_conditions m t =
-    (BadQuery, not (is_empty (query_of m.target)))
+    (BadQuery, has_pairs (query_of m.target))
     ∷ (BadNameInPath, not (is_target t))
     ∷ []
 
 abbrev pub deleted : Message → Target → (name : List ℕ) → Request
 deleted m t name = unless_refused (delete_conditions m t) (deletion (key_of t.resource t.namespace name) m.body)
 
+-- ---- GET of a collection
+
+-- the collection that a target without a name is: of the resource, and of the namespace where there are namespaces
+abbrev pub collection_at : Target → Collection
+collection_at t = record { resource = t.resource; namespace = namespace_at (row t.resource).scope t.namespace }
+
+-- the objects of a resource in all namespaces
+abbrev pub all_of : Resource → Collection
+all_of r = record { resource = r; namespace = None }
+
+-- what a question asks of a collection, if it has what it needs
+abbrev pub answering : Collection → Question → Request
+answering c (objects requirements) = list c requirements
+answering c (events None) = refused BadVersion
+answering c (events (Some revision)) = watch c revision
+
+-- each refusal of a GET of a collection between its query and its revision, in order, and whether its condition holds
+abbrev pub collection_conditions : Message → Collection → List Condition
+collection_conditions m c =
+    (BadNameInPath, not (option_map_or is_namespace c.namespace true))
+    ∷ (UnexpectedBody, not (is_empty m.body))
+    ∷ []
+
+-- what the query asks, or that it is refused
+abbrev pub gathered : Message → Collection → Request
+gathered m c =
+    option_map_or (λ question. unless_refused (collection_conditions m c) (answering c question)) (question_of (pairs_of (query_of m.target))) (refused BadQuery)
+
 -- ---- the table of methods
 
--- what a method asks of an item
-abbrev pub of_item : Message → Target → (name : List ℕ) → Method → Request
-of_item m t name Get = shown m t name
-of_item m t name Head = refused NoSuchPath
-of_item m t name Post = refused NoSuchPath
-of_item m t name Put = replaced m t
-of_item m t name Delete = deleted m t name
-of_item m t name Other = refused NoSuchPath
+-- what a method asks of an item, if an item allows it
+abbrev pub of_item : Message → Target → (name : List ℕ) → Method → Option Request
+of_item m t name Get = Some (shown m t name)
+of_item m t name Head = None
+of_item m t name Post = None
+of_item m t name Put = Some (replaced m t)
+of_item m t name Delete = Some (deleted m t name)
+of_item m t name Other = None
 
--- what a method asks of a collection
-abbrev pub of_collection : Message → Target → Method → Request
-of_collection m t Get = refused NoSuchPath
-of_collection m t Head = refused NoSuchPath
-of_collection m t Post = created m t
-of_collection m t Put = refused NoSuchPath
-of_collection m t Delete = refused NoSuchPath
-of_collection m t Other = refused NoSuchPath
+-- what a method asks of a collection that is not over all namespaces, if it allows it
+abbrev pub of_collection : Message → Target → Method → Option Request
+of_collection m t Get = Some (gathered m (collection_at t))
+of_collection m t Head = None
+of_collection m t Post = Some (created m t)
+of_collection m t Put = None
+of_collection m t Delete = None
+of_collection m t Other = None
 
-abbrev pub asked_of : Message → Target → Request
-asked_of m t = option_map_or (λ name. of_item m t name m.method) t.name (of_collection m t m.method)
+-- what a method asks of the objects of all namespaces, if they allow it
+abbrev pub of_everywhere : Message → Resource → Method → Option Request
+of_everywhere m r Get = Some (gathered m (all_of r))
+of_everywhere m r Head = None
+of_everywhere m r Post = None
+of_everywhere m r Put = None
+of_everywhere m r Delete = None
+of_everywhere m r Other = None
+
+-- what a message asks of a place, if the place allows its method
+abbrev pub asked_at : Message → Place → Option Request
+asked_at m (everywhere r) = of_everywhere m r m.method
+asked_at m (within t) = option_map_or (λ name. of_item m t name m.method) t.name (of_collection m t m.method)
+
+-- the place that a message points to, if it is served
+abbrev pub place_in : Message → Option Place
+place_in m = place_at (parts_of (path_of m.target))
 
 -- the request that a message spells: what its method asks of where its path points
 abbrev pub asked : Message → Request
-asked m = option_map_or (asked_of m) (target_at (parts_of (path_of m.target))) (refused NoSuchPath)
+asked m = option_map_or (λ place. unwrap_or (asked_at m place) (refused MethodNotAllowed)) (place_in m) (refused NoSuchPath)

@@ -96,11 +96,17 @@ resource_at path = find (λ r. bytes_eq (literal_of r) path) served
 
 -- ---- where a path points
 
+-- Where a path points: to the objects of a namespaced resource in all namespaces, or to another collection or an item of it.
+pub data Place : Type 0 where
+  everywhere : Resource → Place
+  within : Target → Place
+
 -- a place of a resource: namespaced objects stand in a namespace, and the others in none
-abbrev pub in_scope : Scope → Resource → (namespace name : Option (List ℕ)) → Option Target
-in_scope Namespaced r (Some namespace) name = Some (target r namespace name)
-in_scope Namespaced r None name = None
-in_scope Cluster r None name = Some (target r [] name)
+abbrev pub in_scope : Scope → Resource → (namespace name : Option (List ℕ)) → Option Place
+in_scope Namespaced r (Some namespace) name = Some (within (target r namespace name))
+in_scope Namespaced r None None = Some (everywhere r)
+in_scope Namespaced r None (Some name) = None
+in_scope Cluster r None name = Some (within (target r [] name))
 in_scope Cluster r (Some namespace) name = None
 
 -- a namespace or a name that is there is not empty
@@ -108,11 +114,11 @@ abbrev pub is_left_out : Option (List ℕ) → Bool
 is_left_out piece = option_map_or is_empty piece false
 
 -- where the pieces of a path point, if that is served
-abbrev pub target_of : Pieces → Option Target
-target_of p =
+abbrev pub place_of : Pieces → Option Place
+place_of p =
     if is_left_out p.namespace || is_left_out p.name then None
     else option_and_then (λ r. in_scope (row r).scope r p.namespace p.name) (resource_at (literal p.group p.version p.plural))
 
 -- where the parts of a path point, if that is served
-abbrev pub target_at : List (List ℕ) → Option Target
-target_at parts = option_and_then target_of (pieces_of parts)
+abbrev pub place_at : List (List ℕ) → Option Place
+place_at parts = option_and_then place_of (pieces_of parts)

@@ -1,63 +1,179 @@
 //! From a message to its request.
 
-ghost use Rattle.std.specs.Prelude.{◌≡◌, IfOk, Some, None};
+ghost use Rattle.std.specs.Prelude.{◌≡◌, IfOk, Some, None, if◌then◌else◌, option_map, is_some, unwrap_or};
+ghost use Rattle.apicore.specs.declared.refusal.Refusal.TheVariants.{MethodNotAllowed};
+ghost use Rattle.apicore.specs.Request.{refused};
 ghost use Rattle.apicore.specs.RequestOf.{request_of};
 ghost use Rattle.routes.specs.Path.{query_of};
-ghost use Rattle.routes.specs.Asked.{shown, created, replaced, deleted, deletion, asked_of, asked};
+ghost use Rattle.routes.specs.PlaceOf.{seen};
+ghost use Rattle.routes.specs.Asked.{shown, created, replaced, deleted, deletion, gathered, collection_at, of_item, of_collection, of_everywhere, asked_at, asked};
+ghost use Rattle.routes.specs.Allow.{allowed, allow_of};
 
+use crate::collection::gathered;
 use crate::path::path_and_query;
-use crate::table::{Place, Routes};
+use crate::query::has_pairs;
+use crate::table::{Place, Routes, Target};
 use apicore::{BodyFault, Manifest, Refusal, Request, read_delete_options};
 use httpmsg::{Message, Method};
-use names::{Key, KeyFault};
+use names::{Key, KeyFault, Resource};
 use std::alloc::{AllocError, Global};
 
-/// The request that a message spells: a call, or the first refusal that shows in the message alone.
-pub fn route(alloc: Global, routes: &Routes, message: &Message) -> Result<Request, AllocError>
-    ensures { IfOk result (λ request. request_of request ≡ asked message.now) }
+/// What a message asks for.
+#[derive(Drop)]
+pub struct Routed {
+    /// A call, or the first refusal that shows in the message alone.
+    pub request: Request,
+    /// The methods that the path allows, as an `Allow` field lists them, where the message's is none of them (RFC 9110
+    /// section 10.2.1).
+    pub allow: Option<&'static str>,
+}
+
+/// The request that a message spells, and the methods that its path allows where its own is refused.
+///
+/// # Errors
+///
+/// Only where memory is refused.
+pub fn route(alloc: Global, routes: &Routes, message: &Message) -> Result<Routed, AllocError>
+    ensures request { IfOk result (λ route. request_of route.request ≡ asked message.now) }
+    ensures allow { IfOk result (λ route. option_map (λ methods. methods.now) route.allow ≡ allow_of message.now) }
 {
     let (path, query) = path_and_query(message.target());
     match routes.place_of(alloc, path)? {
-        Some(place) => asked_of(alloc, message, &place, query),
-        None => Ok(Request::Refused(Refusal::NoSuchPath)),
+        Some(place) => route_at(alloc, message, &place, query),
+        None => Ok(Routed {
+            request: Request::Refused(Refusal::NoSuchPath),
+            allow: None,
+        }),
     }
 }
 
-// What the method asks of a place.
-fn asked_of(
+// The request that a message spells at a place.
+fn route_at(
     alloc: Global,
     message: &Message,
     place: &Place,
     query: &str,
+) -> Result<Routed, AllocError>
+    requires { query.now ≡ query_of message.now.target }
+    ensures request { IfOk result (λ route. request_of route.request ≡ unwrap_or (asked_at message.now (seen place.now)) (refused MethodNotAllowed)) }
+    ensures allow { IfOk result (λ route. option_map (λ methods. methods.now) route.allow
+        ≡ if is_some (asked_at message.now (seen place.now)) then None else Some (allowed (seen place.now))) }
+{
+    Ok(match asked_at(alloc, message, place, query)? {
+        Some(request) => Routed {
+            request,
+            allow: None,
+        },
+        None => Routed {
+            request: Request::Refused(Refusal::MethodNotAllowed),
+            allow: Some(place.allowed()),
+        },
+    })
+}
+
+// What the method asks of a place, if the place allows it.
+fn asked_at(
+    alloc: Global,
+    message: &Message,
+    place: &Place,
+    query: &str,
+) -> Result<Option<Request>, AllocError>
+    requires { query.now ≡ query_of message.now.target }
+    ensures { IfOk result (λ request. option_map request_of request ≡ asked_at message.now (seen place.now)) }
+{
+    match place {
+        Place::Everywhere(resource) => of_everywhere(alloc, message, *resource, query),
+        Place::Within(target) => match target.name {
+            Some(name) => of_item(alloc, message, target, name, query),
+            None => of_collection(alloc, message, target, query),
+        },
+    }
+}
+
+// What the method asks of an item.
+fn of_item(
+    alloc: Global,
+    message: &Message,
+    target: &Target,
+    name: &str,
+    query: &str,
+) -> Result<Option<Request>, AllocError>
+    requires query { query.now ≡ query_of message.now.target }
+    requires name { target.now.name ≡ Some name.now }
+    ensures { IfOk result (λ request. option_map request_of request ≡ of_item message.now target.now name.now message.now.method) }
+{
+    Ok(match message.method() {
+        Method::Get => Some(shown(alloc, message, target, name, query)?),
+        Method::Put => Some(replaced(alloc, message, target, name, query)?),
+        Method::Delete => Some(deleted(alloc, message, target, name, query)?),
+        Method::Head | Method::Post | Method::Other => None,
+    })
+}
+
+// What the method asks of a collection that is not over all namespaces.
+fn of_collection(
+    alloc: Global,
+    message: &Message,
+    target: &Target,
+    query: &str,
+) -> Result<Option<Request>, AllocError>
+    requires query { query.now ≡ query_of message.now.target }
+    requires name { target.now.name ≡ None }
+    ensures { IfOk result (λ request. option_map request_of request ≡ of_collection message.now target.now message.now.method) }
+{
+    Ok(match message.method() {
+        Method::Get => Some(gathered_within(alloc, message, target, query)?),
+        Method::Post => Some(created(alloc, message, target, query)?),
+        Method::Head | Method::Put | Method::Delete | Method::Other => None,
+    })
+}
+
+// GET of a collection that is not over all namespaces.
+fn gathered_within(
+    alloc: Global,
+    message: &Message,
+    target: &Target,
+    query: &str,
 ) -> Result<Request, AllocError>
     requires { query.now ≡ query_of message.now.target }
-    ensures { IfOk result (λ request. request_of request ≡ asked_of message.now place.now) }
+    ensures { IfOk result (λ request. request_of request ≡ gathered message.now (collection_at target.now)) }
 {
-    match (message.method(), place.name) {
-        (Method::Get, Some(name)) => shown(alloc, message, place, name, query),
-        (Method::Put, Some(name)) => replaced(alloc, message, place, name, query),
-        (Method::Delete, Some(name)) => deleted(alloc, message, place, name, query),
-        (Method::Post, None) => created(alloc, message, place, query),
-        _ => Ok(Request::Refused(Refusal::NoSuchPath)),
-    }
+    let namespace = target.collection_namespace();
+    gathered(alloc, message, target.resource, namespace, query)
+}
+
+// What the method asks of the objects of all namespaces.
+fn of_everywhere(
+    alloc: Global,
+    message: &Message,
+    resource: Resource,
+    query: &str,
+) -> Result<Option<Request>, AllocError>
+    requires { query.now ≡ query_of message.now.target }
+    ensures { IfOk result (λ request. option_map request_of request ≡ of_everywhere message.now resource message.now.method) }
+{
+    Ok(match message.method() {
+        Method::Get => Some(gathered(alloc, message, resource, None, query)?),
+        Method::Head | Method::Post | Method::Put | Method::Delete | Method::Other => None,
+    })
 }
 
 // GET of an item.
 fn shown(
     alloc: Global,
     message: &Message,
-    place: &Place,
+    target: &Target,
     name: &str,
     query: &str,
 ) -> Result<Request, AllocError>
     requires query { query.now ≡ query_of message.now.target }
-    requires name { place.now.name ≡ Some name.now }
-    ensures { IfOk result (λ request. request_of request ≡ shown message.now place.now name.now) }
+    requires name { target.now.name ≡ Some name.now }
+    ensures { IfOk result (λ request. request_of request ≡ shown message.now target.now name.now) }
 {
-    if !query.is_empty() {
+    if has_pairs(query) {
         return Ok(Request::Refused(Refusal::BadQuery));
     }
-    let key = match Key::new(alloc, place.resource, place.namespace, name) {
+    let key = match Key::new(alloc, target.resource, target.namespace, name) {
         Ok(key) => key,
         Err(KeyFault::NoKey) => return Ok(Request::Refused(Refusal::BadNameInPath)),
         Err(KeyFault::Memory) => return Err(AllocError),
@@ -72,17 +188,18 @@ fn shown(
 fn created(
     alloc: Global,
     message: &Message,
-    place: &Place,
+    target: &Target,
     query: &str,
 ) -> Result<Request, AllocError>
     requires query { query.now ≡ query_of message.now.target }
-    requires name { place.now.name ≡ None }
-    ensures { IfOk result (λ request. request_of request ≡ created message.now place.now) }
+    requires name { target.now.name ≡ None }
+    ensures { IfOk result (λ request. request_of request ≡ created message.now target.now) }
 {
-    if !query.is_empty() {
+    if has_pairs(query) {
         return Ok(Request::Refused(Refusal::BadQuery));
     }
-    match Manifest::read(alloc, place.resource, place.namespace, None, message.body()) {
+    let (resource, namespace) = (target.resource, target.namespace);
+    match Manifest::read(alloc, resource, namespace, None, message.body()) {
         Ok(manifest) => Ok(Request::Create(manifest)),
         Err(BodyFault::Refused(refusal)) => Ok(Request::Refused(refusal)),
         Err(BodyFault::Memory) => Err(AllocError),
@@ -93,24 +210,19 @@ fn created(
 fn replaced(
     alloc: Global,
     message: &Message,
-    place: &Place,
+    target: &Target,
     name: &str,
     query: &str,
 ) -> Result<Request, AllocError>
     requires query { query.now ≡ query_of message.now.target }
-    requires name { place.now.name ≡ Some name.now }
-    ensures { IfOk result (λ request. request_of request ≡ replaced message.now place.now) }
+    requires name { target.now.name ≡ Some name.now }
+    ensures { IfOk result (λ request. request_of request ≡ replaced message.now target.now) }
 {
-    if !query.is_empty() {
+    if has_pairs(query) {
         return Ok(Request::Refused(Refusal::BadQuery));
     }
-    match Manifest::read(
-        alloc,
-        place.resource,
-        place.namespace,
-        Some(name),
-        message.body(),
-    ) {
+    let (resource, namespace) = (target.resource, target.namespace);
+    match Manifest::read(alloc, resource, namespace, Some(name), message.body()) {
         Ok(manifest) => Ok(Request::Replace(manifest)),
         Err(BodyFault::Refused(refusal)) => Ok(Request::Refused(refusal)),
         Err(BodyFault::Memory) => Err(AllocError),
@@ -121,18 +233,18 @@ fn replaced(
 fn deleted(
     alloc: Global,
     message: &Message,
-    place: &Place,
+    target: &Target,
     name: &str,
     query: &str,
 ) -> Result<Request, AllocError>
     requires query { query.now ≡ query_of message.now.target }
-    requires name { place.now.name ≡ Some name.now }
-    ensures { IfOk result (λ request. request_of request ≡ deleted message.now place.now name.now) }
+    requires name { target.now.name ≡ Some name.now }
+    ensures { IfOk result (λ request. request_of request ≡ deleted message.now target.now name.now) }
 {
-    if !query.is_empty() {
+    if has_pairs(query) {
         return Ok(Request::Refused(Refusal::BadQuery));
     }
-    match Key::new(alloc, place.resource, place.namespace, name) {
+    match Key::new(alloc, target.resource, target.namespace, name) {
         Ok(key) => deletion(alloc, key, message.body()),
         Err(KeyFault::NoKey) => Ok(Request::Refused(Refusal::BadNameInPath)),
         Err(KeyFault::Memory) => Err(AllocError),

@@ -2,9 +2,12 @@
 
 ghost use Rattle.std.specs.Prelude.{◌≡◌, IfOk, option_map, ◌||◌, string_bytes};
 ghost use Rattle.matchit.specs.declared.router.Router.{Router};
-ghost use Rattle.routes.specs.Path.{resource_at, in_scope, target_of, target_at, parts_of};
+ghost use Rattle.routes.specs.Path.{resource_at, in_scope, place_of, place_at, parts_of};
+ghost use Rattle.routes.specs.PlaceOf.{seen};
+ghost use Rattle.routes.specs.Allow.{allowed};
 ghost use Rattle.routes.specs.Table.{AnswersTable};
 ghost use Rattle.names.specs.Resource.{row};
+ghost use Rattle.apicore.specs.Manifest.{namespace_at};
 
 use crate::path::{Pieces, literal, pieces_of};
 use matchit::{InsertError, Router};
@@ -12,22 +15,58 @@ use names::{Resource, Scope};
 use std::alloc::{AllocError, Global};
 use std::marker::Model;
 
-/// A collection, or with a name an item of it.
+/// A collection that is not over all namespaces, or with a name an item of it.
 #[derive(Drop)]
-pub(crate) struct Place<'p> {
+pub(crate) struct Target<'p> {
     pub(crate) resource: Resource,
     pub(crate) namespace: &'p str,
     pub(crate) name: Option<&'p str>,
 }
 
-impl<'p> Model for Place<'p> {
-    ghost use Rattle.apicore.specs.Manifest.{Target};
+impl<'p> Model for Target<'p> {
+    ghost use Rattle.apicore.specs.Manifest.{Target as TargetData};
 
-    ghost Value = { Target };
+    ghost Value = { TargetData };
 
     ghost use Rattle.std.specs.Prelude.{option_map};
 
     ghost view = { λ p. record { resource = p.resource; namespace = p.namespace.now; name = option_map (λ n. n.now) p.name } };
+}
+
+impl<'p> Target<'p> {
+    /// The namespace of the collection, where there are namespaces.
+    pub(crate) fn collection_namespace(&self) -> Option<&'p str>
+        ensures { option_map (λ n. n.now) result ≡ namespace_at (row self.now.resource).scope self.now.namespace }
+    {
+        match self.resource.scope() {
+            Scope::Namespaced => Some(self.namespace),
+            Scope::Cluster => None,
+        }
+    }
+}
+
+/// Where a path points.
+#[derive(Drop)]
+pub(crate) enum Place<'p> {
+    /// The objects of a namespaced resource, in all namespaces.
+    Everywhere(Resource),
+    /// Another collection, or an item of one.
+    Within(Target<'p>),
+}
+
+impl Place<'_> {
+    /// The methods that the place allows, as an `Allow` field lists them (RFC 9110 section 10.2.1).
+    pub(crate) fn allowed(&self) -> &'static str
+        ensures { result.now ≡ allowed (seen self.now) }
+    {
+        match self {
+            Place::Everywhere(_) => "GET",
+            Place::Within(target) => match target.name {
+                Some(_) => "GET, PUT, DELETE",
+                None => "GET, POST",
+            },
+        }
+    }
 }
 
 /// The routes that are served: the paths of the resources, without namespaces and names.
@@ -56,20 +95,24 @@ fn in_scope<'p>(
     namespace: Option<&'p str>,
     name: Option<&'p str>,
 ) -> Option<Place<'p>>
-    ensures { result ≡ in_scope (row resource).scope resource (option_map (λ n. n.now) namespace.entry) (option_map (λ n. n.now) name.entry) }
+    ensures { option_map seen result ≡ in_scope (row resource).scope resource (option_map (λ n. n.now) namespace.entry) (option_map (λ n. n.now) name.entry) }
 {
     match (resource.scope(), namespace) {
-        (Scope::Namespaced, Some(namespace)) => Some(Place {
+        (Scope::Namespaced, Some(namespace)) => Some(Place::Within(Target {
             resource,
             namespace,
             name,
-        }),
-        (Scope::Cluster, None) => Some(Place {
+        })),
+        (Scope::Namespaced, None) => match name {
+            Some(_) => None,
+            None => Some(Place::Everywhere(resource)),
+        },
+        (Scope::Cluster, None) => Some(Place::Within(Target {
             resource,
             namespace: "",
             name,
-        }),
-        _ => None,
+        })),
+        (Scope::Cluster, Some(_)) => None,
     }
 }
 
@@ -102,7 +145,7 @@ impl Routes {
         alloc: Global,
         pieces: &Pieces<'p>,
     ) -> Result<Option<Place<'p>>, AllocError>
-        ensures { IfOk result (λ place. place ≡ target_of pieces.now) }
+        ensures { IfOk result (λ place. option_map seen place ≡ place_of pieces.now) }
     {
         if pieces.leaves_out() {
             return Ok(None);
@@ -120,7 +163,7 @@ impl Routes {
         alloc: Global,
         path: &'p str,
     ) -> Result<Option<Place<'p>>, AllocError>
-        ensures { IfOk result (λ place. place ≡ target_at (parts_of path.now)) }
+        ensures { IfOk result (λ place. option_map seen place ≡ place_at (parts_of path.now)) }
     {
         match pieces_of(alloc, path)? {
             Some(pieces) => self.place_at(alloc, &pieces),

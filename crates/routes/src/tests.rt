@@ -1,6 +1,6 @@
 // Requests that messages spell, after the Kubernetes API's paths.
-use crate::{Routes, route};
-use apicore::{Refusal, Request};
+use crate::{Routed, Routes, route};
+use apicore::{Refusal, Request, Requirement};
 use httpmsg::Cutter;
 use names::Resource;
 use std::alloc::Global;
@@ -10,8 +10,8 @@ use std::test::Fail;
 const BODY: &str =
     "{\"apiVersion\":\"v1\",\"kind\":\"ConfigMap\",\"metadata\":{\"name\":\"a\"},\"data\":{\"k\":\"v\"}}";
 
-// The request of a message with this method, target and body.
-fn request_of(alloc: Global, method: &str, target: &str, body: &str) -> Result<Request, Fail> {
+// What a message with this method, target and body asks for.
+fn route_of(alloc: Global, method: &str, target: &str, body: &str) -> Result<Routed, Fail> {
     let text = format!(in alloc;
         "{method} {target} HTTP/1.1\r\nHost: x\r\nContent-Length: {}\r\n\r\n{body}",
         body.len()
@@ -23,6 +23,10 @@ fn request_of(alloc: Global, method: &str, target: &str, body: &str) -> Result<R
     let message = messages.first().ok_or("no message")?;
     let routes = Routes::new(alloc)?;
     Ok(route(alloc, &routes, message)?)
+}
+
+fn request_of(alloc: Global, method: &str, target: &str, body: &str) -> Result<Request, Fail> {
+    Ok(route_of(alloc, method, target, body)?.request)
 }
 
 fn assert_refused(
@@ -45,6 +49,7 @@ fn a_get_of_an_item_asks_for_its_object(rt: HostRuntime) -> Result<(), Fail> {
     for target in [
         "/api/v1/namespaces/default/configmaps/a.b",
         "/api/v1/namespaces/default/configmaps/a.b?",
+        "/api/v1/namespaces/default/configmaps/a.b?&&",
     ] {
         let Request::Get(key) = request_of(rt.alloc(), "GET", target, "")? else {
             return Err(Fail::from("no GET"));
@@ -140,18 +145,175 @@ fn a_delete_of_an_item_asks_for_its_deletion(rt: HostRuntime) -> Result<(), Fail
 }
 
 #[test]
-fn other_methods_and_paths_are_not_served(rt: HostRuntime) -> Result<(), Fail> {
+fn a_get_of_a_collection_lists_its_objects(rt: HostRuntime) -> Result<(), Fail> {
+    for (target, resource, namespace, requirements) in [
+        ("/api/v1/configmaps", Resource::ConfigMap, None, 0),
+        ("/api/v1/pods?", Resource::Pod, None, 0),
+        ("/api/v1/nodes", Resource::Node, None, 0),
+        ("/apis/apps/v1/deployments", Resource::Deployment, None, 0),
+        (
+            "/api/v1/namespaces/x/configmaps",
+            Resource::ConfigMap,
+            Some("x"),
+            0,
+        ),
+        (
+            "/api/v1/namespaces/x/services?&&",
+            Resource::Service,
+            Some("x"),
+            0,
+        ),
+        ("/api/v1/nodes?labelSelector=", Resource::Node, None, 0),
+        ("/api/v1/nodes?labelSelector", Resource::Node, None, 0),
+        ("/api/v1/nodes?labelSelector=app=x", Resource::Node, None, 1),
+        (
+            "/api/v1/nodes?label%53elector=a,!b",
+            Resource::Node,
+            None,
+            2,
+        ),
+        ("/api/v1/nodes?watch=false", Resource::Node, None, 0),
+        (
+            "/api/v1/nodes?watch=0&labelSelector=a",
+            Resource::Node,
+            None,
+            1,
+        ),
+    ] {
+        let Request::List(collection, selector) = request_of(rt.alloc(), "GET", target, "")? else {
+            return Err(Fail::from("no list"));
+        };
+        assert_eq!(rt; collection.resource, resource, "{target}");
+        assert_eq!(rt; collection.namespace.as_deref(), namespace, "{target}");
+        assert_eq!(rt; selector.requirements.len(), requirements, "{target}");
+    }
+    Ok(())
+}
+
+#[test]
+fn the_text_of_a_selector_is_decoded(rt: HostRuntime) -> Result<(), Fail> {
+    let target = "/api/v1/configmaps?labelSelector=app%3Dx";
+    let Request::List(_, selector) = request_of(rt.alloc(), "GET", target, "")? else {
+        return Err(Fail::from("no list"));
+    };
+    let Some(Requirement::Equals(label, value)) = selector.requirements.first() else {
+        return Err(Fail::from("no requirement"));
+    };
+    assert_eq!(rt; (label.as_str(), value.as_str()), ("app", "x"));
+    Ok(())
+}
+
+#[test]
+fn a_watch_names_the_revision_behind_which_it_begins(rt: HostRuntime) -> Result<(), Fail> {
+    for (target, namespace, revision) in [
+        ("/api/v1/configmaps?watch=1&resourceVersion=1", None, "1"),
+        (
+            "/api/v1/configmaps?watch=true&resourceVersion=20",
+            None,
+            "20",
+        ),
+        ("/api/v1/configmaps?resourceVersion=7&&watch=1", None, "7"),
+        ("/api/v1/nodes?watch=%31&resourceVersion=%33", None, "3"),
+        (
+            "/api/v1/namespaces/x/pods?watch=1&resourceVersion=18446744073709551615",
+            Some("x"),
+            "18446744073709551615",
+        ),
+    ] {
+        let Request::Watch(collection, found) = request_of(rt.alloc(), "GET", target, "")? else {
+            return Err(Fail::from("no watch"));
+        };
+        assert_eq!(rt; collection.namespace.as_deref(), namespace, "{target}");
+        assert_eq!(rt; found.to_string(rt.alloc())?.as_str(), revision, "{target}");
+    }
+    Ok(())
+}
+
+#[test]
+fn a_watch_without_a_revision_is_refused(rt: HostRuntime) -> Result<(), Fail> {
+    for query in [
+        "watch=true",
+        "watch=1&resourceVersion",
+        "watch=1&resourceVersion=",
+        "watch=1&resourceVersion=0",
+        "watch=1&resourceVersion=01",
+        "watch=1&resourceVersion=-1",
+        "watch=1&resourceVersion=+1",
+        "watch=1&resourceVersion=%2B1",
+        "watch=1&resourceVersion=1x",
+        "watch=1&resourceVersion=1.0",
+        "watch=1&resourceVersion=18446744073709551616",
+        "resourceVersion=100000000000000000000&watch=true",
+    ] {
+        let target = format!(in rt.alloc(); "/api/v1/configmaps?{query}")?;
+        assert_refused(
+            &rt,
+            rt.alloc(),
+            "GET",
+            target.as_str(),
+            "",
+            Refusal::BadVersion,
+        )?;
+    }
+    Ok(())
+}
+
+#[test]
+fn other_queries_of_a_collection_are_refused(rt: HostRuntime) -> Result<(), Fail> {
+    for query in [
+        "x=1",
+        "x",
+        "=",
+        "limit=1",
+        "Watch=1&resourceVersion=1",
+        "watch",
+        "watch=",
+        "watch=yes",
+        "watch=True&resourceVersion=1",
+        "watch=1&watch=1&resourceVersion=1",
+        "watch=1&watch=0&resourceVersion=1",
+        "watch=1&resourceVersion=1&resourceVersion=1",
+        "watch=1&resourceVersion=1&x=1",
+        "watch=false&resourceVersion=1",
+        "resourceVersion=1",
+        "resourceVersion=0",
+        "labelSelector=app,",
+        "labelSelector=a+b",
+        "labelSelector=a%20in%20(b)",
+        "labelSelector=%FF",
+        "labelSelector=a&labelSelector=b",
+        "labelSelector=a&labelSelector=a",
+        "labelSelector=&watch=1",
+        "labelSelector=&watch=1&resourceVersion=1",
+    ] {
+        for path in ["/api/v1/configmaps", "/api/v1/namespaces/x/pods"] {
+            let target = format!(in rt.alloc(); "{path}?{query}")?;
+            assert_refused(
+                &rt,
+                rt.alloc(),
+                "GET",
+                target.as_str(),
+                "",
+                Refusal::BadQuery,
+            )?;
+        }
+    }
+    Ok(())
+}
+
+#[test]
+fn other_paths_are_not_served(rt: HostRuntime) -> Result<(), Fail> {
     for (method, target) in [
         ("GET", "/"),
+        ("GET", "/api"),
         ("GET", "/api/v1"),
-        ("GET", "/api/v1/namespaces/default/configmaps"),
-        ("POST", "/api/v1/namespaces/default/configmaps/a"),
-        ("PUT", "/api/v1/namespaces/default/configmaps"),
-        ("DELETE", "/api/v1/namespaces/default/configmaps"),
-        ("PATCH", "/api/v1/namespaces/default/configmaps/a"),
-        ("HEAD", "/api/v1/namespaces/default/configmaps/a"),
+        ("GET", "/api/v1/"),
+        ("GET", "/api/v1/namespaces"),
+        ("GET", "/api/v1/namespaces/default"),
+        ("GET", "/api/v1/namespaces/default/"),
         ("GET", "/api/v1/namespaces/default/configmaps/"),
         ("GET", "/api/v1/namespaces//configmaps/a"),
+        ("GET", "/api/v1/namespaces//configmaps"),
         ("POST", "/api/v1/namespaces//configmaps"),
         ("GET", "/api/v1/namespaces/default/configmaps/a/b"),
         ("GET", "//api/v1/namespaces/default/configmaps/a"),
@@ -164,17 +326,25 @@ fn other_methods_and_paths_are_not_served(rt: HostRuntime) -> Result<(), Fail> {
         ("GET", "/api/v1/namespaces/default/deployments/a"),
         ("GET", "/apis/apps/v2/namespaces/default/deployments/a"),
         ("GET", "/api/apps/v1/namespaces/default/deployments/a"),
-        ("GET", "/api/v1/namespaces/default/nodes/a"),
+        ("GET", "/api/v1/deployments"),
+        ("GET", "/apis/apps/v1/configmaps"),
+        ("GET", "/api/v1/configmaps/"),
+        ("GET", "/api/v1/configmaps/a"),
         ("GET", "/api/v1/pods/a"),
+        ("PUT", "/api/v1/pods/a"),
+        ("PATCH", "/api/v1/secrets"),
+        ("HEAD", "/api/v1/namespaces/default/secrets/a"),
         ("GET", "/api/v1/nodes/"),
-        ("POST", "/api/v1/nodes/a"),
-        ("POST", "/api/v1/pods"),
+        ("GET", "/api/v1/namespaces/default/nodes"),
+        ("POST", "/api/v1/namespaces/default/nodes"),
+        ("GET", "/api/v1/namespaces/default/nodes/a"),
         (
             "GET",
             "/apis/admissionregistration.k8s.io/v1/validatingadmissionpolicies/a",
         ),
         ("GET", "/api/v1/namespace/default/configmaps/a"),
         ("GET", "/api/v1/namespaces/default/configmap%73/a"),
+        ("GET", "/api/v1/configmap%73"),
     ] {
         assert_refused(&rt, rt.alloc(), method, target, "", Refusal::NoSuchPath)?;
     }
@@ -182,103 +352,150 @@ fn other_methods_and_paths_are_not_served(rt: HostRuntime) -> Result<(), Fail> {
 }
 
 #[test]
-fn each_refusal_of_a_message_is_told(rt: HostRuntime) -> Result<(), Fail> {
+fn a_method_that_a_path_does_not_allow_is_told_those_that_it_does(
+    rt: HostRuntime,
+) -> Result<(), Fail> {
+    let everywhere = "/api/v1/configmaps";
+    let collection = "/api/v1/namespaces/default/configmaps";
+    let item = "/api/v1/namespaces/default/configmaps/a";
+    for (method, target, allow) in [
+        ("HEAD", everywhere, "GET"),
+        ("POST", everywhere, "GET"),
+        ("PUT", everywhere, "GET"),
+        ("DELETE", everywhere, "GET"),
+        ("PATCH", everywhere, "GET"),
+        ("POST", "/api/v1/pods?x=1", "GET"),
+        ("POST", "/apis/apps/v1/deployments", "GET"),
+        ("HEAD", collection, "GET, POST"),
+        ("PUT", collection, "GET, POST"),
+        ("DELETE", collection, "GET, POST"),
+        ("PATCH", collection, "GET, POST"),
+        ("HEAD", "/api/v1/nodes", "GET, POST"),
+        ("PUT", "/api/v1/nodes", "GET, POST"),
+        ("DELETE", "/api/v1/nodes", "GET, POST"),
+        ("get", "/api/v1/nodes", "GET, POST"),
+        (
+            "OPTIONS",
+            "/apis/apps/v1/namespaces/x/deployments",
+            "GET, POST",
+        ),
+        ("HEAD", item, "GET, PUT, DELETE"),
+        ("POST", item, "GET, PUT, DELETE"),
+        ("PATCH", item, "GET, PUT, DELETE"),
+        ("POST", "/api/v1/nodes/a", "GET, PUT, DELETE"),
+        ("HEAD", "/api/v1/nodes/a", "GET, PUT, DELETE"),
+        ("PATCH", "/api/v1/nodes/-?x=1", "GET, PUT, DELETE"),
+    ] {
+        let route = route_of(rt.alloc(), method, target, "")?;
+        assert!(rt;
+            matches!(route.request, Request::Refused(Refusal::MethodNotAllowed)),
+            "{method} {target}"
+        );
+        assert_eq!(rt; route.allow, Some(allow), "{method} {target}");
+    }
+    Ok(())
+}
+
+#[test]
+fn a_method_that_a_path_allows_is_told_no_other(rt: HostRuntime) -> Result<(), Fail> {
+    for (method, target) in [
+        ("GET", "/api/v1/namespaces/default/configmaps/a"),
+        ("PUT", "/api/v1/namespaces/default/configmaps/a"),
+        ("DELETE", "/api/v1/namespaces/default/configmaps/a"),
+        ("POST", "/api/v1/namespaces/default/configmaps"),
+        ("GET", "/api/v1/namespaces/default/configmaps"),
+        ("GET", "/api/v1/configmaps"),
+        ("GET", "/api/v1/nodes"),
+        ("HEAD", "/api/v1/secrets"),
+        ("GET", "/api/v1/nodes/a?x=1"),
+    ] {
+        let route = route_of(rt.alloc(), method, target, "")?;
+        assert!(rt; route.allow.is_none(), "{method} {target}");
+    }
+    Ok(())
+}
+
+#[test]
+fn an_item_and_a_write_take_no_pair(rt: HostRuntime) -> Result<(), Fail> {
     let item = "/api/v1/namespaces/default/configmaps/a";
     let items = "/api/v1/namespaces/default/configmaps";
+    for (method, path, query) in [
+        ("GET", item, "?x"),
+        ("GET", item, "??"),
+        ("GET", item, "?x=1"),
+        ("GET", item, "?="),
+        ("GET", item, "?&x"),
+        ("GET", item, "?watch=1&resourceVersion=1"),
+        ("GET", item, "?labelSelector="),
+        ("PUT", item, "?x"),
+        ("PUT", item, "?watch=false"),
+        ("DELETE", item, "?x"),
+        ("DELETE", item, "?resourceVersion=1"),
+        ("POST", items, "?x="),
+        ("POST", items, "?labelSelector="),
+        ("POST", items, "?dryRun=All"),
+    ] {
+        let target = format!(in rt.alloc(); "{path}{query}")?;
+        assert_refused(
+            &rt,
+            rt.alloc(),
+            method,
+            target.as_str(),
+            BODY,
+            Refusal::BadQuery,
+        )?;
+    }
+    Ok(())
+}
+
+#[test]
+fn names_in_paths_are_not_decoded(rt: HostRuntime) -> Result<(), Fail> {
+    for (method, target) in [
+        ("GET", "/api/v1/namespaces/Default/configmaps/a"),
+        ("GET", "/api/v1/namespaces/a.b/configmaps/a"),
+        ("GET", "/api/v1/namespaces/default/configmaps/-"),
+        ("GET", "/api/v1/namespaces/default/configmaps/%61"),
+        ("GET", "/api/v1/namespaces/defaul%74/configmaps/a"),
+        ("GET", "/api/v1/nodes/a%2Fb"),
+        ("PUT", "/api/v1/nodes/-"),
+        ("PUT", "/api/v1/namespaces/default/configmaps/%61"),
+        ("DELETE", "/api/v1/nodes/-"),
+        ("DELETE", "/api/v1/nodes/%61"),
+        ("POST", "/api/v1/namespaces/a_b/configmaps"),
+        ("POST", "/api/v1/namespaces/defaul%74/configmaps"),
+        ("GET", "/api/v1/namespaces/a_b/configmaps"),
+        ("GET", "/api/v1/namespaces/defaul%74/configmaps?watch=1"),
+    ] {
+        assert_refused(&rt, rt.alloc(), method, target, "", Refusal::BadNameInPath)?;
+    }
+    Ok(())
+}
+
+#[test]
+fn each_refusal_of_a_body_is_told(rt: HostRuntime) -> Result<(), Fail> {
+    let item = "/api/v1/namespaces/default/configmaps/a";
+    let other = "/api/v1/namespaces/default/configmaps/b";
+    let items = "/api/v1/namespaces/default/configmaps";
+    let elsewhere =
+        "{\"apiVersion\":\"v1\",\"kind\":\"ConfigMap\",\"metadata\":{\"name\":\"a\",\"namespace\":\"x\"}}";
+    let versioned =
+        "{\"apiVersion\":\"v1\",\"kind\":\"ConfigMap\",\"metadata\":{\"name\":\"a\",\"resourceVersion\":\"2\"}}";
+    let unnamed = "{\"apiVersion\":\"v1\",\"kind\":\"ConfigMap\",\"metadata\":{}}";
     for (method, target, body, refusal) in [
-        (
-            "GET",
-            "/api/v1/namespaces/default/configmaps/a?x",
-            "",
-            Refusal::BadQuery,
-        ),
-        (
-            "GET",
-            "/api/v1/namespaces/default/configmaps/a??",
-            "",
-            Refusal::BadQuery,
-        ),
-        (
-            "GET",
-            "/api/v1/namespaces/Default/configmaps/a",
-            "",
-            Refusal::BadNameInPath,
-        ),
-        (
-            "GET",
-            "/api/v1/namespaces/a.b/configmaps/a",
-            "",
-            Refusal::BadNameInPath,
-        ),
-        (
-            "GET",
-            "/api/v1/namespaces/default/configmaps/-",
-            "",
-            Refusal::BadNameInPath,
-        ),
         ("GET", item, " ", Refusal::UnexpectedBody),
-        (
-            "POST",
-            "/api/v1/namespaces/default/configmaps?x=",
-            BODY,
-            Refusal::BadQuery,
-        ),
-        (
-            "POST",
-            "/api/v1/namespaces/a_b/configmaps",
-            BODY,
-            Refusal::BadNameInPath,
-        ),
+        ("GET", items, " ", Refusal::UnexpectedBody),
+        ("GET", "/api/v1/pods", "{}", Refusal::UnexpectedBody),
         ("POST", items, "", Refusal::BodyIsNotJson),
         ("POST", items, "{\"a\":1.5}", Refusal::NumberOutsideRange),
         ("POST", items, "{}", Refusal::WrongKind),
-        (
-            "POST",
-            items,
-            "{\"apiVersion\":\"v1\",\"kind\":\"ConfigMap\",\"metadata\":{}}",
-            Refusal::BadMetadata,
-        ),
-        (
-            "POST",
-            "/api/v1/namespaces/other/configmaps",
-            "{\"apiVersion\":\"v1\",\"kind\":\"ConfigMap\",\"metadata\":{\"name\":\"a\",\"namespace\":\"default\"}}",
-            Refusal::WrongName,
-        ),
-        (
-            "POST",
-            items,
-            "{\"apiVersion\":\"v1\",\"kind\":\"ConfigMap\",\"metadata\":{\"name\":\"a\",\"resourceVersion\":\"2\"}}",
-            Refusal::VersionOnCreate,
-        ),
-        (
-            "PUT",
-            "/api/v1/namespaces/default/configmaps/a?x",
-            BODY,
-            Refusal::BadQuery,
-        ),
-        ("PUT", "/api/v1/nodes/-", BODY, Refusal::BadNameInPath),
+        ("POST", items, unnamed, Refusal::BadMetadata),
+        ("POST", items, elsewhere, Refusal::WrongName),
+        ("POST", items, versioned, Refusal::VersionOnCreate),
         ("PUT", item, "", Refusal::BodyIsNotJson),
-        (
-            "PUT",
-            "/api/v1/namespaces/default/configmaps/b",
-            BODY,
-            Refusal::WrongName,
-        ),
-        (
-            "DELETE",
-            "/api/v1/namespaces/default/configmaps/a?x",
-            "",
-            Refusal::BadQuery,
-        ),
-        ("DELETE", "/api/v1/nodes/-", "", Refusal::BadNameInPath),
+        ("PUT", other, BODY, Refusal::WrongName),
         ("DELETE", item, "{", Refusal::BodyIsNotJson),
         ("DELETE", item, "{\"a\":0.5}", Refusal::NumberOutsideRange),
-        (
-            "DELETE",
-            item,
-            "{\"gracePeriodSeconds\":0}",
-            Refusal::BadDeleteOptions,
-        ),
+        ("DELETE", item, "{\"a\":0}", Refusal::BadDeleteOptions),
     ] {
         assert_refused(&rt, rt.alloc(), method, target, body, refusal)?;
     }
@@ -287,37 +504,24 @@ fn each_refusal_of_a_message_is_told(rt: HostRuntime) -> Result<(), Fail> {
 
 #[test]
 fn the_first_refusal_in_order_counts(rt: HostRuntime) -> Result<(), Fail> {
+    let unserved = "/api/v1/namespaces/A/secrets/a?x";
+    let asked = "/api/v1/namespaces/A/configmaps/a?x";
+    let named = "/api/v1/namespaces/A/configmaps/a";
+    let posted = "/api/v1/namespaces/A/configmaps?x";
+    let items = "/api/v1/namespaces/A/configmaps";
+    let watched = "/api/v1/namespaces/A/configmaps?watch=1";
     for (method, target, body, refusal) in [
-        (
-            "GET",
-            "/api/v1/namespaces/A/secrets/a?x",
-            " ",
-            Refusal::NoSuchPath,
-        ),
-        (
-            "GET",
-            "/api/v1/namespaces/A/configmaps/a?x",
-            " ",
-            Refusal::BadQuery,
-        ),
-        (
-            "GET",
-            "/api/v1/namespaces/A/configmaps/a",
-            " ",
-            Refusal::BadNameInPath,
-        ),
-        (
-            "POST",
-            "/api/v1/namespaces/A/configmaps?x",
-            "{",
-            Refusal::BadQuery,
-        ),
-        (
-            "POST",
-            "/api/v1/namespaces/A/configmaps",
-            "{",
-            Refusal::BadNameInPath,
-        ),
+        ("GET", unserved, " ", Refusal::NoSuchPath),
+        ("PATCH", unserved, " ", Refusal::NoSuchPath),
+        ("PATCH", asked, " ", Refusal::MethodNotAllowed),
+        ("GET", asked, " ", Refusal::BadQuery),
+        ("GET", named, " ", Refusal::BadNameInPath),
+        ("PUT", posted, "{", Refusal::MethodNotAllowed),
+        ("POST", posted, "{", Refusal::BadQuery),
+        ("POST", items, "{", Refusal::BadNameInPath),
+        ("GET", posted, " ", Refusal::BadQuery),
+        ("GET", watched, " ", Refusal::BadNameInPath),
+        ("GET", "/api/v1/nodes?watch=1", " ", Refusal::UnexpectedBody),
     ] {
         assert_refused(&rt, rt.alloc(), method, target, body, refusal)?;
     }

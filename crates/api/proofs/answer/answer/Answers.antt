@@ -12,9 +12,9 @@ pub returns-in-Ok-write_found-clause-outcome : goal.returns-in-Ok-write_found-cl
 returns-in-Ok-write_found-clause-outcome g c h settled =
     let m = c.args.message.now in
     let found = c.in-Ok.ensures.replied h settled in
-    let a = answered_by m c.in-Ok.reply in
+    let a = answered_by m c.in-Ok.answer.reply in
     let code = subst (λ (r : Reply). IsStatusCode r.code) (sym found.reply) (reply_code h a) in
-    answers_one g.O.Output.took c.args.output.now c.write_found.new.output c.args.store.now c.reply_to.new.store h a
+    answers_one g.O.Output.took c.args.output.now c.write_found.new.output c.args.store.now c.answer_to.new.store h a
     (subst (λ (r : Reply). g.O.Output.took c.args.output.now c.write_found.new.output (reply_bytes m r)) found.reply
     (c.in-Ok-write_found.ensures.writes code))
     found.settled found.moments
@@ -23,9 +23,9 @@ pub returns-in-Ok-clause-outcome : goal.returns-in-Ok-clause-outcome
 returns-in-Ok-clause-outcome g c h settled =
     let m = c.args.message.now in
     let found = c.in-Ok.ensures.replied h settled in
-    let a = answered_by m c.in-Ok.reply in
+    let a = answered_by m c.in-Ok.answer.reply in
     let code = subst (λ (r : Reply). IsStatusCode r.code) (sym found.reply) (reply_code h a) in
-    writes_some_one g.O.Output.took c.args.output.now c.write_found.new.output c.args.store.now c.reply_to.new.store h a
+    writes_some_one g.O.Output.took c.args.output.now c.write_found.new.output c.args.store.now c.answer_to.new.store h a
     (subst (λ (r : Reply). TookSome g.O.Output.took c.args.output.now c.write_found.new.output (reply_bytes m r)) found.reply
     (c.in-Err-write_found.ensures.writes code))
     found.settled found.moments
@@ -33,8 +33,8 @@ returns-in-Ok-clause-outcome g c h settled =
 pub returns-clause-outcome : goal.returns-clause-outcome
 returns-clause-outcome g c h settled =
     let failed = c.in-Err.ensures.stopped h settled in
-    subst (Stops g.O.Output.took c.args.output.now c.write_storage_failed.new.output c.args.store.now c.reply_to.new.store h (c.args.message.now ∷ []))
+    subst (Stops g.O.Output.took c.args.output.now c.write_storage_failed.new.output c.args.store.now c.answer_to.new.store h (c.args.message.now ∷ []))
     (sym failed.is)
-    (fails_at_one g.O.Output.took c.args.output.now c.write_storage_failed.new.output c.args.store.now c.reply_to.new.store h c.args.message.now
+    (fails_at_one g.O.Output.took c.args.output.now c.write_storage_failed.new.output c.args.store.now c.answer_to.new.store h c.args.message.now
     (took_some_of g.O.Output.took c.args.output.now c.write_storage_failed.new.output _ c.write_storage_failed.result c.write_storage_failed.ensures.writes)
     failed.left failed.moments)

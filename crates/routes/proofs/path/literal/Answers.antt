@@ -1,4 +1,3 @@
-use Rattle.std.proofs.Common.{rules}
 use Rattle.routes.proofs.path.literal.Goals as goal
 
 pub returns-in-None : goal.returns-in-None

@@ -3,7 +3,7 @@ use Rattle.std.proofs.lemmas.List.{append-nil}
 use Rattle.durable.specs.Rules.{first_rules}
 use Rattle.durable.specs.Settled.{IsSettledAt}
 use Rattle.durable.proofs.Findings.{leaves-idle}
-use Rattle.api.proofs.answer.reply_to.Goals as goal
+use Rattle.api.proofs.answer.answer_to.Goals as goal
 
 pub returns-in-Err-clause-replied : goal.returns-in-Err-clause-replied
 returns-in-Err-clause-replied g c h settled = record {
