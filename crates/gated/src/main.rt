@@ -10,6 +10,8 @@
 #![tactic(auto)]
 
 mod command;
+#[cfg(test)]
+mod object_tests;
 mod problem;
 mod program;
 mod status;

@@ -90,7 +90,7 @@ fn answer<R: Files<File = File> + AllocGlobal>(
     Ok((status, output.into_inner(), errors.into_inner()))
 }
 
-fn assert_answer<R: Files<File = File> + AllocGlobal + Abort>(
+pub(crate) fn assert_answer<R: Files<File = File> + AllocGlobal + Abort>(
     rt: &R,
     words: &[&str],
     input: &[u8],
@@ -104,7 +104,10 @@ fn assert_answer<R: Files<File = File> + AllocGlobal + Abort>(
 }
 
 // A new store in a file.
-fn created<R: Files<File = File> + AllocGlobal + Abort>(rt: &R, file: &str) -> Result<(), Fail> {
+pub(crate) fn created<R: Files<File = File> + AllocGlobal + Abort>(
+    rt: &R,
+    file: &str,
+) -> Result<(), Fail> {
     assert_answer(
         rt,
         &["gated", "create", file],
