@@ -129,7 +129,11 @@ fn values_of(alloc: Global, outcomes: &Vec<Outcome>) -> Result<Option<Vec<Value>
 }
 
 /// The list of the values.
-pub(crate) fn list_of(alloc: Global, outcomes: &Vec<Outcome>) -> Result<Outcome, AllocError>
+///
+/// # Errors
+///
+/// Where no memory is left.
+pub fn list_of(alloc: Global, outcomes: &Vec<Outcome>) -> Result<Outcome, AllocError>
     ensures { IfOk result (λ o. outcome_of o ≡ list_of (outcomes_seen outcomes.now.items)) }
 {
     match values_of(alloc, outcomes)? {
@@ -202,10 +206,11 @@ fn put_entry(
 }
 
 /// The map of the entries.
-pub(crate) fn map_of(
-    alloc: Global,
-    outcomes: &Vec<(Outcome, Outcome)>,
-) -> Result<Outcome, AllocError>
+///
+/// # Errors
+///
+/// Where no memory is left.
+pub fn map_of(alloc: Global, outcomes: &Vec<(Outcome, Outcome)>) -> Result<Outcome, AllocError>
     ensures { IfOk result (λ o. outcome_of o ≡ map_of (outcome_pairs_seen outcomes.now.items)) }
 {
     let mut entries = Vec::new(alloc);
@@ -222,7 +227,11 @@ pub(crate) fn map_of(
 }
 
 /// The value of the key of a map, if the outcome is one.
-pub(crate) fn member_of(alloc: Global, name: &str, of: &Outcome) -> Result<Outcome, AllocError>
+///
+/// # Errors
+///
+/// Where no memory is left.
+pub fn member_of(alloc: Global, name: &str, of: &Outcome) -> Result<Outcome, AllocError>
     ensures { IfOk result (λ o. outcome_of o ≡ with_value (member name.now) (outcome_of of.now)) }
 {
     match of {
@@ -232,7 +241,11 @@ pub(crate) fn member_of(alloc: Global, name: &str, of: &Outcome) -> Result<Outco
 }
 
 /// Whether a map has the key, if the outcome is one.
-pub(crate) fn has_member_of(alloc: Global, name: &str, of: &Outcome) -> Result<Outcome, AllocError>
+///
+/// # Errors
+///
+/// Where no memory is left.
+pub fn has_member_of(alloc: Global, name: &str, of: &Outcome) -> Result<Outcome, AllocError>
     ensures { IfOk result (λ o. outcome_of o ≡ with_value (has_member name.now) (outcome_of of.now)) }
 {
     match of {
@@ -242,7 +255,11 @@ pub(crate) fn has_member_of(alloc: Global, name: &str, of: &Outcome) -> Result<O
 }
 
 /// The item of a list, or the value of a map's key, if both outcomes are values.
-pub(crate) fn index_of(of: &Outcome, index: &Outcome) -> Result<Outcome, AllocError>
+///
+/// # Errors
+///
+/// Where no memory is left.
+pub fn index_of(of: &Outcome, index: &Outcome) -> Result<Outcome, AllocError>
     ensures { IfOk result (λ o. outcome_of o ≡ with_values indexed (outcome_of of.now) (outcome_of index.now)) }
 {
     match of {

@@ -137,11 +137,11 @@ fn on_argument(alloc: Global, name: &str, argument: &Outcome) -> Result<Outcome,
 }
 
 /// `f(e)`. Any other number of arguments is the error.
-pub(crate) fn called(
-    alloc: Global,
-    name: &str,
-    arguments: &Vec<Outcome>,
-) -> Result<Outcome, AllocError>
+///
+/// # Errors
+///
+/// Where no memory is left.
+pub fn called(alloc: Global, name: &str, arguments: &Vec<Outcome>) -> Result<Outcome, AllocError>
     ensures { IfOk result (λ o. outcome_of o ≡ called name.now (outcomes_seen arguments.now.items)) }
 {
     match arguments_of(arguments) {
@@ -199,7 +199,7 @@ fn method_on_argument(name: &str, of: &Value, argument: &Outcome) -> Outcome
 }
 
 /// `e.f()` or `e.f(t)`. Any other number of arguments is the error.
-pub(crate) fn method_called(name: &str, of: &Outcome, arguments: &Vec<Outcome>) -> Outcome
+pub fn method_called(name: &str, of: &Outcome, arguments: &Vec<Outcome>) -> Outcome
     ensures { outcome_of result ≡ method_called name.now (outcome_of of.now) (outcomes_seen arguments.now.items) }
 {
     match of {

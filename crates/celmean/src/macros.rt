@@ -11,7 +11,7 @@ use celread::Macro;
 use std::alloc::{AllocError, Global};
 
 /// Whether the outcome is true.
-pub(crate) fn is_true(outcome: &Outcome) -> bool
+pub fn is_true(outcome: &Outcome) -> bool
     ensures { result ≡ is_true (outcome_of outcome.now) }
 {
     match outcome {
@@ -25,7 +25,7 @@ pub(crate) fn is_true(outcome: &Outcome) -> bool
 }
 
 /// Whether the outcome is false.
-pub(crate) fn is_false(outcome: &Outcome) -> bool
+pub fn is_false(outcome: &Outcome) -> bool
     ensures { result ≡ is_false (outcome_of outcome.now) }
 {
     match outcome {
@@ -52,7 +52,7 @@ fn is_truth(outcome: &Outcome) -> bool
 }
 
 /// `a && b`: false if either is false, else the error if either is no truth value, else true.
-pub(crate) fn both(left: &Outcome, right: &Outcome) -> Outcome
+pub fn both(left: &Outcome, right: &Outcome) -> Outcome
     ensures { outcome_of result ≡ both (outcome_of left.now) (outcome_of right.now) }
 {
     if is_false(left) || is_false(right) {
@@ -65,7 +65,7 @@ pub(crate) fn both(left: &Outcome, right: &Outcome) -> Outcome
 }
 
 /// `a || b`: true if either is true, else the error if either is no truth value, else false.
-pub(crate) fn either(left: &Outcome, right: &Outcome) -> Outcome
+pub fn either(left: &Outcome, right: &Outcome) -> Outcome
     ensures { outcome_of result ≡ either (outcome_of left.now) (outcome_of right.now) }
 {
     if is_true(left) || is_true(right) {
@@ -220,7 +220,11 @@ fn filtered(
 }
 
 /// What a macro makes of the items and the body's outcomes for them.
-pub(crate) fn reduced(
+///
+/// # Errors
+///
+/// Where no memory is left.
+pub fn reduced(
     alloc: Global,
     kind: Macro,
     items: &Vec<Value>,
@@ -248,7 +252,11 @@ fn keys(alloc: Global, entries: &Vec<(Value, Value)>) -> Result<Vec<Value>, Allo
 }
 
 /// What a macro goes over: a list's items, or a map's keys in their order.
-pub(crate) fn range_of(alloc: Global, outcome: &Outcome) -> Result<Option<Vec<Value>>, AllocError>
+///
+/// # Errors
+///
+/// Where no memory is left.
+pub fn range_of(alloc: Global, outcome: &Outcome) -> Result<Option<Vec<Value>>, AllocError>
     ensures { IfOk result (λ o. option_map (λ v. values_seen v.items) o ≡ range_of (outcome_of outcome.now)) }
 {
     match outcome {

@@ -25,7 +25,7 @@ fn denial(value: &Value) -> Outcome
 }
 
 /// `!` or `-` before an operand.
-pub(crate) fn prefixed(prefix: Prefix, operand: &Outcome) -> Outcome
+pub fn prefixed(prefix: Prefix, operand: &Outcome) -> Outcome
     ensures { outcome_of result ≡ with_value (prefixed prefix) (outcome_of operand.now) }
 {
     match operand {
@@ -89,11 +89,11 @@ fn on_outcomes(operator: Operator, left: &Outcome, right: &Outcome) -> Result<Ou
 }
 
 /// An operator between the outcomes of its two sides.
-pub(crate) fn infixed(
-    operator: Operator,
-    left: &Outcome,
-    right: &Outcome,
-) -> Result<Outcome, AllocError>
+///
+/// # Errors
+///
+/// Where no memory is left.
+pub fn infixed(operator: Operator, left: &Outcome, right: &Outcome) -> Result<Outcome, AllocError>
     ensures { IfOk result (λ o. outcome_of o ≡ infixed operator (outcome_of left.now) (outcome_of right.now)) }
 {
     match operator {

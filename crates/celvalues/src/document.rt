@@ -22,9 +22,13 @@ pub fn document_value(alloc: Global, document: &Doc) -> Result<Value, AllocError
     value_of(alloc, document.value())
 }
 
-// The value of a JSON value.
+/// The value of a JSON value: of a document, or of a part of one.
+///
+/// # Errors
+///
+/// Where no memory is left.
 #[cycle(value)]
-fn value_of(alloc: Global, json: &Json) -> Result<Value, AllocError>
+pub fn value_of(alloc: Global, json: &Json) -> Result<Value, AllocError>
     ensures { IfOk result (λ v. value_of v ≡ json_value (view json.now)) }
 {
     match json {
