@@ -1,0 +1,9 @@
+pub mod Arrivals
+pub mod Nested
+pub mod Stepping
+pub mod Awaiting
+pub mod Reaching
+pub mod WellFormed
+pub mod Converse
+pub mod Running
+pub mod Passing

@@ -1,0 +1,6 @@
+pub mod Op
+pub mod Seen
+pub mod Bytes
+pub mod Faults
+pub mod Judging
+pub mod WellFormed

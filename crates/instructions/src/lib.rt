@@ -1,0 +1,17 @@
+//! The instructions of compiled expressions.
+//!
+//! A plan is a list of instructions for a machine with a stack of outcomes. Operands are gathered left to right, then comes the
+//! instruction that takes them. A target is the number of an instruction, counted from 0, and lies ahead of the instruction that
+//! names it. `specs/Op.antt` has the instructions as pure data, which the contracts of the crates above speak of.
+//!
+//! `specs/Bytes.antt` has the bytes of each instruction, `specs/WellFormed.antt` which plans are well formed, and
+//! `specs/Judging.antt` the first fault of a plan that is not.
+#![tactic(auto)]
+
+mod fault;
+mod instruction;
+mod laws;
+
+pub use fault::CodeFault;
+pub use instruction::{Binary, Function, Instruction, Name, Plan, Slot};
+pub use laws::sound_where_well_formed;

@@ -1,0 +1,6 @@
+pub mod Names
+pub mod Tables
+pub mod Compilation
+pub mod Seen
+pub mod Machine
+pub mod Correct

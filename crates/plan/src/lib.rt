@@ -1,0 +1,17 @@
+//! A compiler of typed expressions to plans.
+//!
+//! [`compile`] gives the instructions of a tree that `celread` read and `celtypes` typed: the operands' instructions, left to right,
+//! and then the instruction that takes them (`specs/Compilation.antt`). A machine that runs them gives what the tree means
+//! ([`runs_as_meant`]).
+#![tactic(auto)]
+
+mod code;
+mod compiling;
+mod laws;
+mod names;
+mod operations;
+#[cfg(test)]
+mod tests;
+
+pub use compiling::compile;
+pub use laws::runs_as_meant;

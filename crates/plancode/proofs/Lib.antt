@@ -1,0 +1,12 @@
+pub mod Texts
+pub mod Failing
+pub mod Counting
+pub mod Heights
+pub mod Low
+pub mod Walking
+pub mod Fields
+pub mod Tables
+pub mod Spelling
+pub mod Again
+pub mod Rooms
+pub mod Codes

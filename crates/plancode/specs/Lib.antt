@@ -1,0 +1,4 @@
+pub mod Reading
+pub mod Bodies
+pub mod Plans
+pub mod Laws

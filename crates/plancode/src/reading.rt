@@ -1,0 +1,42 @@
+//! Plans at the front of bytes.
+
+ghost use Rattle.std.specs.Prelude.{◌≡◌};
+ghost use Rattle.instructions.specs.Faults.{Gives};
+ghost use Rattle.instructions.specs.Seen.{op_of, ops_of};
+ghost use Rattle.plancode.specs.Reading.{ops_at, plan_of};
+
+use crate::numbers::short;
+use crate::operands::instruction;
+use instructions::{CodeFault, Instruction};
+use std::alloc::Global;
+
+// So many instructions, and the bytes behind them.
+fn instructions(
+    alloc: Global,
+    count: u16,
+    bytes: &[u8],
+) -> Result<(Vec<Instruction>, &[u8]), CodeFault>
+    ensures { Gives (λ x. (ops_of x.0.items, x.1.now)) result (ops_at count bytes.now) }
+{
+    let mut read = Vec::new(alloc);
+    let mut rest = bytes;
+    for _ in 0..count {
+        let (first, behind) = instruction(alloc, rest)?;
+        read.push(first)?;
+        rest = behind;
+    }
+    Ok((read, rest))
+}
+
+/// The instructions that the bytes spell, all of the bytes; the first fault where they spell none.
+#[tactic(auto, unfolding(crate::specs::Reading::plan_of))]
+pub(crate) fn plan(alloc: Global, bytes: &[u8]) -> Result<Vec<Instruction>, CodeFault>
+    ensures { Gives (λ v. ops_of v.items) result (plan_of bytes.now) }
+{
+    let (count, rest) = short(bytes)?;
+    let (read, rest) = instructions(alloc, count, rest)?;
+    if !rest.is_empty() {
+        return Err(CodeFault::TrailingBytes);
+    }
+    Ok(read)
+}

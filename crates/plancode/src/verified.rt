@@ -1,0 +1,91 @@
+//! Bytes as a well-formed plan.
+
+ghost use Rattle.std.specs.Prelude.{◌≡◌, List, IfOk, Ok};
+ghost use Rattle.instructions.specs.Faults.{Gives};
+ghost use Rattle.instructions.specs.Seen.{ops_of, plan_ops};
+ghost use Rattle.instructions.specs.Bytes.{code, HaveRoom};
+ghost use Rattle.instructions.specs.Op.{Op};
+ghost use Rattle.plancode.specs.Plans.{IsVerified};
+ghost use Rattle.instructions.specs.WellFormed.{IsWellFormed};
+ghost use Rattle.plancode.specs.Reading.{decoded};
+
+use crate::judging::check;
+use crate::reading::plan;
+use instructions::{CodeFault, Instruction, Plan};
+use std::alloc::Global;
+use std::marker::Model;
+
+/// A well-formed plan, for a place with so many variables.
+#[derive(Drop)]
+pub struct Verified {
+    vars: u16,
+    plan: Vec<Instruction>,
+}
+
+impl Model for Verified {
+    ghost use Rattle.plancode.specs.Plans.{Judged, IsVerified};
+    ghost use Rattle.instructions.specs.Seen.{ops_of};
+
+    ghost Value = { Judged };
+
+    ghost view = { λ p. record { vars = p.vars; ops = ops_of p.plan.items } };
+
+    ghost invariant = { λ p. IsVerified p.vars (ops_of p.plan.items) };
+}
+
+impl Verified {
+    /// The instructions, in order.
+    pub fn instructions(&self) -> &[Instruction]
+        ensures same { ops_of result.now ≡ self.now.ops }
+        ensures verified { IsVerified self.now.vars self.now.ops }
+    {
+        &self.plan
+    }
+
+    /// How many variables the place has: each that the plan names lies below.
+    pub fn vars(&self) -> u16
+        ensures same { result ≡ self.now.vars }
+        ensures verified { IsVerified self.now.vars self.now.ops }
+    {
+        self.vars
+    }
+
+    /// The plan, which has bytes.
+    pub fn into_plan(self) -> Plan
+        ensures same { plan_ops result ≡ self.ops }
+        ensures room { HaveRoom (plan_ops result) }
+    {
+        Plan {
+            instructions: self.plan,
+        }
+    }
+}
+
+// The plan that the bytes spell, if it has no fault.
+#[tactic(auto, unfolding(crate::specs::Reading::decoded))]
+fn decode_all(alloc: Global, bytes: &[u8], vars: u16) -> Result<Verified, CodeFault>
+    ensures exact { Gives (λ p. p.ops) result (decoded vars bytes.now) }
+    ensures vars { IfOk result (λ p. p.vars ≡ vars) }
+{
+    let plan = plan(alloc, bytes)?;
+    check(alloc, vars, &plan)?;
+    Ok(Verified { vars, plan })
+}
+
+/// The well-formed plan that the bytes spell, for a place with so many variables.
+///
+/// The bytes are read front to back: [`CodeFault::Truncated`], [`CodeFault::BadOperand`] and [`CodeFault::TextNotUtf8`] are told in
+/// the order of the bytes, then [`CodeFault::TrailingBytes`]. The instructions are judged in order, each for its targets
+/// ([`CodeFault::BadJump`]), its name ([`CodeFault::BadName`]) and its stack ([`CodeFault::BadStack`]); the end of a body is judged
+/// before the instruction behind it, and the end of the plan last.
+pub fn decode(alloc: Global, bytes: &[u8], vars: u16) -> Result<Verified, CodeFault>
+    // The plan is well formed, and the bytes are its code.
+    ensures found { IfOk result (λ p. IsWellFormed vars p.ops × HaveRoom p.ops × (bytes.now ≡ code p.ops)) }
+    // Bytes that are the code of a well-formed plan give it.
+    ensures only { (ops : List Op) → IsWellFormed vars ops → HaveRoom ops → bytes.now ≡ code ops → Gives (λ p. p.ops) result (Ok ops) }
+    // Which fault it is.
+    ensures exact { Gives (λ p. p.ops) result (decoded vars bytes.now) }
+    ensures vars { IfOk result (λ p. p.vars ≡ vars) }
+{
+    decode_all(alloc, bytes, vars)
+}

@@ -1,0 +1,4 @@
+pub mod Seen
+pub mod Worlds
+pub mod Running
+pub mod Results
