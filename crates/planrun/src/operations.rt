@@ -1,6 +1,6 @@
 //! Instructions that take outcomes from the top of the stack and put one there.
 
-ghost use Rattle.std.specs.Prelude.{◌≡◌, ◌+◌, [], ◌∷◌, map, reverse, take, drop, vec_len, ◌<◌, OnOk, IfOk, IfSome, IfNone};
+ghost use Rattle.std.specs.Prelude.{◌≡◌, ◌+◌, [], ◌∷◌, reverse, take, drop, vec_len, ◌<◌, OnOk, IfOk, IfSome, IfNone};
 ghost use Rattle.celmean.specs.Value.{with_value, with_values};
 ghost use Rattle.celmean.specs.Collections.{member, has_member, indexed, list_of, map_of};
 ghost use Rattle.celmean.specs.Macros.{both, either};

@@ -1,10 +1,7 @@
-use Rattle.std.proofs.Common.{◌≡◌, suc, ◌-◌, ◌<◌, IfOk, ap, sym, ◌∙◌, arith}
+use Rattle.std.proofs.Common.{◌≡◌, suc, ◌-◌, ◌<◌, ap, sym, ◌∙◌, arith}
 use Rattle.std.proofs.lemmas.Result.{IfOk-weaker}
-use Rattle.instructions.specs.Op.{Op, Branch, Over}
-use Rattle.instructions.specs.Seen.{op_of}
-use Rattle.plan.specs.Machine.{step}
 use Rattle.planrun.specs.Seen.{stack_seen}
-use Rattle.planrun.specs.Running.{items_of, world, next_of, goes}
+use Rattle.planrun.specs.Running.{items_of, world, next_of}
 use Rattle.planrun.proofs.Runs.{onward, nowhere}
 use Rattle.planrun.proofs.machine.+execute.Goals as goal
 
