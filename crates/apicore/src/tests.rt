@@ -1,7 +1,7 @@
 // Bodies after the Kubernetes API conventions, and replies whose bytes were written by hand.
 use crate::{
-    BodyFault, Collection, Core, Document, Manifest, PreparedWrite, Put, Refusal, ReplayFault,
-    Reply, Request, Selector, events_are_last, key_has_last_write, parts_are_spelled,
+    BodyFault, Collection, Core, Document, Manifest, Prepared, PreparedWrite, Put, Refusal,
+    ReplayFault, Reply, Request, Selector, events_are_last, key_has_last_write, parts_are_spelled,
     read_delete_options, revision_counts, runs_are_steps, stored_is_read, view_decides,
     writes_follow,
 };
@@ -289,20 +289,37 @@ fn get(alloc: Global, name: &str) -> Result<Request, Fail> {
     Ok(Request::Get(Key::new(alloc, Resource::ConfigMap, "default", name)?))
 }
 
+// The step of a POST of a configmap, before it is taken.
+fn prepared(alloc: Global, core: &mut Core, name: &str) -> Result<Prepared, Fail> {
+    let request = create(alloc, name)?;
+    Ok(core.prepare(alloc, &request)?)
+}
+
+// The reply to a POST of a configmap.
+fn created(alloc: Global, core: &mut Core, name: &str) -> Result<Reply, Fail> {
+    let request = create(alloc, name)?;
+    answer(alloc, core, &request)
+}
+
+// The reply to a message that is refused.
+fn refused(alloc: Global, core: &mut Core, refusal: Refusal) -> Result<Reply, Fail> {
+    answer(alloc, core, &Request::Refused(refusal))
+}
+
 #[test]
 fn a_created_object_is_shown_with_its_revision(rt: HostRuntime) -> Result<(), Fail> {
-    let shown =
+    let body =
         "{\"apiVersion\":\"v1\",\"data\":{\"k\":\"v\"},\"kind\":\"ConfigMap\",\"metadata\":{\"name\":\"a\",\"namespace\":\"default\",\"resourceVersion\":\"2\"}}";
-    assert_eq!(rt; shown.len(), 123);
+    assert_eq!(rt; body.len(), 123);
     let mut core = new_store(rt.alloc())?;
-    let missing = answer(rt.alloc(), &mut core, &get(rt.alloc(), "a")?)?;
+    let missing = shown(rt.alloc(), &mut core, "a")?;
     assert_eq!(rt; missing.code(), 404);
-    let created = answer(rt.alloc(), &mut core, &create(rt.alloc(), "a")?)?;
+    let created = created(rt.alloc(), &mut core, "a")?;
     assert_eq!(rt; created.code(), 201);
-    assert_eq!(rt; created.body(), shown);
-    let found = answer(rt.alloc(), &mut core, &get(rt.alloc(), "a")?)?;
+    assert_eq!(rt; created.body(), body);
+    let found = shown(rt.alloc(), &mut core, "a")?;
     assert_eq!(rt; found.code(), 200);
-    assert_eq!(rt; found.body(), shown);
+    assert_eq!(rt; found.body(), body);
     assert_eq!(rt; core.revision(), 2);
     assert_eq!(rt; core.object_count(), 1);
     Ok(())
@@ -311,16 +328,12 @@ fn a_created_object_is_shown_with_its_revision(rt: HostRuntime) -> Result<(), Fa
 #[test]
 fn a_second_create_takes_no_revision(rt: HostRuntime) -> Result<(), Fail> {
     let mut core = new_store(rt.alloc())?;
-    let _created = answer(rt.alloc(), &mut core, &create(rt.alloc(), "a")?)?;
-    let again = answer(rt.alloc(), &mut core, &create(rt.alloc(), "a")?)?;
+    let _created = created(rt.alloc(), &mut core, "a")?;
+    let again = created(rt.alloc(), &mut core, "a")?;
     assert_eq!(rt; again.code(), 409);
     assert_eq!(rt; again.body().len(), 117);
     assert_eq!(rt; core.revision(), 2);
-    let refused = answer(
-        rt.alloc(),
-        &mut core,
-        &Request::Refused(Refusal::NoSuchPath),
-    )?;
+    let refused = refused(rt.alloc(), &mut core, Refusal::NoSuchPath)?;
     assert_eq!(rt; refused.code(), 404);
     assert_eq!(rt; core.revision(), 2);
     Ok(())
@@ -336,7 +349,7 @@ fn put_of(write: &Option<PreparedWrite>) -> Option<&Put> {
 #[test]
 fn a_prepared_write_has_its_document(rt: HostRuntime) -> Result<(), Fail> {
     let mut core = new_store(rt.alloc())?;
-    let prepared = core.prepare(rt.alloc(), &create(rt.alloc(), "a")?)?;
+    let prepared = prepared(rt.alloc(), &mut core, "a")?;
     let put = put_of(&prepared.write).ok_or("a put")?;
     assert_eq!(rt; put.key().name(), "a");
     assert_eq!(rt; put.text(), STORED);
@@ -564,10 +577,10 @@ fn filled(alloc: Global, count: u32) -> Result<Core, Fail> {
 #[test]
 fn a_store_takes_65536_objects(rt: HostRuntime) -> Result<(), Fail> {
     let mut core = filled(rt.alloc(), 65535)?;
-    let last = answer(rt.alloc(), &mut core, &create(rt.alloc(), "last")?)?;
+    let last = created(rt.alloc(), &mut core, "last")?;
     assert_eq!(rt; last.code(), 201);
     assert_eq!(rt; core.object_count(), 65536);
-    let full = answer(rt.alloc(), &mut core, &create(rt.alloc(), "one-more")?)?;
+    let full = created(rt.alloc(), &mut core, "one-more")?;
     assert_eq!(rt; full.code(), 507);
     assert!(rt; full.body().contains("too many objects"));
     assert_eq!(rt; core.object_count(), 65536);
@@ -604,7 +617,7 @@ fn config_map(alloc: Global, name: &str) -> Result<Key, Fail> {
     Ok(Key::new(alloc, Resource::ConfigMap, "default", name)?)
 }
 
-// The body of a GET.
+// The reply to a GET of a configmap.
 fn shown(alloc: Global, core: &mut Core, name: &str) -> Result<Reply, Fail> {
     let request = get(alloc, name)?;
     answer(alloc, core, &request)
