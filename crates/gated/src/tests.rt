@@ -90,6 +90,7 @@ fn answer<R: Files<File = File> + AllocGlobal>(
     Ok((status, output.into_inner(), errors.into_inner()))
 }
 
+/// The program ends in this way, with this output and this told of errors.
 pub(crate) fn assert_answer<R: Files<File = File> + AllocGlobal + Abort>(
     rt: &R,
     words: &[&str],
@@ -103,7 +104,7 @@ pub(crate) fn assert_answer<R: Files<File = File> + AllocGlobal + Abort>(
     Ok(())
 }
 
-// A new store in a file.
+/// A new store in a file.
 pub(crate) fn created<R: Files<File = File> + AllocGlobal + Abort>(
     rt: &R,
     file: &str,
