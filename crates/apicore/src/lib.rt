@@ -13,7 +13,11 @@
 //! again, `replay_put` and `replay_delete` take the writes that were stored, each of which must be allowed to follow.
 #![tactic(auto)]
 
+#[cfg(test)]
+mod body_tests;
 mod collection;
+#[cfg(test)]
+mod collection_tests;
 mod delete_options;
 mod laws;
 mod listing;
@@ -23,6 +27,8 @@ mod prepared;
 mod preparing;
 mod refusal;
 mod replay;
+#[cfg(test)]
+mod replay_tests;
 mod reply;
 mod request;
 mod selector;
@@ -31,6 +37,8 @@ mod state;
 mod stored;
 #[cfg(test)]
 mod tests;
+#[cfg(test)]
+mod update_tests;
 mod watching;
 
 pub use collection::Collection;

@@ -1,0 +1,244 @@
+// Lists, selectors and watches: each reply was written by hand after the Kubernetes API conventions.
+use crate::tests::{answer, assert_created, new_store};
+use crate::update_tests::{assert_deleted, assert_updated};
+use crate::{Collection, Core, Manifest, Reply, Request, Selector};
+use names::Resource;
+use std::alloc::Global;
+use std::process::Abort;
+use std::test::Fail;
+
+// A POST of a configmap in a namespace, whose metadata has these members behind its name.
+fn create_in(alloc: Global, namespace: &str, name: &str, members: &str) -> Result<Request, Fail> {
+    let body = format!(in alloc;
+        "{{\"apiVersion\":\"v1\",\"kind\":\"ConfigMap\",\"metadata\":{{\"name\":\"{name}\"{members}}}}}"
+    )?;
+    let manifest = Manifest::read(alloc, Resource::ConfigMap, namespace, None, body.as_bytes())?;
+    Ok(Request::Create(manifest))
+}
+
+// Creates a configmap.
+fn place(
+    alloc: Global,
+    core: &mut Core,
+    namespace: &str,
+    name: &str,
+    members: &str,
+) -> Result<(), Fail> {
+    let request = create_in(alloc, namespace, name, members)?;
+    let _created = answer(alloc, core, &request)?;
+    Ok(())
+}
+
+// The objects of a resource in a namespace, or in all where it is empty.
+fn collection(alloc: Global, resource: Resource, namespace: &str) -> Result<Collection, Fail> {
+    let namespace = if namespace.is_empty() {
+        None
+    } else {
+        Some(String::from_str(alloc, namespace)?)
+    };
+    Ok(Collection {
+        resource,
+        namespace,
+    })
+}
+
+// The reply to a GET of a collection.
+fn listed(
+    alloc: Global,
+    core: &mut Core,
+    resource: Resource,
+    namespace: &str,
+    selector: &str,
+) -> Result<Reply, Fail> {
+    let collection = collection(alloc, resource, namespace)?;
+    let selector = Selector::read(alloc, selector)?.ok_or("a selector")?;
+    answer(alloc, core, &Request::List(collection, selector))
+}
+
+#[test]
+fn a_fresh_list_has_88_bytes(rt: HostRuntime) -> Result<(), Fail> {
+    let alloc = rt.alloc();
+    let mut core = new_store(alloc)?;
+    let reply = listed(alloc, &mut core, Resource::ConfigMap, "default", "")?;
+    assert_eq!(rt; reply.code(), 200);
+    assert_eq!(rt;
+        reply.body(),
+        "{\"apiVersion\":\"v1\",\"items\":[],\"kind\":\"ConfigMapList\",\"metadata\":{\"resourceVersion\":\"1\"}}"
+    );
+    assert_eq!(rt; reply.body().len(), 88);
+    Ok(())
+}
+
+const ALL_NAMESPACES: &str =
+    "{\"apiVersion\":\"v1\",\"items\":[{\"apiVersion\":\"v1\",\"kind\":\"ConfigMap\",\"metadata\":{\"name\":\"c\",\"namespace\":\"alpha\",\"resourceVersion\":\"4\"}},{\"apiVersion\":\"v1\",\"kind\":\"ConfigMap\",\"metadata\":{\"name\":\"b\",\"namespace\":\"default\",\"resourceVersion\":\"2\"}},{\"apiVersion\":\"v1\",\"kind\":\"ConfigMap\",\"metadata\":{\"name\":\"a\",\"namespace\":\"other\",\"resourceVersion\":\"3\"}}],\"kind\":\"ConfigMapList\",\"metadata\":{\"resourceVersion\":\"4\"}}";
+
+const DEFAULT_NAMESPACE: &str =
+    "{\"apiVersion\":\"v1\",\"items\":[{\"apiVersion\":\"v1\",\"kind\":\"ConfigMap\",\"metadata\":{\"name\":\"b\",\"namespace\":\"default\",\"resourceVersion\":\"2\"}}],\"kind\":\"ConfigMapList\",\"metadata\":{\"resourceVersion\":\"4\"}}";
+
+const NO_DEPLOYMENTS: &str =
+    "{\"apiVersion\":\"apps/v1\",\"items\":[],\"kind\":\"DeploymentList\",\"metadata\":{\"resourceVersion\":\"4\"}}";
+
+#[test]
+fn a_list_has_its_objects_in_key_order(rt: HostRuntime) -> Result<(), Fail> {
+    let alloc = rt.alloc();
+    let mut core = new_store(alloc)?;
+    place(alloc, &mut core, "default", "b", "")?;
+    place(alloc, &mut core, "other", "a", "")?;
+    place(alloc, &mut core, "alpha", "c", "")?;
+    let all = listed(alloc, &mut core, Resource::ConfigMap, "", "")?;
+    assert_eq!(rt; all.body(), ALL_NAMESPACES);
+    let some = listed(alloc, &mut core, Resource::ConfigMap, "default", "")?;
+    assert_eq!(rt; some.body(), DEFAULT_NAMESPACE);
+    let none = listed(alloc, &mut core, Resource::Deployment, "", "")?;
+    assert_eq!(rt; none.body(), NO_DEPLOYMENTS);
+    assert_eq!(rt; core.revision(), 4);
+    Ok(())
+}
+
+// The configmaps a with the label `app: x`, b with `app: y`, and c without labels.
+fn labelled(alloc: Global) -> Result<Core, Fail> {
+    let mut core = new_store(alloc)?;
+    place(
+        alloc,
+        &mut core,
+        "default",
+        "a",
+        ",\"labels\":{\"app\":\"x\"}",
+    )?;
+    place(
+        alloc,
+        &mut core,
+        "default",
+        "b",
+        ",\"labels\":{\"app\":\"y\"}",
+    )?;
+    place(alloc, &mut core, "default", "c", "")?;
+    Ok(core)
+}
+
+#[test]
+fn a_selector_selects_by_labels(rt: HostRuntime) -> Result<(), Fail> {
+    let alloc = rt.alloc();
+    let mut core = labelled(alloc)?;
+    for (selector, names) in [
+        ("app=x", "a"),
+        ("app!=x", "bc"),
+        ("app", "ab"),
+        ("!app", "c"),
+        ("app,app==y", "b"),
+        ("app=x,app=y", ""),
+        ("app=", ""),
+        ("", "abc"),
+    ] {
+        let reply = listed(alloc, &mut core, Resource::ConfigMap, "default", selector)?;
+        let has_a = reply.body().contains("\"name\":\"a\"");
+        let has_b = reply.body().contains("\"name\":\"b\"");
+        let has_c = reply.body().contains("\"name\":\"c\"");
+        assert_eq!(rt; has_a, names.contains('a'), "{selector}");
+        assert_eq!(rt; has_b, names.contains('b'), "{selector}");
+        assert_eq!(rt; has_c, names.contains('c'), "{selector}");
+    }
+    Ok(())
+}
+
+#[test]
+fn a_selector_is_parts_joined_by_commas(rt: HostRuntime) -> Result<(), Fail> {
+    for (text, parts) in [
+        ("", 0),
+        ("app", 1),
+        ("!app", 1),
+        ("app=", 1),
+        ("app==x.Y_1-z", 1),
+        ("k8s.io/app_1-Z!=", 1),
+        ("app,app==y", 2),
+        ("a=b,!c,d!=e", 3),
+    ] {
+        let selector = Selector::read(rt.alloc(), text)?.ok_or("a selector")?;
+        assert_eq!(rt; selector.requirements.len(), parts, "{text}");
+    }
+    for text in [
+        "app,",
+        ",",
+        "=x",
+        "!=x",
+        "!",
+        "!!a",
+        "!a=b",
+        "a!b",
+        "a=b=c",
+        "a===b",
+        "a=b/c",
+        "app in (x)",
+        "a b",
+        " a",
+        "a=b ",
+    ] {
+        assert!(rt; Selector::read(rt.alloc(), text)?.is_none(), "{text}");
+    }
+    Ok(())
+}
+
+// The reply to a watch of the configmaps of a namespace.
+fn watched(alloc: Global, core: &mut Core, namespace: &str, revision: u64) -> Result<Reply, Fail> {
+    let collection = collection(alloc, Resource::ConfigMap, namespace)?;
+    answer(alloc, core, &Request::Watch(collection, revision))
+}
+
+const TWO_LINES: &str =
+    "{\"object\":{\"apiVersion\":\"v1\",\"data\":{\"k\":\"v\"},\"kind\":\"ConfigMap\",\"metadata\":{\"name\":\"a\",\"namespace\":\"default\",\"resourceVersion\":\"3\"}},\"type\":\"DELETED\"}\n{\"object\":{\"apiVersion\":\"v1\",\"data\":{\"k\":\"v\"},\"kind\":\"ConfigMap\",\"metadata\":{\"name\":\"a\",\"namespace\":\"default\",\"resourceVersion\":\"4\"}},\"type\":\"ADDED\"}\n";
+
+#[test]
+fn a_watch_tells_the_events_above_its_revision(rt: HostRuntime) -> Result<(), Fail> {
+    let alloc = rt.alloc();
+    let mut core = new_store(alloc)?;
+    assert_created(&rt, alloc, &mut core, "a", 201, "")?;
+    assert_deleted(&rt, alloc, &mut core, "", 200, "")?;
+    assert_created(&rt, alloc, &mut core, "a", 201, "")?;
+    let reply = watched(alloc, &mut core, "default", 2)?;
+    assert_eq!(rt; reply.code(), 200);
+    assert_eq!(rt; reply.body(), TWO_LINES);
+    let everywhere = watched(alloc, &mut core, "", 2)?;
+    assert_eq!(rt; everywhere.body(), TWO_LINES);
+    let elsewhere = watched(alloc, &mut core, "other", 2)?;
+    assert_eq!(rt; elsewhere.body(), "");
+    let current = watched(alloc, &mut core, "default", 4)?;
+    assert_eq!(rt; (current.code(), current.body()), (200, ""));
+    let above = watched(alloc, &mut core, "default", 5)?;
+    assert_eq!(rt; above.code(), 400);
+    assert!(rt; above.body().contains("bad resourceVersion"));
+    assert_updated(&rt, alloc, &mut core, "", 200, "")?;
+    let updated = watched(alloc, &mut core, "default", 4)?;
+    assert!(rt;
+        updated
+            .body()
+            .contains("\"resourceVersion\":\"5\"}},\"type\":\"MODIFIED\"}\n")
+    );
+    Ok(())
+}
+
+// The line feeds of a text.
+fn line_count(text: &str) -> usize {
+    text.as_bytes()
+        .iter()
+        .filter(|byte| **byte == b'\n')
+        .count()
+}
+
+#[test]
+fn a_watch_reaches_256_events_back(rt: HostRuntime) -> Result<(), Fail> {
+    let alloc = rt.alloc();
+    let mut core = new_store(alloc)?;
+    assert_created(&rt, alloc, &mut core, "a", 201, "")?;
+    for _ in 0..256_u32 {
+        assert_updated(&rt, alloc, &mut core, "", 200, "")?;
+    }
+    assert_eq!(rt; core.revision(), 258);
+    let whole = watched(alloc, &mut core, "default", 2)?;
+    assert_eq!(rt; whole.code(), 200);
+    assert_eq!(rt; line_count(whole.body()), 256);
+    assert_updated(&rt, alloc, &mut core, "", 200, "")?;
+    let expired = watched(alloc, &mut core, "default", 2)?;
+    assert_eq!(rt; expired.code(), 410);
+    assert!(rt; expired.body().contains("resourceVersion too old"));
+    Ok(())
+}

@@ -1,0 +1,144 @@
+// Updates and deletions, on condition of a revision or not.
+use crate::tests::{SMALL, answer, assert_created, new_store};
+use crate::{BodyFault, Core, Manifest, Refusal, Request, read_delete_options};
+use names::{Key, Resource};
+use std::alloc::Global;
+use std::process::Abort;
+use std::test::Fail;
+
+// A PUT of the configmap `a`, whose metadata has these members behind its name.
+fn replace(alloc: Global, members: &str) -> Result<Request, Fail> {
+    let body = format!(in alloc;
+        "{{\"apiVersion\":\"v1\",\"kind\":\"ConfigMap\",\"metadata\":{{\"name\":\"a\"{members}}},\"data\":{{\"k\":\"w\"}}}}"
+    )?;
+    let manifest = Manifest::read(
+        alloc,
+        Resource::ConfigMap,
+        "default",
+        Some("a"),
+        body.as_bytes(),
+    )?;
+    Ok(Request::Replace(manifest))
+}
+
+// A DELETE of the configmap `a` with this body.
+fn delete(alloc: Global, body: &str) -> Result<Request, Fail> {
+    let version = read_delete_options(alloc, body.as_bytes())?;
+    let key = Key::new(alloc, Resource::ConfigMap, "default", "a")?;
+    Ok(Request::Delete(key, version))
+}
+
+// Updates the configmap `a`, and compares the code and a part of the reply.
+pub(crate) fn assert_updated(
+    rt: &impl Abort,
+    alloc: Global,
+    core: &mut Core,
+    members: &str,
+    code: u16,
+    part: &str,
+) -> Result<(), Fail> {
+    let request = replace(alloc, members)?;
+    let reply = answer(alloc, core, &request)?;
+    assert_eq!(rt; reply.code(), code);
+    assert!(rt; reply.body().contains(part));
+    Ok(())
+}
+
+// Deletes the configmap `a`, and compares the code and a part of the reply.
+pub(crate) fn assert_deleted(
+    rt: &impl Abort,
+    alloc: Global,
+    core: &mut Core,
+    body: &str,
+    code: u16,
+    part: &str,
+) -> Result<(), Fail> {
+    let request = delete(alloc, body)?;
+    let reply = answer(alloc, core, &request)?;
+    assert_eq!(rt; reply.code(), code);
+    assert!(rt; reply.body().contains(part));
+    Ok(())
+}
+
+const AT_TWO: &str = ",\"resourceVersion\":\"2\"";
+
+const UPDATED: &str =
+    "{\"apiVersion\":\"v1\",\"data\":{\"k\":\"w\"},\"kind\":\"ConfigMap\",\"metadata\":{\"name\":\"a\",\"namespace\":\"default\",\"resourceVersion\":\"3\"}}";
+
+#[test]
+fn an_update_asks_for_the_current_revision_or_for_none(rt: HostRuntime) -> Result<(), Fail> {
+    let alloc = rt.alloc();
+    let mut core = new_store(alloc)?;
+    assert_created(&rt, alloc, &mut core, "a", 201, "")?;
+    assert_updated(&rt, alloc, &mut core, AT_TWO, 200, UPDATED)?;
+    assert_updated(&rt, alloc, &mut core, AT_TWO, 409, "is not current")?;
+    assert_updated(&rt, alloc, &mut core, "", 200, "\"4\"")
+}
+
+#[test]
+fn revisions_are_compared_as_texts(rt: HostRuntime) -> Result<(), Fail> {
+    let alloc = rt.alloc();
+    let mut core = new_store(alloc)?;
+    let nine = ",\"resourceVersion\":\"9\"";
+    assert_updated(&rt, alloc, &mut core, nine, 404, "not found")?;
+    assert_created(&rt, alloc, &mut core, "a", 201, "")?;
+    let padded = ",\"resourceVersion\":\"02\"";
+    assert_updated(&rt, alloc, &mut core, padded, 409, "is not current")
+}
+
+const DELETED: &str =
+    "{\"apiVersion\":\"v1\",\"data\":{\"k\":\"v\"},\"kind\":\"ConfigMap\",\"metadata\":{\"name\":\"a\",\"namespace\":\"default\",\"resourceVersion\":\"3\"}}";
+
+#[test]
+fn a_deletion_shows_the_object_with_its_own_revision(rt: HostRuntime) -> Result<(), Fail> {
+    let alloc = rt.alloc();
+    let mut core = new_store(alloc)?;
+    assert_created(&rt, alloc, &mut core, "a", 201, "")?;
+    let before = "{\"preconditions\":{\"resourceVersion\":\"1\"}}";
+    assert_deleted(&rt, alloc, &mut core, before, 409, "is not current")?;
+    let empty = "{\"preconditions\":{\"resourceVersion\":\"\"}}";
+    assert_deleted(&rt, alloc, &mut core, empty, 409, "is not current")?;
+    assert_deleted(&rt, alloc, &mut core, "{}", 200, DELETED)?;
+    assert_created(&rt, alloc, &mut core, "a", 201, "\"4\"")
+}
+
+#[test]
+fn each_fault_of_delete_options_has_its_refusal(rt: HostRuntime) {
+    for (body, refusal) in [
+        ("{", Refusal::BodyIsNotJson),
+        ("{\"preconditions\":1.0}", Refusal::NumberOutsideRange),
+        ("[]", Refusal::BadDeleteOptions),
+        ("{\"apiVersion\":\"v2\"}", Refusal::BadDeleteOptions),
+        ("{\"kind\":\"ConfigMap\"}", Refusal::BadDeleteOptions),
+        ("{\"gracePeriodSeconds\":0}", Refusal::BadDeleteOptions),
+        (
+            "{\"preconditions\":{\"resourceVersion\":2}}",
+            Refusal::BadDeleteOptions,
+        ),
+    ] {
+        let found = read_delete_options(rt.alloc(), body.as_bytes()).err();
+        assert_eq!(rt; found, Some(BodyFault::Refused(refusal)), "{body}");
+    }
+}
+
+#[test]
+fn delete_options_ask_for_a_revision_or_for_none(rt: HostRuntime) -> Result<(), Fail> {
+    let body =
+        b"{\"apiVersion\":\"v1\",\"kind\":\"DeleteOptions\",\"preconditions\":{\"resourceVersion\":\"02\"}}";
+    let version = read_delete_options(rt.alloc(), body)?;
+    assert_eq!(rt; version.as_deref(), Some("02"));
+    assert!(rt; read_delete_options(rt.alloc(), b"")?.is_none());
+    Ok(())
+}
+
+#[test]
+fn an_update_or_a_deletion_at_the_greatest_revision_is_refused(
+    rt: HostRuntime,
+) -> Result<(), Fail> {
+    let alloc = rt.alloc();
+    let mut core = Core::new(alloc, SMALL)?;
+    assert_created(&rt, alloc, &mut core, "a", 201, "")?;
+    assert_created(&rt, alloc, &mut core, "b", 201, "\"3\"")?;
+    assert_updated(&rt, alloc, &mut core, "", 507, "revision exhausted")?;
+    assert_deleted(&rt, alloc, &mut core, "", 507, "revision exhausted")
+}
