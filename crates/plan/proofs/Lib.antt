@@ -4,3 +4,7 @@ pub mod Meets
 pub mod Follows
 pub mod Places
 pub mod Sizes
+pub mod Spelled
+pub mod Rooms
+pub mod TreeValues
+pub mod NamesDeclared

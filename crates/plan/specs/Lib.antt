@@ -4,3 +4,4 @@ pub mod Compilation
 pub mod Seen
 pub mod Machine
 pub mod Correct
+pub mod Values

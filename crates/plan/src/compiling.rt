@@ -1,14 +1,17 @@
 //! The instructions of a tree.
 
-ghost use Rattle.std.specs.Prelude.{◌≡◌, ◌+◌, ◌≤◌, ◌++◌, string_bytes, length, IfOk};
+ghost use Rattle.std.specs.Prelude.{◌≡◌, ◌+◌, ◌*◌, ◌≤◌, ◌++◌, string_bytes, length, IfOk, OnOk};
 ghost use Rattle.celread.specs.Tree as expr;
 ghost use Rattle.celread.specs.View.{view, views, pair_views};
+ghost use Rattle.celread.specs.Size.{nodes, text_bytes};
 ghost use Rattle.celtypes.specs.Seen.{declared};
 ghost use Rattle.celtypes.specs.Typing.{is_variables};
+ghost use Rattle.instructions.specs.Bytes.{code, HaveRoom};
 ghost use Rattle.instructions.specs.Seen.{ops_of, plan_ops};
 ghost use Rattle.plan.specs.Compilation.{size, size_of_items, size_of_pairs, compiled, compiled_items, compiled_pairs};
 ghost use Rattle.plan.specs.Names.{bind};
 ghost use Rattle.plan.specs.Seen.{names_seen, declarations, HasSomeType, IsSmall};
+ghost use Rattle.plan.specs.Values.{HasValues, HaveValues, PairsHaveValues};
 
 use crate::code::{alone, conditional_code, followed, gathered, infix_code, joined, macro_code};
 use crate::names::{Names, bind, name_instruction, place_of};
@@ -48,7 +51,8 @@ fn behind(at: usize, tree: &Box<Tree>, code: &Vec<Instruction>) -> usize
     behind_tree(at, tree, code)
 }
 
-// The instructions of the tree, from the place `at`.
+// The instructions of the tree, from the place `at`. The clause `values` is on the tree: it was read to its end, so that its numbers
+// are known to have 64 bits.
 #[cycle(code_of)]
 fn code_of(
     alloc: Global,
@@ -60,6 +64,7 @@ fn code_of(
     requires few { length names.now.variables.now ≤ 65535 }
     ensures code { IfOk result (λ c. ops_of c.items ≡ compiled (view tree.now) at (names_seen names.now)) }
     ensures as_long { IfOk result (λ c. length c.items ≡ size (view tree.now)) }
+    ensures values { OnOk result (HasValues (view tree.now)) }
 {
     match tree {
         Tree::Null => alone(alloc, Instruction::Null),
@@ -102,6 +107,7 @@ fn code_of_field(
     requires few { length names.now.variables.now ≤ 65535 }
     ensures code { IfOk result (λ c. ops_of c.items ≡ compiled (expr.Field (view of.now.value) (string_bytes name.now)) at (names_seen names.now)) }
     ensures as_long { IfOk result (λ c. length c.items ≡ size (expr.Field (view of.now.value) (string_bytes name.now))) }
+    ensures values { OnOk result (HasValues (expr.Field (view of.now.value) (string_bytes name.now))) }
 {
     if is_variables(of) {
         return alone(
@@ -125,6 +131,7 @@ fn code_of_presence(
     requires few { length names.now.variables.now ≤ 65535 }
     ensures code { IfOk result (λ c. ops_of c.items ≡ compiled (expr.Has (view of.now.value) (string_bytes name.now)) at (names_seen names.now)) }
     ensures as_long { IfOk result (λ c. length c.items ≡ size (expr.Has (view of.now.value) (string_bytes name.now))) }
+    ensures values { OnOk result (HasValues (expr.Has (view of.now.value) (string_bytes name.now))) }
 {
     let code = code_of(alloc, of, at, names)?;
     followed(code, Instruction::Has(name.clone()?))
@@ -142,6 +149,7 @@ fn code_of_index(
     requires few { length names.now.variables.now ≤ 65535 }
     ensures code { IfOk result (λ c. ops_of c.items ≡ compiled (expr.Index (view of.now.value) (view index.now.value)) at (names_seen names.now)) }
     ensures as_long { IfOk result (λ c. length c.items ≡ size (expr.Index (view of.now.value) (view index.now.value))) }
+    ensures values { OnOk result (HasValues (expr.Index (view of.now.value) (view index.now.value))) }
 {
     let operand = code_of(alloc, of, at, names)?;
     let index_at = behind(at, of, &operand);
@@ -160,6 +168,7 @@ fn code_of_list(
     requires few { length names.now.variables.now ≤ 65535 }
     ensures code { IfOk result (λ c. ops_of c.items ≡ compiled (expr.Sequence (views items.now.items)) at (names_seen names.now)) }
     ensures as_long { IfOk result (λ c. length c.items ≡ size (expr.Sequence (views items.now.items))) }
+    ensures values { OnOk result (HasValues (expr.Sequence (views items.now.items))) }
 {
     let code = code_of_items(alloc, items, at, names)?;
     followed(code, Instruction::List(items.len() as u16))
@@ -176,6 +185,7 @@ fn code_of_map(
     requires few { length names.now.variables.now ≤ 65535 }
     ensures code { IfOk result (λ c. ops_of c.items ≡ compiled (expr.Mapping (pair_views entries.now.items)) at (names_seen names.now)) }
     ensures as_long { IfOk result (λ c. length c.items ≡ size (expr.Mapping (pair_views entries.now.items))) }
+    ensures values { OnOk result (HasValues (expr.Mapping (pair_views entries.now.items))) }
 {
     let code = code_of_pairs(alloc, entries, at, names)?;
     followed(code, Instruction::Map(entries.len() as u16))
@@ -193,6 +203,7 @@ fn code_of_unary(
     requires few { length names.now.variables.now ≤ 65535 }
     ensures code { IfOk result (λ c. ops_of c.items ≡ compiled (expr.Unary prefix (view of.now.value)) at (names_seen names.now)) }
     ensures as_long { IfOk result (λ c. length c.items ≡ size (expr.Unary prefix (view of.now.value))) }
+    ensures values { OnOk result (HasValues (expr.Unary prefix (view of.now.value))) }
 {
     let code = code_of(alloc, of, at, names)?;
     followed(code, Instruction::Unary(prefix))
@@ -211,6 +222,7 @@ fn code_of_infix(
     requires few { length names.now.variables.now ≤ 65535 }
     ensures code { IfOk result (λ c. ops_of c.items ≡ compiled (expr.Infix operator (view left.now.value) (view right.now.value)) at (names_seen names.now)) }
     ensures as_long { IfOk result (λ c. length c.items ≡ size (expr.Infix operator (view left.now.value) (view right.now.value))) }
+    ensures values { OnOk result (HasValues (expr.Infix operator (view left.now.value) (view right.now.value))) }
 {
     let first = code_of(alloc, left, at, names)?;
     let right_at = behind(at, left, &first) + steps_between(operator);
@@ -232,6 +244,7 @@ fn code_of_conditional(
     requires few { length names.now.variables.now ≤ 65535 }
     ensures code { IfOk result (λ c. ops_of c.items ≡ compiled (expr.Conditional (view test.now.value) (view first.now.value) (view second.now.value)) at (names_seen names.now)) }
     ensures as_long { IfOk result (λ c. length c.items ≡ size (expr.Conditional (view test.now.value) (view first.now.value) (view second.now.value))) }
+    ensures values { OnOk result (HasValues (expr.Conditional (view test.now.value) (view first.now.value) (view second.now.value))) }
 {
     let start = code_of(alloc, test, at, names)?;
     let first_at = behind(at, test, &start) + 1;
@@ -254,6 +267,7 @@ fn code_of_call(
     requires few { length names.now.variables.now ≤ 65535 }
     ensures code { IfOk result (λ c. ops_of c.items ≡ compiled (expr.Call (string_bytes name.now) (views arguments.now.items)) at (names_seen names.now)) }
     ensures as_long { IfOk result (λ c. length c.items ≡ size (expr.Call (string_bytes name.now) (views arguments.now.items))) }
+    ensures values { OnOk result (HasValues (expr.Call (string_bytes name.now) (views arguments.now.items))) }
 {
     let code = code_of_items(alloc, arguments, at, names)?;
     followed(code, Instruction::Call(function_named(name)))
@@ -272,6 +286,7 @@ fn code_of_method(
     requires few { length names.now.variables.now ≤ 65535 }
     ensures code { IfOk result (λ c. ops_of c.items ≡ compiled (expr.Method (view of.now.value) (string_bytes name.now) (views arguments.now.items)) at (names_seen names.now)) }
     ensures as_long { IfOk result (λ c. length c.items ≡ size (expr.Method (view of.now.value) (string_bytes name.now) (views arguments.now.items))) }
+    ensures values { OnOk result (HasValues (expr.Method (view of.now.value) (string_bytes name.now) (views arguments.now.items))) }
 {
     let operand = code_of(alloc, of, at, names)?;
     let arguments_at = behind(at, of, &operand);
@@ -293,6 +308,7 @@ fn code_of_macro(
     requires few { length names.now.variables.now ≤ 65535 }
     ensures code { IfOk result (λ c. ops_of c.items ≡ compiled (expr.Over kind (view of.now.value) (string_bytes variable.now) (view body.now.value)) at (names_seen names.now)) }
     ensures as_long { IfOk result (λ c. length c.items ≡ size (expr.Over kind (view of.now.value) (string_bytes variable.now) (view body.now.value))) }
+    ensures values { OnOk result (HasValues (expr.Over kind (view of.now.value) (string_bytes variable.now) (view body.now.value))) }
 {
     let operand = code_of(alloc, of, at, names)?;
     let body_at = behind(at, of, &operand) + 1;
@@ -314,6 +330,7 @@ fn code_of_body(
     requires few { length names.now.variables.now ≤ 65535 }
     ensures code { IfOk result (λ c. ops_of c.items ≡ compiled (view body.now.value) at (bind variable.now (names_seen names.now))) }
     ensures as_long { IfOk result (λ c. length c.items ≡ size (view body.now.value)) }
+    ensures values { OnOk result (HasValues (view body.now.value)) }
 {
     let locals = bind(alloc, variable, names.locals)?;
     let inner = Names {
@@ -334,6 +351,7 @@ fn code_of_items(
     requires few { length names.now.variables.now ≤ 65535 }
     ensures code { IfOk result (λ c. ops_of c.items ≡ compiled_items (views items.now.items) at (names_seen names.now)) }
     ensures as_long { IfOk result (λ c. length c.items ≡ size_of_items (views items.now.items)) }
+    ensures values { OnOk result (HaveValues (views items.now.items)) }
 {
     let mut code = Vec::new(alloc);
     for item in items {
@@ -354,6 +372,7 @@ fn code_of_pairs(
     requires few { length names.now.variables.now ≤ 65535 }
     ensures code { IfOk result (λ c. ops_of c.items ≡ compiled_pairs (pair_views entries.now.items) at (names_seen names.now)) }
     ensures as_long { IfOk result (λ c. length c.items ≡ size_of_pairs (pair_views entries.now.items)) }
+    ensures values { OnOk result (PairsHaveValues (pair_views entries.now.items)) }
 {
     let mut code = Vec::new(alloc);
     for entry in entries {
@@ -375,6 +394,7 @@ fn code_of_pair(
     requires few { length names.now.variables.now ≤ 65535 }
     ensures code { IfOk result (λ c. ops_of c.items ≡ compiled (view entry.now.0) at (names_seen names.now) ++ compiled (view entry.now.1) (at + size (view entry.now.0)) (names_seen names.now)) }
     ensures as_long { IfOk result (λ c. length c.items ≡ size (view entry.now.0) + size (view entry.now.1)) }
+    ensures values { OnOk result (HasValues (view entry.now.0) × HasValues (view entry.now.1)) }
 {
     let key = code_of(alloc, &entry.0, at, names)?;
     let value_at = behind_tree(at, &entry.0, &key);
@@ -385,6 +405,9 @@ fn code_of_pair(
 /// The instructions of a tree that has a type under the declarations, and is no larger than a text of 4096 bytes can spell, with
 /// macros at most two deep.
 ///
+/// The plan has bytes: two for the number of its instructions, at most 16 for each node of the tree, and those of the tree's strings
+/// and field names.
+///
 /// # Errors
 ///
 /// Where no memory is left.
@@ -393,6 +416,8 @@ pub fn compile(alloc: Global, tree: &Tree, env: &Env<'_>) -> Result<Plan, AllocE
     requires small { IsSmall (view tree.now) }
     requires few { length env.now.variables.now ≤ 65535 }
     ensures code { IfOk result (λ p. plan_ops p ≡ compiled (view tree.now) 0 (declarations env.now)) }
+    ensures room { IfOk result (λ p. HaveRoom (plan_ops p)) }
+    ensures short { IfOk result (λ p. length (code (plan_ops p)) ≤ 2 + 16 * nodes (view tree.now) + text_bytes (view tree.now)) }
 {
     let names = Names {
         locals: &[],

@@ -1,5 +1,6 @@
 use Rattle.std.proofs.lemmas.List.{drop_more}
-use Rattle.std.proofs.Common.{◌≡◌, drop, ◌+◌, [], ◌∷◌, ◌++◌, string_bytes, refl, sym, ap, ◌∙◌, arith}
+use Rattle.std.proofs.Common.{◌≡◌, List, drop, length, ◌+◌, [], ◌∷◌, ◌++◌, string_bytes, refl, sym, ap, subst, ◌∙◌, arith}
+use Rattle.std.proofs.lemmas.Str.{IsUtf8-string_bytes}
 use Rattle.std.proofs.lemmas.Result.{IfOk-weaker}
 use Rattle.celread.specs.declared.tree.Tree.{Tree}
 use Rattle.celread.specs.Tree as expr
@@ -10,7 +11,9 @@ use Rattle.plan.specs.Names.{bind}
 use Rattle.plan.specs.Tables.{between, steps_between, infix_op, method_named}
 use Rattle.plan.specs.Compilation.{count, pair_count, size, size_of_items, size_of_pairs, compiled, compiled_items, compiled_pairs}
 use Rattle.plan.specs.Seen.{names_seen}
+use Rattle.plan.specs.Values.{HasValues}
 use Rattle.plan.proofs.Places.{placed, count_is, pair_count_is, few_items, few_pairs}
+use Rattle.plan.proofs.TreeValues.{text_has_values, no_items_left, no_pairs_left, on_ok}
 use Rattle.plan.proofs.compiling.+code_of.Goals as goal
 
 pub code_of_index-returns-clause-code : goal.code_of_index-returns-clause-code
@@ -201,3 +204,26 @@ code_of_items-code_of-requires t c =
     ap (λ ys. size_of_items (views (drop i ys))) (sym c.deref-item-items.ensures.value) ∙ ap (λ ys. size_of_items (views ys)) here in
     let l = c.len.ensures ∙ c.loop-item.code.ok.0 in
     (omega (arith, c.loop-item.invariant.1, rest), (omega (arith, l, c.loop-item.invariant.1, rest), c.requires.few))
+
+pub code_of-returns-in_ok-clone-in-Text-clause-values : goal.code_of-returns-in_ok-clone-in-Text-clause-values
+code_of-returns-in_ok-clone-in-Text-clause-values t c = on_ok c.alone-in-Text.result (HasValues (view c.args.tree.now)) (text_has_values c.args.tree.now c.in-Text.text c.in-Text.is)
+
+pub code_of_field-returns-clause-values : goal.code_of_field-returns-clause-values
+code_of_field-returns-clause-values t c =
+    on_ok c.followed.result (HasValues (expr.Field (view c.args.of.now.value) (string_bytes c.args.name.now)))
+    (subst (λ (t : Tree). HasValues (view t)) c.deref-2.ensures c.in_ok-code.ensures.values, IsUtf8-string_bytes c.args.name.now)
+
+pub code_of_presence-returns-clause-values : goal.code_of_presence-returns-clause-values
+code_of_presence-returns-clause-values t c =
+    on_ok c.followed.result (HasValues (expr.Has (view c.args.of.now.value) (string_bytes c.args.name.now)))
+    (subst (λ (t : Tree). HasValues (view t)) c.deref.ensures c.in_ok-code.ensures.values, IsUtf8-string_bytes c.args.name.now)
+
+pub code_of_items-returns-clause-values : goal.code_of_items-returns-clause-values
+code_of_items-returns-clause-values t c =
+    let l = ap (λ (ts : List Tree). length ts) c.deref-item-items.ensures.value in
+    c.loop-item.invariant.2 (no_items_left c.args.items.now.items c.loop-item.item-index (omega (arith, l)))
+
+pub code_of_pairs-returns-clause-values : goal.code_of_pairs-returns-clause-values
+code_of_pairs-returns-clause-values t c =
+    let l = ap (λ (ps : List (Tree × Tree)). length ps) c.deref-entry-items.ensures.value in
+    c.loop-entry.invariant.2 (no_pairs_left c.args.entries.now.items c.loop-entry.entry-index (omega (arith, l)))

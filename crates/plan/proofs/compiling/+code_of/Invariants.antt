@@ -4,17 +4,20 @@ use Rattle.celread.specs.View.{view, views, pair_views}
 use Rattle.instructions.specs.Seen.{ops_of}
 use Rattle.plan.specs.Compilation.{size, size_of_items, size_of_pairs, compiled_items, compiled_pairs}
 use Rattle.plan.specs.Seen.{names_seen}
+use Rattle.plan.specs.Values.{HaveValues, PairsHaveValues}
 use Rattle.plan.proofs.compiling.+code_of.Given as goal
 
 abbrev pub invariant-code_of_items-loop-item : goal.invariant-code_of_items-loop-item
 invariant-code_of_items-loop-item l =
     (ops_of l.code.items ++ compiled_items (views (drop l.item-index l.items.items)) (l.at + length l.code.items) (names_seen l.names) ≡ compiled_items (views l.items.items) l.at (names_seen l.names))
     × (length l.code.items + size_of_items (views (drop l.item-index l.items.items)) ≡ size_of_items (views l.items.items))
+    × (HaveValues (views (drop l.item-index l.items.items)) → HaveValues (views l.items.items))
 
 abbrev pub invariant-code_of_pairs-loop-entry : goal.invariant-code_of_pairs-loop-entry
 invariant-code_of_pairs-loop-entry l =
     (ops_of l.code.items ++ compiled_pairs (pair_views (drop l.entry-index l.entries.items)) (l.at + length l.code.items) (names_seen l.names) ≡ compiled_pairs (pair_views l.entries.items) l.at (names_seen l.names))
     × (length l.code.items + size_of_pairs (pair_views (drop l.entry-index l.entries.items)) ≡ size_of_pairs (pair_views l.entries.items))
+    × (PairsHaveValues (pair_views (drop l.entry-index l.entries.items)) → PairsHaveValues (pair_views l.entries.items))
 
 abbrev pub decreases-code_of : goal.decreases-code_of
 decreases-code_of l = 4 * size (view l.tree.now) + 1
