@@ -36,7 +36,7 @@ fair_target code at end target lt le clear =
     (λ i op k is. not_past target op (λ m e same. clear ((at + 1) + i) e m (omega arith) (omega arith) (sym (slice_get-drop (at + 1) i code) ∙ is ∙ ap (λ (o : Op). Some o) same))) in
     and_true (nat_lt at target) _ a (and_true (not (nat_lt end target)) _ b c)
 
-judged_is : (vars at h : ℕ) (op : Op) (later : List Op) (b : Body) (os : List Body) → are_fair at b.end later (targets op) ≡ true → is_named vars (length os) op ≡ true → height_at at b.awaited ≡ Some h → takes op ≤ h → judged vars at op later b os ≡ Ok (opens op at (goes_on op at h b) os)
+pub judged_is : (vars at h : ℕ) (op : Op) (later : List Op) (b : Body) (os : List Body) → are_fair at b.end later (targets op) ≡ true → is_named vars (length os) op ≡ true → height_at at b.awaited ≡ Some h → takes op ≤ h → judged vars at op later b os ≡ Ok (opens op at (goes_on op at h b) os)
 judged_is vars at h op later b os fair named height enough =
     ap (λ (f : Bool). cond (not f) (Err fault.BadJump) (cond (not (is_named vars (length os) op)) (Err fault.BadName) (runs op at (height_at at b.awaited) b os))) fair
     ∙ ap (λ (f : Bool). cond (not f) (Err fault.BadName) (runs op at (height_at at b.awaited) b os)) named

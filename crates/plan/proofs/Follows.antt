@@ -148,7 +148,7 @@ field_end true at to stop n e end le = absurd (false≢true (sym e))
 field_end false at to stop n e end le = omega arith
 
 -- outside all macros a scope has the names that it declares
-no_locals : (g : Scope) → g.locals ≡ [] → names_in g ≡ names_of g
+pub no_locals : (g : Scope) → g.locals ≡ [] → names_in g ≡ names_of g
 no_locals g none = ap (λ ls. record { locals = map (λ l. l.0) ls; variables = map (λ v. v.0) g.variables }) none
 
 module _ (w : World) (code : List Op) where

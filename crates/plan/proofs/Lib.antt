@@ -8,3 +8,7 @@ pub mod Spelled
 pub mod Rooms
 pub mod TreeValues
 pub mod NamesDeclared
+pub mod Arriving
+pub mod Passes
+pub mod Supplied
+pub mod Sound

@@ -1,10 +1,9 @@
 -- What the program's names stand for, and which trees are compiled.
-use Rattle.std.specs.Prelude.{◌≡◌, ℕ, ◌+◌, ◌≤◌, true, List, [], map, string_bytes}
+use Rattle.std.specs.Prelude.{◌≡◌, ℕ, ◌+◌, ◌≤◌, true, List, map, string_bytes}
 use Rattle.celread.specs.Tree.{Expr}
 use Rattle.celread.specs.Limits.{nests_within}
 use Rattle.celread.specs.Size.{nodes, text_bytes}
 use Rattle.celtypes.specs.declared.scope.Variable.{Variable}
-use Rattle.celtypes.specs.declared.scope.Env.{Env}
 use Rattle.celtypes.specs.Types.{ValueType}
 use Rattle.celtypes.specs.Typing.{Scope, HasType}
 use Rattle.plan.specs.declared.names.Names as program
@@ -15,10 +14,6 @@ variable_names vs = map (λ v. string_bytes v.name) vs
 
 abbrev pub names_seen : program.Names → Names
 names_seen n = record { locals = map (λ s. s.now) n.locals.now; variables = variable_names n.variables.now }
-
--- the names outside all macros
-abbrev pub declarations : Env → Names
-declarations e = record { locals = []; variables = variable_names e.variables.now }
 
 -- the tree has a type
 abbrev pub HasSomeType : Scope → Expr → Type 0

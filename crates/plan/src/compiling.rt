@@ -8,9 +8,11 @@ ghost use Rattle.celtypes.specs.Seen.{declared};
 ghost use Rattle.celtypes.specs.Typing.{is_variables};
 ghost use Rattle.instructions.specs.Bytes.{code, HaveRoom};
 ghost use Rattle.instructions.specs.Seen.{ops_of, plan_ops};
+ghost use Rattle.instructions.specs.WellFormed.{IsWellFormed};
 ghost use Rattle.plan.specs.Compilation.{size, size_of_items, size_of_pairs, compiled, compiled_items, compiled_pairs};
 ghost use Rattle.plan.specs.Names.{bind};
-ghost use Rattle.plan.specs.Seen.{names_seen, declarations, HasSomeType, IsSmall};
+ghost use Rattle.plan.specs.Seen.{names_seen, HasSomeType, IsSmall};
+ghost use Rattle.plan.specs.Correct.{names_of};
 ghost use Rattle.plan.specs.Values.{HasValues, HaveValues, PairsHaveValues};
 
 use crate::code::{alone, conditional_code, followed, gathered, infix_code, joined, macro_code};
@@ -403,7 +405,7 @@ fn code_of_pair(
 }
 
 /// The instructions of a tree that has a type under the declarations, and is no larger than a text of 4096 bytes can spell, with
-/// macros at most two deep.
+/// macros at most two deep. The plan is well formed for a place with the declared variables.
 ///
 /// The plan has bytes: two for the number of its instructions, at most 16 for each node of the tree, and those of the tree's strings
 /// and field names.
@@ -415,9 +417,10 @@ pub fn compile(alloc: Global, tree: &Tree, env: &Env<'_>) -> Result<Plan, AllocE
     requires typed { HasSomeType (declared env.now) (view tree.now) }
     requires small { IsSmall (view tree.now) }
     requires few { length env.now.variables.now ≤ 65535 }
-    ensures code { IfOk result (λ p. plan_ops p ≡ compiled (view tree.now) 0 (declarations env.now)) }
+    ensures code { IfOk result (λ p. plan_ops p ≡ compiled (view tree.now) 0 (names_of (declared env.now))) }
     ensures room { IfOk result (λ p. HaveRoom (plan_ops p)) }
     ensures short { IfOk result (λ p. length (code (plan_ops p)) ≤ 2 + 16 * nodes (view tree.now) + text_bytes (view tree.now)) }
+    ensures well_formed { IfOk result (λ p. IsWellFormed (length env.now.variables.now) (plan_ops p)) }
 {
     let names = Names {
         locals: &[],
