@@ -11,7 +11,7 @@ pub enum CodeFault {
     /// The bytes end before an instruction does.
     #[error("truncated code")]
     Truncated,
-    /// No instruction has this number, or it has no such operand.
+    /// No instruction has this number, or it has no such operand: a declared name may be none where the plan is to stand.
     #[error("unknown instruction or operand")]
     BadOperand,
     /// A text is not UTF-8.

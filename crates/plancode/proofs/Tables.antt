@@ -1,6 +1,6 @@
 -- The numbers of operands that are one of a few: a number is read as the operand that is written with it.
-use Rattle.std.proofs.Common.{◌≡◌, ℕ, Bool, true, false, cond, eqb, Result, Ok, refl, sym, ap, ◌∙◌}
-use Rattle.std.proofs.lemmas.Bool.{eqb-true}
+use Rattle.std.proofs.Common.{◌≡◌, ℕ, ◌≤◌, Bool, true, false, cond, eqb, nat_lt, Result, Ok, Err, refl, sym, ap, subst, ◌∙◌}
+use Rattle.std.proofs.lemmas.Bool.{eqb-true, ltb-false, le-ltb}
 use Rattle.celread.specs.declared.tree.Prefix.{Prefix}
 use Rattle.celread.specs.declared.tree.Prefix.TheVariants as prefix
 use Rattle.celread.specs.declared.tree.Macro.{Macro}
@@ -14,8 +14,11 @@ use Rattle.instructions.specs.declared.instruction.Binary.TheVariants as binary
 use Rattle.instructions.specs.declared.instruction.Function.{Function}
 use Rattle.instructions.specs.declared.instruction.Function.TheVariants as function
 use Rattle.instructions.specs.declared.fault.CodeFault.{CodeFault}
+use Rattle.instructions.specs.declared.fault.CodeFault.TheVariants as fault
+use Rattle.instructions.specs.Faults.{◌>>=◌}
 use Rattle.instructions.specs.Bytes.{truth_number, name_number, slot_number, prefix_number, binary_number, function_number, macro_number}
-use Rattle.plancode.specs.Reading.{truth_of, name_of, slot_of, prefix_of, binary_of, function_of, macro_of}
+use Rattle.plancode.specs.Reading.{truth_of, name_of, name_up_to, slot_of, prefix_of, binary_of, function_of, macro_of}
+use Rattle.plancode.proofs.Low.{bind_ok}
 
 taken : {A : Type 0} (t : Bool) (b k : ℕ) (x y : A) (rest : Result A CodeFault) (number : A → ℕ) → (t ≡ true → b ≡ k) → number x ≡ k → (rest ≡ Ok y → number y ≡ b) → cond t (Ok x) rest ≡ Ok y → number y ≡ b
 taken true b k x y rest number is here more e =
@@ -46,6 +49,23 @@ name_again name.Object = refl
 name_again name.OldObject = refl
 name_again name.Request = refl
 name_again name.Params = refl
+
+-- a name that is declared is read as it is written, and no other is
+up_to : (b : Bool) (x y : Name) → cond b (Err fault.BadOperand) (Ok x) ≡ Ok y → (b ≡ false) × (x ≡ y)
+up_to true x y e = absurd cc
+up_to false x y e = (refl, cc)
+
+pub name_up_to_takes : (g : Name) (b : ℕ) (y : Name) → name_up_to g b ≡ Ok y → (name_number y ≡ b) × (name_number y ≤ name_number g)
+name_up_to_takes g b y e =
+    let a = bind_ok (name_of b) (λ x. cond (nat_lt (name_number g) (name_number x)) (Err fault.BadOperand) (Ok x)) y e in
+    let t = up_to (nat_lt (name_number g) (name_number a.0)) a.0 y a.2 in
+    let le : name_number a.0 ≤ name_number g = ltb-false (name_number g) (name_number a.0) t.0 in
+    subst (λ (x : Name). (name_number x ≡ b) × (name_number x ≤ name_number g)) t.1 (name_takes b a.0 a.1, le)
+
+pub name_up_to_again : (g : Name) (x : Name) → name_number x ≤ name_number g → name_up_to g (name_number x) ≡ Ok x
+name_up_to_again g x le =
+    ap (λ r. r >>= λ y. cond (nat_lt (name_number g) (name_number y)) (Err fault.BadOperand) (Ok y)) (name_again x)
+    ∙ ap (λ (t : Bool). cond t (Err fault.BadOperand) (Ok x)) (le-ltb (name_number g) (name_number x) le)
 
 pub slot_takes : (b : ℕ) (y : Slot) → slot_of b ≡ Ok y → slot_number y ≡ b
 slot_takes b y e = row b 0 slot.Outer y _ slot_number refl (λ e. row b 1 slot.Inner y _ slot_number refl (λ e. absurd cc) e) e

@@ -17,6 +17,7 @@ use Rattle.instructions.specs.declared.instruction.Function.TheVariants as funct
 use Rattle.instructions.specs.declared.fault.CodeFault.{CodeFault}
 use Rattle.instructions.specs.declared.fault.CodeFault.TheVariants as fault
 use Rattle.instructions.specs.Op.{Op, PushInt, PushUint, PushText, PushTruth, PushNull, PushName, PushVariable, PushSlot, TakeField, TakeHas, TakeIndex, TakeItems, TakePairs, TakeUnary, TakeBinary, TakeCall, TakeBoth, TakeEither, IfFalse, IfTrue, Branch, Jump, Over}
+use Rattle.instructions.specs.Bytes.{name_number}
 use Rattle.instructions.specs.Faults.{◌>>=◌}
 use Rattle.instructions.specs.Judging.{first_fault}
 
@@ -52,6 +53,10 @@ name_of b =
     if b == 2 then Ok name.OldObject else
     if b == 3 then Ok name.Request else
     if b == 4 then Ok name.Params else Err fault.BadOperand
+
+-- In a place that declares the names up to this one, by their numbers, those behind it are none.
+abbrev pub name_up_to : Name → ℕ → Result Name CodeFault
+name_up_to greatest b = name_of b >>= λ x. if nat_lt (name_number greatest) (name_number x) then Err fault.BadOperand else Ok x
 
 abbrev pub slot_of : ℕ → Result Slot CodeFault
 slot_of b = if b == 0 then Ok slot.Outer else if b == 1 then Ok slot.Inner else Err fault.BadOperand
@@ -138,33 +143,33 @@ taking_at b rest =
     if b == 18 then Ok (TakeEither, rest) else leading_at b rest
 
 -- The instruction with a number, and the bytes behind it.
-unfoldable pub operands_at : ℕ → List ℕ → Result (Op × List ℕ) CodeFault
-operands_at b rest =
+unfoldable pub operands_at : Name → ℕ → List ℕ → Result (Op × List ℕ) CodeFault
+operands_at greatest b rest =
     if b == 1 then with_long (λ n. PushInt (cast_signed w64 n)) rest else
     if b == 2 then with_long PushUint rest else
     if b == 3 then with_text PushText rest else
     if b == 4 then with_byte truth_of PushTruth rest else
     if b == 5 then Ok (PushNull, rest) else
-    if b == 6 then with_byte name_of PushName rest else
+    if b == 6 then with_byte (name_up_to greatest) PushName rest else
     if b == 7 then with_short PushVariable rest else
     if b == 8 then with_byte slot_of PushSlot rest else taking_at b rest
 
 -- An instruction, and the bytes behind it.
-unfoldable pub op_at : List ℕ → Result (Op × List ℕ) CodeFault
-op_at bytes = byte_at bytes >>= λ b. operands_at b.0 b.1
+unfoldable pub op_at : Name → List ℕ → Result (Op × List ℕ) CodeFault
+op_at greatest bytes = byte_at bytes >>= λ b. operands_at greatest b.0 b.1
 
 -- So many instructions, and the bytes behind them.
-unfoldable pub ops_at : ℕ → List ℕ → Result (List Op × List ℕ) CodeFault
-ops_at zero bytes = Ok ([], bytes)
-ops_at (suc n) bytes = op_at bytes >>= λ first. ops_at n first.1 >>= λ others. Ok (first.0 ∷ others.0, others.1)
+unfoldable pub ops_at : Name → ℕ → List ℕ → Result (List Op × List ℕ) CodeFault
+ops_at greatest zero bytes = Ok ([], bytes)
+ops_at greatest (suc n) bytes = op_at greatest bytes >>= λ first. ops_at greatest n first.1 >>= λ others. Ok (first.0 ∷ others.0, others.1)
 
 abbrev pub nothing_behind : List Op × List ℕ → Result (List Op) CodeFault
 nothing_behind x = if length x.1 == 0 then Ok x.0 else Err fault.TrailingBytes
 
 -- The number of instructions, so many instructions, and nothing behind them.
-unfoldable pub plan_of : List ℕ → Result (List Op) CodeFault
-plan_of bytes = number_at w16 bytes >>= λ n. ops_at n.0 n.1 >>= λ x. nothing_behind x
+unfoldable pub plan_of : Name → List ℕ → Result (List Op) CodeFault
+plan_of greatest bytes = number_at w16 bytes >>= λ n. ops_at greatest n.0 n.1 >>= λ x. nothing_behind x
 
--- The well-formed plan that bytes spell, or the first fault.
-unfoldable pub decoded : ℕ → List ℕ → Result (List Op) CodeFault
-decoded vars bytes = plan_of bytes >>= λ ops. first_fault vars ops >>= λ _. Ok ops
+-- The well-formed plan that bytes spell, or the first fault, in a place with so many variables and with the declared names up to this one.
+unfoldable pub decoded : ℕ → Name → List ℕ → Result (List Op) CodeFault
+decoded vars greatest bytes = plan_of greatest bytes >>= λ ops. first_fault vars ops >>= λ _. Ok ops

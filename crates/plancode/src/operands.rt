@@ -6,6 +6,7 @@ ghost use Rattle.instructions.specs.Seen.{op_of};
 ghost use Rattle.plancode.specs.Reading.{
   truth_of,
   name_of,
+  name_up_to,
   slot_of,
   prefix_of,
   binary_of,
@@ -20,6 +21,7 @@ ghost use Rattle.plancode.specs.Reading.{
 };
 
 use crate::numbers::{byte, long, short, text};
+use crate::writing::name_byte;
 use celread::{Macro, Prefix};
 use instructions::{Binary, CodeFault, Function, Instruction, Name, Slot};
 use std::alloc::Global;
@@ -34,7 +36,7 @@ fn truth_named(number: u8) -> Result<bool, CodeFault>
     }
 }
 
-fn name_named(number: u8) -> Result<Name, CodeFault>
+fn name_numbered(number: u8) -> Result<Name, CodeFault>
     ensures { Gives (λ x. x) result (name_of number) }
 {
     match number {
@@ -44,6 +46,17 @@ fn name_named(number: u8) -> Result<Name, CodeFault>
         4 => Ok(Name::Params),
         _ => Err(CodeFault::BadOperand),
     }
+}
+
+// The declared name with a number, in a place that declares the names up to one.
+fn name_named(number: u8, greatest: Name) -> Result<Name, CodeFault>
+    ensures { Gives (λ x. x) result (name_up_to greatest number) }
+{
+    let name = name_numbered(number)?;
+    if name_byte(greatest) < name_byte(name) {
+        return Err(CodeFault::BadOperand);
+    }
+    Ok(name)
 }
 
 fn slot_named(number: u8) -> Result<Slot, CodeFault>
@@ -201,8 +214,13 @@ fn taking(alloc: Global, number: u8, bytes: &[u8]) -> Result<(Instruction, &[u8]
 
 // The instruction with a number; `BadOperand` where none has it, and the faults of its operands.
 #[tactic(auto, unfolding(crate::specs::Reading::operands_at))]
-fn with_operands(alloc: Global, number: u8, bytes: &[u8]) -> Result<(Instruction, &[u8]), CodeFault>
-    ensures { Gives (λ x. (op_of x.0, x.1.now)) result (operands_at number bytes.now) }
+fn with_operands(
+    alloc: Global,
+    number: u8,
+    greatest: Name,
+    bytes: &[u8],
+) -> Result<(Instruction, &[u8]), CodeFault>
+    ensures { Gives (λ x. (op_of x.0, x.1.now)) result (operands_at greatest number bytes.now) }
 {
     match number {
         1 => {
@@ -224,7 +242,7 @@ fn with_operands(alloc: Global, number: u8, bytes: &[u8]) -> Result<(Instruction
         5 => Ok((Instruction::Null, bytes)),
         6 => {
             let (value, rest) = byte(bytes)?;
-            Ok((Instruction::Name(name_named(value)?), rest))
+            Ok((Instruction::Name(name_named(value, greatest)?), rest))
         }
         7 => {
             let (value, rest) = short(bytes)?;
@@ -240,9 +258,13 @@ fn with_operands(alloc: Global, number: u8, bytes: &[u8]) -> Result<(Instruction
 
 /// The instruction at the front, and the bytes behind it; the first fault where there is none.
 #[tactic(auto, unfolding(crate::specs::Reading::op_at))]
-pub(crate) fn instruction(alloc: Global, bytes: &[u8]) -> Result<(Instruction, &[u8]), CodeFault>
-    ensures { Gives (λ x. (op_of x.0, x.1.now)) result (op_at bytes.now) }
+pub(crate) fn instruction(
+    alloc: Global,
+    greatest: Name,
+    bytes: &[u8],
+) -> Result<(Instruction, &[u8]), CodeFault>
+    ensures { Gives (λ x. (op_of x.0, x.1.now)) result (op_at greatest bytes.now) }
 {
     let (number, rest) = byte(bytes)?;
-    with_operands(alloc, number, rest)
+    with_operands(alloc, number, greatest, rest)
 }

@@ -7,34 +7,39 @@ ghost use Rattle.plancode.specs.Reading.{ops_at, plan_of};
 
 use crate::numbers::short;
 use crate::operands::instruction;
-use instructions::{CodeFault, Instruction};
+use instructions::{CodeFault, Instruction, Name};
 use std::alloc::Global;
 
 // So many instructions, and the bytes behind them.
 fn instructions(
     alloc: Global,
     count: u16,
+    greatest: Name,
     bytes: &[u8],
 ) -> Result<(Vec<Instruction>, &[u8]), CodeFault>
-    ensures { Gives (λ x. (ops_of x.0.items, x.1.now)) result (ops_at count bytes.now) }
+    ensures { Gives (λ x. (ops_of x.0.items, x.1.now)) result (ops_at greatest count bytes.now) }
 {
     let mut read = Vec::new(alloc);
     let mut rest = bytes;
     for _ in 0..count {
-        let (first, behind) = instruction(alloc, rest)?;
+        let (first, behind) = instruction(alloc, greatest, rest)?;
         read.push(first)?;
         rest = behind;
     }
     Ok((read, rest))
 }
 
-/// The instructions that the bytes spell, all of the bytes; the first fault where they spell none.
+/// The instructions that the bytes spell, all of the bytes, with declared names up to one; the first fault where they spell none.
 #[tactic(auto, unfolding(crate::specs::Reading::plan_of))]
-pub(crate) fn plan(alloc: Global, bytes: &[u8]) -> Result<Vec<Instruction>, CodeFault>
-    ensures { Gives (λ v. ops_of v.items) result (plan_of bytes.now) }
+pub(crate) fn plan(
+    alloc: Global,
+    greatest: Name,
+    bytes: &[u8],
+) -> Result<Vec<Instruction>, CodeFault>
+    ensures { Gives (λ v. ops_of v.items) result (plan_of greatest bytes.now) }
 {
     let (count, rest) = short(bytes)?;
-    let (read, rest) = instructions(alloc, count, rest)?;
+    let (read, rest) = instructions(alloc, count, greatest, rest)?;
     if !rest.is_empty() {
         return Err(CodeFault::TrailingBytes);
     }

@@ -1,7 +1,7 @@
 //! Plans and their bytes, as they are written in the table of instructions.
 
 use crate::{decode, encode};
-use instructions::{CodeFault, Instruction};
+use instructions::{CodeFault, Instruction, Name};
 use std::alloc::Global;
 use std::process::Abort;
 
@@ -19,14 +19,14 @@ fn fault_name(fault: &CodeFault) -> &'static str {
 }
 
 fn outcome(alloc: Global, bytes: &[u8], vars: u16) -> &'static str {
-    match decode(alloc, bytes, vars) {
+    match decode(alloc, bytes, vars, Name::Params) {
         Ok(_) => "ok",
         Err(fault) => fault_name(&fault),
     }
 }
 
 fn code_again(alloc: Global, bytes: &[u8], vars: u16) -> Result<Vec<u8>, CodeFault> {
-    let plan = decode(alloc, bytes, vars)?.into_plan();
+    let plan = decode(alloc, bytes, vars, Name::Params)?.into_plan();
     Ok(encode(alloc, &plan)?)
 }
 
@@ -81,6 +81,18 @@ fn a_name_that_is_not_there_is_refused(rt: HostRuntime) {
     check_fault(&rt, alloc, &[0, 1, 7, 0, 0], "name");
     check_fault(&rt, alloc, &[0, 1, 8, 0], "name");
     assert_eq!(rt; outcome(alloc, &[0, 1, 7, 0, 0], 1), "ok");
+}
+
+#[test]
+fn a_name_behind_those_declared_is_refused(rt: HostRuntime) {
+    let alloc = rt.alloc();
+    let params = [0, 1, 6, 4];
+    assert!(rt; decode(alloc, &params, 0, Name::Params).is_ok());
+    match decode(alloc, &params, 0, Name::Request) {
+        Ok(_) => assert!(rt; false),
+        Err(fault) => assert_eq!(rt; fault_name(&fault), "operand"),
+    }
+    check_fault(&rt, alloc, &[0, 1, 6, 5], "operand");
 }
 
 #[test]
@@ -149,7 +161,7 @@ fn each_instruction_is_encoded_to_itself(rt: HostRuntime) {
 
 #[test]
 fn a_decoded_plan_has_its_instructions_and_its_variables(rt: HostRuntime) {
-    match decode(rt.alloc(), &[0, 1, 7, 0, 1], 2) {
+    match decode(rt.alloc(), &[0, 1, 7, 0, 1], 2, Name::Params) {
         Ok(verified) => {
             assert_eq!(rt; verified.vars(), 2);
             assert_eq!(rt; verified.instructions().len(), 1);

@@ -5,13 +5,13 @@ ghost use Rattle.instructions.specs.Faults.{Gives};
 ghost use Rattle.instructions.specs.Seen.{ops_of, plan_ops};
 ghost use Rattle.instructions.specs.Bytes.{code, HaveRoom};
 ghost use Rattle.instructions.specs.Op.{Op};
-ghost use Rattle.plancode.specs.Plans.{IsVerified};
+ghost use Rattle.plancode.specs.Plans.{IsVerified, UsesNamesUpTo};
 ghost use Rattle.instructions.specs.WellFormed.{IsWellFormed};
 ghost use Rattle.plancode.specs.Reading.{decoded};
 
 use crate::judging::check;
 use crate::reading::plan;
-use instructions::{CodeFault, Instruction, Plan};
+use instructions::{CodeFault, Instruction, Name, Plan};
 use std::alloc::Global;
 use std::marker::Model;
 
@@ -63,29 +63,30 @@ impl Verified {
 
 // The plan that the bytes spell, if it has no fault.
 #[tactic(auto, unfolding(crate::specs::Reading::decoded))]
-fn decode_all(alloc: Global, bytes: &[u8], vars: u16) -> Result<Verified, CodeFault>
-    ensures exact { Gives (λ p. p.ops) result (decoded vars bytes.now) }
+fn decode_all(alloc: Global, bytes: &[u8], vars: u16, greatest: Name) -> Result<Verified, CodeFault>
+    ensures exact { Gives (λ p. p.ops) result (decoded vars greatest bytes.now) }
     ensures vars { IfOk result (λ p. p.vars ≡ vars) }
 {
-    let plan = plan(alloc, bytes)?;
+    let plan = plan(alloc, greatest, bytes)?;
     check(alloc, vars, &plan)?;
     Ok(Verified { vars, plan })
 }
 
-/// The well-formed plan that the bytes spell, for a place with so many variables.
+/// The well-formed plan that the bytes spell, for a place with so many variables, and with the declared names up to one: all of them up to
+/// [`Name::Params`], and without parameters up to [`Name::Request`].
 ///
-/// The bytes are read front to back: [`CodeFault::Truncated`], [`CodeFault::BadOperand`] and [`CodeFault::TextNotUtf8`] are told in
+/// The bytes are read front to back: [`CodeFault::Truncated`], [`CodeFault::BadOperand`], a name that is not declared among them, and [`CodeFault::TextNotUtf8`] are told in
 /// the order of the bytes, then [`CodeFault::TrailingBytes`]. The instructions are judged in order, each for its targets
 /// ([`CodeFault::BadJump`]), its name ([`CodeFault::BadName`]) and its stack ([`CodeFault::BadStack`]); the end of a body is judged
 /// before the instruction behind it, and the end of the plan last.
-pub fn decode(alloc: Global, bytes: &[u8], vars: u16) -> Result<Verified, CodeFault>
-    // The plan is well formed, and the bytes are its code.
-    ensures found { IfOk result (λ p. IsWellFormed vars p.ops × HaveRoom p.ops × (bytes.now ≡ code p.ops)) }
+pub fn decode(alloc: Global, bytes: &[u8], vars: u16, greatest: Name) -> Result<Verified, CodeFault>
+    // The plan is well formed, its names are declared, and the bytes are its code.
+    ensures found { IfOk result (λ p. IsWellFormed vars p.ops × HaveRoom p.ops × UsesNamesUpTo greatest p.ops × (bytes.now ≡ code p.ops)) }
     // Bytes that are the code of a well-formed plan give it.
-    ensures only { (ops : List Op) → IsWellFormed vars ops → HaveRoom ops → bytes.now ≡ code ops → Gives (λ p. p.ops) result (Ok ops) }
+    ensures only { (ops : List Op) → IsWellFormed vars ops → HaveRoom ops → UsesNamesUpTo greatest ops → bytes.now ≡ code ops → Gives (λ p. p.ops) result (Ok ops) }
     // Which fault it is.
-    ensures exact { Gives (λ p. p.ops) result (decoded vars bytes.now) }
+    ensures exact { Gives (λ p. p.ops) result (decoded vars greatest bytes.now) }
     ensures vars { IfOk result (λ p. p.vars ≡ vars) }
 {
-    decode_all(alloc, bytes, vars)
+    decode_all(alloc, bytes, vars, greatest)
 }

@@ -28,7 +28,8 @@ fn truth_byte(truth: bool) -> u8
     if truth { 1 } else { 0 }
 }
 
-fn name_byte(name: Name) -> u8
+/// The number of a declared name.
+pub(crate) fn name_byte(name: Name) -> u8
     ensures { result ≡ name_number name }
 {
     match name {

@@ -11,5 +11,5 @@ invariant_of-result c =
     let sound : first_fault c.args.vars (ops_of c.in_ok-plan.plan.items) ≡ Ok tt = ap (λ (is : List Instruction). first_fault c.args.vars (ops_of is)) (sym c.deref.ensures.value) ∙ c.in_ok-check.ensures in
     record {
       well_formed = sound_is_well_formed c.args.vars (ops_of c.in_ok-plan.plan.items) sound;
-      room = (plan_takes c.args.bytes.now (ops_of c.in_ok-plan.plan.items) (λ i. omega (arith, c.type_inv.bytes i)) c.in_ok-plan.ensures).0;
+      room = (plan_takes c.args.greatest c.args.bytes.now (ops_of c.in_ok-plan.plan.items) (λ i. omega (arith, c.type_inv.bytes i)) c.in_ok-plan.ensures).0;
     }
