@@ -1,2 +1,5 @@
 pub mod Stacks
+pub mod Lengths
+pub mod Ways
+pub mod Early
 pub mod Runs

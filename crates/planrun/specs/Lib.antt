@@ -1,4 +1,5 @@
 pub mod Seen
 pub mod Worlds
 pub mod Running
+pub mod Deciding
 pub mod Results

@@ -1,8 +1,9 @@
 //! What the names of an expression stand for.
 
-ghost use Rattle.std.specs.Prelude.{◌≡◌, [], ◌∷◌, ◌++◌, map, slice_get, IfOk};
+ghost use Rattle.std.specs.Prelude.{◌≡◌, ◌+◌, ◌<◌, [], ◌∷◌, ◌++◌, length, map, slice_get, IfOk};
 ghost use Rattle.celmean.specs.Value.{or_error};
 ghost use Rattle.celmean.specs.Seen.{value_of, outcome_of, outcomes_seen};
+ghost use Rattle.instructions.specs.Bytes.{slot_number};
 ghost use Rattle.plan.specs.Machine.{or_missing, slot_value};
 ghost use Rattle.planrun.specs.Seen.{held_seen};
 ghost use Rattle.planrun.specs.Worlds.{name_seen};
@@ -49,27 +50,24 @@ fn copy(outcome: &Outcome) -> Result<Outcome, AllocError>
     }
 }
 
-/// A copy of the outcome of a variable, by its place. Where there is none, it is the error.
+/// A copy of the outcome of a variable, by its place.
 pub(crate) fn variable(place: usize, variables: &[Outcome]) -> Result<Outcome, AllocError>
+    requires { place < length variables.now }
     ensures { IfOk result (λ o. outcome_of o ≡ or_missing (slice_get (outcomes_seen variables.now) place)) }
 {
-    match variables.get(place) {
-        Some(outcome) => copy(outcome),
-        None => Ok(Outcome::Error),
-    }
+    copy(&variables[place])
 }
 
 fn slot_at(place: usize, slots: &[&Value]) -> Result<Outcome, AllocError>
+    requires { place < length slots.now }
     ensures { IfOk result (λ o. outcome_of o ≡ or_error (slice_get (map (λ s. value_of s.now) slots.now) place)) }
 {
-    match slots.get(place) {
-        Some(value) => Ok(Outcome::Gives((*value).clone()?)),
-        None => Ok(Outcome::Error),
-    }
+    Ok(Outcome::Gives(slots[place].clone()?))
 }
 
-/// A copy of the item that the variable of a macro stands for. Outside the macro, it is the error.
+/// A copy of the item that the variable of a macro stands for.
 pub(crate) fn item_of(slot: Slot, slots: &[&Value]) -> Result<Outcome, AllocError>
+    requires { slot_number slot < length slots.now }
     ensures { IfOk result (λ o. outcome_of o ≡ slot_value (map (λ v. value_of v.now) slots.now) slot) }
 {
     match slot {
@@ -84,7 +82,8 @@ pub(crate) fn with_item<'a>(
     slots: &[&'a Value],
     item: &'a Value,
 ) -> Result<Vec<&'a Value>, AllocError>
-    ensures { IfOk result (λ v. map (λ s. value_of s.now) v.items ≡ map (λ s. value_of s.now) slots.now ++ value_of item.now ∷ []) }
+    ensures items { IfOk result (λ v. map (λ s. value_of s.now) v.items ≡ map (λ s. value_of s.now) slots.now ++ value_of item.now ∷ []) }
+    ensures one_more { IfOk result (λ v. length v.items ≡ length slots.now + 1) }
 {
     let mut all = Vec::new(alloc);
     for slot in slots {

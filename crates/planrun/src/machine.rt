@@ -1,18 +1,20 @@
 //! The machine.
 
-ghost use Rattle.std.specs.Prelude.{◌≡◌, ◌+◌, ◌<◌, [], ◌∷◌, ◌++◌, if◌then◌else◌, List, map, slice_get, OnOk, IfOk};
+ghost use Rattle.std.specs.Prelude.{◌≡◌, ◌+◌, ◌<◌, ◌≤◌, IsTrue, [], ◌∷◌, ◌++◌, if◌then◌else◌, List, map, length, slice_get, OnOk, IfOk};
 ghost use Rattle.celread.specs.Tree.{Expr};
 ghost use Rattle.celmean.specs.Meaning.{Environment, mean};
 ghost use Rattle.celmean.specs.Value as seen;
-ghost use Rattle.celmean.specs.Macros.{is_true, is_false, range_of, over_items};
+ghost use Rattle.celmean.specs.Macros.{reduced, range_of, over_items};
 ghost use Rattle.celmean.specs.Seen.{value_of, values_seen, outcome_of, outcomes_seen};
 ghost use Rattle.instructions.specs.Op.{Branch, Over};
-ghost use Rattle.instructions.specs.Seen.{op_of, plan_ops};
+ghost use Rattle.instructions.specs.Judging.{takes, targets, is_named};
+ghost use Rattle.instructions.specs.Seen.{op_of};
 ghost use Rattle.plan.specs.Machine.{Next, World, top, after, step, step_if, outcome};
 ghost use Rattle.planrun.specs.Seen.{stack_seen};
 ghost use Rattle.planrun.specs.Worlds.{world_of};
 ghost use Rattle.planrun.specs.Results.{IsRunOf};
-ghost use Rattle.planrun.specs.Running.{items_of, world, ops, next_of, goes};
+ghost use Rattle.planrun.specs.Deciding.{decides};
+ghost use Rattle.planrun.specs.Running.{items_of, world, ops, vars, depth, next_of, IsReady, IsAt, IsAtOp, BeginsBody, Leads};
 
 use crate::bindings::{Bindings, item_of, named, variable, with_item};
 use crate::held::{Held, into_outcome, is_false, is_true};
@@ -20,10 +22,11 @@ use crate::operations::{
     take_binary, take_both, take_call, take_either, take_field, take_has, take_index, take_list,
     take_map, take_unary,
 };
-use crate::stack::{pop, push, put, take_top};
+use crate::stack::{pop, push, put, take_top, topmost};
 use celmean::{Outcome, Value, range_of, reduced};
 use celread::Macro;
-use instructions::{Instruction, Plan};
+use instructions::Instruction;
+use plancode::Verified;
 use std::alloc::{AllocError, Global};
 
 /// The most items that a macro goes over.
@@ -47,6 +50,9 @@ fn advance<'a>(
     instruction: &Instruction,
     stack: &mut Vec<Held<'a>>,
 ) -> Result<(), AllocError>
+    requires plain { targets (op_of instruction.now) ≡ [] }
+    requires named { IsTrue (is_named (vars machine.now) (depth machine.now) (op_of instruction.now)) }
+    requires operands { takes (op_of instruction.now) ≤ length stack.old.items }
     ensures { OnOk result (stack_seen stack.new.items ≡ after (world machine.now) (items_of machine.now) (op_of instruction.now) (stack_seen stack.old.items)) }
 {
     match instruction {
@@ -73,28 +79,8 @@ fn advance<'a>(
         Instruction::Call(function) => take_call(alloc, *function, stack),
         Instruction::And => take_both(alloc, stack),
         Instruction::Or => take_either(alloc, stack),
-        Instruction::IfFalse(_) | Instruction::IfTrue(_) | Instruction::Jump(_) => Ok(()),
-        Instruction::Branch(_, _) | Instruction::Macro(_, _) => Ok(()),
-    }
-}
-
-// Whether false is on top.
-fn top_is_false(stack: &Vec<Held<'_>>) -> bool
-    ensures { result ≡ is_false (top (stack_seen stack.now.items)) }
-{
-    match stack.last() {
-        Some(held) => is_false(held),
-        None => false,
-    }
-}
-
-// Whether true is on top.
-fn top_is_true(stack: &Vec<Held<'_>>) -> bool
-    ensures { result ≡ is_true (top (stack_seen stack.now.items)) }
-{
-    match stack.last() {
-        Some(held) => is_true(held),
-        None => false,
+        Instruction::IfFalse(_) | Instruction::IfTrue(_) | Instruction::Jump(_) => unreachable!(),
+        Instruction::Branch(_, _) | Instruction::Macro(_, _) => unreachable!(),
     }
 }
 
@@ -105,22 +91,20 @@ fn branch(
     otherwise: u16,
     end: u16,
     stack: &mut Vec<Held<'_>>,
-) -> Result<Option<usize>, AllocError>
-    requires { at < stop }
-    ensures { IfOk result (λ to. (w : World) (next : Next) (items : List seen.Value) → step w (Branch otherwise end) next at stop items (stack_seen stack.old.items) ≡ goes next stop items to (stack_seen stack.new.items)) }
+) -> Result<usize, AllocError>
+    requires inside { at < stop }
+    requires operands { 1 ≤ length stack.old.items }
+    ensures step { IfOk result (λ to. (w : World) (next : Next) (items : List seen.Value) → step w (Branch otherwise end) next at stop items (stack_seen stack.old.items) ≡ next to stop items (stack_seen stack.new.items)) }
+    ensures leads { IfOk result (λ to. Leads (Branch otherwise end) at to (length stack.old.items) (length stack.new.items)) }
 {
-    match pop(stack) {
-        Some(test) => {
-            if is_true(&test) {
-                Ok(Some(at + 1))
-            } else if is_false(&test) {
-                Ok(Some(otherwise as usize))
-            } else {
-                put(stack, Outcome::Error)?;
-                Ok(Some(end as usize))
-            }
-        }
-        None => Ok(None),
+    let test = pop(stack);
+    if is_true(&test) {
+        Ok(at + 1)
+    } else if is_false(&test) {
+        Ok(otherwise as usize)
+    } else {
+        put(stack, Outcome::Error)?;
+        Ok(end as usize)
     }
 }
 
@@ -132,7 +116,7 @@ fn target(taken: bool, to: u16, at: usize, stop: usize) -> usize
     if taken { to as usize } else { at + 1 }
 }
 
-// An instruction with the place behind it.
+// An instruction that leads to the next one, and the place of that.
 fn advance_from<'a>(
     alloc: Global,
     machine: &Machine<'a>,
@@ -140,15 +124,17 @@ fn advance_from<'a>(
     at: usize,
     stop: usize,
     stack: &mut Vec<Held<'a>>,
-) -> Result<Option<usize>, AllocError>
-    requires { at < stop }
-    ensures { IfOk result (λ to. (next : Next) → next (at + 1) stop (items_of machine.now) (after (world machine.now) (items_of machine.now) (op_of instruction.now) (stack_seen stack.old.items)) ≡ goes next stop (items_of machine.now) to (stack_seen stack.new.items)) }
+) -> Result<usize, AllocError>
+    requires plain { targets (op_of instruction.now) ≡ [] }
+    requires here { IsAtOp machine.now (op_of instruction.now) at stop (length stack.old.items) }
+    ensures step { IfOk result (λ to. (next : Next) → step (world machine.now) (op_of instruction.now) next at stop (items_of machine.now) (stack_seen stack.old.items) ≡ next to stop (items_of machine.now) (stack_seen stack.new.items)) }
+    ensures leads { IfOk result (λ to. Leads (op_of instruction.now) at to (length stack.old.items) (length stack.new.items)) }
 {
     advance(alloc, machine, instruction, stack)?;
-    Ok(Some(at + 1))
+    Ok(at + 1)
 }
 
-// One instruction: where it leads, with at most so many instructions more in the bodies of macros.
+// One instruction: where it leads, with so many steps for the bodies of macros.
 #[cycle(execute)]
 fn run_instruction<'a>(
     alloc: Global,
@@ -158,15 +144,17 @@ fn run_instruction<'a>(
     at: usize,
     stop: usize,
     stack: &mut Vec<Held<'a>>,
-) -> Result<Option<usize>, AllocError>
-    requires { at < stop }
-    ensures { IfOk result (λ to. step (world machine.now) (op_of instruction.now) (next_of machine.now steps) at stop (items_of machine.now) (stack_seen stack.old.items) ≡ goes (next_of machine.now steps) stop (items_of machine.now) to (stack_seen stack.new.items)) }
+) -> Result<usize, AllocError>
+    requires here { IsAtOp machine.now (op_of instruction.now) at stop (length stack.old.items) }
+    requires enough { stop ≤ at + steps }
+    ensures step { IfOk result (λ to. step (world machine.now) (op_of instruction.now) (next_of machine.now steps) at stop (items_of machine.now) (stack_seen stack.old.items) ≡ next_of machine.now steps to stop (items_of machine.now) (stack_seen stack.new.items)) }
+    ensures leads { IfOk result (λ to. Leads (op_of instruction.now) at to (length stack.old.items) (length stack.new.items)) }
 {
     match instruction {
-        Instruction::IfFalse(to) => Ok(Some(target(top_is_false(stack), *to, at, stop))),
-        Instruction::IfTrue(to) => Ok(Some(target(top_is_true(stack), *to, at, stop))),
+        Instruction::IfFalse(to) => Ok(target(is_false(topmost(stack)), *to, at, stop)),
+        Instruction::IfTrue(to) => Ok(target(is_true(topmost(stack)), *to, at, stop)),
         Instruction::Branch(otherwise, end) => branch(at, stop, *otherwise, *end, stack),
-        Instruction::Jump(to) => Ok(Some(*to as usize)),
+        Instruction::Jump(to) => Ok(*to as usize),
         Instruction::Macro(kind, end) => {
             run_macro(alloc, machine, *kind, steps, at, stop, *end, stack)
         }
@@ -199,19 +187,16 @@ fn run_macro<'a>(
     stop: usize,
     end: u16,
     stack: &mut Vec<Held<'a>>,
-) -> Result<Option<usize>, AllocError>
-    requires { at < stop }
-    ensures { IfOk result (λ to. step (world machine.now) (Over kind end) (next_of machine.now steps) at stop (items_of machine.now) (stack_seen stack.old.items) ≡ goes (next_of machine.now steps) stop (items_of machine.now) to (stack_seen stack.new.items)) }
+) -> Result<usize, AllocError>
+    requires here { IsAtOp machine.now (Over kind end) at stop (length stack.old.items) }
+    requires enough { stop ≤ at + steps }
+    ensures step { IfOk result (λ to. step (world machine.now) (Over kind end) (next_of machine.now steps) at stop (items_of machine.now) (stack_seen stack.old.items) ≡ next_of machine.now steps to stop (items_of machine.now) (stack_seen stack.new.items)) }
+    ensures leads { IfOk result (λ to. Leads (Over kind end) at to (length stack.old.items) (length stack.new.items)) }
 {
-    match pop(stack) {
-        Some(of) => {
-            let of = into_outcome(alloc, of)?;
-            let made = over_range(alloc, machine, kind, steps, at + 1, end as usize, &of)?;
-            put(stack, made)?;
-            Ok(Some(end as usize))
-        }
-        None => Ok(None),
-    }
+    let of = into_outcome(alloc, pop(stack))?;
+    let made = over_range(alloc, machine, kind, steps, at + 1, end as usize, &of)?;
+    put(stack, made)?;
+    Ok(end as usize)
 }
 
 // What a macro makes of what it goes over, with its body between two places.
@@ -225,6 +210,8 @@ fn over_range(
     end: usize,
     of: &Outcome,
 ) -> Result<Outcome, AllocError>
+    requires body { BeginsBody machine.now first end }
+    requires enough { end < first + steps }
     ensures { IfOk result (λ o. outcome_of o ≡ over_items kind (λ v. top (next_of machine.now steps first end (items_of machine.now ++ v ∷ []) [])) (range_of (outcome_of of.now))) }
 {
     match range_of(alloc, of)? {
@@ -232,7 +219,7 @@ fn over_range(
             if items.len() > LONGEST_RANGE {
                 Ok(Outcome::Error)
             } else {
-                let outcomes = run_bodies(alloc, machine, steps, first, end, &items)?;
+                let outcomes = run_bodies(alloc, machine, kind, steps, first, end, &items)?;
                 reduced(alloc, kind, &items, &outcomes)
             }
         }
@@ -240,21 +227,40 @@ fn over_range(
     }
 }
 
-// The outcomes of a macro's body for the items.
+// Whether the outcome of the body for an item decides what a macro gives, whatever the others are.
+fn decides(kind: Macro, outcome: &Outcome) -> bool
+    ensures { result ≡ decides kind (outcome_of outcome.now) }
+{
+    match kind {
+        Macro::All => celmean::is_false(outcome),
+        Macro::Exists => celmean::is_true(outcome),
+        Macro::ExistsOne | Macro::Map | Macro::Filter => false,
+    }
+}
+
+// The outcomes of a macro's body for the items, up to the first that decides what the macro gives.
 #[cycle(execute)]
 fn run_bodies(
     alloc: Global,
     machine: &Machine<'_>,
+    kind: Macro,
     steps: usize,
     first: usize,
     end: usize,
     items: &Vec<Value>,
 ) -> Result<Vec<Outcome>, AllocError>
-    ensures { IfOk result (λ v. outcomes_seen v.items ≡ map (λ v. top (next_of machine.now steps first end (items_of machine.now ++ v ∷ []) [])) (values_seen items.now.items)) }
+    requires body { BeginsBody machine.now first end }
+    requires enough { end < first + steps }
+    ensures { IfOk result (λ v. reduced kind (values_seen items.now.items) (outcomes_seen v.items) ≡ reduced kind (values_seen items.now.items) (map (λ v. top (next_of machine.now steps first end (items_of machine.now ++ v ∷ []) [])) (values_seen items.now.items))) }
 {
     let mut outcomes = Vec::new(alloc);
     for item in items {
-        outcomes.push(run_body(alloc, machine, steps, first, end, item)?)?;
+        let outcome = run_body(alloc, machine, steps, first, end, item)?;
+        let decided = decides(kind, &outcome);
+        outcomes.push(outcome)?;
+        if decided {
+            return Ok(outcomes);
+        }
     }
     Ok(outcomes)
 }
@@ -269,6 +275,8 @@ fn run_body(
     end: usize,
     item: &Value,
 ) -> Result<Outcome, AllocError>
+    requires body { BeginsBody machine.now first end }
+    requires enough { end < first + steps }
     ensures { IfOk result (λ o. outcome_of o ≡ top (next_of machine.now steps first end (items_of machine.now ++ value_of item.now ∷ []) [])) }
 {
     let slots = with_item(alloc, machine.slots, item)?;
@@ -291,17 +299,21 @@ fn step_at<'a>(
     at: usize,
     stop: usize,
     stack: &mut Vec<Held<'a>>,
-) -> Result<Option<usize>, AllocError>
-    requires { at < stop }
-    ensures { IfOk result (λ to. step_if (world machine.now) (slice_get (ops machine.now) at) (next_of machine.now steps) at stop (items_of machine.now) (stack_seen stack.old.items) ≡ goes (next_of machine.now steps) stop (items_of machine.now) to (stack_seen stack.new.items)) }
+) -> Result<usize, AllocError>
+    requires ready { IsReady machine.now }
+    requires at { IsAt machine.now at stop (length stack.old.items) }
+    requires inside { at < stop }
+    requires enough { stop ≤ at + steps }
+    ensures step { IfOk result (λ to. step_if (world machine.now) (slice_get (ops machine.now) at) (next_of machine.now steps) at stop (items_of machine.now) (stack_seen stack.old.items) ≡ next_of machine.now steps to stop (items_of machine.now) (stack_seen stack.new.items)) }
+    ensures at { IfOk result (λ to. IsAt machine.now to stop (length stack.new.items)) }
+    ensures ahead { IfOk result (λ to. at < to) }
+    ensures inside { IfOk result (λ to. to ≤ stop) }
 {
-    match machine.code.get(at) {
-        Some(instruction) => run_instruction(alloc, machine, instruction, steps, at, stop, stack),
-        None => Ok(None),
-    }
+    run_instruction(alloc, machine, &machine.code[at], steps, at, stop, stack)
 }
 
-// Runs the instructions from a place, at most so many, up to the place where the code or the body of a macro ends.
+// Runs the instructions from a place up to the one where the code or the body of a macro ends. Each leads ahead, so that so many steps
+// are enough.
 #[cycle(execute)]
 fn execute<'a>(
     alloc: Global,
@@ -311,42 +323,43 @@ fn execute<'a>(
     stop: usize,
     stack: &mut Vec<Held<'a>>,
 ) -> Result<(), AllocError>
-    ensures { OnOk result (next_of machine.now steps at stop (items_of machine.now) (stack_seen stack.old.items) ≡ stack_seen stack.new.items) }
+    requires ready { IsReady machine.now }
+    requires at { IsAt machine.now at stop (length stack.old.items) }
+    requires inside { at ≤ stop }
+    requires enough { stop < at + steps }
+    ensures same { OnOk result (next_of machine.now steps at stop (items_of machine.now) (stack_seen stack.old.items) ≡ stack_seen stack.new.items) }
+    ensures one_outcome { OnOk result (length stack.new.items ≡ 1) }
 {
     let mut left = steps;
     let mut at = at;
-    'steps: while left > 0 {
-        if at >= stop {
-            return Ok(());
-        }
+    'steps: while at < stop {
         left -= 1;
-        match step_at(alloc, machine, left, at, stop, stack)? {
-            Some(next) => at = next,
-            None => {
-                stack.clear();
-                return Ok(());
-            }
-        }
+        at = step_at(alloc, machine, left, at, stop, stack)?;
     }
-    stack.clear();
     Ok(())
 }
 
 /// What the plan gives: a value, or the one error.
 ///
+/// The plan is verified, so no instruction misses an operand, each name is known, and each body of a macro ends with one outcome:
+/// nothing of this is looked at again.
+///
 /// # Errors
 ///
 /// Where no memory is left.
-pub fn run(alloc: Global, plan: &Plan, bindings: &Bindings<'_>) -> Result<Outcome, AllocError>
-    ensures machine { IfOk result (λ o. outcome_of o ≡ outcome (world_of bindings.now) (plan_ops plan.now)) }
-    ensures meaning { (e : Expr) (env : Environment) → IsRunOf (plan_ops plan.now) (world_of bindings.now) e env → IfOk result (λ o. outcome_of o ≡ mean e env) }
+pub fn run(alloc: Global, plan: &Verified, bindings: &Bindings<'_>) -> Result<Outcome, AllocError>
+    // As many variables are bound as the plan was verified for.
+    requires bound { length bindings.now.variables.now ≡ plan.now.vars }
+    ensures machine { IfOk result (λ o. outcome_of o ≡ outcome (world_of bindings.now) plan.now.ops) }
+    ensures meaning { (e : Expr) (env : Environment) → IsRunOf plan.now.ops (world_of bindings.now) e env → IfOk result (λ o. outcome_of o ≡ mean e env) }
 {
+    let code = plan.instructions();
     let machine = Machine {
         bindings: *bindings,
-        code: &plan.instructions,
+        code,
         slots: &[],
     };
-    let end = plan.instructions.len();
+    let end = code.len();
     let mut stack = Vec::new(alloc);
     execute(alloc, &machine, end + 1, 0, end, &mut stack)?;
     take_top(alloc, &mut stack)

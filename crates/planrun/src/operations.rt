@@ -1,12 +1,13 @@
-//! Instructions that take outcomes from the top of the stack and put one there.
+//! Instructions that take outcomes from the top of the stack and put one there. Their operands are there.
 
-ghost use Rattle.std.specs.Prelude.{◌≡◌, ◌+◌, [], ◌∷◌, reverse, take, drop, vec_len, ◌<◌, OnOk, IfOk, IfSome, IfNone};
+ghost use Rattle.std.specs.Prelude.{◌≡◌, ◌+◌, ◌<◌, ◌≤◌, [], ◌∷◌, reverse, take, drop, length, vec_len, OnOk, IfOk, IfSome, IfNone};
 ghost use Rattle.celmean.specs.Value.{with_value, with_values};
 ghost use Rattle.celmean.specs.Collections.{member, has_member, indexed, list_of, map_of};
 ghost use Rattle.celmean.specs.Macros.{both, either};
 ghost use Rattle.celmean.specs.Operators.{prefixed, on_values};
 ghost use Rattle.celmean.specs.Functions.{called, method_called};
 ghost use Rattle.celmean.specs.Seen.{outcome_of, outcomes_seen, outcome_pairs_seen};
+ghost use Rattle.instructions.specs.Judging.{operand_count};
 ghost use Rattle.plan.specs.Machine.{on_one, on_two, on_call, in_pairs, operator};
 ghost use Rattle.planrun.specs.Seen.{stack_seen};
 
@@ -23,12 +24,11 @@ pub(crate) fn take_field(
     name: &str,
     stack: &mut Vec<Held<'_>>,
 ) -> Result<(), AllocError>
+    requires { 1 ≤ length stack.old.items }
     ensures { OnOk result (stack_seen stack.new.items ≡ on_one (with_value (member name.now)) (stack_seen stack.old.items)) }
 {
-    match pop(stack) {
-        Some(held) => push(stack, field(alloc, name, held)?),
-        None => Ok(()),
-    }
+    let held = pop(stack);
+    push(stack, field(alloc, name, held)?)
 }
 
 /// `has(e.name)`
@@ -37,22 +37,20 @@ pub(crate) fn take_has(
     name: &str,
     stack: &mut Vec<Held<'_>>,
 ) -> Result<(), AllocError>
+    requires { 1 ≤ length stack.old.items }
     ensures { OnOk result (stack_seen stack.new.items ≡ on_one (with_value (has_member name.now)) (stack_seen stack.old.items)) }
 {
-    match pop(stack) {
-        Some(held) => put(stack, has(alloc, name, &held)?),
-        None => Ok(()),
-    }
+    let held = pop(stack);
+    put(stack, has(alloc, name, &held)?)
 }
 
 /// `e[i]`
 pub(crate) fn take_index(alloc: Global, stack: &mut Vec<Held<'_>>) -> Result<(), AllocError>
+    requires { 2 ≤ length stack.old.items }
     ensures { OnOk result (stack_seen stack.new.items ≡ on_two (with_values indexed) (stack_seen stack.old.items)) }
 {
-    match pop_two(stack) {
-        Some((of, place)) => push(stack, index(alloc, of, place)?),
-        None => Ok(()),
-    }
+    let (of, place) = pop_two(stack);
+    push(stack, index(alloc, of, place)?)
 }
 
 /// `[a, b]`
@@ -61,6 +59,7 @@ pub(crate) fn take_list(
     count: usize,
     stack: &mut Vec<Held<'_>>,
 ) -> Result<(), AllocError>
+    requires { count ≤ length stack.old.items }
     ensures { OnOk result (stack_seen stack.new.items ≡ list_of (reverse (take count (stack_seen stack.old.items))) ∷ drop count (stack_seen stack.old.items)) }
 {
     let items = take_many(alloc, count, stack)?;
@@ -100,6 +99,7 @@ pub(crate) fn take_map(
     count: u16,
     stack: &mut Vec<Held<'_>>,
 ) -> Result<(), AllocError>
+    requires { count + count ≤ length stack.old.items }
     ensures { OnOk result (stack_seen stack.new.items ≡ map_of (in_pairs (reverse (take (count + count) (stack_seen stack.old.items)))) ∷ drop (count + count) (stack_seen stack.old.items)) }
 {
     let outcomes = take_topmost(alloc, count as usize + count as usize, stack)?;
@@ -113,15 +113,11 @@ pub(crate) fn take_unary(
     prefix: Prefix,
     stack: &mut Vec<Held<'_>>,
 ) -> Result<(), AllocError>
+    requires { 1 ≤ length stack.old.items }
     ensures { OnOk result (stack_seen stack.new.items ≡ on_one (with_value (prefixed prefix)) (stack_seen stack.old.items)) }
 {
-    match pop(stack) {
-        Some(held) => {
-            let operand = into_outcome(alloc, held)?;
-            put(stack, prefixed(prefix, &operand))
-        }
-        None => Ok(()),
-    }
+    let operand = into_outcome(alloc, pop(stack))?;
+    put(stack, prefixed(prefix, &operand))
 }
 
 fn operator(binary: Binary) -> Operator
@@ -155,32 +151,29 @@ pub(crate) fn take_binary(
     binary: Binary,
     stack: &mut Vec<Held<'_>>,
 ) -> Result<(), AllocError>
+    requires { 2 ≤ length stack.old.items }
     ensures { OnOk result (stack_seen stack.new.items ≡ on_two (with_values (on_values (operator binary))) (stack_seen stack.old.items)) }
 {
-    match pop_outcomes(alloc, stack)? {
-        Some((left, right)) => put(stack, on_outcomes(binary, &left, &right)?),
-        None => Ok(()),
-    }
+    let (left, right) = pop_outcomes(alloc, stack)?;
+    put(stack, on_outcomes(binary, &left, &right)?)
 }
 
 /// `a && b`
 pub(crate) fn take_both(alloc: Global, stack: &mut Vec<Held<'_>>) -> Result<(), AllocError>
+    requires { 2 ≤ length stack.old.items }
     ensures { OnOk result (stack_seen stack.new.items ≡ on_two both (stack_seen stack.old.items)) }
 {
-    match pop_outcomes(alloc, stack)? {
-        Some((left, right)) => put(stack, both(&left, &right)),
-        None => Ok(()),
-    }
+    let (left, right) = pop_outcomes(alloc, stack)?;
+    put(stack, both(&left, &right))
 }
 
 /// `a || b`
 pub(crate) fn take_either(alloc: Global, stack: &mut Vec<Held<'_>>) -> Result<(), AllocError>
+    requires { 2 ≤ length stack.old.items }
     ensures { OnOk result (stack_seen stack.new.items ≡ on_two either (stack_seen stack.old.items)) }
 {
-    match pop_outcomes(alloc, stack)? {
-        Some((left, right)) => put(stack, either(&left, &right)),
-        None => Ok(()),
-    }
+    let (left, right) = pop_outcomes(alloc, stack)?;
+    put(stack, either(&left, &right))
 }
 
 // The one operand as the arguments of a call.
@@ -194,28 +187,22 @@ fn alone(alloc: Global, outcome: Outcome) -> Result<Vec<Outcome>, AllocError>
 
 // `f(e)`
 fn take_one(alloc: Global, name: &str, stack: &mut Vec<Held<'_>>) -> Result<(), AllocError>
+    requires { 1 ≤ length stack.old.items }
     ensures { OnOk result (stack_seen stack.new.items ≡ on_one (λ o. called name.now (o ∷ [])) (stack_seen stack.old.items)) }
 {
-    match pop(stack) {
-        Some(held) => {
-            let arguments = alone(alloc, into_outcome(alloc, held)?)?;
-            put(stack, called(alloc, name, &arguments)?)
-        }
-        None => Ok(()),
-    }
+    let operand = into_outcome(alloc, pop(stack))?;
+    let arguments = alone(alloc, operand)?;
+    put(stack, called(alloc, name, &arguments)?)
 }
 
 // `s.f(t)`
 fn take_texts(alloc: Global, name: &str, stack: &mut Vec<Held<'_>>) -> Result<(), AllocError>
+    requires { 2 ≤ length stack.old.items }
     ensures { OnOk result (stack_seen stack.new.items ≡ on_two (λ a b. method_called name.now a (b ∷ [])) (stack_seen stack.old.items)) }
 {
-    match pop_outcomes(alloc, stack)? {
-        Some((of, argument)) => {
-            let arguments = alone(alloc, argument)?;
-            put(stack, method_called(name, &of, &arguments))
-        }
-        None => Ok(()),
-    }
+    let (of, argument) = pop_outcomes(alloc, stack)?;
+    let arguments = alone(alloc, argument)?;
+    put(stack, method_called(name, &of, &arguments))
 }
 
 /// A call of a function.
@@ -224,6 +211,7 @@ pub(crate) fn take_call(
     function: Function,
     stack: &mut Vec<Held<'_>>,
 ) -> Result<(), AllocError>
+    requires { operand_count function ≤ length stack.old.items }
     ensures { OnOk result (stack_seen stack.new.items ≡ on_call function (stack_seen stack.old.items)) }
 {
     match function {

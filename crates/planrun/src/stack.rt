@@ -1,9 +1,8 @@
-//! The stack of the machine.
+//! The stack of the machine. Who takes from it knows that the outcomes are there.
 
-ghost use Rattle.std.specs.Prelude.{◌≡◌, [], ◌∷◌, reverse, take, drop, OnOk, IfOk, IfSome, IfNone};
-ghost use Rattle.celmean.specs.Value as seen;
+ghost use Rattle.std.specs.Prelude.{◌≡◌, ◌≤◌, ◌+◌, ◌∷◌, reverse, take, drop, length, OnOk, IfOk};
 ghost use Rattle.celmean.specs.Seen.{outcome_of, outcomes_seen};
-ghost use Rattle.plan.specs.Machine.{top, on_two};
+ghost use Rattle.plan.specs.Machine.{top};
 ghost use Rattle.planrun.specs.Seen.{held_seen, stack_seen};
 
 use crate::held::{Held, into_outcome};
@@ -25,84 +24,87 @@ pub(crate) fn put(stack: &mut Vec<Held<'_>>, outcome: Outcome) -> Result<(), All
     push(stack, Held::Owned(outcome))
 }
 
-/// Takes the topmost one.
-pub(crate) fn pop<'a>(stack: &mut Vec<Held<'a>>) -> Option<Held<'a>>
-    ensures some { IfSome result (λ h. stack_seen stack.old.items ≡ held_seen h ∷ stack_seen stack.new.items) }
-    ensures none { IfNone result (stack_seen stack.old.items ≡ []) }
-    ensures kept { IfNone result (stack_seen stack.new.items ≡ []) }
+/// The topmost one.
+pub(crate) fn topmost<'s, 'a>(stack: &'s Vec<Held<'a>>) -> &'s Held<'a>
+    requires { 1 ≤ length stack.now.items }
+    ensures { held_seen result.now ≡ top (stack_seen stack.now.items) }
 {
-    stack.pop()
-}
-
-/// Takes the two topmost ones: the second was on top. Where there are no two, the stack is left empty.
-pub(crate) fn pop_two<'a>(stack: &mut Vec<Held<'a>>) -> Option<(Held<'a>, Held<'a>)>
-    ensures some { IfSome result (λ x. stack_seen stack.old.items ≡ held_seen x.1 ∷ (held_seen x.0 ∷ stack_seen stack.new.items)) }
-    ensures none { IfNone result ((f : seen.Outcome → seen.Outcome → seen.Outcome) → on_two f (stack_seen stack.old.items) ≡ []) }
-    ensures kept { IfNone result (stack_seen stack.new.items ≡ []) }
-{
-    match pop(stack) {
-        Some(second) => match pop(stack) {
-            Some(first) => Some((first, second)),
-            None => None,
-        },
-        None => None,
+    match stack.last() {
+        Some(held) => held,
+        None => unreachable!(),
     }
 }
 
-/// Takes the two topmost outcomes: the second was on top. Where there are no two, the stack is left empty.
+/// Takes the topmost one.
+pub(crate) fn pop<'a>(stack: &mut Vec<Held<'a>>) -> Held<'a>
+    requires { 1 ≤ length stack.old.items }
+    ensures taken { stack_seen stack.old.items ≡ held_seen result ∷ stack_seen stack.new.items }
+    ensures shorter { length stack.new.items + 1 ≡ length stack.old.items }
+{
+    match stack.pop() {
+        Some(held) => held,
+        None => unreachable!(),
+    }
+}
+
+/// Takes the two topmost ones: the second was on top.
+pub(crate) fn pop_two<'a>(stack: &mut Vec<Held<'a>>) -> (Held<'a>, Held<'a>)
+    requires { 2 ≤ length stack.old.items }
+    ensures taken { stack_seen stack.old.items ≡ held_seen result.1 ∷ (held_seen result.0 ∷ stack_seen stack.new.items) }
+    ensures shorter { length stack.new.items + 2 ≡ length stack.old.items }
+{
+    let second = pop(stack);
+    let first = pop(stack);
+    (first, second)
+}
+
+/// Takes the two topmost outcomes: the second was on top.
 pub(crate) fn pop_outcomes(
     alloc: Global,
     stack: &mut Vec<Held<'_>>,
-) -> Result<Option<(Outcome, Outcome)>, AllocError>
-    ensures some { IfOk result (λ r. IfSome r (λ x. stack_seen stack.old.items ≡ outcome_of x.1 ∷ (outcome_of x.0 ∷ stack_seen stack.new.items))) }
-    ensures none { IfOk result (λ r. IfNone r ((f : seen.Outcome → seen.Outcome → seen.Outcome) → on_two f (stack_seen stack.old.items) ≡ [])) }
-    ensures kept { IfOk result (λ r. IfNone r (stack_seen stack.new.items ≡ [])) }
+) -> Result<(Outcome, Outcome), AllocError>
+    requires { 2 ≤ length stack.old.items }
+    ensures { IfOk result (λ x. stack_seen stack.old.items ≡ outcome_of x.1 ∷ (outcome_of x.0 ∷ stack_seen stack.new.items)) }
 {
-    match pop_two(stack) {
-        Some((first, second)) => {
-            let first = into_outcome(alloc, first)?;
-            let second = into_outcome(alloc, second)?;
-            Ok(Some((first, second)))
-        }
-        None => Ok(None),
-    }
+    let (first, second) = pop_two(stack);
+    let first = into_outcome(alloc, first)?;
+    let second = into_outcome(alloc, second)?;
+    Ok((first, second))
 }
 
-/// Takes the topmost outcome. Of an empty stack it is the error.
+/// Takes the topmost outcome.
 pub(crate) fn take_top(alloc: Global, stack: &mut Vec<Held<'_>>) -> Result<Outcome, AllocError>
+    requires { 1 ≤ length stack.old.items }
     ensures { IfOk result (λ o. outcome_of o ≡ top (stack_seen stack.old.items)) }
 {
-    match pop(stack) {
-        Some(held) => into_outcome(alloc, held),
-        None => Ok(Outcome::Error),
-    }
+    into_outcome(alloc, pop(stack))
 }
 
-/// Takes so many of the topmost outcomes, or as many as there are, the topmost first.
+/// Takes so many of the topmost outcomes, the topmost first.
 pub(crate) fn take_topmost(
     alloc: Global,
     count: usize,
     stack: &mut Vec<Held<'_>>,
 ) -> Result<Vec<Outcome>, AllocError>
+    requires { count ≤ length stack.old.items }
     ensures taken { IfOk result (λ v. outcomes_seen v.items ≡ take count (stack_seen stack.old.items)) }
     ensures left { OnOk result (stack_seen stack.new.items ≡ drop count (stack_seen stack.old.items)) }
 {
     let mut outcomes = Vec::new(alloc);
     for _ in 0..count {
-        match pop(stack) {
-            Some(held) => outcomes.push(into_outcome(alloc, held)?)?,
-            None => return Ok(outcomes),
-        }
+        let held = pop(stack);
+        outcomes.push(into_outcome(alloc, held)?)?;
     }
     Ok(outcomes)
 }
 
-/// Takes so many of the topmost outcomes, or as many as there are, in the order in which they were put.
+/// Takes so many of the topmost outcomes, in the order in which they were put.
 pub(crate) fn take_many(
     alloc: Global,
     count: usize,
     stack: &mut Vec<Held<'_>>,
 ) -> Result<Vec<Outcome>, AllocError>
+    requires { count ≤ length stack.old.items }
     ensures taken { IfOk result (λ v. outcomes_seen v.items ≡ reverse (take count (stack_seen stack.old.items))) }
     ensures left { OnOk result (stack_seen stack.new.items ≡ drop count (stack_seen stack.old.items)) }
 {

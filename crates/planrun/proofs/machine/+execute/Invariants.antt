@@ -1,8 +1,8 @@
-use Rattle.std.proofs.Common.{◌≡◌, ◌+◌, ◌*◌, ◌≤◌, [], ◌∷◌, ◌++◌, map, take}
+use Rattle.std.proofs.Common.{◌≡◌, ◌+◌, ◌*◌, ◌<◌, ◌≤◌, [], ◌∷◌, ◌++◌, map, take, length}
 use Rattle.celmean.specs.Seen.{values_seen, outcomes_seen}
 use Rattle.plan.specs.Machine.{top}
 use Rattle.planrun.specs.Seen.{stack_seen}
-use Rattle.planrun.specs.Running.{items_of, next_of}
+use Rattle.planrun.specs.Running.{items_of, next_of, IsAt}
 use Rattle.planrun.proofs.machine.+execute.Given as goal
 
 abbrev pub decreases-execute : goal.decreases-execute
@@ -33,6 +33,9 @@ invariant-run_bodies-loop-item l =
 abbrev pub invariant-execute-steps : goal.invariant-execute-steps
 invariant-execute-steps l = record {
   fewer : l.left ≤ l.steps;
+  enough : l.stop < l.at + l.left;
+  inside : l.at ≤ l.stop;
+  there : IsAt l.machine l.at l.stop (length l.stack.items);
   same : next_of l.machine l.left l.at l.stop (items_of l.machine) (stack_seen l.stack.items) ≡ next_of l.machine l.steps l.initial.at l.stop (items_of l.machine) (stack_seen l.initial.stack.items);
 }
 

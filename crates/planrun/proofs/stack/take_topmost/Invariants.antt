@@ -1,4 +1,4 @@
-use Rattle.std.proofs.Common.{◌≡◌, ◌++◌, ◌-◌, ◌≤◌, take, drop}
+use Rattle.std.proofs.Common.{◌≡◌, ◌++◌, ◌+◌, ◌-◌, ◌≤◌, take, drop, length}
 use Rattle.celmean.specs.Seen.{outcomes_seen}
 use Rattle.planrun.specs.Seen.{stack_seen}
 use Rattle.planrun.proofs.stack.take_topmost.Given as goal
@@ -8,4 +8,5 @@ invariant-loop l = record {
   taken : outcomes_seen l.outcomes.items ++ take (l.count - l.counter) (stack_seen l.stack.items) ≡ take l.count (stack_seen l.initial.stack.items);
   left : drop (l.count - l.counter) (stack_seen l.stack.items) ≡ drop l.count (stack_seen l.initial.stack.items);
   within : l.counter ≤ l.count;
+  enough : l.count ≤ length l.stack.items + l.counter;
 }
