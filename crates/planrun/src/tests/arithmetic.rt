@@ -1,7 +1,6 @@
 //! Arithmetic.
 
-use super::rows::check_table;
-use jsondoc::Doc;
+use super::rows::check_tables;
 use std::test::Fail;
 
 const SIGNED: &str = r#"
@@ -120,21 +119,6 @@ dyn(true) % dyn(2) => error
 "#;
 
 #[test]
-fn sums_and_products_that_do_not_fit_are_the_error(rt: HostRuntime) -> Result<(), Fail> {
-    check_table(&rt, rt.alloc(), &Doc::null(), SIGNED)
-}
-
-#[test]
-fn division_goes_toward_zero(rt: HostRuntime) -> Result<(), Fail> {
-    check_table(&rt, rt.alloc(), &Doc::null(), DIVISION)
-}
-
-#[test]
-fn unsigned_numbers_never_lie_below_zero(rt: HostRuntime) -> Result<(), Fail> {
-    check_table(&rt, rt.alloc(), &Doc::null(), UNSIGNED)
-}
-
-#[test]
-fn operands_of_arithmetic_are_alike(rt: HostRuntime) -> Result<(), Fail> {
-    check_table(&rt, rt.alloc(), &Doc::null(), KINDS)
+fn a_result_that_does_not_fit_is_the_error(rt: HostRuntime) -> Result<(), Fail> {
+    check_tables(&rt, rt.alloc(), &[SIGNED, DIVISION, UNSIGNED, KINDS])
 }

@@ -1,7 +1,6 @@
 //! Lists and maps: their literals, `in`, indices and fields.
 
-use super::rows::check_table;
-use jsondoc::Doc;
+use super::rows::check_tables;
 use std::test::Fail;
 
 const LITERALS: &str = r#"
@@ -114,21 +113,6 @@ has({'a': 1}.b) || {'a': 1}.a == 1 => true
 "#;
 
 #[test]
-fn maps_have_their_keys_in_order_and_once(rt: HostRuntime) -> Result<(), Fail> {
-    check_table(&rt, rt.alloc(), &Doc::null(), LITERALS)
-}
-
-#[test]
-fn an_equal_item_or_key_is_in(rt: HostRuntime) -> Result<(), Fail> {
-    check_table(&rt, rt.alloc(), &Doc::null(), MEMBERSHIP)
-}
-
-#[test]
-fn an_index_out_of_range_is_the_error(rt: HostRuntime) -> Result<(), Fail> {
-    check_table(&rt, rt.alloc(), &Doc::null(), INDICES)
-}
-
-#[test]
-fn a_missing_key_is_the_error(rt: HostRuntime) -> Result<(), Fail> {
-    check_table(&rt, rt.alloc(), &Doc::null(), FIELDS)
+fn a_missing_key_or_item_is_the_error(rt: HostRuntime) -> Result<(), Fail> {
+    check_tables(&rt, rt.alloc(), &[LITERALS, MEMBERSHIP, INDICES, FIELDS])
 }

@@ -1,7 +1,6 @@
 //! Equality and order.
 
-use super::rows::check_table;
-use jsondoc::Doc;
+use super::rows::check_tables;
 use std::test::Fail;
 
 const EQUALITY: &str = r#"
@@ -105,11 +104,6 @@ dyn({}) > dyn({}) => error
 "#;
 
 #[test]
-fn values_are_equal_by_content(rt: HostRuntime) -> Result<(), Fail> {
-    check_table(&rt, rt.alloc(), &Doc::null(), EQUALITY)
-}
-
-#[test]
-fn numbers_texts_and_truth_values_have_an_order(rt: HostRuntime) -> Result<(), Fail> {
-    check_table(&rt, rt.alloc(), &Doc::null(), ORDER)
+fn values_are_compared_by_content(rt: HostRuntime) -> Result<(), Fail> {
+    check_tables(&rt, rt.alloc(), &[EQUALITY, ORDER])
 }

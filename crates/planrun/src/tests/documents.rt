@@ -2,8 +2,6 @@
 
 use super::rows::check_table;
 use jsondoc::Doc;
-use std::alloc::Global;
-use std::process::Abort;
 use std::test::Fail;
 
 const OBJECT: &[u8] =
@@ -164,32 +162,12 @@ size(variables.broken) => error
 {'fine': variables.fine}.fine => 7
 "#;
 
-fn check(rt: &impl Abort, alloc: Global, table: &str) -> Result<(), Fail> {
-    let object = Doc::read(alloc, OBJECT)?;
-    check_table(rt, alloc, &object, table)
-}
-
-#[test]
-fn fields_of_documents_are_there_or_the_error(rt: HostRuntime) -> Result<(), Fail> {
-    check(&rt, rt.alloc(), FIELDS)
-}
-
-#[test]
-fn documents_have_indices(rt: HostRuntime) -> Result<(), Fail> {
-    check(&rt, rt.alloc(), INDICES)
-}
-
-#[test]
-fn parts_of_documents_are_operands(rt: HostRuntime) -> Result<(), Fail> {
-    check(&rt, rt.alloc(), OPERATORS)
-}
-
-#[test]
-fn macros_go_over_parts_of_documents(rt: HostRuntime) -> Result<(), Fail> {
-    check(&rt, rt.alloc(), MACROS)
-}
-
 #[test]
 fn names_stand_for_documents_and_variables(rt: HostRuntime) -> Result<(), Fail> {
-    check(&rt, rt.alloc(), NAMES)
+    let alloc = rt.alloc();
+    let object = Doc::read(alloc, OBJECT)?;
+    for table in [FIELDS, INDICES, OPERATORS, MACROS, NAMES] {
+        check_table(&rt, alloc, &object, table)?;
+    }
+    Ok(())
 }

@@ -130,45 +130,22 @@ fn check_plan(rt: &impl Abort, alloc: Global, object: &Doc, table: &str) -> Resu
 }
 
 #[test]
-fn a_long_chain_of_arithmetic_runs(rt: HostRuntime) -> Result<(), Fail> {
-    check(&rt, rt.alloc(), &Doc::null(), ARITHMETIC)
-}
-
-#[test]
-fn a_long_chain_of_truth_values_runs(rt: HostRuntime) -> Result<(), Fail> {
-    check(&rt, rt.alloc(), &Doc::null(), LOGIC)
-}
-
-#[test]
-fn a_long_chain_of_signs_runs(rt: HostRuntime) -> Result<(), Fail> {
+fn a_long_chain_runs(rt: HostRuntime) -> Result<(), Fail> {
     let alloc = rt.alloc();
-    check_plan(&rt, alloc, &Doc::null(), SIGNS)?;
-    check(&rt, alloc, &Doc::null(), FEWER_SIGNS)
+    for table in [ARITHMETIC, LOGIC, COMPARISONS, CHOICES] {
+        check(&rt, alloc, &Doc::null(), table)?;
+    }
+    check(&rt, alloc, &Doc::null(), FEWER_SIGNS)?;
+    check_plan(&rt, alloc, &Doc::null(), SIGNS)
 }
 
 #[test]
-fn a_long_chain_of_comparisons_runs(rt: HostRuntime) -> Result<(), Fail> {
-    check(&rt, rt.alloc(), &Doc::null(), COMPARISONS)
-}
-
-#[test]
-fn a_long_chain_of_choices_runs(rt: HostRuntime) -> Result<(), Fail> {
-    check(&rt, rt.alloc(), &Doc::null(), CHOICES)
-}
-
-#[test]
-fn brackets_nest_32_deep(rt: HostRuntime) -> Result<(), Fail> {
-    check(&rt, rt.alloc(), &Doc::null(), BRACKETS)
-}
-
-#[test]
-fn a_long_literal_stands_for_itself(rt: HostRuntime) -> Result<(), Fail> {
-    check(&rt, rt.alloc(), &Doc::null(), LITERALS)
-}
-
-#[test]
-fn a_macro_has_a_long_body(rt: HostRuntime) -> Result<(), Fail> {
-    check(&rt, rt.alloc(), &Doc::null(), MACROS)
+fn brackets_literals_and_macros_fill_a_text(rt: HostRuntime) -> Result<(), Fail> {
+    let alloc = rt.alloc();
+    for table in [BRACKETS, LITERALS, MACROS] {
+        check(&rt, alloc, &Doc::null(), table)?;
+    }
+    Ok(())
 }
 
 // `size({0:0,1:0})` and so on, with so many keys, and an entry more.
@@ -230,14 +207,9 @@ fn deep_list(alloc: Global, depth: usize) -> Result<Doc, Fail> {
 }
 
 #[test]
-fn a_long_chain_of_fields_leads_deep(rt: HostRuntime) -> Result<(), Fail> {
+fn a_long_chain_leads_deep_into_a_document(rt: HostRuntime) -> Result<(), Fail> {
     let alloc = rt.alloc();
     check_plan(&rt, alloc, &deep_object(alloc, 2045)?, FIELDS)?;
-    check(&rt, alloc, &deep_object(alloc, 1000)?, FEWER_FIELDS)
-}
-
-#[test]
-fn a_long_chain_of_indices_leads_deep(rt: HostRuntime) -> Result<(), Fail> {
-    let alloc = rt.alloc();
+    check(&rt, alloc, &deep_object(alloc, 1000)?, FEWER_FIELDS)?;
     check(&rt, alloc, &deep_list(alloc, 1363)?, INDICES)
 }

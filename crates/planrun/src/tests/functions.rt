@@ -1,7 +1,6 @@
 //! Functions and conversions.
 
-use super::rows::check_table;
-use jsondoc::Doc;
+use super::rows::check_tables;
 use std::test::Fail;
 
 const SIZES: &str = r#"
@@ -130,21 +129,10 @@ dyn(1 / 0) => error
 "#;
 
 #[test]
-fn size_counts_code_points_items_and_entries(rt: HostRuntime) -> Result<(), Fail> {
-    check_table(&rt, rt.alloc(), &Doc::null(), SIZES)
-}
-
-#[test]
-fn texts_contain_start_and_end(rt: HostRuntime) -> Result<(), Fail> {
-    check_table(&rt, rt.alloc(), &Doc::null(), TEXT_TESTS)
-}
-
-#[test]
-fn int_takes_decimal_digits_behind_a_minus_sign(rt: HostRuntime) -> Result<(), Fail> {
-    check_table(&rt, rt.alloc(), &Doc::null(), TO_INT)
-}
-
-#[test]
-fn conversions_lead_back(rt: HostRuntime) -> Result<(), Fail> {
-    check_table(&rt, rt.alloc(), &Doc::null(), TO_UINT_AND_TEXT)
+fn what_no_function_takes_is_the_error(rt: HostRuntime) -> Result<(), Fail> {
+    check_tables(
+        &rt,
+        rt.alloc(),
+        &[SIZES, TEXT_TESTS, TO_INT, TO_UINT_AND_TEXT],
+    )
 }

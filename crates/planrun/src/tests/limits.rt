@@ -113,40 +113,20 @@ fn numbered(alloc: Global, count: usize) -> Result<Doc, Fail> {
 }
 
 #[test]
-fn a_macro_goes_over_1024_items(rt: HostRuntime) -> Result<(), Fail> {
+fn a_macro_goes_over_1024_items_and_no_more(rt: HostRuntime) -> Result<(), Fail> {
     let alloc = rt.alloc();
-    check_table(&rt, alloc, &zeros(alloc, 1024)?, MOST_ITEMS)
-}
-
-#[test]
-fn a_macro_goes_over_no_1025_items(rt: HostRuntime) -> Result<(), Fail> {
-    let alloc = rt.alloc();
-    check_table(&rt, alloc, &zeros(alloc, 1025)?, TOO_MANY_ITEMS)
-}
-
-#[test]
-fn a_sum_has_at_most_1024_items(rt: HostRuntime) -> Result<(), Fail> {
-    let alloc = rt.alloc();
-    check_table(&rt, alloc, &zeros(alloc, 512)?, HALF_A_LIST)
-}
-
-#[test]
-fn a_macro_goes_over_1024_keys_and_no_more(rt: HostRuntime) -> Result<(), Fail> {
-    let alloc = rt.alloc();
+    check_table(&rt, alloc, &zeros(alloc, 1024)?, MOST_ITEMS)?;
+    check_table(&rt, alloc, &zeros(alloc, 1025)?, TOO_MANY_ITEMS)?;
     check_table(&rt, alloc, &numbered(alloc, 1024)?, MOST_KEYS)?;
     check_table(&rt, alloc, &numbered(alloc, 1025)?, TOO_MANY_KEYS)
 }
 
 #[test]
-fn a_sum_has_at_most_65536_bytes(rt: HostRuntime) -> Result<(), Fail> {
+fn a_sum_has_at_most_1024_items_and_65536_bytes(rt: HostRuntime) -> Result<(), Fail> {
     let alloc = rt.alloc();
+    check_table(&rt, alloc, &zeros(alloc, 512)?, HALF_A_LIST)?;
     let text = Doc::from("a".repeat(alloc, 32768)?);
-    check_table(&rt, alloc, &text, HALF_A_TEXT)
-}
-
-#[test]
-fn a_sum_of_texts_is_measured_in_bytes(rt: HostRuntime) -> Result<(), Fail> {
-    let alloc = rt.alloc();
+    check_table(&rt, alloc, &text, HALF_A_TEXT)?;
     let text = Doc::from("é".repeat(alloc, 16384)?);
     check_table(&rt, alloc, &text, HALF_A_TEXT_OF_TWO_BYTES)
 }

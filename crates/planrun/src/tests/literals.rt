@@ -1,7 +1,6 @@
 //! Literals.
 
-use super::rows::check_table;
-use jsondoc::Doc;
+use super::rows::check_tables;
 use std::test::Fail;
 
 const NUMBERS: &str = r#"
@@ -75,16 +74,6 @@ const LISTS_AND_MAPS: &str = r#"
 "#;
 
 #[test]
-fn numbers_and_words_stand_for_themselves(rt: HostRuntime) -> Result<(), Fail> {
-    check_table(&rt, rt.alloc(), &Doc::null(), NUMBERS)
-}
-
-#[test]
-fn texts_have_quotes_and_escapes(rt: HostRuntime) -> Result<(), Fail> {
-    check_table(&rt, rt.alloc(), &Doc::null(), TEXTS)
-}
-
-#[test]
-fn lists_and_maps_hold_anything(rt: HostRuntime) -> Result<(), Fail> {
-    check_table(&rt, rt.alloc(), &Doc::null(), LISTS_AND_MAPS)
+fn a_literal_stands_for_its_value(rt: HostRuntime) -> Result<(), Fail> {
+    check_tables(&rt, rt.alloc(), &[NUMBERS, TEXTS, LISTS_AND_MAPS])
 }

@@ -1,7 +1,6 @@
 //! `&&`, `||`, `!` and `?:`, where a side may be the error or no truth value.
 
-use super::rows::check_table;
-use jsondoc::Doc;
+use super::rows::check_tables;
 use std::test::Fail;
 
 const CONJUNCTION: &str = r#"
@@ -96,26 +95,10 @@ true && (false || true) && !(false && true) ? 'yes' : 'no' => 'yes'
 "#;
 
 #[test]
-fn one_false_side_makes_a_conjunction_false(rt: HostRuntime) -> Result<(), Fail> {
-    check_table(&rt, rt.alloc(), &Doc::null(), CONJUNCTION)
-}
-
-#[test]
-fn one_true_side_makes_a_disjunction_true(rt: HostRuntime) -> Result<(), Fail> {
-    check_table(&rt, rt.alloc(), &Doc::null(), DISJUNCTION)
-}
-
-#[test]
-fn a_truth_value_is_denied(rt: HostRuntime) -> Result<(), Fail> {
-    check_table(&rt, rt.alloc(), &Doc::null(), DENIAL)
-}
-
-#[test]
-fn a_choice_looks_at_one_branch(rt: HostRuntime) -> Result<(), Fail> {
-    check_table(&rt, rt.alloc(), &Doc::null(), CHOICE)
-}
-
-#[test]
-fn operators_bind_in_their_order(rt: HostRuntime) -> Result<(), Fail> {
-    check_table(&rt, rt.alloc(), &Doc::null(), PRECEDENCE)
+fn one_side_may_decide(rt: HostRuntime) -> Result<(), Fail> {
+    check_tables(
+        &rt,
+        rt.alloc(),
+        &[CONJUNCTION, DISJUNCTION, DENIAL, CHOICE, PRECEDENCE],
+    )
 }

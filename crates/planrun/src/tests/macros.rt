@@ -1,7 +1,6 @@
 //! Macros.
 
-use super::rows::check_table;
-use jsondoc::Doc;
+use super::rows::check_tables;
 use std::test::Fail;
 
 const TESTS: &str = r#"
@@ -108,21 +107,6 @@ const NESTED: &str = r#"
 "#;
 
 #[test]
-fn one_item_may_decide_a_test_of_all(rt: HostRuntime) -> Result<(), Fail> {
-    check_table(&rt, rt.alloc(), &Doc::null(), TESTS)
-}
-
-#[test]
-fn map_and_filter_make_lists(rt: HostRuntime) -> Result<(), Fail> {
-    check_table(&rt, rt.alloc(), &Doc::null(), LISTS_MADE)
-}
-
-#[test]
 fn a_macro_goes_over_items_or_keys_ascending(rt: HostRuntime) -> Result<(), Fail> {
-    check_table(&rt, rt.alloc(), &Doc::null(), RANGES)
-}
-
-#[test]
-fn the_innermost_variable_hides_the_others(rt: HostRuntime) -> Result<(), Fail> {
-    check_table(&rt, rt.alloc(), &Doc::null(), NESTED)
+    check_tables(&rt, rt.alloc(), &[TESTS, LISTS_MADE, RANGES, NESTED])
 }

@@ -253,3 +253,11 @@ pub(super) fn check_table(
     check_plan_table(rt, alloc, object, table)?;
     check_meaning_table(rt, alloc, object, table)
 }
+
+/// The same of several tables, without a document.
+pub(super) fn check_tables(rt: &impl Abort, alloc: Global, tables: &[&str]) -> Result<(), Fail> {
+    for table in tables {
+        check_table(rt, alloc, &Doc::null(), table)?;
+    }
+    Ok(())
+}
