@@ -1,5 +1,5 @@
 -- Calls with another number of arguments.
-use Rattle.std.proofs.Common.{◌≡◌, ◌≢◌, ℕ, List, [], ◌∷◌, length, Option, Some, None, refl}
+use Rattle.std.proofs.Common.{◌≡◌, ◌≢◌, List, [], ◌∷◌, length, Option, None, refl}
 use Rattle.celread.specs.declared.tree.Macro.{Macro}
 use Rattle.celread.specs.declared.tree.Tree.{Tree}
 use Rattle.celread.specs.Tree.{Expr}

@@ -1,11 +1,11 @@
 -- A chain of operands, from the left.
-use Rattle.std.proofs.Common.{◌≡◌, ◌∙◌, ℕ, zero, suc, Option, Some, None, List, [], ◌∷◌, sym, refl, ap}
+use Rattle.std.proofs.Common.{◌≡◌, ◌∙◌, ℕ, suc, Some, List, ◌∷◌, sym, refl, ap}
 use Rattle.std.proofs.lemmas.Option.{same_Some}
 use Rattle.celtokens.specs.Terminal.{Terminal}
 use Rattle.celread.specs.declared.tree.Operator.{Operator}
 use Rattle.celread.specs.Tree.{Expr, Infix}
 use Rattle.celread.specs.Operators.{infix_of}
-use Rattle.celread.specs.Grammar.{Level, Height, Chain, Spells, operand, last, infixed}
+use Rattle.celread.specs.Grammar.{Height, Chain, Spells, operand, last, infixed}
 use Rattle.celread.specs.Ends.{Ends, Read, HasNoTree}
 use Rattle.celread.specs.Ahead.{HasNoOperator}
 use Rattle.celread.proofs.Ending.{ends_down, ends_at_operator, goes_on, ends_up}

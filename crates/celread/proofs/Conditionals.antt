@@ -1,10 +1,10 @@
 -- Expressions: a chain, or a condition and its two branches.
-use Rattle.std.proofs.Common.{◌≡◌, ◌∙◌, ℕ, List, [], ◌∷◌, sym, refl, ap}
+use Rattle.std.proofs.Common.{◌≡◌, ◌∙◌, List, ◌∷◌, sym, refl, ap}
 use Rattle.celtokens.specs.declared.sign.Sign.TheVariants as sign
 use Rattle.celtokens.specs.Terminal.{Terminal}
 use Rattle.celtokens.specs.Terminal as token
 use Rattle.celread.specs.Tree.{Expr, Conditional}
-use Rattle.celread.specs.Grammar.{Level, Whole, Height, Spells, simple, conditional}
+use Rattle.celread.specs.Grammar.{Whole, Height, Spells, simple, conditional}
 use Rattle.celread.specs.Ends.{Ends, Read, HasNoTree}
 use Rattle.celread.specs.Ahead.{IsNotNext}
 use Rattle.celread.proofs.Ending.{ends_whole, whole_ends}

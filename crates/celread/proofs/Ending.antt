@@ -1,16 +1,15 @@
 -- What may follow a tree.
-use Rattle.std.proofs.Common.{◌≡◌, ◌∙◌, ℕ, zero, suc, ◌<◌, ◌≤◌, Bool, true, false, ◌||◌, ◌⊎◌, inl, inr, Option, Some, None, List, [], ◌∷◌, sym, refl, ap, arith, ltb-false, le-ltb}
+use Rattle.std.proofs.Common.{◌≡◌, ◌∙◌, ℕ, suc, false, ◌||◌, inl, inr, Option, Some, None, List, [], ◌∷◌, refl, ap, arith, ltb-false, le-ltb}
 use Rattle.std.specs.Prelude.{nat_lt}
 use Rattle.std.proofs.lemmas.Bool.{or_parts, or_from, cases_eq}
-use Rattle.std.proofs.lemmas.Bool.Decides.{nat_tests}
 use Rattle.celtokens.specs.declared.sign.Sign.TheVariants as sign
 use Rattle.celtokens.specs.Terminal.{Terminal}
 use Rattle.celtokens.specs.Terminal as token
 use Rattle.celread.specs.declared.tree.Operator.{Operator}
 use Rattle.celread.specs.declared.tree.Prefix.{Prefix}
 use Rattle.celread.specs.Operators.{infix_of}
-use Rattle.celread.specs.Grammar.{Level, Primary, Member, Whole, Prefixed, Height}
-use Rattle.celread.specs.Ends.{is_open, is_suffix, is_question, is_below, continues, Ends}
+use Rattle.celread.specs.Grammar.{Primary, Member, Whole, Prefixed, Height}
+use Rattle.celread.specs.Ends.{is_open, is_suffix, is_question, is_below, Ends}
 use Rattle.celread.specs.Ahead.{IsNotNext, HasNoOperator}
 
 is_below_down : (h : ℕ) (o : Option (ℕ × Operator)) → is_below (suc h) o ≡ false → is_below h o ≡ false

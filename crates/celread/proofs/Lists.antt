@@ -1,5 +1,5 @@
 -- Items and entries, from the left.
-use Rattle.std.proofs.Common.{◌≡◌, ◌∙◌, ℕ, suc, Bool, true, false, Option, Some, None, List, [], ◌∷◌, ◌++◌, sym, refl, ap}
+use Rattle.std.proofs.Common.{◌≡◌, ◌∙◌, ℕ, Bool, true, false, Some, List, [], ◌∷◌, ◌++◌, sym, refl, ap}
 use Rattle.celtokens.specs.declared.sign.Sign.TheVariants as sign
 use Rattle.celtokens.specs.Terminal.{Terminal}
 use Rattle.celtokens.specs.Terminal as token
@@ -9,7 +9,7 @@ use Rattle.celread.specs.declared.tree.Prefix.{Prefix}
 use Rattle.celread.specs.declared.tree.Prefix.TheVariants as prefix_of
 use Rattle.celread.specs.Tree.{Expr, Exprs, no_items, item, Pairs, no_pairs, pair}
 use Rattle.celread.specs.Operators.{after_prefix}
-use Rattle.celread.specs.Grammar.{Level, Primary, Whole, Height, close_sign, trails, Ending, close, trailing, literal_of, one_token, negative_int, Spells, literal, name, call, brackets, list, map, member, plain, prefixed, operand, simple, conditional, Items, empty, some, MoreItems, end, comma, Entries, no_entry, entries, MoreEntries, end_entries, comma_entry}
+use Rattle.celread.specs.Grammar.{Primary, Whole, Height, close_sign, trails, Ending, close, trailing, literal_of, one_token, negative_int, Spells, literal, name, call, brackets, list, map, member, plain, prefixed, operand, simple, conditional, Items, empty, some, MoreItems, end, comma, Entries, no_entry, entries, MoreEntries, end_entries, comma_entry}
 use Rattle.celread.specs.Ends.{Ends, Read, HasNoTree, ReadItems, HasNoItems, ReadEntry, HasNoEntry, ReadEntries, HasNoEntries}
 use Rattle.celread.specs.Ahead.{IsNotNext}
 use Rattle.celread.specs.View.{items_of, pairs_of}

@@ -1,5 +1,5 @@
 -- Prefix operators.
-use Rattle.std.proofs.Common.{◌≡◌, ◌∙◌, ℕ, Bool, true, false, Option, Some, None, List, [], ◌∷◌, sym, refl, ap}
+use Rattle.std.proofs.Common.{◌≡◌, ◌∙◌, Some, None, List, ◌∷◌, sym, refl}
 use Rattle.std.proofs.lemmas.Option.{same_Some}
 use Rattle.celtokens.specs.declared.sign.Sign.TheVariants as sign
 use Rattle.celtokens.specs.Terminal.{Terminal}
@@ -7,8 +7,8 @@ use Rattle.celtokens.specs.Terminal as token
 use Rattle.celread.specs.declared.tree.Prefix.{Prefix}
 use Rattle.celread.specs.declared.tree.Prefix.TheVariants as prefix_of
 use Rattle.celread.specs.Tree.{Expr, Unary}
-use Rattle.celread.specs.Operators.{begins_with_int, after_prefix}
-use Rattle.celread.specs.Grammar.{Level, Primary, Member, Prefixed, Height, literal_of, Literal, one_token, negative_int, Spells, literal, name, call, brackets, list, map, member, plain, prefixed, bare, again}
+use Rattle.celread.specs.Operators.{after_prefix}
+use Rattle.celread.specs.Grammar.{Primary, Member, Prefixed, Height, literal_of, one_token, negative_int, Spells, literal, name, call, brackets, list, map, member, plain, prefixed, bare, again}
 use Rattle.celread.specs.Ends.{Ends, Read, HasNoTree}
 use Rattle.celread.specs.Ahead.{HasNoPrefix}
 use Rattle.celread.proofs.Ending.{ends_member, ends_zero, member_prefixed, prefixed_member}

@@ -1,5 +1,5 @@
 -- Primary expressions.
-use Rattle.std.proofs.Common.{◌≡◌, ◌∙◌, ℕ, Bool, true, false, Option, Some, None, List, [], ◌∷◌, sym, refl, ap, encode_utf8_all}
+use Rattle.std.proofs.Common.{◌≡◌, ◌∙◌, ℕ, Some, None, List, ◌∷◌, sym, refl, ap, encode_utf8_all}
 use Rattle.std.proofs.lemmas.Option.{same_Some}
 use Rattle.celtokens.specs.declared.sign.Sign.TheVariants as sign
 use Rattle.celtokens.specs.Terminal.{Terminal}
@@ -7,7 +7,7 @@ use Rattle.celtokens.specs.Terminal as token
 use Rattle.celread.specs.declared.items.Closing.TheVariants as closing
 use Rattle.celread.specs.Tree.{Expr, Exprs, Pairs, Name, Sequence, Mapping}
 use Rattle.celread.specs.Calls.{call_of}
-use Rattle.celread.specs.Grammar.{Level, Primary, Whole, literal_of, Literal, one_token, negative_int, Spells, literal, name, call, brackets, list, map, Items, Entries}
+use Rattle.celread.specs.Grammar.{Primary, Whole, Literal, one_token, negative_int, Spells, literal, name, call, brackets, list, map, Items}
 use Rattle.celread.specs.Ends.{Ends, Read, HasNoTree, ReadPrimary, HasNoPrimary, ReadComposite, HasNoComposite, ReadItems, HasNoItems, ReadEntries, HasNoEntries}
 use Rattle.celread.specs.Ahead.{IsNotNext, HasNoName, HasNoLiteral}
 

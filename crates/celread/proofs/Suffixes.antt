@@ -1,5 +1,5 @@
 -- A primary expression and its suffixes, from the left.
-use Rattle.std.proofs.Common.{◌≡◌, ◌∙◌, ℕ, ◌⊎◌, inl, inr, Bool, true, false, Option, Some, None, List, [], ◌∷◌, sym, refl, ap}
+use Rattle.std.proofs.Common.{◌≡◌, ◌∙◌, ℕ, ◌⊎◌, inl, inr, Some, None, List, ◌∷◌, sym, refl}
 use Rattle.std.proofs.lemmas.Option.{same_Some}
 use Rattle.celtokens.specs.declared.sign.Sign.TheVariants as sign
 use Rattle.celtokens.specs.Terminal.{Terminal}
@@ -8,7 +8,7 @@ use Rattle.celread.specs.declared.items.Closing.TheVariants as closing
 use Rattle.celread.specs.Tree.{Expr, Exprs, Field, Index}
 use Rattle.celread.specs.Calls.{method_of}
 use Rattle.celread.specs.Operators.{selector}
-use Rattle.celread.specs.Grammar.{Level, Primary, Member, Whole, Suffixes, Spells, member, no_suffix, field, method, index, Items}
+use Rattle.celread.specs.Grammar.{Primary, Member, Whole, Suffixes, Spells, member, no_suffix, field, method, index, Items}
 use Rattle.celread.specs.Ends.{Ends, Read, HasNoTree, ReadPrimary, HasNoPrimary, ReadItems, HasNoItems}
 use Rattle.celread.specs.Ahead.{IsNotNext, HasNoSelector}
 use Rattle.celread.proofs.Ending.{ends_primary, no_suffix_next}

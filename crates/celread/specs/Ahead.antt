@@ -1,5 +1,5 @@
 -- What stands in front of the tokens that are left.
-use Rattle.std.specs.Prelude.{◌≡◌, ℕ, ◌<◌, ◌≤◌, ◌^◌, ℤ, pos, neg_ℤ, ◌⊎◌, length, Bool, true, false, Option, Some, None, List, [], ◌∷◌, encode_utf8_all}
+use Rattle.std.specs.Prelude.{◌≡◌, ℕ, ◌<◌, ◌≤◌, ◌^◌, ℤ, pos, neg_ℤ, ◌⊎◌, length, true, Some, None, List, ◌∷◌, encode_utf8_all}
 use Rattle.celtokens.specs.declared.sign.Sign.{Sign}
 use Rattle.celtokens.specs.declared.sign.Sign.TheVariants as sign
 use Rattle.celtokens.specs.declared.token.Token.{Token}
@@ -7,7 +7,6 @@ use Rattle.celtokens.specs.Seen.{terminals}
 use Rattle.celtokens.specs.Terminal.{Terminal}
 use Rattle.celtokens.specs.Terminal as token
 use Rattle.celread.specs.declared.tree.Operator.{Operator}
-use Rattle.celread.specs.declared.tree.Prefix.{Prefix}
 use Rattle.celread.specs.declared.tree.Prefix.TheVariants as prefix_of
 use Rattle.celread.specs.declared.ahead.Start.{Start}
 use Rattle.celread.specs.declared.ahead.Start.TheVariants as start
@@ -19,7 +18,6 @@ use Rattle.celread.specs.declared.ahead.Suffix.TheVariants as suffix
 use Rattle.celread.specs.Tree.{Expr}
 use Rattle.celread.specs.Grammar.{Literal, Ending, close_sign, trails}
 use Rattle.celread.specs.Operators.{infix_of, after_prefix, selector}
-use Rattle.celread.specs.Ends.{is_suffix}
 
 -- the sign does not stand in front
 abbrev pub IsNotNext : Sign → List Terminal → Type 0

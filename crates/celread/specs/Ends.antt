@@ -1,6 +1,5 @@
 -- What can be read at a level, where no token follows that would go on there.
 use Rattle.std.specs.Prelude.{◌≡◌, ℕ, suc, Bool, true, false, ◌||◌, nat_lt, Option, Some, None, List, [], ◌∷◌}
-use Rattle.celtokens.specs.declared.sign.Sign.{Sign}
 use Rattle.celtokens.specs.declared.sign.Sign.TheVariants as sign
 use Rattle.celtokens.specs.Terminal.{Terminal}
 use Rattle.celtokens.specs.Terminal as token

@@ -1,5 +1,5 @@
 -- The grammar of CEL, one constructor a production: tokens, the tree that they spell, and what follows them.
-use Rattle.std.specs.Prelude.{◌≡◌, ℕ, suc, ℤ, pos, neg_ℤ, ◌≤◌, ◌^◌, nat_lt, Bool, true, false, Option, Some, None, List, [], ◌∷◌, encode_utf8_all, if◌then◌else◌}
+use Rattle.std.specs.Prelude.{◌≡◌, ℕ, suc, pos, neg_ℤ, ◌≤◌, ◌^◌, nat_lt, Bool, true, false, Option, Some, None, List, [], ◌∷◌, encode_utf8_all, if◌then◌else◌}
 use Rattle.celtokens.specs.declared.sign.Sign.{Sign}
 use Rattle.celtokens.specs.declared.sign.Sign.TheVariants as sign
 use Rattle.celtokens.specs.Terminal.{Terminal}

@@ -1,5 +1,5 @@
 -- What reading a text gives: the tree that its tokens spell, or the first fault in this order: length, tokens, brackets, grammar, macros.
-use Rattle.std.specs.Prelude.{◌≡◌, ℕ, ◌<◌, ◌≤◌, ◌⊎◌, length, Bool, true, false, List, chars}
+use Rattle.std.specs.Prelude.{◌≡◌, ℕ, ◌<◌, ◌≤◌, ◌⊎◌, length, true, false, List, chars}
 use Rattle.celtokens.specs.Terminal.{Terminal}
 use Rattle.celtokens.specs.Lexes.{Lexes, HasNoTokens}
 use Rattle.celread.specs.declared.fault.ReadFault.{ReadFault}

@@ -1,4 +1,4 @@
-use Rattle.std.proofs.Common.{◌≢◌, length, arith}
+use Rattle.std.proofs.Common.{arith}
 use Rattle.celread.specs.View.{view}
 use Rattle.celread.proofs.CallTrees.{macro_over_other}
 use Rattle.celread.proofs.call.over.Goals as goal

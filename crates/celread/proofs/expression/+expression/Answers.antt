@@ -1,19 +1,18 @@
-use Rattle.std.proofs.Common.{◌≡◌, ◌∙◌, ℕ, suc, ◌+◌, ◌-◌, ◌<◌, List, [], ◌∷◌, ◌++◌, map, length, string_bytes, encode_utf8_all, sym, refl, ap, arith}
-use Rattle.std.proofs.lemmas.Option.{MatchOption-at_some, MatchOption-at_none}
+use Rattle.std.proofs.Common.{◌≡◌, suc, ◌-◌, map, encode_utf8_all, sym, arith}
+use Rattle.std.proofs.lemmas.Option.{MatchOption-at_some}
 use Rattle.std.proofs.lemmas.Result.{IfOk-weaker, IfErr-weaker}
 use Rattle.celtokens.specs.Seen.{terminals}
-use Rattle.celread.specs.declared.items.Closing.TheVariants as closing
-use Rattle.celread.specs.Grammar.{Height, Member, Literal}
+use Rattle.celread.specs.Grammar.{Member, Literal}
 use Rattle.celread.specs.Ends.{HasNoTree, Read, Refuses}
 use Rattle.celread.specs.Ahead.{HasNoLiteral}
 use Rattle.celread.specs.View.{view, views, pair_views}
-use Rattle.celread.proofs.Refusals.{refuses, handed_on, pair_view, map-pair_view, view-push, no_tree_at, read_at, view-Name, view-List, view-Map, view-Field, view-Index, view-Unary, view-Infix, view-Conditional}
+use Rattle.celread.proofs.Refusals.{refuses, handed_on, pair_view, map-pair_view, view-push, no_tree_at, read_at, view-Name, view-List, view-Map, view-Field, view-Index, view-Unary, view-Infix}
 use Rattle.celread.proofs.Chains.{going_start, start_none, going_next, next_none, going_end}
-use Rattle.celread.proofs.Prefixes.{unary_plain, unary_plain_none, unary_prefixed, unary_prefixed_none, prefixed_again, prefixed_again_none, prefixed_bare, prefixed_bare_none}
+use Rattle.celread.proofs.Prefixes.{unary_plain, unary_plain_none, unary_prefixed, unary_prefixed_none, prefixed_again, prefixed_again_none, prefixed_bare}
 use Rattle.celread.proofs.Suffixes.{member_start, member_none, member_field, member_method, member_no_arguments, member_no_call, member_index, member_no_index, member_open_index, member_end, member_wrong}
-use Rattle.celread.proofs.Primaries.{primary_literal, primary_composite, primary_none, composite_name, composite_call, composite_no_arguments, composite_no_call, composite_brackets, composite_no_inner, composite_open, composite_list, composite_no_list, composite_map, composite_no_map, composite_nothing}
+use Rattle.celread.proofs.Primaries.{primary_literal, composite_name, composite_call, composite_no_arguments, composite_no_call, composite_brackets, composite_open, composite_list, composite_map}
 use Rattle.celread.proofs.Conditionals.{whole_simple, whole_none, branches, branches_none, branches_no_colon, branches_no_second, branches_both}
-use Rattle.celread.proofs.Lists.{items_empty, items_start, items_start_none, items_next, items_next_none, items_end, items_wrong, entry_read, entry_no_key, entry_no_colon, entry_no_value, entries_empty, entries_start, entries_start_none, entries_next, entries_next_none, entries_end, entries_wrong}
+use Rattle.celread.proofs.Lists.{items_empty, items_start, items_start_none, items_next, items_next_none, items_end, items_wrong, entries_empty, entries_start, entries_start_none, entries_next, entries_next_none, entries_end, entries_wrong}
 use Rattle.celread.proofs.expression.+expression.Goals as goal
 
 pub composite-returns-in_err-arguments-in-Call-clause-none : goal.composite-returns-in_err-arguments-in-Call-clause-none
