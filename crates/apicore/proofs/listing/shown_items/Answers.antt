@@ -1,6 +1,5 @@
-use Rattle.std.proofs.Common.{arith, map, drop, ap, sym, ◌∙◌, ◌≡◌, ◌≤◌, length, List, [], ◌∷◌, ℕ, ◌+◌, cond, Bor}
+use Rattle.std.proofs.Common.{arith, map, drop, ap, sym, ◌∙◌, ◌≤◌, length, List, ◌+◌, cond, Bor}
 use Rattle.std.proofs.Math.ListN.{drop_of_length-le}
-use Rattle.serde_json.specs.Data.{array, no_items}
 use Rattle.jsondoc.specs.Document.{with_item}
 use Rattle.names.specs.Key.{Key}
 use Rattle.apicore.specs.declared.stored.Stored.{Stored}
