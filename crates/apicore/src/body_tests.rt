@@ -11,6 +11,7 @@ const POSTED: &str =
 pub(crate) const STORED: &str =
     "{\"apiVersion\":\"v1\",\"data\":{\"k\":\"v\"},\"kind\":\"ConfigMap\",\"metadata\":{\"name\":\"a\",\"namespace\":\"default\"}}";
 
+/// A configmap that is posted in the namespace `default`.
 pub(crate) fn posted(alloc: Global, body: &str) -> Result<Manifest, BodyFault> {
     Manifest::read(alloc, Resource::ConfigMap, "default", None, body.as_bytes())
 }

@@ -11,11 +11,12 @@ use std::alloc::Global;
 use std::process::Abort;
 use std::test::Fail;
 
-// A store without objects, with the limits of the first format.
+/// A store without objects, with the limits of the first format.
 pub(crate) fn new_store(alloc: Global) -> Result<Core, Fail> {
     Ok(Core::new(alloc, Format::First.rules())?)
 }
 
+/// The reply to a request, which is taken.
 pub(crate) fn answer(alloc: Global, core: &mut Core, request: &Request) -> Result<Reply, Fail> {
     let prepared = core.prepare(alloc, request)?;
     Ok(core.take(prepared))
@@ -49,7 +50,7 @@ fn refused(alloc: Global, core: &mut Core, refusal: Refusal) -> Result<Reply, Fa
     answer(alloc, core, &Request::Refused(refusal))
 }
 
-// The reply to a GET of a configmap.
+/// The reply to a GET of a configmap.
 pub(crate) fn shown(alloc: Global, core: &mut Core, name: &str) -> Result<Reply, Fail> {
     let request = get(alloc, name)?;
     answer(alloc, core, &request)
@@ -108,7 +109,7 @@ fn a_prepared_write_has_its_document(rt: HostRuntime) -> Result<(), Fail> {
     Ok(())
 }
 
-// Creates an object, and compares the code and a part of the reply.
+/// Creates an object, and compares the code and a part of the reply.
 pub(crate) fn assert_created(
     rt: &impl Abort,
     alloc: Global,

@@ -28,7 +28,7 @@ fn delete(alloc: Global, body: &str) -> Result<Request, Fail> {
     Ok(Request::Delete(key, version))
 }
 
-// Updates the configmap `a`, and compares the code and a part of the reply.
+/// Updates the configmap `a`, and compares the code and a part of the reply.
 pub(crate) fn assert_updated(
     rt: &impl Abort,
     alloc: Global,
@@ -44,7 +44,7 @@ pub(crate) fn assert_updated(
     Ok(())
 }
 
-// Deletes the configmap `a`, and compares the code and a part of the reply.
+/// Deletes the configmap `a`, and compares the code and a part of the reply.
 pub(crate) fn assert_deleted(
     rt: &impl Abort,
     alloc: Global,

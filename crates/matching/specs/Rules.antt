@@ -1,0 +1,90 @@
+-- What rules ask of a write (Kubernetes, ValidatingAdmissionPolicy: MatchResources, NamedRuleWithOperations, LabelSelector).
+use Rattle.std.specs.Prelude.{ℕ, List, Option, map, option_map, string_bytes}
+use Rattle.serde_json.specs.Data.{Data}
+use Rattle.serde_json.specs.View.{view}
+use Rattle.names.specs.Key.{Key}
+use Rattle.matching.specs.declared.attempt.Attempt as code_attempt
+use Rattle.matching.specs.declared.rules.Entry as code_entry
+use Rattle.matching.specs.declared.rules.Entry.TheVariants.{Any, Exactly}
+use Rattle.matching.specs.declared.rules.MatchRules as code_match_rules
+use Rattle.matching.specs.declared.rules.Operation.{Operation}
+use Rattle.matching.specs.declared.rules.OperationEntry.{OperationEntry}
+use Rattle.matching.specs.declared.rules.Requirement as code_requirement
+use Rattle.matching.specs.declared.rules.Requirement.TheVariants.{IsOneOf, IsNoneOf, IsThere, IsAbsent}
+use Rattle.matching.specs.declared.rules.Rule as code_rule
+use Rattle.matching.specs.declared.rules.RuleScope.{RuleScope}
+
+-- the texts that an entry of a rule stands for
+pub data Entry : Type 0 where
+  -- every text, written `*`
+  any : Entry
+  -- this one
+  exactly : (value : List ℕ) → Entry
+
+-- what one part of a selector asks of the label with this key
+pub data Requirement : Type 0 where
+  -- it is there, and has one of the values
+  is_one_of : (key : List ℕ) (values : List (List ℕ)) → Requirement
+  -- it is not there, or has none of the values
+  is_none_of : (key : List ℕ) (values : List (List ℕ)) → Requirement
+  is_there : (key : List ℕ) → Requirement
+  is_absent : (key : List ℕ) → Requirement
+
+-- a rule on writes: the operations, the resources by group, version and plural, the names of objects, and the scope
+pub record Rule : Type 0 where
+  pub operations : List OperationEntry
+  pub groups : List Entry
+  pub versions : List Entry
+  pub resources : List Entry
+  pub names : List (List ℕ)
+  pub scope : RuleScope
+
+-- the writes that a policy, or a binding, is for: by rules, rules that exclude, and a selector of objects
+pub record MatchRules : Type 0 where
+  pub rules : List Rule
+  pub excluded : List Rule
+  pub objects : List Requirement
+
+-- a write that asks for admission: the document to be stored (a deletion has none), and the one shown before (a creation has none)
+pub record Attempt : Type 0 where
+  pub operation : Operation
+  pub key : Key
+  pub object : Option Data
+  pub old_object : Option Data
+
+-- ---- what the code's types stand for
+
+abbrev pub entry_seen : code_entry.Entry → Entry
+entry_seen Any = any
+entry_seen (Exactly value) = exactly (string_bytes value)
+
+abbrev pub requirement_seen : code_requirement.Requirement → Requirement
+requirement_seen (IsOneOf key values) = is_one_of (string_bytes key) (map string_bytes values.items)
+requirement_seen (IsNoneOf key values) = is_none_of (string_bytes key) (map string_bytes values.items)
+requirement_seen (IsThere key) = is_there (string_bytes key)
+requirement_seen (IsAbsent key) = is_absent (string_bytes key)
+
+abbrev pub rule_seen : code_rule.Rule → Rule
+rule_seen r = record {
+  operations = r.operations.items;
+  groups = map entry_seen r.groups.items;
+  versions = map entry_seen r.versions.items;
+  resources = map entry_seen r.resources.items;
+  names = map string_bytes r.names.items;
+  scope = r.scope;
+}
+
+abbrev pub match_rules_seen : code_match_rules.MatchRules → MatchRules
+match_rules_seen m = record {
+  rules = map rule_seen m.rules.items;
+  excluded = map rule_seen m.excluded.items;
+  objects = map requirement_seen m.objects.items;
+}
+
+abbrev pub attempt_seen : code_attempt.Attempt → Attempt
+attempt_seen w = record {
+  operation = w.operation;
+  key = w.key.now;
+  object = option_map (λ d. view d.now) w.object;
+  old_object = option_map (λ d. view d.now) w.old_object;
+}

@@ -1,0 +1,5 @@
+pub mod Bindings
+pub mod Forms
+pub mod MatchRules
+pub mod Policies
+pub mod Spec

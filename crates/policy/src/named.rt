@@ -1,0 +1,154 @@
+//! Match conditions and variables: expressions with a name.
+
+ghost use Rattle.std.specs.Prelude.{◌≡◌, map};
+ghost use Rattle.celtokens.specs.Terminal.{is_reserved};
+ghost use Rattle.policy.specs.Forms.{are_distinct, is_among};
+ghost use Rattle.policy.specs.Policies.{names_of, is_word_byte, is_word, is_keyword, is_identifier, are_conditions, are_variables, is_filled};
+ghost use Rattle.std.specs.List.{list_all};
+ghost use Rattle.policy.specs.Spec.{named_seen};
+
+use crate::form::{Form, FormFault, has_only, required};
+use serde_json::Value as Json;
+use std::alloc::Global;
+
+/// A match condition or a variable.
+#[derive(Debug, PartialEq, Eq, Drop)]
+pub struct Named {
+    pub name: String,
+    /// A text of the Common Expression Language.
+    pub expression: String,
+}
+
+impl Form for Named {
+    ghost use Rattle.policy.specs.Policies.{named_of};
+    ghost use Rattle.policy.specs.Spec as spec;
+    ghost use Rattle.policy.specs.Spec.{named_seen};
+
+    ghost Spelled = { spec.Named };
+
+    ghost form_of = { named_of };
+
+    ghost seen = { named_seen };
+
+    fn read(alloc: Global, part: &Json) -> Result<Named, FormFault> {
+        if !has_only(part, &["name", "expression"]) {
+            return Err(FormFault::BadForm);
+        }
+        Ok(Named {
+            name: required(alloc, part, "name")?,
+            expression: required(alloc, part, "expression")?,
+        })
+    }
+}
+
+/// Whether the names are distinct and not empty.
+pub fn are_conditions(conditions: &[Named]) -> bool
+    ensures { result ≡ are_conditions (map named_seen conditions.now) }
+{
+    have_text(conditions) && are_distinct(conditions)
+}
+
+/// Whether the names are distinct identifiers.
+pub fn are_variables(variables: &[Named]) -> bool
+    ensures { result ≡ are_variables (map named_seen variables.now) }
+{
+    are_identifiers(variables) && are_distinct(variables)
+}
+
+fn have_text(conditions: &[Named]) -> bool
+    ensures { result ≡ list_all is_filled (names_of (map named_seen conditions.now)) }
+{
+    for condition in conditions {
+        if condition.name.is_empty() {
+            return false;
+        }
+    }
+    true
+}
+
+fn are_identifiers(variables: &[Named]) -> bool
+    ensures { result ≡ list_all is_identifier (names_of (map named_seen variables.now)) }
+{
+    for variable in variables {
+        if !is_identifier(variable.name.as_str()) {
+            return false;
+        }
+    }
+    true
+}
+
+fn are_distinct(named: &[Named]) -> bool
+    ensures { result ≡ are_distinct (names_of (map named_seen named.now)) }
+{
+    let mut rest = named;
+    while let Some((first, others)) = rest.split_first() {
+        if has_name(others, first.name.as_str()) {
+            return false;
+        }
+        rest = others;
+    }
+    true
+}
+
+fn has_name(named: &[Named], name: &str) -> bool
+    ensures { result ≡ is_among (names_of (map named_seen named.now)) name.now }
+{
+    for other in named {
+        if other.name.as_str() == name {
+            return true;
+        }
+    }
+    false
+}
+
+fn is_identifier(text: &str) -> bool
+    ensures { result ≡ is_identifier text.now }
+{
+    is_word(text.as_bytes()) && !is_keyword(text) && !is_reserved(text)
+}
+
+fn is_word(text: &[u8]) -> bool
+    ensures { result ≡ is_word text.now }
+{
+    match text.split_first() {
+        Some((first, others)) => {
+            (first.is_ascii_alphabetic() || *first == b'_') && are_word_bytes(others)
+        }
+        None => false,
+    }
+}
+
+fn are_word_bytes(text: &[u8]) -> bool
+    ensures { result ≡ list_all is_word_byte text.now }
+{
+    text.iter()
+        .all(|byte| byte.is_ascii_alphanumeric() || *byte == b'_')
+}
+
+fn is_keyword(word: &str) -> bool
+    ensures { result ≡ is_keyword word.now }
+{
+    word == "false" || word == "in" || word == "null" || word == "true"
+}
+
+fn is_reserved(word: &str) -> bool
+    ensures { result ≡ is_reserved word.now }
+{
+    word == "as"
+        || word == "break"
+        || word == "const"
+        || word == "continue"
+        || word == "else"
+        || word == "for"
+        || word == "function"
+        || word == "if"
+        || word == "import"
+        || word == "let"
+        || word == "loop"
+        || word == "namespace"
+        || word == "package"
+        || word == "return"
+        || word == "var"
+        || word == "void"
+        || word == "while"
+}

@@ -1,0 +1,197 @@
+//! The rules that say for which writes a policy or a binding is.
+
+ghost use Rattle.std.specs.Prelude.{◌≡◌, [], None, Some, codes, map, IfOk, IsErrOf, string_bytes};
+ghost use Rattle.std.specs.List.{list_all};
+ghost use Rattle.serde_json.specs.View.{view};
+ghost use Rattle.policy.specs.Forms.{perhaps};
+ghost use Rattle.policy.specs.MatchRules.{is_plain, is_entry, resource_names_of};
+ghost use Rattle.policy.specs.declared.form.FormFault.TheVariants as FormFault;
+
+use crate::form::{
+    Form, FormFault, has_only, list, optional_list, optional_or, required_filled_list,
+};
+use crate::selector::Selector;
+use matching::{Entry, MatchRules, Operation, OperationEntry, Rule, RuleScope};
+use serde_json::Value as Json;
+use std::alloc::Global;
+
+fn is_plain(text: &str) -> bool
+    ensures { result ≡ is_plain text.now }
+{
+    text.as_bytes()
+        .iter()
+        .all(|byte| *byte != b'*' && *byte != b'/')
+}
+
+fn is_entry(text: &str) -> bool
+    ensures { result ≡ is_entry text.now }
+{
+    text == "*" || is_plain(text)
+}
+
+impl Form for Entry {
+    ghost use Rattle.matching.specs.Rules as rules;
+    ghost use Rattle.matching.specs.Rules.{entry_seen};
+    ghost use Rattle.policy.specs.MatchRules.{entry_of};
+
+    ghost Spelled = { rules.Entry };
+
+    ghost form_of = { entry_of };
+
+    ghost seen = { entry_seen };
+
+    fn read(alloc: Global, part: &Json) -> Result<Entry, FormFault> {
+        let text = part.as_str().ok_or(FormFault::BadForm)?;
+        if text == "*" {
+            Ok(Entry::Any)
+        } else if is_plain(text) {
+            Ok(Entry::Exactly(String::from_str(alloc, text)?))
+        } else {
+            Err(FormFault::BadForm)
+        }
+    }
+}
+
+impl Form for OperationEntry {
+    ghost use Rattle.matching.specs.declared.rules.OperationEntry.{OperationEntry};
+    ghost use Rattle.policy.specs.MatchRules.{operation_of};
+
+    ghost Spelled = { OperationEntry };
+
+    ghost form_of = { operation_of };
+
+    ghost seen = { λ operation. operation };
+
+    fn read(_alloc: Global, part: &Json) -> Result<OperationEntry, FormFault> {
+        let text = part.as_str().ok_or(FormFault::BadForm)?;
+        if text == "*" {
+            Ok(OperationEntry::Any)
+        } else if text == "CREATE" {
+            Ok(OperationEntry::Exactly(Operation::Create))
+        } else if text == "UPDATE" {
+            Ok(OperationEntry::Exactly(Operation::Update))
+        } else if text == "DELETE" {
+            Ok(OperationEntry::Exactly(Operation::Delete))
+        } else {
+            Err(FormFault::BadForm)
+        }
+    }
+}
+
+impl Form for RuleScope {
+    ghost use Rattle.matching.specs.declared.rules.RuleScope.{RuleScope};
+    ghost use Rattle.policy.specs.MatchRules.{scope_of};
+
+    ghost Spelled = { RuleScope };
+
+    ghost form_of = { scope_of };
+
+    ghost seen = { λ scope. scope };
+
+    fn read(_alloc: Global, part: &Json) -> Result<RuleScope, FormFault> {
+        let text = part.as_str().ok_or(FormFault::BadForm)?;
+        if text == "Cluster" {
+            Ok(RuleScope::Cluster)
+        } else if text == "Namespaced" {
+            Ok(RuleScope::Namespaced)
+        } else if text == "*" {
+            Ok(RuleScope::Every)
+        } else {
+            Err(FormFault::BadForm)
+        }
+    }
+}
+
+// The names of objects that a rule is for.
+fn resource_names(alloc: Global, rule: &Json) -> Result<Vec<String>, FormFault>
+    ensures read { IfOk result (λ v. perhaps (codes "resourceNames") resource_names_of [] (view rule.now) ≡ Some (map string_bytes v.items)) }
+    ensures refused { IsErrOf result FormFault.BadForm → perhaps (codes "resourceNames") resource_names_of [] (view rule.now) ≡ None }
+{
+    match rule.get("resourceNames") {
+        Some(part) => {
+            let names: Vec<String> = list(alloc, part)?;
+            if are_entries(&names) {
+                Ok(names)
+            } else {
+                Err(FormFault::BadForm)
+            }
+        }
+        None => Ok(Vec::new(alloc)),
+    }
+}
+
+fn are_entries(names: &[String]) -> bool
+    ensures { result ≡ list_all is_entry (map string_bytes names.now) }
+{
+    for name in names {
+        if !is_entry(name.as_str()) {
+            return false;
+        }
+    }
+    true
+}
+
+impl Form for Rule {
+    ghost use Rattle.matching.specs.Rules as rules;
+    ghost use Rattle.matching.specs.Rules.{rule_seen};
+    ghost use Rattle.policy.specs.MatchRules.{rule_of};
+
+    ghost Spelled = { rules.Rule };
+
+    ghost form_of = { rule_of };
+
+    ghost seen = { rule_seen };
+
+    fn read(alloc: Global, part: &Json) -> Result<Rule, FormFault> {
+        if !has_only(
+            part,
+            &[
+                "operations",
+                "apiGroups",
+                "apiVersions",
+                "resources",
+                "resourceNames",
+                "scope",
+            ],
+        ) {
+            return Err(FormFault::BadForm);
+        }
+        Ok(Rule {
+            operations: required_filled_list(alloc, part, "operations")?,
+            groups: required_filled_list(alloc, part, "apiGroups")?,
+            versions: required_filled_list(alloc, part, "apiVersions")?,
+            resources: required_filled_list(alloc, part, "resources")?,
+            names: resource_names(alloc, part)?,
+            scope: optional_or(alloc, part, "scope", RuleScope::Every)?,
+        })
+    }
+}
+
+impl Form for MatchRules {
+    ghost use Rattle.matching.specs.Rules as rules;
+    ghost use Rattle.matching.specs.Rules.{match_rules_seen};
+    ghost use Rattle.policy.specs.MatchRules.{match_rules_of};
+
+    ghost Spelled = { rules.MatchRules };
+
+    ghost form_of = { match_rules_of };
+
+    ghost seen = { match_rules_seen };
+
+    fn read(alloc: Global, part: &Json) -> Result<MatchRules, FormFault> {
+        if !has_only(
+            part,
+            &["resourceRules", "excludeResourceRules", "objectSelector"],
+        ) {
+            return Err(FormFault::BadForm);
+        }
+        let everything = Selector {
+            requirements: Vec::new(alloc),
+        };
+        Ok(MatchRules {
+            rules: optional_list(alloc, part, "resourceRules")?,
+            excluded: optional_list(alloc, part, "excludeResourceRules")?,
+            objects: optional_or(alloc, part, "objectSelector", everything)?.requirements,
+        })
+    }
+}

@@ -1,0 +1,80 @@
+//! Validations of policies.
+
+use crate::form::{Form, FormFault, has_only, optional, optional_or, required};
+use serde_json::Value as Json;
+use std::alloc::Global;
+
+/// The reason of a refusal, which decides its status code.
+#[derive(Clone, Copy, Debug, PartialEq, Eq, Hash)]
+pub enum Reason {
+    Unauthorized,
+    Forbidden,
+    Invalid,
+    RequestEntityTooLarge,
+}
+
+/// What must hold of a write, and what is said where it does not.
+#[derive(Debug, PartialEq, Eq, Drop)]
+pub struct Validation {
+    /// What must hold: a text of the Common Expression Language.
+    pub expression: String,
+    /// What is said where it does not hold.
+    pub message: Option<String>,
+    /// An expression for what is said, which goes before the message.
+    pub message_expression: Option<String>,
+    /// The reason of the refusal.
+    pub reason: Reason,
+}
+
+impl Form for Reason {
+    ghost use Rattle.policy.specs.Policies.{reason_of};
+    ghost use Rattle.policy.specs.declared.validation.Reason.{Reason};
+
+    ghost Spelled = { Reason };
+
+    ghost form_of = { reason_of };
+
+    ghost seen = { λ reason. reason };
+
+    fn read(_alloc: Global, part: &Json) -> Result<Reason, FormFault> {
+        let text = part.as_str().ok_or(FormFault::BadForm)?;
+        if text == "Unauthorized" {
+            Ok(Reason::Unauthorized)
+        } else if text == "Forbidden" {
+            Ok(Reason::Forbidden)
+        } else if text == "Invalid" {
+            Ok(Reason::Invalid)
+        } else if text == "RequestEntityTooLarge" {
+            Ok(Reason::RequestEntityTooLarge)
+        } else {
+            Err(FormFault::BadForm)
+        }
+    }
+}
+
+impl Form for Validation {
+    ghost use Rattle.policy.specs.Policies.{validation_of};
+    ghost use Rattle.policy.specs.Spec as spec;
+    ghost use Rattle.policy.specs.Spec.{validation_seen};
+
+    ghost Spelled = { spec.Validation };
+
+    ghost form_of = { validation_of };
+
+    ghost seen = { validation_seen };
+
+    fn read(alloc: Global, part: &Json) -> Result<Validation, FormFault> {
+        if !has_only(
+            part,
+            &["expression", "message", "messageExpression", "reason"],
+        ) {
+            return Err(FormFault::BadForm);
+        }
+        Ok(Validation {
+            expression: required(alloc, part, "expression")?,
+            message: optional(alloc, part, "message")?,
+            message_expression: optional(alloc, part, "messageExpression")?,
+            reason: optional_or(alloc, part, "reason", Reason::Invalid)?,
+        })
+    }
+}
