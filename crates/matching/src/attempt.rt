@@ -3,7 +3,6 @@
 ghost use Rattle.std.specs.Prelude.{◌≡◌, map, option_map, string_bytes, false};
 ghost use Rattle.std.specs.List.{list_any};
 ghost use Rattle.std.specs.Option.{option_map_or};
-ghost use Rattle.names.specs.Resource.{row};
 ghost use Rattle.serde_json.specs.View.{view};
 ghost use Rattle.matching.specs.Matching.{is_guarded, holds_operation, holds_text, is_text, allows_name, fits, has_resource, has_object, meets_rule, selects_either, takes, is_constrained, is_bound, is_matched};
 ghost use Rattle.matching.specs.Rules.{attempt_seen, entry_seen, match_rules_seen, requirement_seen, rule_seen};
