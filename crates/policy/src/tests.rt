@@ -1,9 +1,8 @@
 //! Specs of policies and bindings after the Kubernetes API reference (admissionregistration.k8s.io/v1), and what they ask for.
 
-use crate::{Action, Binding, FailurePolicy, NotFound, Policy, Reason, Wanted};
+use crate::{Action, Binding, FailurePolicy, Policy, Reason};
 use jsondoc::Doc;
-use matching::{Entry, MatchRules, Operation, OperationEntry, Requirement, RuleScope};
-use names::Resource;
+use matching::{MatchRules, RuleScope};
 use std::alloc::Global;
 use std::test::Fail;
 
@@ -61,54 +60,6 @@ fn policy_of_validations(alloc: Global, validations: &str) -> Result<Option<Poli
     policy(alloc, spec.as_str())
 }
 
-fn text(alloc: Global, text: &str) -> Result<String, Fail> {
-    Ok(String::from_str(alloc, text)?)
-}
-
-#[test]
-fn a_binding_has_defaults(rt: HostRuntime) -> Result<(), Fail> {
-    let found = binding(
-        rt.alloc(),
-        r#"{"policyName":"limits.example.com","validationActions":["Deny"]}"#,
-    )?;
-    let expected = Binding {
-        policy: text(rt.alloc(), "limits.example.com")?,
-        action: Action::Deny,
-        resources: MatchRules {
-            rules: Vec::new(rt.alloc()),
-            excluded: Vec::new(rt.alloc()),
-            objects: Vec::new(rt.alloc()),
-        },
-        param_ref: None,
-    };
-    assert!(rt; found == Some(expected));
-    Ok(())
-}
-
-#[test]
-fn a_binding_asks_for_parameters(rt: HostRuntime) -> Result<(), Fail> {
-    let named = binding(
-        rt.alloc(),
-        r#"{"policyName":"p","validationActions":["Warn"],"paramRef":{"name":"c","namespace":"default","parameterNotFoundAction":"Allow"}}"#,
-    )?
-    .unwrap();
-    assert_eq!(rt; named.action, Action::Warn);
-    let asked = named.param_ref.unwrap();
-    assert!(rt; asked.wanted == Wanted::ByName(text(rt.alloc(), "c")?));
-    assert!(rt; asked.namespace == Some(text(rt.alloc(), "default")?));
-    assert_eq!(rt; asked.not_found, NotFound::Allow);
-    let selected = binding(
-        rt.alloc(),
-        r#"{"policyName":"p","validationActions":["Deny"],"paramRef":{"selector":{},"parameterNotFoundAction":"Deny"}}"#,
-    )?
-    .unwrap();
-    let asked = selected.param_ref.unwrap();
-    assert!(rt; asked.wanted == Wanted::BySelector(Vec::new(rt.alloc())));
-    assert!(rt; asked.namespace.is_none());
-    assert_eq!(rt; asked.not_found, NotFound::Deny);
-    Ok(())
-}
-
 #[test]
 fn what_is_no_binding_is_refused(rt: HostRuntime) -> Result<(), Fail> {
     let refused = [
@@ -161,49 +112,6 @@ fn objects_have_four_members(rt: HostRuntime) -> Result<(), Fail> {
 }
 
 #[test]
-fn a_rule_has_its_parts(rt: HostRuntime) -> Result<(), Fail> {
-    let found = rules(
-        rt.alloc(),
-        r#"{"operations":["UPDATE","DELETE"],"apiGroups":["","*"],"apiVersions":["v1"],"resources":["pods"],"resourceNames":["a","*"],"scope":"Namespaced"}"#,
-    )?
-    .unwrap();
-    assert_eq!(rt; found.rules.len(), 1);
-    let rule = &found.rules[0];
-    assert_eq!(rt; rule.operations.len(), 2);
-    assert_eq!(rt;
-        rule.operations[0],
-        OperationEntry::Exactly(Operation::Update)
-    );
-    assert_eq!(rt;
-        rule.operations[1],
-        OperationEntry::Exactly(Operation::Delete)
-    );
-    assert_eq!(rt; rule.groups.len(), 2);
-    assert!(rt; rule.groups[0] == Entry::Exactly(text(rt.alloc(), "")?));
-    assert!(rt; rule.groups[1] == Entry::Any);
-    assert!(rt; rule.versions[0] == Entry::Exactly(text(rt.alloc(), "v1")?));
-    assert!(rt; rule.resources[0] == Entry::Exactly(text(rt.alloc(), "pods")?));
-    assert_eq!(rt; rule.names.len(), 2);
-    assert_eq!(rt; rule.names[0].as_str(), "a");
-    assert_eq!(rt; rule.names[1].as_str(), "*");
-    assert_eq!(rt; rule.scope, RuleScope::Namespaced);
-    Ok(())
-}
-
-#[test]
-fn a_rule_is_for_every_scope_and_name_where_it_says_none(rt: HostRuntime) -> Result<(), Fail> {
-    let found = rules(
-        rt.alloc(),
-        r#"{"operations":["*"],"apiGroups":["*"],"apiVersions":["*"],"resources":["*"]}"#,
-    )?
-    .unwrap();
-    assert_eq!(rt; found.rules[0].operations[0], OperationEntry::Any);
-    assert!(rt; found.rules[0].names.is_empty());
-    assert_eq!(rt; found.rules[0].scope, RuleScope::Every);
-    Ok(())
-}
-
-#[test]
 fn what_is_no_rule_is_refused(rt: HostRuntime) -> Result<(), Fail> {
     let refused = [
         r#"{"apiGroups":[""],"apiVersions":["v1"],"resources":["pods"]}"#,
@@ -237,31 +145,6 @@ fn what_is_no_rule_is_refused(rt: HostRuntime) -> Result<(), Fail> {
 }
 
 #[test]
-fn a_selector_has_its_requirements(rt: HostRuntime) -> Result<(), Fail> {
-    let found = selector(
-        rt.alloc(),
-        r#"{"matchLabels":{"b":"2","a":"1"},"matchExpressions":[{"key":"c","operator":"In","values":["3"]},{"key":"d","operator":"NotIn","values":["4"]},{"key":"e","operator":"Exists"},{"key":"f","operator":"DoesNotExist","values":[]}]}"#,
-    )?
-    .unwrap();
-    let mut one = Vec::new(rt.alloc());
-    one.push(text(rt.alloc(), "1")?)?;
-    let mut two = Vec::new(rt.alloc());
-    two.push(text(rt.alloc(), "2")?)?;
-    let mut three = Vec::new(rt.alloc());
-    three.push(text(rt.alloc(), "3")?)?;
-    let mut four = Vec::new(rt.alloc());
-    four.push(text(rt.alloc(), "4")?)?;
-    assert_eq!(rt; found.objects.len(), 6);
-    assert!(rt; found.objects[0] == Requirement::IsOneOf(text(rt.alloc(), "a")?, one));
-    assert!(rt; found.objects[1] == Requirement::IsOneOf(text(rt.alloc(), "b")?, two));
-    assert!(rt; found.objects[2] == Requirement::IsOneOf(text(rt.alloc(), "c")?, three));
-    assert!(rt; found.objects[3] == Requirement::IsNoneOf(text(rt.alloc(), "d")?, four));
-    assert!(rt; found.objects[4] == Requirement::IsThere(text(rt.alloc(), "e")?));
-    assert!(rt; found.objects[5] == Requirement::IsAbsent(text(rt.alloc(), "f")?));
-    Ok(())
-}
-
-#[test]
 fn what_is_no_selector_is_refused(rt: HostRuntime) -> Result<(), Fail> {
     let refused = [
         r#"null"#,
@@ -283,56 +166,6 @@ fn what_is_no_selector_is_refused(rt: HostRuntime) -> Result<(), Fail> {
     for requirements in refused {
         assert!(rt; selector(rt.alloc(), requirements)?.is_none());
     }
-    Ok(())
-}
-
-#[test]
-fn a_policy_has_defaults(rt: HostRuntime) -> Result<(), Fail> {
-    let found = policy_with(rt.alloc(), "")?.unwrap();
-    assert_eq!(rt; found.failure_policy, FailurePolicy::Fail);
-    assert!(rt; found.param_kind.is_none());
-    assert_eq!(rt; found.constraints.rules.len(), 1);
-    assert!(rt; found.constraints.excluded.is_empty());
-    assert!(rt; found.constraints.objects.is_empty());
-    assert!(rt; found.conditions.is_empty());
-    assert!(rt; found.variables.is_empty());
-    assert_eq!(rt; found.validations.len(), 1);
-    assert_eq!(rt; found.validations[0].expression.as_str(), "true");
-    assert!(rt; found.validations[0].message.is_none());
-    assert!(rt; found.validations[0].message_expression.is_none());
-    assert_eq!(rt; found.validations[0].reason, Reason::Invalid);
-    Ok(())
-}
-
-#[test]
-fn a_policy_has_its_parts(rt: HostRuntime) -> Result<(), Fail> {
-    let found = policy_with(
-        rt.alloc(),
-        r#","failurePolicy":"Ignore","paramKind":{"apiVersion":"apps/v1","kind":"Deployment"},"matchConditions":[{"name":"not a node","expression":"c"}],"variables":[{"name":"_a1","expression":"x"},{"name":"b","expression":"y"}]"#,
-    )?
-    .unwrap();
-    assert_eq!(rt; found.failure_policy, FailurePolicy::Ignore);
-    assert_eq!(rt; found.param_kind, Some(Resource::Deployment));
-    assert_eq!(rt; found.conditions.len(), 1);
-    assert_eq!(rt; found.conditions[0].name.as_str(), "not a node");
-    assert_eq!(rt; found.conditions[0].expression.as_str(), "c");
-    assert_eq!(rt; found.variables.len(), 2);
-    assert_eq!(rt; found.variables[0].name.as_str(), "_a1");
-    assert_eq!(rt; found.variables[1].expression.as_str(), "y");
-    let validated = policy_of_validations(
-        rt.alloc(),
-        r#"[{"expression":"a","message":"","messageExpression":"m","reason":"Forbidden"},{"expression":"b","reason":"Unauthorized"},{"expression":"c","reason":"RequestEntityTooLarge"}]"#,
-    )?
-    .unwrap();
-    assert_eq!(rt; validated.validations.len(), 3);
-    assert!(rt; validated.validations[0].message == Some(text(rt.alloc(), "")?));
-    assert!(rt; validated.validations[0].message_expression == Some(text(rt.alloc(), "m")?));
-    assert_eq!(rt; validated.validations[0].reason, Reason::Forbidden);
-    assert_eq!(rt; validated.validations[1].reason, Reason::Unauthorized);
-    assert_eq!(rt;
-        validated.validations[2].reason,
-        Reason::RequestEntityTooLarge
-    );
     Ok(())
 }
 
@@ -402,5 +235,36 @@ fn what_are_no_validations_is_refused(rt: HostRuntime) -> Result<(), Fail> {
     for validations in refused {
         assert!(rt; policy_of_validations(rt.alloc(), validations)?.is_none());
     }
+    Ok(())
+}
+
+#[test]
+fn what_is_left_out_has_defaults(rt: HostRuntime) -> Result<(), Fail> {
+    let alone = r#"{"policyName":"p","validationActions":["Warn"]}"#;
+    assert!(rt;
+        binding(rt.alloc(), alone)?.is_some_and(|found| found.policy.as_str() == "p"
+            && found.action == Action::Warn
+            && found.resources.rules.is_empty()
+            && found.resources.excluded.is_empty()
+            && found.resources.objects.is_empty()
+            && found.param_ref.is_none())
+    );
+    assert!(rt;
+        policy_with(rt.alloc(), "")?.is_some_and(|found| found.failure_policy == FailurePolicy::Fail
+            && found.param_kind.is_none()
+            && found.constraints.rules.len() == 1
+            && found.conditions.is_empty()
+            && found.variables.is_empty()
+            && found.validations.iter().all(|validation| validation.expression.as_str() == "true"
+                && validation.message.is_none()
+                && validation.message_expression.is_none()
+                && validation.reason == Reason::Invalid))
+    );
+    assert!(rt;
+        rules(rt.alloc(), RULE)?.is_some_and(|found| found.rules.iter().all(|rule| rule
+            .names
+            .is_empty()
+            && rule.scope == RuleScope::Every))
+    );
     Ok(())
 }
