@@ -268,3 +268,51 @@ fn what_is_left_out_has_defaults(rt: HostRuntime) -> Result<(), Fail> {
     );
     Ok(())
 }
+
+// The policy that a spec spells, as text.
+fn policy_text(alloc: Global, spec: &str) -> Result<String, Fail> {
+    let found = policy(alloc, spec)?;
+    Ok(format!(in alloc; "{found:?}")?)
+}
+
+// The binding that a spec spells, as text.
+fn binding_text(alloc: Global, spec: &str) -> Result<String, Fail> {
+    let found = binding(alloc, spec)?;
+    Ok(format!(in alloc; "{found:?}")?)
+}
+
+#[test]
+fn a_policy_has_what_its_document_says(rt: HostRuntime) -> Result<(), Fail> {
+    let rules =
+        r#"{"resourceRules":[{"operations":["CREATE","*"],"apiGroups":["","apps"],"apiVersions":["*"],"resources":["pods"],"resourceNames":["web"],"scope":"Namespaced"}],"objectSelector":{"matchLabels":{"app":"x"},"matchExpressions":[{"key":"tier","operator":"NotIn","values":["a","b"]},{"key":"old","operator":"DoesNotExist"}]}}"#;
+    let spec = format!(in rt.alloc();
+        "{{\"failurePolicy\":\"Ignore\",\"paramKind\":{{\"apiVersion\":\"v1\",\"kind\":\"ConfigMap\"}},\"matchConstraints\":{rules},\"matchConditions\":[{{\"name\":\"big\",\"expression\":\"c\"}}],\"variables\":[{{\"name\":\"v\",\"expression\":\"e\"}}],\"validations\":[{{\"expression\":\"true\",\"message\":\"m\",\"messageExpression\":\"'t'\",\"reason\":\"Forbidden\"}}]}}"
+    )?;
+    let constraints =
+        r#"MatchRules { rules: [Rule { operations: [Exactly(Create), Any], groups: [Exactly(""), Exactly("apps")], versions: [Any], resources: [Exactly("pods")], names: ["web"], scope: Namespaced }], excluded: [], objects: [IsOneOf("app", ["x"]), IsNoneOf("tier", ["a", "b"]), IsAbsent("old")] }"#;
+    let expected = format!(in rt.alloc();
+        "Some(Policy {{ failure_policy: Ignore, param_kind: Some(ConfigMap), constraints: {constraints}, conditions: [Named {{ name: \"big\", expression: \"c\" }}], variables: [Named {{ name: \"v\", expression: \"e\" }}], validations: [Validation {{ expression: \"true\", message: Some(\"m\"), message_expression: Some(\"'t'\"), reason: Forbidden }}] }})"
+    )?;
+    assert_eq!(rt;
+        policy_text(rt.alloc(), spec.as_str())?.as_str(),
+        expected.as_str()
+    );
+    Ok(())
+}
+
+#[test]
+fn a_binding_has_what_its_document_says(rt: HostRuntime) -> Result<(), Fail> {
+    let by_name =
+        r#"{"policyName":"p","validationActions":["Warn"],"paramRef":{"name":"c","namespace":"default","parameterNotFoundAction":"Allow"}}"#;
+    assert_eq!(rt;
+        binding_text(rt.alloc(), by_name)?.as_str(),
+        r#"Some(Binding { policy: "p", action: Warn, resources: MatchRules { rules: [], excluded: [], objects: [] }, param_ref: Some(ParamRef { wanted: ByName("c"), namespace: Some("default"), not_found: Allow }) })"#
+    );
+    let by_selector =
+        r#"{"policyName":"p","validationActions":["Deny"],"matchResources":{"excludeResourceRules":[{"operations":["DELETE"],"apiGroups":["*"],"apiVersions":["v1"],"resources":["*"],"scope":"Cluster"}]},"paramRef":{"selector":{"matchExpressions":[{"key":"k","operator":"Exists"}]},"parameterNotFoundAction":"Deny"}}"#;
+    assert_eq!(rt;
+        binding_text(rt.alloc(), by_selector)?.as_str(),
+        r#"Some(Binding { policy: "p", action: Deny, resources: MatchRules { rules: [], excluded: [Rule { operations: [Exactly(Delete)], groups: [Any], versions: [Exactly("v1")], resources: [Any], names: [], scope: Cluster }], objects: [] }, param_ref: Some(ParamRef { wanted: BySelector([IsThere("k")]), namespace: None, not_found: Deny }) })"#
+    );
+    Ok(())
+}
