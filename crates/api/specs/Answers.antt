@@ -1,7 +1,7 @@
 -- What the answers to messages write, on the wire and to the store.
 use Rattle.std.specs.Prelude.{◌≡◌, ◌≢◌, ℕ, ◌<◌, ◌≤◌, ◌-◌, ◌^◌, ◌⊎◌, List, [], ◌∷◌, ◌++◌, map, Bool, true, false, if◌then◌else◌, Option, is_some, unwrap_or, Result, Err, IsErrOf, OnOk}
 use Rattle.device.specs.declared.device.Device.{Ghosts}
-use Rattle.apicore.specs.declared.refusal.Refusal.TheVariants.{OutOfMemory, StorageFailed}
+use Rattle.requests.specs.declared.refusal.Refusal.TheVariants.{OutOfMemory, StorageFailed}
 use Rattle.apicore.specs.History.{Write, History}
 use Rattle.apicore.specs.Reply.{Reply, status}
 use Rattle.apicore.specs.Step.{writes, reply}

@@ -1,7 +1,7 @@
 -- What feeding a piece of the input leaves.
 use Rattle.std.specs.Prelude.{◌≡◌, ℕ, ◌≤◌, ◌⊎◌, List, [], ◌++◌, length, take, false, Some, None}
 use Rattle.device.specs.declared.device.Device.{Ghosts}
-use Rattle.apicore.specs.declared.refusal.Refusal.TheVariants.{OutOfMemory}
+use Rattle.requests.specs.declared.refusal.Refusal.TheVariants.{OutOfMemory}
 use Rattle.apicore.specs.History.{History}
 use Rattle.durable.specs.declared.store.Store.{Store}
 use Rattle.httpmsg.specs.declared.head.End.{End}

@@ -1,7 +1,7 @@
 -- The bytes of replies to messages.
 use Rattle.std.specs.Prelude.{ℕ, Bool, true, List, [], ◌==◌, if◌then◌else◌, Option, None}
-use Rattle.apicore.specs.declared.refusal.Refusal.{Refusal}
-use Rattle.apicore.specs.declared.refusal.Refusal.TheVariants.{MalformedRequest, UnservedVersion, TooManyFields, UnservedTransferCoding, BadHost, BadContentLength, BodyTooLarge, UnservedExpectation, BadTarget}
+use Rattle.requests.specs.declared.refusal.Refusal.{Refusal}
+use Rattle.requests.specs.declared.refusal.Refusal.TheVariants.{MalformedRequest, UnservedVersion, TooManyFields, UnservedTransferCoding, BadHost, BadContentLength, BodyTooLarge, UnservedExpectation, BadTarget}
 use Rattle.apicore.specs.Reply.{Reply, status}
 use Rattle.httpmsg.specs.declared.head.MessageFault.{MessageFault}
 use Rattle.httpmsg.specs.declared.head.MessageFault.TheVariants as Fault

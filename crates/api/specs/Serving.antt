@@ -1,7 +1,7 @@
 -- What serving a connection leaves: the bytes read and written, and the store.
 use Rattle.std.specs.Prelude.{◌≡◌, ℕ, ◌≤◌, ◌⊎◌, List, [], ◌∷◌, ◌++◌, Bool, false, None, Result, IsErrOf, OnOk}
 use Rattle.device.specs.declared.device.Device.{Ghosts}
-use Rattle.apicore.specs.declared.refusal.Refusal.TheVariants.{OutOfMemory, StorageFailed}
+use Rattle.requests.specs.declared.refusal.Refusal.TheVariants.{OutOfMemory, StorageFailed}
 use Rattle.apicore.specs.History.{History}
 use Rattle.durable.specs.declared.store.Store.{Store}
 use Rattle.durable.specs.Rules.{first_rules}

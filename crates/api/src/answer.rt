@@ -1,10 +1,10 @@
 //! Messages, answered one after another.
 
 ghost use Rattle.std.specs.Prelude.{◌≡◌, ◌≢◌, ◌≤◌, ◌++◌, [], ◌∷◌, List, false, true, IfOk, OnOk, OnErr, IfErr, IsErrOf, MatchResult, option_map, unwrap_or};
-ghost use Rattle.apicore.specs.declared.refusal.Refusal.TheVariants.{OutOfMemory};
+ghost use Rattle.requests.specs.declared.refusal.Refusal.TheVariants.{OutOfMemory};
+ghost use Rattle.requests.specs.RequestOf.{request_of};
 ghost use Rattle.apicore.specs.History.{History};
 ghost use Rattle.apicore.specs.Reply.{status};
-ghost use Rattle.apicore.specs.RequestOf.{request_of};
 ghost use Rattle.device.specs.Disk.{HasFailed};
 ghost use Rattle.durable.specs.Rules.{first_rules};
 ghost use Rattle.durable.specs.Settled.{device_of, serves, IsSettledAt};
@@ -14,10 +14,11 @@ ghost use Rattle.api.specs.Answers.{HasReplied, HasFailedAt, Answers, Stops, Has
 
 use crate::fault::ServeFault;
 use crate::reply::{Answer, allow_in, write_found, write_storage_failed};
-use apicore::{Reply, Request};
+use apicore::Reply;
 use device::Device;
 use durable::{Fault, Store};
 use httpmsg::{Message, Output};
+use requests::Request;
 use routes::{Routes, route};
 use std::alloc::{AllocError, Global};
 

@@ -1,8 +1,8 @@
 //! The bodies of the replies to messages with a fault, which take no memory.
 
 ghost use Rattle.std.specs.Prelude.{◌≡◌};
+ghost use Rattle.requests.specs.declared.refusal.Refusal.TheVariants as refusal;
 ghost use Rattle.apicore.specs.Reply.{status};
-ghost use Rattle.apicore.specs.declared.refusal.Refusal.TheVariants as refusal;
 ghost use Rattle.api.specs.ReplyBytes.{refusal_of};
 
 use httpmsg::MessageFault;

@@ -1,10 +1,10 @@
 //! Pieces of an input, and its end.
 
 ghost use Rattle.std.specs.Prelude.{◌≡◌, ◌≢◌, ◌<◌, ◌≤◌, ◌⊎◌, ℕ, List, [], length, take, false, Some, None, IfErr, IsErrOf, MatchResult};
+ghost use Rattle.requests.specs.declared.refusal.Refusal.TheVariants as refusal;
 ghost use Rattle.apicore.specs.History.{History};
 ghost use Rattle.durable.specs.Rules.{first_rules};
 ghost use Rattle.durable.specs.Settled.{device_of, serves, IsSettledAt};
-ghost use Rattle.apicore.specs.declared.refusal.Refusal.TheVariants as refusal;
 ghost use Rattle.httpmsg.specs.declared.head.BrokenMessage.{BrokenMessage as BrokenData};
 ghost use Rattle.httpmsg.specs.Flow.{TookSome};
 ghost use Rattle.httpmsg.specs.Stream.{Message as MessageData, IsCut};

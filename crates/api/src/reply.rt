@@ -2,17 +2,18 @@
 
 ghost use Rattle.std.specs.Prelude.{◌≡◌, ◌==◌, false, if◌then◌else◌, None, option_map, unwrap_or};
 ghost use Rattle.http.specs.StatusCode.{IsStatusCode};
+ghost use Rattle.requests.specs.declared.refusal.Refusal.TheVariants as refusal;
 ghost use Rattle.apicore.specs.Reply.{status};
-ghost use Rattle.apicore.specs.declared.refusal.Refusal.TheVariants as refusal;
 ghost use Rattle.httpmsg.specs.Flow.{HasCause, Writes};
 ghost use Rattle.httpmsg.specs.declared.head.End.TheVariants.{Broken};
 ghost use Rattle.httpmsg.specs.Response.{response_bytes};
 ghost use Rattle.api.specs.ReplyBytes.{refusal_of, response_of, allow_in, reply_bytes, closing_bytes, end_bytes};
 
 use crate::bodies::fault_body;
-use apicore::{Refusal, Reply};
+use apicore::Reply;
 use http::StatusCode;
 use httpmsg::{BrokenMessage, Message, MessageFault, Output, Response, StreamFault};
+use requests::Refusal;
 
 // The refusal of a message that has a fault.
 fn refusal_of(fault: MessageFault) -> Refusal

@@ -1,9 +1,10 @@
 // Bodies of the replies to messages with a fault, and faults told.
 use crate::{ServeFault, answers_are_runs, fault_body, serve};
-use apicore::{Refusal, Reply};
+use apicore::Reply;
 use device::MemDevice;
 use durable::{Damage, Store, create};
 use httpmsg::{BrokenMessage, End, MessageFault, Std};
+use requests::Refusal;
 use std::alloc::Global;
 use std::io;
 use std::io::{Read, Write};

@@ -1,10 +1,4 @@
 pub mod ViewLemmas
 pub mod StepLemmas
 pub mod Ready
-pub mod MemberLemmas
-pub mod Ordered
-pub mod Forms
-pub mod Recovery
-pub mod Selecting
-pub mod Spelling
 pub mod Listings

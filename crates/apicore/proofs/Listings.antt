@@ -1,6 +1,5 @@
 -- Lists and lines, item by item.
-use Rattle.std.proofs.Common.{◌≡◌, ◌<◌, ℕ, ◌+◌, suc, length, get_or, drop, add-one, Option, Result, Ok, Err, IfOk, Bool, true, false, cond, List, [], ◌∷◌, ◌++◌, append_assoc, map, refl, sym, ap, ◌∙◌}
-use Rattle.std.proofs.Math.Seq.{drop-cons}
+use Rattle.std.proofs.Common.{◌≡◌, ℕ, Option, Result, Ok, Err, IfOk, Bool, true, false, cond, List, [], ◌∷◌, ◌++◌, append_assoc, map, refl, sym, ap, ◌∙◌}
 use Rattle.std.specs.List.{filter, concat}
 use Rattle.serde_json.specs.Data.{Data, array, Items, no_items, item}
 use Rattle.serde_json.specs.View.{items_of}
@@ -9,17 +8,12 @@ use Rattle.names.specs.Key.{Key}
 use Rattle.names.specs.declared.resource.Resource.{Resource}
 use Rattle.objects.specs.Objects.{is_of}
 use Rattle.window.specs.declared.event.Event.{Event}
-use Rattle.apicore.specs.declared.stored.Stored.{Stored}
-use Rattle.apicore.specs.Collection.{Collection, has_key}
-use Rattle.apicore.specs.Document.{Document, shown}
+use Rattle.documents.specs.declared.stored.Stored.{Stored}
+use Rattle.documents.specs.Document.{Document, shown}
+use Rattle.requests.specs.Collection.{Collection, has_key}
+use Rattle.requests.specs.Selector.{Requirement, selects}
 use Rattle.apicore.specs.Listing.{shown_items, lines_of, event_document, line_feed}
-use Rattle.apicore.specs.Selector.{Requirement, selects}
 use Rattle.jsondoc.specs.Document.{text}
-
--- what is left at an index: the item there, and what is left behind it
-pub drop-next : {X : Type 0} (xs : List X) (i : ℕ) (x d : X) → i < length xs → x ≡ get_or xs i d → drop i xs ≡ x ∷ drop (i + 1) xs
-drop-next xs i x d inside is =
-    drop-cons xs i d inside ∙ ap (λ y. y ∷ drop (suc i) xs) (sym is) ∙ ap (λ n. x ∷ drop n xs) (sym (add-one i))
 
 -- what is filtered by an equal namespace from equal objects
 pub filtered_same : {V E : Type 0} (f : V → List (Key × Stored)) (read : Result V E) (r : Resource) (m n : Option (List ℕ)) (xs ys : List (Key × Stored))

@@ -1,18 +1,18 @@
 -- What makes a prepared step that of its request.
 use Rattle.std.proofs.Common.{◌≡◌, ◌+◌, [], ◌∷◌, cond, Option, Some, None, is_some, Result, Ok, Err, IfOk, sym, ap, ◌∙◌}
 use Rattle.std.specs.Option.{option_map_or}
+use Rattle.requests.specs.declared.refusal.Refusal.{Refusal}
+use Rattle.requests.specs.Codes.{document_in, sound-document_in}
+use Rattle.requests.specs.Manifest.{Manifest}
+use Rattle.requests.specs.Request.{replace, refused}
 use Rattle.apicore.specs.declared.prepared.Prepared.{Prepared}
 use Rattle.apicore.specs.declared.prepared.PreparedWrite.{PreparedWrite}
 use Rattle.apicore.specs.declared.prepared.PreparedWrite.TheVariants as prepared
-use Rattle.apicore.specs.declared.refusal.Refusal.{Refusal}
 use Rattle.names.specs.declared.format.Rules.{Rules}
-use Rattle.apicore.specs.Codes.{document_in, sound-document_in}
 use Rattle.apicore.specs.History.{put}
-use Rattle.apicore.specs.Manifest.{Manifest}
 use Rattle.apicore.specs.Prepared.{HasNextRevision, HasRoom, writes_of, IsStepOf, IsReady}
 use Rattle.apicore.specs.Put.{Put}
 use Rattle.apicore.specs.Reply.{Reply, status, showing}
-use Rattle.apicore.specs.Request.{replace, refused}
 use Rattle.apicore.specs.State.{State}
 use Rattle.apicore.specs.Step.{put_of, written, refusal}
 use Rattle.apicore.specs.View.{View}

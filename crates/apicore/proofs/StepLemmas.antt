@@ -1,15 +1,15 @@
 -- What requests write, and what their replies depend on.
 use Rattle.std.proofs.Common.{◌≡◌, ◌≤◌, ◌<◌, ℕ, List, [], ◌∷◌, length, Bool, true, false, nat_lt, nat_le, cond, Option, is_some, not, inl, inr, ◌++◌, append_assoc, IsTrue, refl, sym, ap, subst, ◌∙◌, arith}
-use Rattle.apicore.specs.declared.refusal.Refusal.TheVariants.{AlreadyExists, NotFound, VersionNotCurrent, ObjectTooLarge, TooManyObjects, RevisionExhausted}
 use Rattle.jsondoc.specs.Document.{text}
 use Rattle.names.specs.declared.format.Rules.{Rules}
 use Rattle.names.specs.Key.{Key, is_key}
-use Rattle.apicore.specs.Document.{Document}
+use Rattle.documents.specs.Document.{Document}
+use Rattle.requests.specs.declared.refusal.Refusal.TheVariants.{AlreadyExists, NotFound, VersionNotCurrent, ObjectTooLarge, TooManyObjects, RevisionExhausted}
+use Rattle.requests.specs.Manifest.{Body, sound, HasForm, BodyHasForm}
+use Rattle.requests.specs.Refusal.{first_of}
+use Rattle.requests.specs.Request.{Request, get, list, watch, create, replace, delete, refused, RequestHasForm}
 use Rattle.apicore.specs.History as write
 use Rattle.apicore.specs.History.{Write, put, History}
-use Rattle.apicore.specs.Manifest.{Body, sound, HasForm, BodyHasForm}
-use Rattle.apicore.specs.Refusal.{first_of}
-use Rattle.apicore.specs.Request.{Request, get, list, watch, create, replace, delete, refused, RequestHasForm}
 use Rattle.apicore.specs.Step.{put_of, update_conflicts, deletion_conflicts, refusal, writes, reply, accepted, replies, step, runs}
 use Rattle.apicore.specs.View.{View, exists, is_too_large, is_full, is_exhausted, after_all, empty, view, AllMayFollow, IsHistory}
 use Rattle.apicore.proofs.ViewLemmas.{after_all-append, AllMayFollow-append}

@@ -8,10 +8,10 @@ use Rattle.std.proofs.lemmas.List.{drop-append-le, drop-drop}
 use Rattle.std.specs.FinMap.Entries.{find-put, find-where_key}
 use Rattle.circular_buffer.specs.Buffer.{keep_last}
 use Rattle.window.specs.declared.event.Event.{Event}
-use Rattle.apicore.specs.Document.{Document}
 use Rattle.names.specs.declared.format.Rules.{Rules}
 use Rattle.names.specs.Key.{Key, key_cmp}
 use Rattle.names.specs.KeyLaws.{key_cmp_total}
+use Rattle.documents.specs.Document.{Document}
 use Rattle.apicore.specs.History.{Write, put, delete, same_key, left_by_one, left_by}
 use Rattle.apicore.specs.View.{View, stored_at, after, after_all, event_of, AllMayFollow}
 use Rattle.apicore.specs.Laws.{events_from}

@@ -2,8 +2,8 @@
 use Rattle.std.specs.Prelude.{ℕ, ◌+◌, List, [], ◌∷◌, Bool, if◌then◌else◌, Option, Some, None}
 use Rattle.std.specs.Ordering.{eq_by_cmp}
 use Rattle.names.specs.Key.{Key, key_cmp}
-use Rattle.apicore.specs.declared.stored.Stored.{Stored}
-use Rattle.apicore.specs.Document.{Document}
+use Rattle.documents.specs.declared.stored.Stored.{Stored}
+use Rattle.documents.specs.Document.{Document}
 
 pub data Write : Type 0 where
   put : Key → Document → Write

@@ -1,14 +1,12 @@
 -- Laws of histories and steps.
-use Rattle.std.specs.Prelude.{◌≡◌, ◌+◌, List, [], ◌∷◌, length, None}
+use Rattle.std.specs.Prelude.{◌≡◌, ◌+◌, List, [], ◌∷◌, length}
 use Rattle.circular_buffer.specs.Buffer.{keep_last}
-use Rattle.jsondoc.specs.Document.{text}
 use Rattle.names.specs.declared.format.Rules.{Rules}
 use Rattle.names.specs.Key.{Key}
 use Rattle.window.specs.declared.event.Event.{Event}
-use Rattle.apicore.specs.Document.{Document}
+use Rattle.documents.specs.Document.{Document}
+use Rattle.requests.specs.Request.{Request, RequestHasForm}
 use Rattle.apicore.specs.History.{Write, History, object_at}
-use Rattle.apicore.specs.Manifest.{item, sound, HasForm, IsManifestOf}
-use Rattle.apicore.specs.Request.{Request, RequestHasForm}
 use Rattle.apicore.specs.Step.{step, runs}
 use Rattle.apicore.specs.View.{View, stored_at, event_of, after, view, empty, IsHistory}
 
@@ -47,8 +45,3 @@ abbrev pub ViewDecides : Type 0
 ViewDecides =
     (rules : Rules) (g h : History) (r : Request) → view rules g ≡ view rules h
     → ((step rules g r).1 ≡ (step rules h r).1) × (view rules (step rules g r).0 ≡ view rules (step rules h r).0)
-
--- What is stored is read as itself: the text of a stored document, sent to the item of its key, asks for that document.
-abbrev pub StoredIsRead : Type 0
-StoredIsRead =
-    (k : Key) (d : Document) → HasForm k d → IsManifestOf (item k) (text d.json) (record { key = k; body = sound d; version = None })

@@ -1,16 +1,5 @@
-pub mod Refusal
-pub mod Document
-pub mod DocumentCode
-pub mod Manifest
-pub mod DeleteOptions
-pub mod Codes
 pub mod History
 pub mod View
-pub mod Collection
-pub mod Selector
-pub mod Spelling
-pub mod Request
-pub mod RequestOf
 pub mod Reply
 pub mod Listing
 pub mod Step

@@ -12,13 +12,13 @@ use Rattle.window.specs.declared.event.Change.{Change}
 use Rattle.window.specs.declared.event.Change.TheVariants.{Added, Modified, Deleted}
 use Rattle.window.specs.declared.event.Event.{Event}
 use Rattle.window.specs.Window.{events_above}
-use Rattle.apicore.specs.declared.refusal.Refusal.TheVariants.{BadVersion, Expired}
-use Rattle.apicore.specs.declared.stored.Stored.{Stored}
-use Rattle.apicore.specs.Collection.{Collection, has_key}
-use Rattle.apicore.specs.Document.{Document, object_of, shown}
-use Rattle.apicore.specs.Refusal.{Condition}
+use Rattle.documents.specs.declared.stored.Stored.{Stored}
+use Rattle.documents.specs.Document.{Document, object_of, shown}
+use Rattle.requests.specs.declared.refusal.Refusal.TheVariants.{BadVersion, Expired}
+use Rattle.requests.specs.Collection.{Collection, has_key}
+use Rattle.requests.specs.Refusal.{Condition}
+use Rattle.requests.specs.Selector.{Requirement, selects}
 use Rattle.apicore.specs.Reply.{Reply}
-use Rattle.apicore.specs.Selector.{Requirement, selects}
 use Rattle.apicore.specs.View.{View}
 
 -- a reply with this body to a request that is served

@@ -1,11 +1,11 @@
 -- A step that has all its memory, and the state in which it may be taken.
 use Rattle.std.specs.Prelude.{◌≡◌, ◌+◌, ◌<◌, List, [], ◌∷◌, Option, Some, None}
 use Rattle.names.specs.declared.format.Rules.{Rules}
+use Rattle.requests.specs.Request.{Request}
 use Rattle.apicore.specs.declared.prepared.Prepared.{Prepared}
 use Rattle.apicore.specs.declared.prepared.PreparedWrite.{PreparedWrite}
 use Rattle.apicore.specs.declared.prepared.PreparedWrite.TheVariants.{Put, Delete}
 use Rattle.apicore.specs.History.{Write, put, delete}
-use Rattle.apicore.specs.Request.{Request}
 use Rattle.apicore.specs.State.{State}
 use Rattle.apicore.specs.Step.{reply, writes}
 use Rattle.apicore.specs.View.{View}

@@ -2,9 +2,9 @@
 use Rattle.std.specs.Prelude.{ℕ, refl}
 use Rattle.std.specs.Coded.{Coded, code_by, coded×, coded_ℕ}
 use Rattle.names.specs.Key.{Key}
-use Rattle.apicore.specs.Codes.{coded_key}
-use Rattle.apicore.specs.Document.{Document}
-use Rattle.apicore.specs.DocumentCode.{coded_document}
+use Rattle.documents.specs.Document.{Document}
+use Rattle.documents.specs.DocumentCode.{coded_document}
+use Rattle.requests.specs.Codes.{coded_key}
 
 pub record Put : Type 0 where
   pub key : Key

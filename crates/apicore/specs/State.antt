@@ -6,10 +6,10 @@ use Rattle.names.specs.Key.{Key}
 use Rattle.window.specs.declared.event.Change.{Change}
 use Rattle.window.specs.declared.event.Change.TheVariants.{Added, Modified, Deleted}
 use Rattle.window.specs.declared.event.Event.{Event}
-use Rattle.apicore.specs.declared.stored.Stored.{Stored}
-use Rattle.apicore.specs.Codes.{coded_key}
-use Rattle.apicore.specs.Document.{Document}
-use Rattle.apicore.specs.DocumentCode.{coded_document}
+use Rattle.documents.specs.declared.stored.Stored.{Stored}
+use Rattle.documents.specs.Document.{Document}
+use Rattle.documents.specs.DocumentCode.{coded_document}
+use Rattle.requests.specs.Codes.{coded_key}
 use Rattle.apicore.specs.View.{View}
 
 pub record State : Type 0 where

@@ -2,17 +2,17 @@
 use Rattle.std.specs.Prelude.{ℕ, ◌+◌, List, [], ◌∷◌, ◌++◌, length, Bool, true, false, not, ◌&&◌, ◌==◌, decimal, if◌then◌else◌, Option, is_some}
 use Rattle.std.specs.Option.{option_map_or}
 use Rattle.std.specs.Str.{bytes_eq}
-use Rattle.apicore.specs.declared.refusal.Refusal.{Refusal}
-use Rattle.apicore.specs.declared.refusal.Refusal.TheVariants.{AlreadyExists, NotFound, VersionNotCurrent, ObjectTooLarge, TooManyObjects, RevisionExhausted}
 use Rattle.names.specs.declared.format.Rules.{Rules}
 use Rattle.names.specs.Key.{Key}
+use Rattle.requests.specs.declared.refusal.Refusal.{Refusal}
+use Rattle.requests.specs.declared.refusal.Refusal.TheVariants.{AlreadyExists, NotFound, VersionNotCurrent, ObjectTooLarge, TooManyObjects, RevisionExhausted}
+use Rattle.requests.specs.Manifest.{Body, sound}
+use Rattle.requests.specs.Refusal.{Condition, first_of}
+use Rattle.requests.specs.Request.{Request, get, list, watch, create, replace, delete, refused}
 use Rattle.apicore.specs.History as write
 use Rattle.apicore.specs.History.{Write, put, History}
 use Rattle.apicore.specs.Listing.{watch_conditions, listing, watching}
-use Rattle.apicore.specs.Manifest.{Body, sound}
-use Rattle.apicore.specs.Refusal.{Condition, first_of}
 use Rattle.apicore.specs.Reply.{Reply, status, showing}
-use Rattle.apicore.specs.Request.{Request, get, list, watch, create, replace, delete, refused}
 use Rattle.apicore.specs.View.{View, stored_at, exists, document_at, is_too_large, is_full, is_exhausted, after_all, view}
 
 -- ---- refusals

@@ -10,10 +10,10 @@ use Rattle.objects.specs.Objects.{value_at, with_value, without_key}
 use Rattle.window.specs.declared.event.Change.TheVariants.{Added, Modified, Deleted}
 use Rattle.window.specs.declared.event.Event.{Event}
 use Rattle.window.specs.Window.{event_at}
-use Rattle.apicore.specs.declared.stored.Stored.{Stored}
-use Rattle.apicore.specs.Document.{Document}
+use Rattle.documents.specs.declared.stored.Stored.{Stored}
+use Rattle.documents.specs.Document.{Document}
+use Rattle.requests.specs.Manifest.{HasForm}
 use Rattle.apicore.specs.History.{Write, put, delete, History}
-use Rattle.apicore.specs.Manifest.{HasForm}
 
 -- the objects in key order, the revision, and the events of the last writes, oldest first
 pub record View : Type 0 where

@@ -1,8 +1,9 @@
 // Lists, selectors and watches: each reply was written by hand after the Kubernetes API conventions.
 use crate::tests::{answer, assert_created, new_store};
 use crate::update_tests::{assert_deleted, assert_updated};
-use crate::{Collection, Core, Manifest, Reply, Request, Selector};
+use crate::{Core, Reply};
 use names::Resource;
+use requests::{Collection, Manifest, Request, Selector};
 use std::alloc::Global;
 use std::process::Abort;
 use std::test::Fail;
@@ -137,43 +138,6 @@ fn a_selector_selects_by_labels(rt: HostRuntime) -> Result<(), Fail> {
         assert_eq!(rt; has_a, names.contains('a'), "{selector}");
         assert_eq!(rt; has_b, names.contains('b'), "{selector}");
         assert_eq!(rt; has_c, names.contains('c'), "{selector}");
-    }
-    Ok(())
-}
-
-#[test]
-fn a_selector_is_parts_joined_by_commas(rt: HostRuntime) -> Result<(), Fail> {
-    for (text, parts) in [
-        ("", 0),
-        ("app", 1),
-        ("!app", 1),
-        ("app=", 1),
-        ("app==x.Y_1-z", 1),
-        ("k8s.io/app_1-Z!=", 1),
-        ("app,app==y", 2),
-        ("a=b,!c,d!=e", 3),
-    ] {
-        let selector = Selector::read(rt.alloc(), text)?.ok_or("a selector")?;
-        assert_eq!(rt; selector.requirements.len(), parts, "{text}");
-    }
-    for text in [
-        "app,",
-        ",",
-        "=x",
-        "!=x",
-        "!",
-        "!!a",
-        "!a=b",
-        "a!b",
-        "a=b=c",
-        "a===b",
-        "a=b/c",
-        "app in (x)",
-        "a b",
-        " a",
-        "a=b ",
-    ] {
-        assert!(rt; Selector::read(rt.alloc(), text)?.is_none(), "{text}");
     }
     Ok(())
 }

@@ -1,6 +1,5 @@
 // The laws of the definitions, each the contract of a function.
-ghost use Rattle.apicore.specs.Laws.{RevisionCounts, KeyHasLastWrite, EventsAreLast, WritesFollow, RunsAreSteps, ViewDecides, StoredIsRead};
-ghost use Rattle.apicore.specs.Spelling.{PartsAreSpelled};
+ghost use Rattle.apicore.specs.Laws.{RevisionCounts, KeyHasLastWrite, EventsAreLast, WritesFollow, RunsAreSteps, ViewDecides};
 
 /// The revision is one more than the number of writes.
 pub fn revision_counts()
@@ -30,14 +29,4 @@ pub fn runs_are_steps()
 /// Equal views give equal replies, and equal views after.
 pub fn view_decides()
     ensures { ViewDecides }
-{}
-
-/// What is stored is read as itself, so that recovery finds by `Manifest::read` what was stored.
-pub fn stored_is_read()
-    ensures { StoredIsRead }
-{}
-
-/// A part of a selector asks something just where it spells it, as `LABEL=VALUE` or one of the other forms.
-pub fn parts_are_spelled()
-    ensures { PartsAreSpelled }
 {}

@@ -4,23 +4,21 @@ ghost use Rattle.serde_json.specs.Data.{string, array};
 ghost use Rattle.serde_json.specs.View.{items_of};
 ghost use Rattle.jsondoc.specs.Document.{with_item};
 ghost use Rattle.names.specs.Resource.{row};
-ghost use Rattle.apicore.specs.Collection.{collection_of};
-ghost use Rattle.apicore.specs.Document.{object_of, shown};
+ghost use Rattle.documents.specs.Document.{object_of, shown};
+ghost use Rattle.requests.specs.Collection.{collection_of};
+ghost use Rattle.requests.specs.Request.{list};
+ghost use Rattle.requests.specs.Selector.{selects, selector_seen};
 ghost use Rattle.apicore.specs.Listing.{shown_items, list_of, list_document};
 ghost use Rattle.apicore.specs.Prepared.{HasRoom, IsStepOf};
-ghost use Rattle.apicore.specs.Request.{list};
-ghost use Rattle.apicore.specs.Selector.{selects, selector_seen};
 
-use crate::collection::Collection;
 use crate::prepared::Prepared;
 use crate::reply::Reply;
-use crate::selector::Selector;
-use crate::shown::shown_document;
 use crate::state::Core;
-use crate::stored::Stored;
+use documents::{Stored, shown_document};
 use jsondoc::Doc;
 use names::Resource;
 use objects::Entry;
+use requests::{Collection, Selector};
 use std::alloc::{AllocError, Global};
 
 impl Core {

@@ -2,11 +2,11 @@ ghost use Rattle.std.specs.Prelude.{◌≡◌, ◌+◌, ◌^◌, ◌<◌, None, 
 ghost use Rattle.jsondoc.specs.Document.{text};
 ghost use Rattle.apicore.specs.Reply.{status};
 
-use crate::refusal::Refusal;
 use crate::reply::Reply;
-use crate::stored::{Document, Stored};
+use documents::{Document, Stored};
 use names::Key;
 use objects::Entry;
+use requests::Refusal;
 use std::alloc::{AllocError, Global};
 use std::marker::Model;
 

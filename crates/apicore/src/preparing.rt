@@ -1,18 +1,17 @@
 // What a write asks of the objects that are stored: its refusal, or its reply and its write with all their memory.
 ghost use Rattle.std.specs.Prelude.{◌≡◌, ◌<◌, ℕ, List, Option, IsTrue, IfOk, option_map, option_copied, string_bytes};
-ghost use Rattle.apicore.specs.Manifest.{BodyHasForm};
+ghost use Rattle.requests.specs.Manifest.{BodyHasForm};
+ghost use Rattle.requests.specs.Request.{create, replace, delete};
 ghost use Rattle.apicore.specs.Prepared.{HasRoom, IsStepOf};
-ghost use Rattle.apicore.specs.Request.{create, replace, delete};
 ghost use Rattle.apicore.specs.Step.{refusal, is_current, update_conflicts, deletion_conflicts};
 ghost use Rattle.apicore.specs.View.{exists};
 ghost use Rattle.names.specs.Key.{is_key};
 
-use crate::manifest::Manifest;
 use crate::prepared::{Prepared, PreparedWrite};
-use crate::refusal::Refusal;
 use crate::reply::Reply;
 use crate::state::Core;
 use names::Key;
+use requests::{Manifest, Refusal};
 use std::alloc::{AllocError, Global};
 
 impl Core {

@@ -1,12 +1,12 @@
 ghost use Rattle.std.specs.Prelude.{◌≡◌, ◌↔◌, IsTrue, OnOk, OnErr, IsErrOf};
-ghost use Rattle.apicore.specs.Codes.{document_in};
+ghost use Rattle.requests.specs.Codes.{document_in};
 ghost use Rattle.apicore.specs.History.{put, delete};
 ghost use Rattle.apicore.specs.View.{after, MayFollow, MayPut, MayDelete};
 ghost use Rattle.apicore.specs.declared.replay.ReplayFault.TheVariants as ReplayFault;
 
-use crate::manifest::Manifest;
 use crate::state::Core;
 use names::Key;
+use requests::Manifest;
 use std::alloc::{AllocError, Global};
 use thiserror::Error;
 

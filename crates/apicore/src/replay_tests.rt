@@ -1,7 +1,8 @@
 // Writes that were stored, taken again.
 use crate::tests::{SMALL, new_store, shown};
-use crate::{Core, Manifest, ReplayFault};
+use crate::{Core, ReplayFault};
 use names::{Key, Resource, Rules};
+use requests::Manifest;
 use std::alloc::Global;
 use std::process::Abort;
 use std::test::Fail;

@@ -2,10 +2,9 @@ ghost use Rattle.std.specs.Prelude.{◌≡◌, [], map, string_bytes, IfOk};
 ghost use Rattle.apicore.specs.Listing.{served};
 ghost use Rattle.apicore.specs.Reply.{status, showing};
 
-use crate::refusal::Refusal;
-use crate::shown::shown_document;
-use crate::stored::Document;
+use documents::{Document, shown_document};
 use jsondoc::Doc;
+use requests::Refusal;
 use std::alloc::{AllocError, Global};
 use std::marker::Model;
 

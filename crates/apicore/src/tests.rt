@@ -1,12 +1,12 @@
 // Requests, one after the other: each reply was written by hand after the Kubernetes API conventions.
-use crate::body_tests::{STORED, posted};
 use crate::{
-    Core, Document, Prepared, PreparedWrite, Put, Refusal, Reply, Request, events_are_last,
-    key_has_last_write, parts_are_spelled, revision_counts, runs_are_steps, stored_is_read,
-    view_decides, writes_follow,
+    Core, Prepared, PreparedWrite, Put, Reply, events_are_last, key_has_last_write,
+    revision_counts, runs_are_steps, view_decides, writes_follow,
 };
+use documents::Document;
 use jsondoc::Doc;
 use names::{Format, Key, Resource, Rules};
+use requests::{Manifest, Refusal, Request};
 use std::alloc::Global;
 use std::process::Abort;
 use std::test::Fail;
@@ -26,7 +26,8 @@ fn create(alloc: Global, name: &str) -> Result<Request, Fail> {
     let body = format!(in alloc;
         "{{\"apiVersion\":\"v1\",\"kind\":\"ConfigMap\",\"metadata\":{{\"name\":\"{name}\"}},\"data\":{{\"k\":\"v\"}}}}"
     )?;
-    Ok(Request::Create(posted(alloc, body.as_str())?))
+    let manifest = Manifest::read(alloc, Resource::ConfigMap, "default", None, body.as_bytes())?;
+    Ok(Request::Create(manifest))
 }
 
 fn get(alloc: Global, name: &str) -> Result<Request, Fail> {
@@ -95,6 +96,9 @@ fn put_of(write: &Option<PreparedWrite>) -> Option<&Put> {
         _ => None,
     }
 }
+
+const STORED: &str =
+    "{\"apiVersion\":\"v1\",\"data\":{\"k\":\"v\"},\"kind\":\"ConfigMap\",\"metadata\":{\"name\":\"a\",\"namespace\":\"default\"}}";
 
 #[test]
 fn a_prepared_write_has_its_document(rt: HostRuntime) -> Result<(), Fail> {
@@ -209,6 +213,4 @@ fn the_laws_hold(_rt: HostRuntime) {
     writes_follow();
     runs_are_steps();
     view_decides();
-    stored_is_read();
-    parts_are_spelled();
 }

@@ -1,7 +1,8 @@
 // Updates and deletions, on condition of a revision or not.
+use crate::Core;
 use crate::tests::{SMALL, answer, assert_created, new_store};
-use crate::{BodyFault, Core, Manifest, Refusal, Request, read_delete_options};
 use names::{Key, Resource};
+use requests::{Manifest, Request, read_delete_options};
 use std::alloc::Global;
 use std::process::Abort;
 use std::test::Fail;
@@ -100,35 +101,6 @@ fn a_deletion_shows_the_object_with_its_own_revision(rt: HostRuntime) -> Result<
     assert_deleted(&rt, alloc, &mut core, empty, 409, "is not current")?;
     assert_deleted(&rt, alloc, &mut core, "{}", 200, DELETED)?;
     assert_created(&rt, alloc, &mut core, "a", 201, "\"4\"")
-}
-
-#[test]
-fn each_fault_of_delete_options_has_its_refusal(rt: HostRuntime) {
-    for (body, refusal) in [
-        ("{", Refusal::BodyIsNotJson),
-        ("{\"preconditions\":1.0}", Refusal::NumberOutsideRange),
-        ("[]", Refusal::BadDeleteOptions),
-        ("{\"apiVersion\":\"v2\"}", Refusal::BadDeleteOptions),
-        ("{\"kind\":\"ConfigMap\"}", Refusal::BadDeleteOptions),
-        ("{\"gracePeriodSeconds\":0}", Refusal::BadDeleteOptions),
-        (
-            "{\"preconditions\":{\"resourceVersion\":2}}",
-            Refusal::BadDeleteOptions,
-        ),
-    ] {
-        let found = read_delete_options(rt.alloc(), body.as_bytes()).err();
-        assert_eq!(rt; found, Some(BodyFault::Refused(refusal)), "{body}");
-    }
-}
-
-#[test]
-fn delete_options_ask_for_a_revision_or_for_none(rt: HostRuntime) -> Result<(), Fail> {
-    let body =
-        b"{\"apiVersion\":\"v1\",\"kind\":\"DeleteOptions\",\"preconditions\":{\"resourceVersion\":\"02\"}}";
-    let version = read_delete_options(rt.alloc(), body)?;
-    assert_eq!(rt; version.as_deref(), Some("02"));
-    assert!(rt; read_delete_options(rt.alloc(), b"")?.is_none());
-    Ok(())
 }
 
 #[test]

@@ -1,18 +1,17 @@
 // The events of a collection, as a watch tells them.
 ghost use Rattle.std.specs.Prelude.{◌≡◌, ◌++◌, ◌∷◌, [], string_bytes, if◌then◌else◌, IfOk, OnOk};
 ghost use Rattle.jsondoc.specs.Document.{text};
-ghost use Rattle.apicore.specs.Collection.{collection_of};
+ghost use Rattle.requests.specs.Collection.{collection_of};
+ghost use Rattle.requests.specs.Request.{watch};
 ghost use Rattle.apicore.specs.Listing.{change_text, event_document, line_feed, lines_of};
 ghost use Rattle.apicore.specs.Prepared.{HasRoom, IsStepOf};
-ghost use Rattle.apicore.specs.Request.{watch};
 
-use crate::collection::Collection;
 use crate::prepared::Prepared;
 use crate::reply::Reply;
-use crate::shown::shown_document;
 use crate::state::Core;
-use crate::stored::Document;
+use documents::{Document, shown_document};
 use jsondoc::Doc;
+use requests::Collection;
 use std::alloc::{AllocError, Global};
 use window::{Change, Event, Events};
 

@@ -10,3 +10,4 @@ pub mod Lists
 pub mod Refusals
 pub mod Weights
 pub mod Sizes
+pub mod Alone

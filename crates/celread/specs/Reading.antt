@@ -41,3 +41,25 @@ IsRefusedBy text fault.TooDeep = (length text ≤ 4096) × ((ws : List Terminal)
 IsRefusedBy text fault.NotInGrammar =
     (length text ≤ 4096) × (HasNoTokens (chars text) ⊎ ((ws : List Terminal) × Lexes (chars text) ws × (opens_too_many 0 ws ≡ false) × HasNoSpelling ws))
 IsRefusedBy text fault.Memory = Unit {0}
+
+-- the text is read as no tree
+abbrev pub IsNotRead : List ℕ → Type 0
+IsNotRead text = (t : Expr) → IsReadAs text t → ⊥
+
+-- the text is read as this tree alone
+abbrev pub IsReadAlone : List ℕ → Expr → Type 0
+IsReadAlone text t = (u : Expr) → IsReadAs text u → u ≡ t
+
+-- the same of tokens
+abbrev pub IsNoParse : List Terminal → Type 0
+IsNoParse ws = (t : Expr) → IsParse ws t → ⊥
+
+abbrev pub IsParseAlone : List Terminal → Expr → Type 0
+IsParseAlone ws t = (u : Expr) → IsParse ws u → u ≡ t
+
+-- what holds where it is not memory that is wanting
+abbrev pub UnlessMemory : ReadFault → Type 0 → Type 0
+UnlessMemory fault.TooLong P = P
+UnlessMemory fault.TooDeep P = P
+UnlessMemory fault.NotInGrammar P = P
+UnlessMemory fault.Memory P = Unit {0}

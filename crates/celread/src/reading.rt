@@ -2,7 +2,7 @@
 
 ghost use Rattle.std.specs.Prelude.{◌+◌, ◌≤◌, length, IfOk, IfErr};
 ghost use Rattle.celtokens.specs.Seen.{terminals};
-ghost use Rattle.celread.specs.Reading.{IsParse, IsParseFault, IsReadAs, IsRefusedBy};
+ghost use Rattle.celread.specs.Reading.{IsParse, IsParseFault, IsReadAs, IsRefusedBy, IsNotRead, IsReadAlone, IsNoParse, IsParseAlone, UnlessMemory};
 ghost use Rattle.celread.specs.Size.{nodes, text_bytes};
 ghost use Rattle.celread.specs.View.{view};
 
@@ -10,7 +10,7 @@ use crate::expression::expression;
 use crate::fault::ReadFault;
 use crate::limits::{nests_within, opens_too_many};
 use crate::tree::Tree;
-use celtokens::{Token, characters, tokens};
+use celtokens::{Token, characters, one_reading, tokens};
 use std::alloc::Global;
 
 /// The longest text that is read, in bytes.
@@ -19,6 +19,8 @@ pub const TEXT_LIMIT: usize = 4096;
 fn parse(alloc: Global, tokens: &[Token<'_>]) -> Result<Tree, ReadFault>
     ensures tree { IfOk result (λ t. IsParse (terminals tokens.now) (view t)) }
     ensures fault { IfErr result (IsParseFault (terminals tokens.now)) }
+    ensures alone { IfOk result (λ t. IsParseAlone (terminals tokens.now) (view t)) }
+    ensures none { IfErr result (λ e. UnlessMemory e (IsNoParse (terminals tokens.now))) }
 {
     if opens_too_many(tokens) {
         return Err(ReadFault::TooDeep);
@@ -45,7 +47,11 @@ fn parse(alloc: Global, tokens: &[Token<'_>]) -> Result<Tree, ReadFault>
 pub fn read(alloc: Global, text: &str) -> Result<Tree, ReadFault>
     ensures tree { IfOk result (λ t. IsReadAs text.now (view t)) }
     ensures small { IfOk result (λ t. nodes (view t) + text_bytes (view t) ≤ length text.now) }
+    // It spells no other tree.
+    ensures alone { IfOk result (λ t. IsReadAlone text.now (view t)) }
     ensures fault { IfErr result (IsRefusedBy text.now) }
+    // A text that is refused spells no tree within the limits.
+    ensures none { IfErr result (λ e. UnlessMemory e (IsNotRead text.now)) }
 {
     if text.len() > TEXT_LIMIT {
         return Err(ReadFault::TooLong);
@@ -53,7 +59,10 @@ pub fn read(alloc: Global, text: &str) -> Result<Tree, ReadFault>
     let chars = characters(alloc, text)?;
     let found = tokens(alloc, &chars)?;
     match found {
-        Some(tokens) => parse(alloc, &tokens),
+        Some(tokens) => {
+            one_reading();
+            parse(alloc, &tokens)
+        }
         None => Err(ReadFault::NotInGrammar),
     }
 }

@@ -6,3 +6,4 @@ pub mod Escapes
 pub mod Texts
 pub mod Words
 pub mod Lexed
+pub mod Identifiers

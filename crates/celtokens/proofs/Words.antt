@@ -16,7 +16,7 @@ use Rattle.celtokens.proofs.Lexemes.{starts_class, to_longest}
 letter_in_word : (c : ℕ) → class c ≡ class_of.Letter → is_in kind.InWord c ≡ true
 letter_in_word c h = grind (arith, nat_tests)
 
-quote_not_in_word : (c : ℕ) → is_quote c ≡ true → is_in kind.InWord c ≡ false
+pub quote_not_in_word : (c : ℕ) → is_quote c ≡ true → is_in kind.InWord c ≡ false
 quote_not_in_word c h = grind (arith, nat_tests)
 
 -- no run of word characters begins with a quote

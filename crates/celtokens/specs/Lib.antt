@@ -6,6 +6,7 @@ pub mod Escape
 pub mod Text
 pub mod Sign
 pub mod Terminal
+pub mod Word
 pub mod Lexeme
 pub mod Lexes
 pub mod Seen

@@ -4,6 +4,8 @@ use Rattle.std.specs.Str.Parse.{digits_value}
 use Rattle.celtokens.specs.declared.token.Number.{Number}
 use Rattle.celtokens.specs.declared.token.Token.{Token}
 use Rattle.celtokens.specs.declared.token.Token.TheVariants as token
+use Rattle.celtokens.specs.declared.word.Meaning.{Meaning}
+use Rattle.celtokens.specs.declared.word.Meaning.TheVariants as meaning_of
 use Rattle.celtokens.specs.Terminal.{Terminal, Ident, Reserved, False, In, Null, True, Int, Uint, Quoted, Mark}
 use Rattle.celtokens.specs.Lexeme.{Part, Gap, Whole}
 
@@ -23,6 +25,15 @@ terminal (token.Int n) = Int (number n)
 terminal (token.Uint n) = Uint (number n)
 terminal (token.Text t) = Quoted t.items
 terminal (token.Sign s) = Mark s
+
+-- the terminal symbol of a word with this meaning
+abbrev pub meant_by : Meaning → List ℕ → Terminal
+meant_by meaning_of.False name = False
+meant_by meaning_of.In name = In
+meant_by meaning_of.Null name = Null
+meant_by meaning_of.True name = True
+meant_by meaning_of.Reserved name = Reserved name
+meant_by meaning_of.Name name = Ident name
 
 abbrev pub terminals : List Token → List Terminal
 terminals ts = map terminal ts

@@ -1,6 +1,6 @@
 //! Rows of the lexical rules: a text, and its tokens as they are written below.
 
-use crate::{Number, Sign, Token, characters, one_reading, tokens};
+use crate::{Number, Sign, Token, characters, is_identifier, one_reading, tokens};
 use std::alloc::{AllocError, Global};
 use std::fmt::Write;
 use std::test::Fail;
@@ -154,6 +154,42 @@ fn words_and_signs(rt: HostRuntime) -> Result<(), Fail> {
         ("é", "none"),
     ] {
         assert_eq!(rt; shown(rt.alloc(), text)?.as_str(), want, "at {text:?}");
+    }
+    Ok(())
+}
+
+#[test]
+fn identifiers(rt: HostRuntime) -> Result<(), Fail> {
+    for text in [
+        "a",
+        "_",
+        "A9_",
+        "falsey",
+        "inn",
+        "whiles",
+        "namespaces",
+        "False",
+    ] {
+        assert!(rt; is_identifier(text), "at {text:?}");
+    }
+    for text in [
+        "",
+        "false",
+        "in",
+        "null",
+        "true",
+        "as",
+        "namespace",
+        "while",
+        "1a",
+        "a-b",
+        "a b",
+        " a",
+        "a ",
+        "é",
+        "aé",
+    ] {
+        assert!(rt; !is_identifier(text), "at {text:?}");
     }
     Ok(())
 }

@@ -1,19 +1,17 @@
 -- What a prepared step makes of a settled store.
-use Rattle.std.proofs.Common.{arith, ◌≡◌, ◌∙◌, sym, ap, subst, ◌≤◌, ◌<◌, ◌^◌, ◌++◌, ℕ, List, [], ◌∷◌, length, refl, true, false, Option, Some, None, Result, Ok, Err, OnOk, IsErrOf, is_ok, true≢false}
+use Rattle.std.proofs.Common.{arith, ◌≡◌, ◌∙◌, sym, ap, subst, ◌<◌, ◌^◌, ◌++◌, List, [], ◌∷◌, refl, true, false, Option, Some, None, Result, Ok, Err, OnOk, IsErrOf, is_ok, true≢false}
 use Rattle.std.proofs.lemmas.List.{append-nil}
 use Rattle.device.specs.declared.device.Device.{Ghosts}
-use Rattle.device.specs.Disk.{LeavesOnly}
 use Rattle.device.specs.Run.{Stands}
 use Rattle.gatelog.specs.declared.record.Body.{Body}
 use Rattle.gatelog.specs.Payload.{payload_of}
-use Rattle.jsondoc.specs.Document.{text}
 use Rattle.names.specs.declared.format.Rules.{Rules}
+use Rattle.requests.specs.Request.{Request, RequestHasForm}
 use Rattle.apicore.specs.declared.prepared.Prepared.{Prepared}
 use Rattle.apicore.specs.History.{Write, put, delete, History}
 use Rattle.apicore.specs.Prepared.{IsStepOf, writes_of}
 use Rattle.apicore.specs.declared.prepared.PreparedWrite.{PreparedWrite}
 use Rattle.apicore.specs.declared.prepared.PreparedWrite.TheVariants.{Put, Delete}
-use Rattle.apicore.specs.Request.{Request, RequestHasForm}
 use Rattle.apicore.specs.Step.{writes}
 use Rattle.apicore.specs.View.{View, view, empty, after_all, MayFollow, AllMayFollow}
 use Rattle.apicore.proofs.StepLemmas.{AllMayFollow-writes, is_key-deleted}
@@ -23,7 +21,6 @@ use Rattle.durable.specs.declared.store.Store.{Store}
 use Rattle.durable.specs.Ready.{HoldsHistory}
 use Rattle.durable.specs.RecordOf.{IsRecordOf}
 use Rattle.durable.specs.Rules.{first_rules}
-use Rattle.durable.specs.Stands.{StandsFor}
 use Rattle.durable.specs.Settled.{IsFound, IsSettledAt, IsLeftAt, LeavesSome, device_of, serves, shown}
 
 -- a settled store's device holds its history

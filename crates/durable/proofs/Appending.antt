@@ -1,5 +1,5 @@
 -- What appending a write's payload makes of the history.
-use Rattle.std.proofs.Common.{arith, ◌≡◌, ◌∙◌, sym, ap, subst, ◌≤◌, ◌+◌, ◌*◌, ◌++◌, ◌⊎◌, ⊎_elim, inl, inr, ℕ, List, [], ◌∷◌, length, map, take, refl, false}
+use Rattle.std.proofs.Common.{arith, ◌≡◌, ◌∙◌, sym, ap, subst, ◌≤◌, ◌+◌, ◌*◌, ◌++◌, ⊎_elim, ℕ, List, [], ◌∷◌, map, take, refl, false}
 use Rattle.std.proofs.Math.Logic.{∥∥₁_elim, ∥∥₁_prop}
 use Rattle.std.proofs.lemmas.Grind.{merely}
 use Rattle.std.proofs.lemmas.List.{append_assoc, map-append, take-take}
@@ -12,10 +12,10 @@ use Rattle.gatelog.specs.Log.{HoldsLog, IsBeforeOrAfter}
 use Rattle.gatelog.specs.Settled.{IsSettled}
 use Rattle.gatelog.proofs.Parts.{agree-take, reaches-take}
 use Rattle.gatelog.proofs.Logs.{inside, HoldsLog-stays}
-use Rattle.checkpoint.specs.Root.{log_start, HoldsRoot}
+use Rattle.checkpoint.specs.Root.{log_start}
 use Rattle.names.specs.declared.format.Rules.{Rules}
 use Rattle.apicore.specs.History.{Write, History}
-use Rattle.apicore.specs.View.{view, empty, IsHistory, MayFollow}
+use Rattle.apicore.specs.View.{view, empty, MayFollow}
 use Rattle.apicore.proofs.ViewLemmas.{AllMayFollow-append}
 use Rattle.records.specs.Payload.{payload, IsStorable}
 use Rattle.recovery.specs.Written.{AllStorable}

@@ -1,5 +1,5 @@
 -- What is found of a store.
-use Rattle.std.proofs.Common.{◌≡◌, ◌++◌, refl, sym, subst, ℕ, List, [], false, true≢false, Result, Ok, Err, OnOk, is_err}
+use Rattle.std.proofs.Common.{◌≡◌, refl, sym, subst, ℕ, List, [], false, true≢false, Result, Ok, Err, OnOk, is_err}
 use Rattle.std.proofs.lemmas.List.{append-nil}
 use Rattle.device.specs.declared.device.Device.{Ghosts}
 use Rattle.device.proofs.Moments.{started}

@@ -1,13 +1,12 @@
 -- A store that was opened is ready, and settled at the history that its device's content stands for.
-use Rattle.std.proofs.Common.{◌≡◌, ◌∙◌, sym, ap, subst, ◌+◌, ◌*◌, ℕ, List, false, map, take, ◌⊎◌, inl, inr, refl}
+use Rattle.std.proofs.Common.{◌≡◌, sym, ap, subst, ◌+◌, ◌*◌, ℕ, List, false, map, take, ◌⊎◌, inl, inr, refl}
 use Rattle.device.specs.Disk.{Disk, Only}
 use Rattle.gatelog.specs.declared.gate_log.Log.{Log}
 use Rattle.gatelog.specs.Log.{HoldsLog}
-use Rattle.gatelog.specs.Settled.{IsSettled}
 use Rattle.names.specs.declared.format.Rules.{Rules}
 use Rattle.apicore.specs.History.{History}
 use Rattle.apicore.specs.State.{State}
-use Rattle.checkpoint.specs.Root.{log_start, HoldsRoot}
+use Rattle.checkpoint.specs.Root.{HoldsRoot}
 use Rattle.records.specs.Payload.{payload}
 use Rattle.durable.specs.declared.fault.Damage.{Damage}
 use Rattle.durable.specs.declared.fault.Fault.{Fault}

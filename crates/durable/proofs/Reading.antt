@@ -1,5 +1,5 @@
 -- What reading a device tells of the history that its content stands for.
-use Rattle.std.proofs.Common.{◌≡◌, ◌∙◌, sym, ap, subst, ◌++◌, ℕ, List, [], refl, map, length}
+use Rattle.std.proofs.Common.{◌≡◌, ◌∙◌, sym, ap, subst, ◌++◌, ℕ, List, [], refl, map}
 use Rattle.gatelog.specs.declared.gate_log.Log.{Log}
 use Rattle.gatelog.specs.Log.{HoldsLog}
 use Rattle.gatelog.proofs.Walking.{at_most_one}

@@ -1,13 +1,13 @@
 -- A run of requests, one after the other.
-use Rattle.std.proofs.Common.{◌≡◌, ◌∙◌, sym, ap, subst, ◌+◌, ◌<◌, ◌++◌, ℕ, List, [], ◌∷◌, length, refl, map, take, drop, get_or, false}
+use Rattle.std.proofs.Common.{◌≡◌, ◌∙◌, sym, ap, subst, ◌+◌, ◌<◌, ◌++◌, ℕ, List, [], ◌∷◌, length, refl, map, take, drop, get_or}
 use Rattle.std.proofs.lemmas.List.{append-nil, append_assoc, map-append, take-map, take-append-drop}
 use Rattle.std.proofs.lemmas.Grind.{take_at_read}
 use Rattle.device.specs.declared.device.Device.{Ghosts}
 use Rattle.device.proofs.Moments.{followed_by}
 use Rattle.names.specs.declared.format.Rules.{Rules}
+use Rattle.requests.specs.Request.{Request}
 use Rattle.apicore.specs.History.{Write, History}
 use Rattle.apicore.specs.Reply.{Reply}
-use Rattle.apicore.specs.Request.{Request}
 use Rattle.apicore.specs.Step.{writes, reply, accepted, replies}
 use Rattle.apicore.specs.View.{View, view, empty, after_all}
 use Rattle.apicore.proofs.ViewLemmas.{after_all-append}

@@ -3,9 +3,9 @@ use Rattle.std.specs.Prelude.{◌≡◌, ℕ, List, [], ◌++◌, Bool, true, fa
 use Rattle.device.specs.declared.device.Device.{Ghosts}
 use Rattle.device.specs.Disk.{LeavesOnly}
 use Rattle.names.specs.declared.format.Rules.{Rules}
+use Rattle.requests.specs.Request.{Request}
 use Rattle.apicore.specs.History.{Write, History}
 use Rattle.apicore.specs.Reply.{Reply}
-use Rattle.apicore.specs.Request.{Request}
 use Rattle.apicore.specs.Step.{accepted, replies}
 use Rattle.apicore.specs.View.{View, view}
 use Rattle.durable.specs.declared.store.Store.{Store}

@@ -5,9 +5,10 @@ ghost use Rattle.durable.specs.Ready.{IsReady};
 use crate::Fault;
 use crate::opening::synced_store;
 use crate::record::record_of;
-use apicore::{Core, Prepared, Reply, Request};
+use apicore::{Core, Prepared, Reply};
 use device::Device;
 use gatelog::{Body, Log};
+use requests::Request;
 use std::alloc::Global;
 
 /// A store of objects on a device.
@@ -26,12 +27,12 @@ impl<D: Device> Store<D> {
     ghost use Rattle.device.specs.Disk.{LeavesOnly, HasCause, HasFailed};
     ghost use Rattle.device.specs.Run.{Stands};
     ghost use Rattle.gatelog.specs.Payload.{payload_of};
+    ghost use Rattle.requests.specs.RequestOf.{request_of};
     ghost use Rattle.records.specs.Payload.{payload, IsStorable};
     ghost use Rattle.apicore.specs.Prepared.{IsReady as CoreIsReady, writes_of};
     ghost use Rattle.durable.specs.Ready.{HoldsHistory};
     ghost use Rattle.durable.specs.declared.fault.Fault.TheVariants as Fault;
     ghost use Rattle.apicore.specs.History.{Write, History};
-    ghost use Rattle.apicore.specs.RequestOf.{request_of};
     ghost use Rattle.apicore.specs.Step.{reply, writes};
     ghost use Rattle.apicore.specs.View.{view, after_all, MayFollow};
     ghost use Rattle.durable.specs.Stands.{StandsFor};

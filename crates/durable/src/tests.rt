@@ -1,10 +1,10 @@
 ghost use Rattle.std.specs.Prelude.{◌≡◌, ◌%◌, ◌<◌, length};
 
 use crate::{CreateFault, Damage, Fault, Store, create, one_history};
-use apicore::{Manifest, Request};
 use device::{Counts, Device, DeviceFault, MemDevice, Pick};
 use gatelog::{Body, Log, LogFault};
 use names::{Key, Resource};
+use requests::{Manifest, Request};
 use std::alloc::Global;
 use std::process::Abort;
 use std::test::Fail;

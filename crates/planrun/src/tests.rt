@@ -4,6 +4,7 @@
 //! language definition, with the limits and the single error of the page on expressions.
 
 mod arithmetic;
+mod codes;
 mod collections;
 mod comparisons;
 mod documents;

@@ -1,10 +1,10 @@
 -- What parts of a document spell: each answers None where the part has not the form.
 use Rattle.std.specs.Prelude.{ℕ, List, [], ◌∷◌, ◌++◌, Bool, true, false, not, ◌&&◌, ◌==◌, length, codes, if◌then◌else◌, Option, Some, None, option_map}
-use Rattle.std.specs.List.{list_any}
 use Rattle.std.specs.Option.{option_map_or}
 use Rattle.std.specs.Str.{bytes_eq}
 use Rattle.serde_json.specs.Data.{Data, Items, no_items, item, Members, no_members, member}
 use Rattle.serde_json.specs.Find.{get, as_str, as_array, as_object}
+use Rattle.matching.specs.Selecting.{is_among}
 
 -- a text, as its bytes in UTF-8
 abbrev pub Text : Type 0
@@ -17,9 +17,6 @@ given (Some x) f = f x
 abbrev pub provided : {A : Type 0} → Bool → Option A → Option A
 provided true o = o
 provided false o = None
-
-abbrev pub is_among : List Text → Text → Bool
-is_among names name = list_any (λ n. bytes_eq n name) names
 
 abbrev pub all_among : List Text → Members → Bool
 all_among names no_members = true

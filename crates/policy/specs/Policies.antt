@@ -1,14 +1,12 @@
 -- The policy that a document spells (Kubernetes, admissionregistration.k8s.io/v1: ValidatingAdmissionPolicy).
-use Rattle.std.specs.Prelude.{ℕ, ◌∷◌, List, [], length, Bool, true, false, not, ◌&&◌, ◌||◌, ◌==◌, map, codes, Option, Some, None}
-use Rattle.std.specs.Char.{is_ascii_alphabetic, is_ascii_alphanumeric}
+use Rattle.std.specs.Prelude.{◌∷◌, List, [], length, Bool, not, ◌&&◌, ◌==◌, map, codes, Option, Some}
 use Rattle.std.specs.List.{list_all}
-use Rattle.std.specs.Str.{bytes_eq}
 use Rattle.serde_json.specs.Data.{Data}
 use Rattle.serde_json.specs.Find.{as_str}
 use Rattle.names.specs.Resource.{with_kind}
 use Rattle.names.specs.declared.resource.Resource.{Resource}
-use Rattle.names.specs.declared.resource.Resource.TheVariants.{ConfigMap, Node, Pod, Service, Deployment, ValidatingAdmissionPolicy, ValidatingAdmissionPolicyBinding}
-use Rattle.celtokens.specs.Terminal.{is_reserved}
+use Rattle.celtokens.specs.Word.{is_identifier}
+use Rattle.matching.specs.Matching.{is_guarded}
 use Rattle.matching.specs.Rules.{MatchRules}
 use Rattle.policy.specs.declared.policy.FailurePolicy.{FailurePolicy}
 use Rattle.policy.specs.declared.policy.FailurePolicy.TheVariants.{Fail, Ignore}
@@ -38,22 +36,6 @@ is_filled text = not (length text == 0)
 abbrev pub are_conditions : List Named → Bool
 are_conditions ns = list_all is_filled (names_of ns) && are_distinct (names_of ns)
 
--- [_a-zA-Z0-9]
-abbrev pub is_word_byte : ℕ → Bool
-is_word_byte byte = is_ascii_alphanumeric byte || byte == 95
-
--- [_a-zA-Z][_a-zA-Z0-9]*
-abbrev pub is_word : Text → Bool
-is_word [] = false
-is_word (byte ∷ bytes) = (is_ascii_alphabetic byte || byte == 95) && list_all is_word_byte bytes
-
-abbrev pub is_keyword : Text → Bool
-is_keyword word = bytes_eq word (codes "false") || bytes_eq word (codes "in") || bytes_eq word (codes "null") || bytes_eq word (codes "true")
-
--- an identifier (CEL language definition, "Syntax"): a word that is neither a keyword nor reserved
-abbrev pub is_identifier : Text → Bool
-is_identifier text = is_word text && not (is_keyword text) && not (is_reserved text)
-
 -- their names are distinct identifiers
 abbrev pub are_variables : List Named → Bool
 are_variables ns = list_all is_identifier (names_of ns) && are_distinct (names_of ns)
@@ -77,24 +59,14 @@ validation_of d =
 
 -- ---- policies
 
--- policies and bindings are no parameters
-abbrev pub may_be_param : Resource → Bool
-may_be_param ConfigMap = true
-may_be_param Node = true
-may_be_param Pod = true
-may_be_param Service = true
-may_be_param Deployment = true
-may_be_param ValidatingAdmissionPolicy = false
-may_be_param ValidatingAdmissionPolicyBinding = false
-
--- a ParamKind
+-- a ParamKind: policies and bindings are no parameters, so parameters are the objects that policies guard
 abbrev pub param_kind_of : Data → Option Resource
 param_kind_of d =
     provided (has_only (codes "apiVersion" ∷ codes "kind" ∷ []) d)
     (given (field (codes "apiVersion") as_str d) (λ version.
     given (field (codes "kind") as_str d) (λ kind.
     given (with_kind version kind) (λ resource.
-    provided (may_be_param resource) (Some resource)))))
+    provided (is_guarded resource) (Some resource)))))
 
 abbrev pub failure_policy_of : Data → Option FailurePolicy
 failure_policy_of = choice ((codes "Fail", Fail) ∷ (codes "Ignore", Ignore) ∷ [])

@@ -4,7 +4,8 @@ ghost use Rattle.std.specs.Prelude.{◌≡◌, [], List, Option, None, Some, map
 ghost use Rattle.serde_json.specs.Data.{Data};
 ghost use Rattle.serde_json.specs.Find.{as_str};
 ghost use Rattle.serde_json.specs.View.{view, items_view, members_view};
-ghost use Rattle.policy.specs.Forms.{has_only, all_among, is_among, field, perhaps, optional, list_of, filled_list_of, each, spec_of};
+ghost use Rattle.matching.specs.Selecting.{is_among};
+ghost use Rattle.policy.specs.Forms.{has_only, all_among, field, perhaps, optional, list_of, filled_list_of, each, spec_of};
 ghost use Rattle.policy.specs.declared.form.FormFault.TheVariants as FormFault;
 
 use serde_json::{Map, Value as Json};
@@ -172,7 +173,7 @@ fn is_among(name: &str, names: &[&str]) -> bool
     ensures { result ≡ is_among (map (λ n. n.now) names.now) name.now }
 {
     for known in names {
-        if *known == name {
+        if name == *known {
             return true;
         }
     }

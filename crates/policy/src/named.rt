@@ -1,13 +1,15 @@
 //! Match conditions and variables: expressions with a name.
 
 ghost use Rattle.std.specs.Prelude.{◌≡◌, map};
-ghost use Rattle.celtokens.specs.Terminal.{is_reserved};
-ghost use Rattle.policy.specs.Forms.{are_distinct, is_among};
-ghost use Rattle.policy.specs.Policies.{names_of, is_word_byte, is_word, is_keyword, is_identifier, are_conditions, are_variables, is_filled};
 ghost use Rattle.std.specs.List.{list_all};
+ghost use Rattle.celtokens.specs.Word.{is_identifier};
+ghost use Rattle.matching.specs.Selecting.{is_among};
+ghost use Rattle.policy.specs.Forms.{are_distinct};
+ghost use Rattle.policy.specs.Policies.{names_of, are_conditions, are_variables, is_filled};
 ghost use Rattle.policy.specs.Spec.{named_seen};
 
 use crate::form::{Form, FormFault, has_only, required};
+use celtokens::is_identifier;
 use serde_json::Value as Json;
 use std::alloc::Global;
 
@@ -94,61 +96,9 @@ fn has_name(named: &[Named], name: &str) -> bool
     ensures { result ≡ is_among (names_of (map named_seen named.now)) name.now }
 {
     for other in named {
-        if other.name.as_str() == name {
+        if name == other.name.as_str() {
             return true;
         }
     }
     false
-}
-
-fn is_identifier(text: &str) -> bool
-    ensures { result ≡ is_identifier text.now }
-{
-    is_word(text.as_bytes()) && !is_keyword(text) && !is_reserved(text)
-}
-
-fn is_word(text: &[u8]) -> bool
-    ensures { result ≡ is_word text.now }
-{
-    match text.split_first() {
-        Some((first, others)) => {
-            (first.is_ascii_alphabetic() || *first == b'_') && are_word_bytes(others)
-        }
-        None => false,
-    }
-}
-
-fn are_word_bytes(text: &[u8]) -> bool
-    ensures { result ≡ list_all is_word_byte text.now }
-{
-    text.iter()
-        .all(|byte| byte.is_ascii_alphanumeric() || *byte == b'_')
-}
-
-fn is_keyword(word: &str) -> bool
-    ensures { result ≡ is_keyword word.now }
-{
-    word == "false" || word == "in" || word == "null" || word == "true"
-}
-
-fn is_reserved(word: &str) -> bool
-    ensures { result ≡ is_reserved word.now }
-{
-    word == "as"
-        || word == "break"
-        || word == "const"
-        || word == "continue"
-        || word == "else"
-        || word == "for"
-        || word == "function"
-        || word == "if"
-        || word == "import"
-        || word == "let"
-        || word == "loop"
-        || word == "namespace"
-        || word == "package"
-        || word == "return"
-        || word == "var"
-        || word == "void"
-        || word == "while"
 }

@@ -2,7 +2,7 @@
 
 ghost use Rattle.std.specs.Prelude.{◌≡◌, IfOk, option_map};
 ghost use Rattle.serde_json.specs.View.{view};
-ghost use Rattle.policy.specs.Policies.{policy_of, may_be_param};
+ghost use Rattle.policy.specs.Policies.{policy_of};
 ghost use Rattle.policy.specs.Spec.{policy_seen};
 
 use crate::form::{
@@ -11,7 +11,7 @@ use crate::form::{
 };
 use crate::named::{Named, are_conditions, are_variables};
 use crate::validation::Validation;
-use matching::MatchRules;
+use matching::{MatchRules, is_guarded};
 use names::{Resource, ResourceTable};
 use serde_json::Value as Json;
 use std::alloc::{AllocError, Global};
@@ -78,20 +78,6 @@ impl Form for FailurePolicy {
     }
 }
 
-fn may_be_param(resource: Resource) -> bool
-    ensures { result ≡ may_be_param resource }
-{
-    match resource {
-        Resource::ConfigMap => true,
-        Resource::Node => true,
-        Resource::Pod => true,
-        Resource::Service => true,
-        Resource::Deployment => true,
-        Resource::ValidatingAdmissionPolicy => false,
-        Resource::ValidatingAdmissionPolicyBinding => false,
-    }
-}
-
 /// The resource of parameters.
 impl Form for Resource {
     ghost use Rattle.names.specs.declared.resource.Resource.{Resource};
@@ -112,7 +98,8 @@ impl Form for Resource {
         let resource = ResourceTable::with_kind(version.as_str(), kind.as_str()).ok_or(
             FormFault::BadForm,
         )?;
-        if may_be_param(resource) {
+        // Policies and bindings are no parameters: what is left are the objects that policies guard.
+        if is_guarded(resource) {
             Ok(resource)
         } else {
             Err(FormFault::BadForm)

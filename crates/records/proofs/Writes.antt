@@ -5,10 +5,10 @@ use Rattle.std.specs.Prelude.{Option, Some, IfSome}
 use Rattle.jsondoc.specs.Document.{text, reading, document, IsDocument}
 use Rattle.names.specs.Key.{Key, is_key, key_bytes}
 use Rattle.names.proofs.KeyOrder.{key_bytes-injective}
-use Rattle.apicore.specs.Codes.{document_in}
-use Rattle.apicore.specs.Document.{Document}
+use Rattle.documents.specs.Document.{Document}
+use Rattle.requests.specs.Codes.{document_in}
+use Rattle.requests.specs.Manifest.{Manifest, HasForm}
 use Rattle.apicore.specs.History.{Write, put, delete}
-use Rattle.apicore.specs.Manifest.{Manifest, HasForm}
 use Rattle.records.specs.Payload.{field, fields, payload, IsStorable}
 use Rattle.records.proofs.Fields.{same-fields}
 use Rattle.records.proofs.Parts.{part-some}

@@ -3,8 +3,8 @@ use Rattle.std.specs.Prelude.{ℕ, ◌<◌, ◌^◌, List, [], ◌∷◌, ◌++�
 use Rattle.byteorder.specs.Endian.{big_bytes}
 use Rattle.jsondoc.specs.Document.{text}
 use Rattle.names.specs.Key.{is_key, key_bytes}
+use Rattle.requests.specs.Manifest.{HasForm}
 use Rattle.apicore.specs.History.{Write, put, delete}
-use Rattle.apicore.specs.Manifest.{HasForm}
 
 -- Bytes with their number in front, in this many bytes.
 abbrev pub field : (width : ℕ) → List ℕ → List ℕ

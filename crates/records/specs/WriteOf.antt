@@ -1,5 +1,5 @@
 -- The write that a stored write stands for.
-use Rattle.apicore.specs.Codes.{document_in}
+use Rattle.requests.specs.Codes.{document_in}
 use Rattle.apicore.specs.History.{Write, put, delete}
 use Rattle.records.specs.declared.stored_write.StoredWrite.{StoredWrite}
 use Rattle.records.specs.declared.stored_write.StoredWrite.TheVariants.{Put, Delete}

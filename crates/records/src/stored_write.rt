@@ -1,10 +1,10 @@
 ghost use Rattle.std.specs.Prelude.{◌≡◌, ◌≢◌, IsTrue, IfOk, IsErrOf};
 ghost use Rattle.jsondoc.specs.Document.{text};
 ghost use Rattle.names.specs.Key.{Key as KeyData, is_key};
-ghost use Rattle.apicore.specs.Codes.{document_in};
-ghost use Rattle.apicore.specs.Document.{Document};
+ghost use Rattle.documents.specs.Document.{Document};
+ghost use Rattle.requests.specs.Codes.{document_in};
+ghost use Rattle.requests.specs.Manifest.{HasForm};
 ghost use Rattle.apicore.specs.History.{Write, put, delete};
-ghost use Rattle.apicore.specs.Manifest.{HasForm};
 ghost use Rattle.records.specs.declared.fault.RecordFault.TheVariants as RecordFault;
 ghost use Rattle.records.specs.Payload.{fields, payload, IsStorable};
 ghost use Rattle.records.specs.WriteOf.{write_of};
@@ -12,8 +12,8 @@ ghost use Rattle.records.specs.WriteOf.{write_of};
 use crate::RecordFault;
 use crate::field::{split_key, split_kind, split_text};
 use crate::write_payload::{DELETE, PUT};
-use apicore::Manifest;
 use names::Key;
+use requests::Manifest;
 use std::alloc::Global;
 
 // The field of no plans.

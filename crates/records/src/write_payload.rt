@@ -4,7 +4,7 @@ ghost use Rattle.gatelog.specs.declared.fault.LogFault.TheVariants as LogFault;
 ghost use Rattle.gatelog.specs.Payload.{payload_of};
 ghost use Rattle.jsondoc.specs.Document.{text};
 ghost use Rattle.names.specs.Key.{key_bytes};
-ghost use Rattle.apicore.specs.Document.{Document};
+ghost use Rattle.documents.specs.Document.{Document};
 ghost use Rattle.apicore.specs.History.{put, delete};
 ghost use Rattle.records.specs.Payload.{field, payload};
 

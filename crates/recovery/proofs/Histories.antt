@@ -3,7 +3,7 @@ use Rattle.std.proofs.Common.{◌≡◌, ℕ, ◌+◌, ◌^◌, ◌<◌, List, [
 use Rattle.std.proofs.lemmas.List.{map-append, map_push, drop_more, take-append-drop}
 use Rattle.names.specs.declared.format.Rules.{Rules}
 use Rattle.names.specs.Key.{Key}
-use Rattle.apicore.specs.Document.{Document}
+use Rattle.documents.specs.Document.{Document}
 use Rattle.apicore.specs.History.{Write, put, History}
 use Rattle.apicore.specs.View.{View, view, empty, after, after_all, MayPut, MayFollow, AllMayFollow}
 use Rattle.apicore.proofs.ViewLemmas.{after_all-append, AllMayFollow-append}

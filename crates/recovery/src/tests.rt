@@ -1,7 +1,8 @@
 // Payloads written out by hand, and the stores that they spell.
 use crate::{RecoveryFault, one_history, replayed};
-use apicore::{Core, Reply, Request};
+use apicore::{Core, Reply};
 use names::{Format, Key, Resource, Rules};
+use requests::Request;
 use std::alloc::Global;
 use std::test::Fail;
 

@@ -5,12 +5,12 @@ use Rattle.jsondoc.specs.Document.{Reading, not_json, not_whole, document, readi
 use Rattle.names.specs.Key.{Key, key_of}
 use Rattle.names.specs.Name.{is_namespace}
 use Rattle.names.specs.Resource.{row}
-use Rattle.apicore.specs.declared.refusal.Refusal.TheVariants.{NoSuchPath, MethodNotAllowed, BadQuery, BadNameInPath, UnexpectedBody, BadVersion, BodyIsNotJson, NumberOutsideRange}
-use Rattle.apicore.specs.Collection.{Collection}
-use Rattle.apicore.specs.DeleteOptions.{delete_body_conditions, version_of_body}
-use Rattle.apicore.specs.Manifest.{Target, is_target, namespace_at, manifest_of, body_conditions}
-use Rattle.apicore.specs.Refusal.{Condition, first_of}
-use Rattle.apicore.specs.Request.{Request, get, list, watch, create, replace, delete, refused}
+use Rattle.requests.specs.declared.refusal.Refusal.TheVariants.{NoSuchPath, MethodNotAllowed, BadQuery, BadNameInPath, UnexpectedBody, BadVersion, BodyIsNotJson, NumberOutsideRange}
+use Rattle.requests.specs.Collection.{Collection}
+use Rattle.requests.specs.DeleteOptions.{delete_body_conditions, version_of_body}
+use Rattle.requests.specs.Manifest.{Target, is_target, namespace_at, manifest_of, body_conditions}
+use Rattle.requests.specs.Refusal.{Condition, first_of}
+use Rattle.requests.specs.Request.{Request, get, list, watch, create, replace, delete, refused}
 use Rattle.httpmsg.specs.declared.head.Method.{Method}
 use Rattle.httpmsg.specs.declared.head.Method.TheVariants.{Get, Head, Post, Put, Delete, Other}
 use Rattle.httpmsg.specs.Stream.{Message}

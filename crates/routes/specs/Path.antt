@@ -8,7 +8,7 @@ use Rattle.names.specs.declared.resource.Resource.TheVariants.{ConfigMap, Node, 
 use Rattle.names.specs.declared.resource.Scope.{Scope}
 use Rattle.names.specs.declared.resource.Scope.TheVariants.{Namespaced, Cluster}
 use Rattle.names.specs.Resource.{row}
-use Rattle.apicore.specs.Manifest.{Target, target}
+use Rattle.requests.specs.Manifest.{Target, target}
 
 abbrev pub question_mark : ℕ
 question_mark = 63

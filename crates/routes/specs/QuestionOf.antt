@@ -1,5 +1,5 @@
 -- The question that the code's enum stands for.
-use Rattle.apicore.specs.Selector.{selector_seen}
+use Rattle.requests.specs.Selector.{selector_seen}
 use Rattle.routes.specs.declared.query.Question as code
 use Rattle.routes.specs.declared.query.Question.TheVariants.{Objects, Events}
 use Rattle.routes.specs.Query.{Question, objects, events}

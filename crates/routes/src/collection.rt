@@ -3,17 +3,17 @@
 ghost use Rattle.std.specs.Prelude.{◌≡◌, IfOk, true, option_map, string_bytes};
 ghost use Rattle.std.specs.Option.{option_map_or};
 ghost use Rattle.names.specs.Name.{is_namespace};
-ghost use Rattle.apicore.specs.Collection.{collection_of};
-ghost use Rattle.apicore.specs.RequestOf.{request_of};
+ghost use Rattle.requests.specs.Collection.{collection_of};
+ghost use Rattle.requests.specs.RequestOf.{request_of};
+ghost use Rattle.requests.specs.Collection.{Collection as CollectionData};
 ghost use Rattle.routes.specs.Path.{query_of};
 ghost use Rattle.routes.specs.QuestionOf.{question_seen};
-ghost use Rattle.apicore.specs.Collection.{Collection as CollectionData};
 ghost use Rattle.routes.specs.Asked.{unless_refused, collection_conditions, answering, gathered};
 
 use crate::query::{Question, question_in};
-use apicore::{Collection, Refusal, Request};
 use httpmsg::Message;
 use names::{Resource, check_namespace};
+use requests::{Collection, Refusal, Request};
 use std::alloc::{AllocError, Global};
 
 // A copy of a text, where there is one.

@@ -6,8 +6,8 @@ ghost use Rattle.std.specs.Str.{bytes_eq};
 ghost use Rattle.routes.specs.Query.{pairs_of, has_pairs, value_of, is_served, is_at_most_once, has_known_names, truth_of, watches, begins_above_zero, revision_of, watched, listed, question_by, question_of};
 ghost use Rattle.routes.specs.QuestionOf.{question_seen};
 
-use apicore::Selector;
 use form_urlencoded::{parse, raw_pairs};
+use requests::Selector;
 use std::alloc::{AllocError, Global};
 use std::marker::Model;
 

@@ -1,9 +1,9 @@
 //! From a message to its request.
 
 ghost use Rattle.std.specs.Prelude.{◌≡◌, IfOk, Some, None, if◌then◌else◌, option_map, is_some, unwrap_or};
-ghost use Rattle.apicore.specs.declared.refusal.Refusal.TheVariants.{MethodNotAllowed};
-ghost use Rattle.apicore.specs.Request.{refused};
-ghost use Rattle.apicore.specs.RequestOf.{request_of};
+ghost use Rattle.requests.specs.declared.refusal.Refusal.TheVariants.{MethodNotAllowed};
+ghost use Rattle.requests.specs.Request.{refused};
+ghost use Rattle.requests.specs.RequestOf.{request_of};
 ghost use Rattle.routes.specs.Path.{query_of};
 ghost use Rattle.routes.specs.PlaceOf.{seen};
 ghost use Rattle.routes.specs.Asked.{shown, created, replaced, deleted, deletion, gathered, collection_at, of_item, of_collection, of_everywhere, asked_at, asked};
@@ -13,9 +13,9 @@ use crate::collection::gathered;
 use crate::path::path_and_query;
 use crate::query::has_pairs;
 use crate::table::{Place, Routes, Target};
-use apicore::{BodyFault, Manifest, Refusal, Request, read_delete_options};
 use httpmsg::{Message, Method};
 use names::{Key, KeyFault, Resource};
+use requests::{BodyFault, Manifest, Refusal, Request, read_delete_options};
 use std::alloc::{AllocError, Global};
 
 /// What a message asks for.

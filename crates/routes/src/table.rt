@@ -2,12 +2,12 @@
 
 ghost use Rattle.std.specs.Prelude.{◌≡◌, IfOk, option_map, ◌||◌, string_bytes};
 ghost use Rattle.matchit.specs.declared.router.Router.{Router};
+ghost use Rattle.requests.specs.Manifest.{namespace_at};
 ghost use Rattle.routes.specs.Path.{resource_at, in_scope, place_of, place_at, parts_of};
 ghost use Rattle.routes.specs.PlaceOf.{seen};
 ghost use Rattle.routes.specs.Allow.{allowed};
 ghost use Rattle.routes.specs.Table.{AnswersTable};
 ghost use Rattle.names.specs.Resource.{row};
-ghost use Rattle.apicore.specs.Manifest.{namespace_at};
 
 use crate::path::{Pieces, literal, pieces_of};
 use matchit::{InsertError, Router};
@@ -24,7 +24,7 @@ pub(crate) struct Target<'p> {
 }
 
 impl<'p> Model for Target<'p> {
-    ghost use Rattle.apicore.specs.Manifest.{Target as TargetData};
+    ghost use Rattle.requests.specs.Manifest.{Target as TargetData};
 
     ghost Value = { TargetData };
 

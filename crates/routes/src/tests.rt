@@ -1,8 +1,8 @@
 // Requests that messages spell, after the Kubernetes API's paths.
 use crate::{Routed, Routes, route};
-use apicore::{Refusal, Request, Requirement};
 use httpmsg::Cutter;
 use names::Resource;
+use requests::{Refusal, Request, Requirement};
 use std::alloc::Global;
 use std::process::Abort;
 use std::test::Fail;

@@ -86,19 +86,26 @@ fn meant(alloc: Global, text: &str, environment: &Environment<'_>) -> Option<Out
     evaluate(alloc, &tree, environment).ok()
 }
 
-fn compiled(alloc: Global, text: &str, env: &Env<'_>) -> Option<Verified>
+// The code of the expression, if it is an expression that has a type.
+fn encoded(alloc: Global, text: &str, env: &Env<'_>) -> Option<Vec<u8>>
     requires { length env.now.variables.now ≤ 65535 }
-    ensures { IfSome result (λ p. p.vars ≡ length env.now.variables.now) }
 {
     let tree = read(alloc, text).ok()?;
     match check(alloc, &tree, env) {
         Ok(_) => {
             let plan = compile(alloc, &tree, env).ok()?;
-            let bytes = encode(alloc, &plan).ok()?;
-            decode(alloc, &bytes, env.variables.len() as u16, Name::Params).ok()
+            encode(alloc, &plan).ok()
         }
         Err(_) => None,
     }
+}
+
+fn compiled(alloc: Global, text: &str, env: &Env<'_>) -> Option<Verified>
+    requires { length env.now.variables.now ≤ 65535 }
+    ensures { IfSome result (λ p. p.vars ≡ length env.now.variables.now) }
+{
+    let bytes = encoded(alloc, text, env)?;
+    decode(alloc, &bytes, env.variables.len() as u16, Name::Params).ok()
 }
 
 // What the expression's plan gives, if it is an expression that has a type.
@@ -260,4 +267,30 @@ pub(super) fn check_tables(rt: &impl Abort, alloc: Global, tables: &[&str]) -> R
         check_table(rt, alloc, &Doc::null(), table)?;
     }
     Ok(())
+}
+
+// The bytes in hexadecimal digits, two a byte.
+fn digits(alloc: Global, bytes: &[u8]) -> String {
+    let mut out = String::new(alloc);
+    for byte in bytes {
+        let _ = write!(out, "{byte:02x}");
+    }
+    out
+}
+
+/// Whether the code of each expression is what its row `EXPRESSION => CODE` says, in hexadecimal digits.
+pub(super) fn check_codes(rt: &impl Abort, alloc: Global, table: &str) {
+    let env = Env {
+        has_params: false,
+        variables: &[],
+    };
+    for row in table.lines() {
+        if let Some((text, want)) = row.split_once(" => ") {
+            let found = match encoded(alloc, text, &env) {
+                Some(bytes) => digits(alloc, &bytes),
+                None => String::new(alloc),
+            };
+            assert_eq!(rt; found.as_str(), want, "the code of {text}");
+        }
+    }
 }

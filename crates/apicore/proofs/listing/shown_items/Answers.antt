@@ -2,11 +2,12 @@ use Rattle.std.proofs.Common.{arith, map, drop, ap, sym, ◌∙◌, ◌≤◌, l
 use Rattle.std.proofs.Math.ListN.{drop_of_length-le}
 use Rattle.jsondoc.specs.Document.{with_item}
 use Rattle.names.specs.Key.{Key}
-use Rattle.apicore.specs.declared.stored.Stored.{Stored}
-use Rattle.apicore.specs.Document.{shown}
+use Rattle.documents.specs.declared.stored.Stored.{Stored}
+use Rattle.documents.specs.Document.{shown}
+use Rattle.requests.specs.Selector.{selects, selector_seen}
+use Rattle.requests.proofs.Lists.{drop-next}
 use Rattle.apicore.specs.Listing.{shown_items}
-use Rattle.apicore.specs.Selector.{selects, selector_seen}
-use Rattle.apicore.proofs.Listings.{with_items, with_items-shown, with_items-empty, drop-next}
+use Rattle.apicore.proofs.Listings.{with_items, with_items-shown, with_items-empty}
 use Rattle.apicore.proofs.listing.shown_items.Goals as goal
 
 pub loop-entry-preserved : goal.loop-entry-preserved

@@ -1,7 +1,7 @@
 use Rattle.std.proofs.Common.{◌≡◌, map, drop}
 use Rattle.serde_json.specs.Data.{array, no_items}
+use Rattle.requests.specs.Selector.{selector_seen}
 use Rattle.apicore.specs.Listing.{shown_items}
-use Rattle.apicore.specs.Selector.{selector_seen}
 use Rattle.apicore.proofs.Listings.{with_items}
 use Rattle.apicore.proofs.listing.shown_items.Given as goal
 

@@ -1,5 +1,5 @@
 use Rattle.std.proofs.Common.{◌≡◌, ◌++◌, string_bytes}
-use Rattle.apicore.specs.Collection.{collection_of}
+use Rattle.requests.specs.Collection.{collection_of}
 use Rattle.apicore.specs.Listing.{lines_of}
 use Rattle.apicore.proofs.watching.lines_of.Given as goal
 

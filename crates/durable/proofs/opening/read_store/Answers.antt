@@ -1,11 +1,10 @@
 use Rattle.std.proofs.Common.{◌≡◌, ◌∙◌, sym, ap, subst, List, ℕ, map, Err}
 use Rattle.gatelog.specs.Log.{HoldsLog}
-use Rattle.checkpoint.specs.Root.{log_start, HoldsRoot}
+use Rattle.checkpoint.specs.Root.{log_start}
 use Rattle.names.specs.declared.format.Rules.{Rules}
 use Rattle.apicore.specs.History.{History}
 use Rattle.apicore.specs.View.{view}
 use Rattle.recovery.specs.Written.{IsWritten}
-use Rattle.recovery.specs.declared.fault.RecoveryFault.TheVariants as recovery
 use Rattle.durable.specs.declared.fault.Fault.TheVariants as Fault
 use Rattle.durable.specs.Rules.{first_rules}
 use Rattle.durable.proofs.Reading.{no_log_here, written_here, stands_read}

@@ -1,6 +1,7 @@
 use Rattle.std.proofs.Common.{◌≡◌, map, drop}
 use Rattle.std.specs.List.{list_all}
-use Rattle.policy.specs.Policies.{names_of, is_identifier}
+use Rattle.celtokens.specs.Word.{is_identifier}
+use Rattle.policy.specs.Policies.{names_of}
 use Rattle.policy.specs.Spec.{named_seen}
 use Rattle.policy.proofs.named.are_identifiers.Given as goal
 

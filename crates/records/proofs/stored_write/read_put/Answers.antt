@@ -5,9 +5,9 @@ use Rattle.jsondoc.specs.Document.{text}
 use Rattle.names.specs.declared.key.KeyFault.TheVariants as KeyFault
 use Rattle.names.specs.Key.{Key, key_bytes}
 use Rattle.names.proofs.KeyOrder.{key_bytes-injective}
-use Rattle.apicore.specs.Codes.{document_in}
+use Rattle.requests.specs.Codes.{document_in}
+use Rattle.requests.specs.Manifest.{Manifest, HasForm}
 use Rattle.apicore.specs.History.{put}
-use Rattle.apicore.specs.Manifest.{Manifest, HasForm}
 use Rattle.records.specs.Payload.{field, fields}
 use Rattle.records.proofs.Parts.{all-ok, same_bytes, other_bytes}
 use Rattle.records.proofs.Writes.{key-fits, put-grouped, key-found, text-found, put-found}

@@ -1,7 +1,7 @@
 use Rattle.std.proofs.Common.{rules, ◌≡◌, subst}
 use Rattle.std.specs.Prelude.{IsErrOf}
+use Rattle.requests.specs.Codes.{document_in}
 use Rattle.apicore.specs.declared.replay.ReplayFault.TheVariants as ReplayFault
-use Rattle.apicore.specs.Codes.{document_in}
 use Rattle.apicore.specs.History.{put, delete}
 use Rattle.records.specs.declared.stored_write.StoredWrite.{StoredWrite}
 use Rattle.records.specs.Payload.{payload, IsStorable}

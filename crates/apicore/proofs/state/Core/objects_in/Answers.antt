@@ -1,6 +1,6 @@
 use Rattle.std.proofs.Common.{map, ap, Bor}
 use Rattle.names.specs.Key.{Key}
-use Rattle.apicore.specs.declared.stored.Stored.{Stored}
+use Rattle.documents.specs.declared.stored.Stored.{Stored}
 use Rattle.apicore.specs.State.{State}
 use Rattle.apicore.proofs.Listings.{filtered_same}
 use Rattle.apicore.proofs.state.Core.objects_in.Goals as goal

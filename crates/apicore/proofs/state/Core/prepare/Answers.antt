@@ -1,4 +1,4 @@
-use Rattle.apicore.specs.Request.{get}
+use Rattle.requests.specs.Request.{get}
 use Rattle.apicore.proofs.Ready.{IsReady-refused}
 use Rattle.apicore.proofs.StepLemmas.{writes-get}
 use Rattle.apicore.proofs.state.Core.prepare.Goals as goal

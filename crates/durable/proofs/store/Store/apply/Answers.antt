@@ -1,7 +1,7 @@
 use Rattle.std.proofs.Common.{◌≡◌, refl, subst, ap, ◌∙◌, Option}
 use Rattle.gatelog.specs.declared.record.Body.{Body}
+use Rattle.requests.specs.RequestOf.{request_of}
 use Rattle.apicore.specs.Prepared.{writes_of}
-use Rattle.apicore.specs.RequestOf.{request_of}
 use Rattle.apicore.specs.View.{after_all}
 use Rattle.durable.specs.Rules.{first_rules}
 use Rattle.durable.specs.RecordOf.{IsRecordOf}

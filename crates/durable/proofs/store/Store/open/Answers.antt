@@ -1,4 +1,4 @@
-use Rattle.std.proofs.Common.{◌≡◌, ◌∙◌, sym, ap, subst, refl, Err, List, ℕ}
+use Rattle.std.proofs.Common.{◌≡◌, ◌∙◌, ap, subst, refl, Err}
 use Rattle.std.proofs.lemmas.Grind.{merely}
 use Rattle.apicore.specs.History.{History}
 use Rattle.durable.specs.Rules.{first_rules}

@@ -1,10 +1,9 @@
-use Rattle.std.proofs.Common.{arith, ◌≡◌, ◌∙◌, sym, ap, subst, ◌+◌, ◌++◌, ◌∷◌, [], List, ℕ, length, take, map, Some, Result, Err, refl, inl}
+use Rattle.std.proofs.Common.{arith, ◌≡◌, ◌∙◌, sym, ap, subst, ◌+◌, ◌++◌, ◌∷◌, [], List, ℕ, length, take, map, Result, Err, refl, inl}
 use Rattle.std.proofs.lemmas.List.{length-append, length-map, nil_from_length, take_all}
+use Rattle.requests.specs.Request.{Request}
+use Rattle.requests.specs.RequestOf.{request_of}
 use Rattle.apicore.specs.Reply.{Reply}
-use Rattle.apicore.specs.Request.{Request}
-use Rattle.apicore.specs.RequestOf.{request_of}
 use Rattle.durable.specs.declared.fault.Fault.{Fault}
-use Rattle.durable.specs.declared.fault.Fault.TheVariants as Fault
 use Rattle.durable.specs.Rules.{first_rules}
 use Rattle.durable.specs.Settled.{serves, HasServed, HasStopped}
 use Rattle.durable.proofs.Answering.{success_is_no_fault}

@@ -1,7 +1,7 @@
 use Rattle.std.proofs.Common.{◌≡◌, ◌≤◌, length, take, map, true, false}
 use Rattle.std.specs.Vec.{vec_capacity}
+use Rattle.requests.specs.RequestOf.{request_of}
 use Rattle.apicore.specs.History.{History}
-use Rattle.apicore.specs.RequestOf.{request_of}
 use Rattle.durable.specs.Rules.{first_rules}
 use Rattle.durable.specs.Settled.{device_of, serves, IsSettledAt, HasServed}
 use Rattle.durable.proofs.store.Store.run.Given as goal

@@ -1,5 +1,0 @@
-use Rattle.apicore.proofs.Recovery.{IsManifestOf-stored}
-use Rattle.apicore.proofs.laws.stored_is_read.Goals as goal
-
-pub returns : goal.returns
-returns c = λ k d form. IsManifestOf-stored k d form

@@ -1,0 +1,5 @@
+pub mod Lists
+pub mod Kept
+pub mod Turns
+pub mod Gathered
+pub mod Meant

@@ -1,0 +1,4 @@
+pub mod Judging
+pub mod Compiling
+pub mod Faults
+pub mod Progress

@@ -1,0 +1,46 @@
+-- The trees that the expressions of a policy spell, and the first expression that is bad.
+use Rattle.std.specs.Prelude.{◌≡◌, ◌⊎◌, ◌∷◌, List, [], Some}
+use Rattle.serde_json.specs.Data.{Data}
+use Rattle.celread.specs.Tree.{Expr}
+use Rattle.celread.specs.Reading.{IsReadAs}
+use Rattle.celtypes.specs.Types.{ValueType}
+use Rattle.celtypes.specs.Typing.{HasType}
+use Rattle.policy.specs.Forms.{Text}
+use Rattle.policy.specs.Policies.{policy_of}
+use Rattle.policy.specs.Spec.{Policy}
+use Rattle.expressions.specs.Expressions.{Source, Variables, sources, scope_at, and_declared, Suits}
+
+-- behind these variables, the expression spells this tree, which has this type, as it must
+pub record IsTyped (p : Policy) (vs : Variables) (s : Source) (e : Expr) (t : ValueType) : Type 0 where
+  pub read : IsReadAs s.text e
+  pub typed : HasType (scope_at p vs s.place) e t
+  pub suits : Suits s.place t
+
+-- each expression, one after another, spells its tree, and has a type as it must
+abbrev pub AreTyped : Policy → Variables → List Source → List Expr → Type 0
+AreTyped p vs [] [] = Unit {0}
+AreTyped p vs [] (e ∷ es) = ⊥
+AreTyped p vs (s ∷ ss) [] = ⊥
+AreTyped p vs (s ∷ ss) (e ∷ es) = (t : ValueType) × IsTyped p vs s e t × AreTyped p (and_declared s.place t vs) ss es
+
+-- the expression spells no tree with a type as it must have
+abbrev pub IsBad : Policy → Variables → Source → Type 0
+IsBad p vs s = (e : Expr) (t : ValueType) → IsTyped p vs s e t → ⊥
+
+-- the text of the first expression that is bad
+abbrev pub IsFirstBad : Policy → Variables → List Source → Text → Type 0
+IsFirstBad p vs [] text = ⊥
+IsFirstBad p vs (s ∷ ss) text =
+    ((s.text ≡ text) × IsBad p vs s)
+    ⊎ ((e : Expr) × (t : ValueType) × IsTyped p vs s e t × IsFirstBad p (and_declared s.place t vs) ss text)
+
+-- the document is this policy, and its expressions spell these trees
+pub record IsPolicy (document : Data) (p : Policy) (trees : List Expr) : Type 0 where
+  pub form : policy_of document ≡ Some p
+  pub typed : AreTyped p [] (sources p) trees
+
+-- the document has the form of a policy, and this is the first of its expressions that is bad
+pub record HasBadExpression (document : Data) (text : Text) : Type 0 where
+  pub policy : Policy
+  pub form : policy_of document ≡ Some policy
+  pub bad : IsFirstBad policy [] (sources policy) text

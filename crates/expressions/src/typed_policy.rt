@@ -1,0 +1,84 @@
+//! Policies whose expressions are read and typed.
+
+ghost use Rattle.std.specs.Prelude.{◌≡◌, ◌≤◌, [], List, length, map, IfOk, IfErr};
+ghost use Rattle.celread.specs.Tree.{Expr};
+ghost use Rattle.expressions.specs.Expressions.{sources};
+ghost use Rattle.expressions.specs.Plans.{plans_of};
+ghost use Rattle.expressions.specs.Seen.{IsFaultOf};
+ghost use Rattle.expressions.specs.Typed.{AreTyped, IsPolicy};
+ghost use Rattle.policy.specs.Spec.{policy_seen};
+ghost use Rattle.serde_json.specs.View.{view};
+
+use crate::fault::PolicyFault;
+use crate::planning::plans_of;
+use crate::reading::trees_of;
+use celread::Tree;
+use plancode::Verified;
+use policy::Policy;
+use serde_json::Value as Json;
+use std::alloc::{AllocError, Global};
+use std::marker::Model;
+
+/// A policy whose expressions are read and have the types that they must have.
+#[derive(Drop)]
+pub struct TypedPolicy {
+    policy: Policy,
+    trees: Vec<Tree>,
+}
+
+impl Model for TypedPolicy {
+    ghost use Rattle.expressions.specs.PolicyTrees.{PolicyTrees, AreCompilable, coded_policy_trees};
+    ghost use Rattle.expressions.specs.Seen.{trees_seen};
+    ghost use Rattle.policy.specs.Spec.{policy_seen};
+
+    ghost Value = { PolicyTrees };
+
+    ghost coded = { coded_policy_trees };
+
+    ghost view = { λ p. record { policy = policy_seen p.policy; trees = trees_seen p.trees.items } };
+
+    ghost invariant = { λ p. AreCompilable (policy_seen p.policy) (trees_seen p.trees.items) };
+}
+
+impl TypedPolicy {
+    /// The policy that a document spells, with its expressions read and typed.
+    ///
+    /// # Errors
+    ///
+    /// [`PolicyFault::BadSpec`] where the document has not the form of a policy. [`PolicyFault::BadExpression`] with the text of the
+    /// first expression that spells no tree, or has no type as it must: match conditions and validations are truth values, message
+    /// expressions are strings, and variables are of any type. [`PolicyFault::Memory`] where no memory is left.
+    pub fn read(alloc: Global, document: &Json) -> Result<TypedPolicy, PolicyFault>
+        ensures ok { IfOk result (λ p. IsPolicy (view document.now) p.policy p.trees) }
+        // The expressions spell no other trees.
+        ensures alone { IfOk result (λ p. (trees : List Expr) → AreTyped p.policy [] (sources p.policy) trees → trees ≡ p.trees) }
+        ensures fault { IfErr result (IsFaultOf (view document.now)) }
+    {
+        let policy = match Policy::of(alloc, document)? {
+            Some(policy) => policy,
+            None => return Err(PolicyFault::BadSpec),
+        };
+        let trees = trees_of(alloc, &policy)?;
+        Ok(TypedPolicy { policy, trees })
+    }
+
+    /// What the policy asks for.
+    pub fn policy(&self) -> &Policy
+        ensures { policy_seen result.now ≡ self.now.policy }
+    {
+        &self.policy
+    }
+
+    /// The plans of the expressions: those of the match conditions, the variables and the validations, each validation's message
+    /// expression behind it. A plan may name the variables that stand before its expression, and that of a match condition none.
+    ///
+    /// # Errors
+    ///
+    /// Where no memory is left.
+    pub fn plans(&self, alloc: Global) -> Result<Vec<Verified>, AllocError>
+        requires few { length self.now.policy.variables ≤ 65535 }
+        ensures { IfOk result (λ v. v.items ≡ plans_of self.now.policy self.now.trees) }
+    {
+        plans_of(alloc, &self.policy, &self.trees)
+    }
+}

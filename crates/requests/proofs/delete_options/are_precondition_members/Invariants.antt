@@ -1,0 +1,9 @@
+use Rattle.std.proofs.Common.{◌≡◌}
+use Rattle.serde_json.specs.View.{members_view}
+use Rattle.documents.specs.Document.{each_member}
+use Rattle.requests.specs.DeleteOptions.{is_precondition}
+use Rattle.requests.proofs.delete_options.are_precondition_members.Given as goal
+
+-- what is left decides
+abbrev pub invariant-loop-name : goal.invariant-loop-name
+invariant-loop-name l = each_member is_precondition (members_view l.name-iterator) ≡ each_member is_precondition (members_view l.members.entries)

@@ -1,0 +1,10 @@
+pub mod Refusal
+pub mod Manifest
+pub mod DeleteOptions
+pub mod Codes
+pub mod Collection
+pub mod Selector
+pub mod Spelling
+pub mod Request
+pub mod RequestOf
+pub mod Laws

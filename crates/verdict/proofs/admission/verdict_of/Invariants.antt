@@ -1,0 +1,17 @@
+use Rattle.std.proofs.Common.{◌≡◌, ◌≤◌, map, drop, string_bytes}
+use Rattle.matching.specs.Rules.{attempt_seen}
+use Rattle.verdict.specs.Admission.{finding}
+use Rattle.verdict.specs.Objects.{Objects, StandFor}
+use Rattle.verdict.specs.Verdict.{verdict_of}
+use Rattle.verdict.specs.Turns.{after_warnings}
+use Rattle.verdict.proofs.admission.verdict_of.Given as goal
+
+-- the warnings so far, and then the verdict of the bindings that are left
+abbrev pub invariant-loop-bound : goal.invariant-loop-bound
+invariant-loop-bound g l =
+    ((objects : Objects) → StandFor (g.L.Lookup.objects l.fn.lookup) objects
+    → verdict_of (map (finding objects (attempt_seen l.attempt)) l.bindings)
+    ≡ after_warnings (map string_bytes l.warnings.items) (verdict_of (map (finding objects (attempt_seen l.attempt)) (drop l.bound-index l.bindings))))
+    × (g.L.Lookup.objects l.lookup ≡ g.L.Lookup.objects l.fn.lookup)
+    × (g.L.Lookup.is_sound l.fn.lookup → g.L.Lookup.is_sound l.lookup)
+    × (g.L.Lookup.failures l.fn.lookup ≤ g.L.Lookup.failures l.lookup)

@@ -1,0 +1,34 @@
+-- What the program's answers stand for.
+use Rattle.std.specs.Prelude.{◌∷◌, [], map, string_bytes, Some, None}
+use Rattle.serde_json.specs.Data.{Data}
+use Rattle.names.specs.Key.{Key}
+use Rattle.documents.specs.Document.{shown}
+use Rattle.verdict.specs.declared.lookup.Found as code_found
+use Rattle.verdict.specs.declared.parameters.Parameters as code_parameters
+use Rattle.verdict.specs.declared.parameters.Parameters.TheVariants as parameters
+use Rattle.verdict.specs.declared.admission.Verdict as code_verdict
+use Rattle.verdict.specs.declared.admission.Verdict.TheVariants as verdict
+use Rattle.verdict.specs.Objects.{Held}
+use Rattle.verdict.specs.Parameters.{Parameters}
+use Rattle.verdict.specs.Verdict.{Verdict}
+
+abbrev pub held_by : code_found.Found → Held
+held_by f = record { document = f.document; plans = f.plans.items; revision = f.revision }
+
+-- what was found under a key
+abbrev pub found_seen : Key × code_found.Found → Key × Held
+found_seen o = (o.0, held_by o.1)
+
+-- an object as it is held, as it is shown
+abbrev pub shown_held : Key × Held → Key × Data
+shown_held o = (o.0, shown o.1.document o.1.revision)
+
+abbrev pub parameters_seen : code_parameters.Parameters → Parameters
+parameters_seen parameters.Alone = Parameters.found (None ∷ [])
+parameters_seen (parameters.Found documents) = Parameters.found (map Some documents.items)
+parameters_seen parameters.Misconfigured = Parameters.misconfigured
+parameters_seen parameters.NotFound = Parameters.not_found
+
+abbrev pub verdict_seen : code_verdict.Verdict → Verdict
+verdict_seen (verdict.Admitted warnings) = Verdict.admitted (map string_bytes warnings.items)
+verdict_seen (verdict.Denied policy binding reason message) = Verdict.denied (string_bytes policy) (string_bytes binding) reason (string_bytes message)

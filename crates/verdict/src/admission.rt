@@ -1,0 +1,263 @@
+//! The verdict on a write.
+
+ghost use Rattle.std.specs.Prelude.{◌≡◌, ◌<◌, ◌≤◌, List, map, option_map, Some, None, IfOk, IsErrOf, string_bytes};
+ghost use Rattle.std.specs.List.{filter_map};
+ghost use Rattle.std.specs.Option.{option_map_or};
+ghost use Rattle.serde_json.specs.View.{view};
+ghost use Rattle.matching.specs.Rules.{attempt_seen};
+ghost use Rattle.evaluation.specs.Environment.{request_of};
+ghost use Rattle.evaluation.specs.Seen.{denial_seen};
+ghost use Rattle.verdict.specs.Admission.{policy_key, bindings, denial_by, finding, verdict};
+ghost use Rattle.verdict.specs.Objects.{Object, Objects, StandFor, HasTrees, held};
+ghost use Rattle.verdict.specs.Verdict as model;
+ghost use Rattle.verdict.specs.Seen.{found_seen, held_by, verdict_seen};
+ghost use Rattle.verdict.specs.Turns.{after_warnings, held_binding, denial_by_policy};
+ghost use Rattle.names.specs.declared.key.KeyFault.TheVariants as KeyFault;
+ghost use Rattle.names.specs.declared.resource.Resource.TheVariants.{ValidatingAdmissionPolicy};
+ghost use Rattle.verdict.specs.declared.lookup.LookupFault.TheVariants as LookupFault;
+
+use crate::lookup::{Found, Lookup, LookupFault};
+use crate::one_binding::denial;
+use crate::parameters::add;
+use crate::texts::warning;
+use evaluation::{Denial, request_document};
+use matching::Attempt;
+use names::{Key, KeyFault, Resource};
+use policy::{Action, Binding, Policy, Reason};
+use serde_json::Value as Json;
+use std::alloc::{AllocError, Global};
+use std::marker::Model;
+
+/// Whether a write is admitted.
+#[derive(Debug, PartialEq, Eq, Drop)]
+pub enum Verdict {
+    /// It is, with these warnings.
+    Admitted(Vec<String>),
+    /// It is not.
+    Denied {
+        /// The name of the policy that denies it.
+        policy: String,
+        /// The name of the binding by which it does.
+        binding: String,
+        /// The reason, which decides the status code.
+        reason: Reason,
+        /// What the policy says.
+        message: String,
+    },
+}
+
+// A binding with its name, which binds a policy by a well-formed name.
+#[derive(Drop)]
+struct Bound {
+    name: String,
+    binding: Binding,
+}
+
+impl Model for Bound {
+    ghost use Rattle.std.specs.Prelude.{string_bytes, IsTrue};
+    ghost use Rattle.names.specs.Name.{is_name};
+    ghost use Rattle.policy.specs.Forms.{Text};
+    ghost use Rattle.policy.specs.Spec as spec;
+    ghost use Rattle.policy.specs.Spec.{binding_seen};
+
+    ghost Value = { Text × spec.Binding };
+
+    ghost view = { λ b. (string_bytes b.name, binding_seen b.binding) };
+
+    ghost invariant = { λ b. IsTrue (is_name (string_bytes b.binding.policy)) };
+}
+
+// The binding that an object is, if it has the form of one.
+fn binding_of(alloc: Global, key: &Key, found: &Found) -> Result<Option<Bound>, AllocError>
+    ensures { IfOk result (λ o. o ≡ held_binding (found_seen (key.now, found.now))) }
+{
+    match Binding::of(alloc, found.document.json().value())? {
+        Some(binding) => {
+            let name = String::from_str(alloc, key.name())?;
+            Ok(Some(Bound { name, binding }))
+        }
+        None => Ok(None),
+    }
+}
+
+fn bindings_among(alloc: Global, found: &[(Key, Found)]) -> Result<Vec<Bound>, AllocError>
+    ensures { IfOk result (λ v. v.items ≡ filter_map held_binding (map found_seen found.now)) }
+{
+    let mut bindings = Vec::new(alloc);
+    for entry in found {
+        let binding = binding_of(alloc, &entry.0, &entry.1)?;
+        add(&mut bindings, binding)?;
+    }
+    Ok(bindings)
+}
+
+// The bindings, ascending by name.
+#[tactic(auto, using(crate::proofs::Standing::bindings_held))]
+fn bindings<L: Lookup>(alloc: Global, lookup: &mut L) -> Result<Vec<Bound>, LookupFault>
+    ensures found { (objects : Objects) → StandFor (L.objects lookup.old) objects → IfOk result (λ v. v.items ≡ bindings objects) }
+    ensures kept { L.objects lookup.new ≡ L.objects lookup.old }
+    ensures sound { L.is_sound lookup.old → L.is_sound lookup.new }
+    ensures counts { L.failures lookup.old ≤ L.failures lookup.new }
+    ensures device { IsErrOf result LookupFault.Device → L.failures lookup.old < L.failures lookup.new }
+    ensures damaged { IsErrOf result LookupFault.Damaged → L.is_sound lookup.old → ⊥ }
+{
+    let found = lookup.list(alloc, Resource::ValidatingAdmissionPolicyBinding, None)?;
+    let bindings = bindings_among(alloc, &found)?;
+    Ok(bindings)
+}
+
+// The denial of the write by a policy that was found, if it has the form of one and gives one.
+fn denial_of<L: Lookup>(
+    alloc: Global,
+    lookup: &mut L,
+    found: &Found,
+    bound: &Bound,
+    attempt: &Attempt<'_>,
+    request: &Json,
+) -> Result<Option<Denial>, LookupFault>
+    requires told { view request.now ≡ request_of (attempt_seen attempt.now) }
+    ensures found { (objects : Objects) (object : Object) → StandFor (L.objects lookup.old) objects → HasTrees ValidatingAdmissionPolicy object → held_by found.now ≡ held object
+        → IfOk result (λ o. option_map denial_seen o ≡ denial_by_policy objects (attempt_seen attempt.now) bound.now.1 object) }
+    ensures kept { L.objects lookup.new ≡ L.objects lookup.old }
+    ensures sound { L.is_sound lookup.old → L.is_sound lookup.new }
+    ensures counts { L.failures lookup.old ≤ L.failures lookup.new }
+    ensures device { IsErrOf result LookupFault.Device → L.failures lookup.old < L.failures lookup.new }
+    ensures damaged { IsErrOf result LookupFault.Damaged → L.is_sound lookup.old → ⊥ }
+{
+    match Policy::of(alloc, found.document.json().value())? {
+        Some(policy) => denial(
+            alloc,
+            lookup,
+            &policy,
+            &found.plans,
+            &bound.binding,
+            attempt,
+            request,
+        ),
+        None => Ok(None),
+    }
+}
+
+// The key of the policy that is bound, of which the name is well-formed.
+fn policy_key(alloc: Global, bound: &Bound) -> Result<Key, KeyFault>
+    ensures key { IfOk result (λ k. k ≡ policy_key bound.now.1.policy) }
+    ensures well_formed { IsErrOf result KeyFault.NoKey → ⊥ }
+{
+    Key::new(
+        alloc,
+        Resource::ValidatingAdmissionPolicy,
+        "",
+        bound.binding.policy.as_str(),
+    )
+}
+
+// The denial of the write by a binding: none where its policy is not there.
+fn denial_by<L: Lookup>(
+    alloc: Global,
+    lookup: &mut L,
+    bound: &Bound,
+    attempt: &Attempt<'_>,
+    request: &Json,
+) -> Result<Option<Denial>, LookupFault>
+    requires told { view request.now ≡ request_of (attempt_seen attempt.now) }
+    ensures found { (objects : Objects) → StandFor (L.objects lookup.old) objects
+        → IfOk result (λ o. option_map denial_seen o ≡ denial_by objects (attempt_seen attempt.now) bound.now.1) }
+    ensures kept { L.objects lookup.new ≡ L.objects lookup.old }
+    ensures sound { L.is_sound lookup.old → L.is_sound lookup.new }
+    ensures counts { L.failures lookup.old ≤ L.failures lookup.new }
+    ensures device { IsErrOf result LookupFault.Device → L.failures lookup.old < L.failures lookup.new }
+    ensures damaged { IsErrOf result LookupFault.Damaged → L.is_sound lookup.old → ⊥ }
+{
+    let key = match policy_key(alloc, bound) {
+        Ok(key) => key,
+        // The name is well-formed, so that only memory can be wanting.
+        Err(_) => return Err(LookupFault::Memory),
+    };
+    let found = match lookup.get(alloc, &key)? {
+        Some(found) => found,
+        None => return Ok(None),
+    };
+    denial_of(alloc, lookup, &found, bound, attempt, request)
+}
+
+// Denies the write, or adds a warning.
+#[tactic(auto, using(crate::proofs::Turns::warned))]
+fn decide(
+    alloc: Global,
+    warnings: &mut Vec<String>,
+    bound: &Bound,
+    denial: Denial,
+) -> Result<Option<Verdict>, AllocError>
+    ensures { (rest : model.Verdict) → IfOk result (λ o.
+        after_warnings (map string_bytes warnings.old.items) (model.decide bound.now.0 bound.now.1 (Some (denial_seen denial)) rest)
+        ≡ option_map_or verdict_seen o (after_warnings (map string_bytes warnings.new.items) rest)) }
+{
+    let Denial { reason, message } = denial;
+    let policy = bound.binding.policy.as_str();
+    match bound.binding.action {
+        Action::Deny => Ok(Some(Verdict::Denied {
+            policy: String::from_str(alloc, policy)?,
+            binding: bound.name.clone()?,
+            reason,
+            message,
+        })),
+        Action::Warn => {
+            warnings.push(warning(alloc, policy, bound.name.as_str(), message.as_str())?)?;
+            Ok(None)
+        }
+    }
+}
+
+// The verdict of the bindings, one after another.
+fn verdict_of<L: Lookup>(
+    alloc: Global,
+    lookup: &mut L,
+    bindings: &[Bound],
+    attempt: &Attempt<'_>,
+    request: &Json,
+) -> Result<Verdict, LookupFault>
+    requires told { view request.now ≡ request_of (attempt_seen attempt.now) }
+    ensures found { (objects : Objects) → StandFor (L.objects lookup.old) objects
+        → IfOk result (λ v. verdict_seen v ≡ model.verdict_of (map (finding objects (attempt_seen attempt.now)) bindings.now)) }
+    ensures kept { L.objects lookup.new ≡ L.objects lookup.old }
+    ensures sound { L.is_sound lookup.old → L.is_sound lookup.new }
+    ensures counts { L.failures lookup.old ≤ L.failures lookup.new }
+    ensures device { IsErrOf result LookupFault.Device → L.failures lookup.old < L.failures lookup.new }
+    ensures damaged { IsErrOf result LookupFault.Damaged → L.is_sound lookup.old → ⊥ }
+{
+    let mut warnings = Vec::new(alloc);
+    for bound in bindings {
+        if let Some(denial) = denial_by(alloc, lookup, bound, attempt, request)? {
+            if let Some(verdict) = decide(alloc, &mut warnings, bound, denial)? {
+                return Ok(verdict);
+            }
+        }
+    }
+    Ok(Verdict::Admitted(warnings))
+}
+
+/// The verdict of the policies and bindings on a write, by the objects before it.
+///
+/// Bindings are asked ascending by name. The first denial by a binding that denies is the verdict, and else each denial by a
+/// binding that warns is a warning. A binding whose policy is not there, and a policy or a binding of bad form, says nothing.
+///
+/// # Errors
+///
+/// Those of the lookup, and `Memory` where no memory is left.
+pub fn admit<L: Lookup>(
+    alloc: Global,
+    lookup: &mut L,
+    attempt: &Attempt<'_>,
+) -> Result<Verdict, LookupFault>
+    ensures verdict { (objects : Objects) → StandFor (L.objects lookup.old) objects
+        → IfOk result (λ v. verdict_seen v ≡ verdict objects (attempt_seen attempt.now)) }
+    ensures kept { L.objects lookup.new ≡ L.objects lookup.old }
+    ensures sound { L.is_sound lookup.old → L.is_sound lookup.new }
+    ensures counts { L.failures lookup.old ≤ L.failures lookup.new }
+    ensures device { IsErrOf result LookupFault.Device → L.failures lookup.old < L.failures lookup.new }
+    ensures damaged { IsErrOf result LookupFault.Damaged → L.is_sound lookup.old → ⊥ }
+{
+    let request = request_document(alloc, attempt)?;
+    let bindings = bindings(alloc, lookup)?;
+    verdict_of(alloc, lookup, &bindings, attempt, &request)
+}

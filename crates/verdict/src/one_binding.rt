@@ -1,0 +1,184 @@
+//! What one binding of a policy says of a write.
+
+ghost use Rattle.std.specs.Prelude.{◌≡◌, ◌<◌, ◌≤◌, ◌++◌, List, map, option_map, Some, None, IfOk, IsErrOf, string_bytes};
+ghost use Rattle.serde_json.specs.View.{view};
+ghost use Rattle.celread.specs.Tree.{Expr};
+ghost use Rattle.matching.specs.Rules.{attempt_seen};
+ghost use Rattle.policy.specs.Spec.{policy_seen, binding_seen, param_ref_seen};
+ghost use Rattle.evaluation.specs.Environment.{request_of, seen};
+ghost use Rattle.evaluation.specs.Denials.{first_denial, evaluate, failure};
+ghost use Rattle.evaluation.specs.Ready.{AreReady};
+ghost use Rattle.evaluation.specs.Seen.{conditions_seen, denial_seen};
+ghost use Rattle.verdict.specs.Objects.{Objects, StandFor, shown_objects};
+ghost use Rattle.verdict.specs.Verdict.{on_not_found, on_parameters, on_conditions, denial};
+ghost use Rattle.verdict.specs.Seen.{parameters_seen};
+ghost use Rattle.verdict.specs.declared.lookup.LookupFault.TheVariants as LookupFault;
+
+use crate::lookup::{Lookup, LookupFault};
+use crate::parameters::{Parameters, parameters_of};
+use evaluation::{Conditions, Denial, conditions, evaluate, failure};
+use jsondoc::Doc;
+use matching::{Attempt, matches};
+use plancode::Verified;
+use policy::{Binding, NotFound, Policy};
+use serde_json::Value as Json;
+use std::alloc::{AllocError, Global};
+
+// The denial of a write for which the policy cannot be evaluated, if it does not pass.
+fn failed(
+    alloc: Global,
+    policy: &Policy,
+    front: &str,
+    back: &str,
+) -> Result<Option<Denial>, AllocError>
+    ensures { IfOk result (λ o. option_map denial_seen o ≡ failure (policy_seen policy.now).failure_policy (front.now ++ back.now)) }
+{
+    let mut message = String::from_str(alloc, front)?;
+    message.push_str(back)?;
+    Ok(failure(policy.failure_policy, message))
+}
+
+// What the binding says of a write where no parameter is found.
+fn on_not_found(
+    alloc: Global,
+    policy: &Policy,
+    binding: &Binding,
+) -> Result<Option<Denial>, AllocError>
+    ensures { IfOk result (λ o. option_map denial_seen o ≡ on_not_found (policy_seen policy.now) (binding_seen binding.now).param_ref) }
+{
+    match &binding.param_ref {
+        Some(reference) => match reference.not_found {
+            NotFound::Allow => Ok(None),
+            NotFound::Deny => failed(alloc, policy, "parameter not found", ""),
+        },
+        None => Ok(None),
+    }
+}
+
+// The first denial with one of these parameters.
+fn first_denial(
+    alloc: Global,
+    policy: &Policy,
+    plans: &[Verified],
+    attempt: &Attempt<'_>,
+    request: &Json,
+    documents: &[Doc],
+) -> Result<Option<Denial>, AllocError>
+    requires told { view request.now ≡ request_of (attempt_seen attempt.now) }
+    ensures { (trees : List Expr) → AreReady (policy_seen policy.now) trees plans.now
+        → IfOk result (λ o. option_map denial_seen o ≡ first_denial (λ d. evaluate (policy_seen policy.now) trees (seen (attempt_seen attempt.now) d)) (map Some documents.now)) }
+{
+    for document in documents {
+        let found = evaluate(
+            alloc,
+            policy,
+            plans,
+            attempt,
+            request,
+            Some(document.value()),
+        )?;
+        if let Some(denial) = found {
+            return Ok(Some(denial));
+        }
+    }
+    Ok(None)
+}
+
+// What the policy says of a write with these parameters.
+fn on_parameters(
+    alloc: Global,
+    policy: &Policy,
+    plans: &[Verified],
+    binding: &Binding,
+    attempt: &Attempt<'_>,
+    request: &Json,
+    parameters: &Parameters,
+) -> Result<Option<Denial>, AllocError>
+    requires told { view request.now ≡ request_of (attempt_seen attempt.now) }
+    ensures { (trees : List Expr) → AreReady (policy_seen policy.now) trees plans.now
+        → IfOk result (λ o. option_map denial_seen o ≡ on_parameters (policy_seen policy.now) trees (binding_seen binding.now).param_ref (attempt_seen attempt.now) (parameters_seen parameters.now)) }
+{
+    match parameters {
+        Parameters::Alone => evaluate(alloc, policy, plans, attempt, request, None),
+        Parameters::Found(documents) => {
+            first_denial(alloc, policy, plans, attempt, request, documents)
+        }
+        Parameters::Misconfigured => failed(alloc, policy, "binding misconfigured", ""),
+        Parameters::NotFound => on_not_found(alloc, policy, binding),
+    }
+}
+
+// What is said of a write whose match conditions say this.
+fn on_conditions<L: Lookup>(
+    alloc: Global,
+    lookup: &mut L,
+    policy: &Policy,
+    plans: &[Verified],
+    binding: &Binding,
+    attempt: &Attempt<'_>,
+    request: &Json,
+    conditions: Conditions<'_>,
+) -> Result<Option<Denial>, LookupFault>
+    requires told { view request.now ≡ request_of (attempt_seen attempt.now) }
+    ensures found { (objects : Objects) (trees : List Expr) → StandFor (L.objects lookup.old) objects → AreReady (policy_seen policy.now) trees plans.now
+        → IfOk result (λ o. option_map denial_seen o ≡ on_conditions (shown_objects objects) (policy_seen policy.now) trees (binding_seen binding.now) (attempt_seen attempt.now) (conditions_seen conditions.entry)) }
+    ensures kept { L.objects lookup.new ≡ L.objects lookup.old }
+    ensures sound { L.is_sound lookup.old → L.is_sound lookup.new }
+    ensures counts { L.failures lookup.old ≤ L.failures lookup.new }
+    ensures device { IsErrOf result LookupFault.Device → L.failures lookup.old < L.failures lookup.new }
+    ensures damaged { IsErrOf result LookupFault.Damaged → L.is_sound lookup.old → ⊥ }
+{
+    match conditions {
+        Conditions::Met => {
+            let parameters = parameters_of(alloc, lookup, policy.param_kind, binding, attempt)?;
+            let denial = on_parameters(
+                alloc,
+                policy,
+                plans,
+                binding,
+                attempt,
+                request,
+                &parameters,
+            )?;
+            Ok(denial)
+        }
+        Conditions::Unmet => Ok(None),
+        Conditions::Neither(name) => {
+            let denial = failed(alloc, policy, "match condition error: ", name)?;
+            Ok(denial)
+        }
+    }
+}
+
+/// The denial of a write by a policy with a binding, if they give one. `plans` are those of the policy's expressions, and `request`
+/// is the write's `request` document.
+///
+/// # Errors
+///
+/// Those of the lookup, and `Memory`.
+pub(crate) fn denial<L: Lookup>(
+    alloc: Global,
+    lookup: &mut L,
+    policy: &Policy,
+    plans: &[Verified],
+    binding: &Binding,
+    attempt: &Attempt<'_>,
+    request: &Json,
+) -> Result<Option<Denial>, LookupFault>
+    requires told { view request.now ≡ request_of (attempt_seen attempt.now) }
+    ensures found { (objects : Objects) (trees : List Expr) → StandFor (L.objects lookup.old) objects → AreReady (policy_seen policy.now) trees plans.now
+        → IfOk result (λ o. option_map denial_seen o ≡ denial (shown_objects objects) (policy_seen policy.now) trees (binding_seen binding.now) (attempt_seen attempt.now)) }
+    ensures kept { L.objects lookup.new ≡ L.objects lookup.old }
+    ensures sound { L.is_sound lookup.old → L.is_sound lookup.new }
+    ensures counts { L.failures lookup.old ≤ L.failures lookup.new }
+    ensures device { IsErrOf result LookupFault.Device → L.failures lookup.old < L.failures lookup.new }
+    ensures damaged { IsErrOf result LookupFault.Damaged → L.is_sound lookup.old → ⊥ }
+{
+    if !matches(&policy.constraints, &binding.resources, attempt) {
+        return Ok(None);
+    }
+    let found = conditions(alloc, policy, plans, attempt, request)?;
+    on_conditions(
+        alloc, lookup, policy, plans, binding, attempt, request, found,
+    )
+}
