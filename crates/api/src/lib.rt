@@ -18,8 +18,6 @@ mod fault;
 mod laws;
 mod piece;
 mod reply;
-#[cfg(test)]
-mod tests;
 
 pub use bodies::fault_body;
 pub use connection::serve;

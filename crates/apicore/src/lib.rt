@@ -11,23 +11,13 @@
 //! each of which must be allowed to follow.
 #![tactic(auto)]
 
-#[cfg(test)]
-mod collection_tests;
 mod laws;
 mod listing;
 mod prepared;
 mod preparing;
 mod replay;
-#[cfg(test)]
-mod replay_tests;
 mod reply;
-#[cfg(test)]
-mod reply_tests;
 mod state;
-#[cfg(test)]
-mod tests;
-#[cfg(test)]
-mod update_tests;
 mod watching;
 
 pub use laws::{

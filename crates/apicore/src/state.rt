@@ -265,25 +265,4 @@ impl Core {
             self.window.push(Change::Deleted, key, stored.document);
         }
     }
-
-    // Stores an object without a write, for a test of a full store.
-    #[cfg(test)]
-    pub(crate) fn fill(
-        &mut self,
-        alloc: Global,
-        key: Key,
-        document: Document,
-    ) -> Result<(), AllocError> {
-        self.objects.reserve(1)?;
-        let entry = Entry::new(
-            alloc,
-            key,
-            Stored {
-                document,
-                revision: 1,
-            },
-        )?;
-        drop(self.objects.put(entry));
-        Ok(())
-    }
 }

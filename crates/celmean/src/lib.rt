@@ -14,8 +14,6 @@ mod functions;
 mod macros;
 mod operators;
 mod order;
-#[cfg(test)]
-mod tests;
 mod texts;
 mod value;
 

@@ -15,8 +15,6 @@ mod items;
 mod limits;
 mod literal;
 mod reading;
-#[cfg(test)]
-mod tests;
 mod tree;
 
 pub use fault::ReadFault;

@@ -12,8 +12,6 @@ mod laws;
 mod operands;
 mod rows;
 mod scope;
-#[cfg(test)]
-mod tests;
 mod types;
 
 pub use checking::check;

@@ -19,8 +19,6 @@ mod messages;
 mod outcomes;
 mod request;
 mod scene;
-#[cfg(test)]
-mod tests;
 mod together;
 mod validations;
 

@@ -15,8 +15,6 @@ mod fault;
 mod planning;
 mod reading;
 mod source;
-#[cfg(test)]
-mod tests;
 mod tree;
 mod typed_policy;
 mod typing;

@@ -7,8 +7,6 @@ mod head;
 mod message;
 mod response;
 mod streams;
-#[cfg(test)]
-mod tests;
 
 pub use cutter::{CutFault, Cutter, one_stream};
 pub use head::{BODY_LIMIT, BrokenMessage, End, FIELD_LIMIT, HEAD_LIMIT, MessageFault, Method};

@@ -8,6 +8,7 @@
 //! `specs/Judging.antt` the first fault of a plan that is not.
 #![tactic(auto)]
 
+mod copying;
 mod fault;
 mod instruction;
 mod laws;

@@ -10,8 +10,6 @@ mod compiling;
 mod laws;
 mod names;
 mod operations;
-#[cfg(test)]
-mod tests;
 
 pub use compiling::compile;
 pub use laws::runs_as_meant;

@@ -10,3 +10,4 @@ pub mod Spelling
 pub mod Again
 pub mod Rooms
 pub mod Codes
+pub mod Copies

@@ -11,8 +11,6 @@ mod laws;
 mod numbers;
 mod operands;
 mod reading;
-#[cfg(test)]
-mod tests;
 mod verified;
 mod writing;
 

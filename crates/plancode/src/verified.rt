@@ -12,7 +12,7 @@ ghost use Rattle.plancode.specs.Reading.{decoded};
 use crate::judging::check;
 use crate::reading::plan;
 use instructions::{CodeFault, Instruction, Name, Plan};
-use std::alloc::Global;
+use std::alloc::{AllocError, Global};
 use std::marker::Model;
 
 /// A well-formed plan, for a place with so many variables.
@@ -31,6 +31,20 @@ impl Model for Verified {
     ghost view = { λ p. record { vars = p.vars; ops = ops_of p.plan.items } };
 
     ghost invariant = { λ p. IsVerified p.vars (ops_of p.plan.items) };
+}
+
+impl Clone for Verified {
+    ghost use Rattle.std.specs.Prelude.{◌≡◌};
+
+    ghost is_clone = { λ plan copy. copy ≡ plan };
+
+    #[tactic(auto, using(crate::proofs::Copies::copied))]
+    fn clone(&self) -> Result<Verified, AllocError> {
+        Ok(Verified {
+            vars: self.vars,
+            plan: self.plan.clone()?,
+        })
+    }
 }
 
 impl Verified {

@@ -13,8 +13,6 @@ mod held;
 mod machine;
 mod operations;
 mod stack;
-#[cfg(test)]
-mod tests;
 
 pub use bindings::Bindings;
 pub use machine::run;

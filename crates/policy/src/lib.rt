@@ -20,8 +20,6 @@ mod params;
 mod policy;
 mod rules;
 mod selector;
-#[cfg(test)]
-mod tests;
 mod validation;
 
 pub use binding::{Action, Binding};

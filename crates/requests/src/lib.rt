@@ -11,8 +11,6 @@
 //! `apicore`.
 #![tactic(auto)]
 
-#[cfg(test)]
-mod body_tests;
 mod collection;
 mod delete_options;
 mod laws;
@@ -20,8 +18,6 @@ mod manifest;
 mod refusal;
 mod request;
 mod selector;
-#[cfg(test)]
-mod tests;
 
 pub use collection::Collection;
 pub use delete_options::read_delete_options;

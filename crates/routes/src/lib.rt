@@ -17,8 +17,6 @@ mod path;
 mod query;
 mod routes;
 mod table;
-#[cfg(test)]
-mod tests;
 
 pub use routes::{Routed, route};
 pub use table::Routes;

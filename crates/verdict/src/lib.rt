@@ -20,8 +20,6 @@ mod admission;
 mod lookup;
 mod one_binding;
 mod parameters;
-#[cfg(test)]
-mod tests;
 mod texts;
 
 pub use admission::{Verdict, admit};

@@ -25,6 +25,19 @@ pub struct Found {
     pub revision: u64,
 }
 
+impl Clone for Found {
+    ghost is_clone = { λ found copy. held_by copy ≡ held_by found };
+
+    #[tactic(auto, using(crate::proofs::Lists::copied))]
+    fn clone(&self) -> Result<Found, AllocError> {
+        Ok(Found {
+            document: self.document.clone()?,
+            plans: self.plans.clone()?,
+            revision: self.revision,
+        })
+    }
+}
+
 /// Why a lookup gives no answer.
 #[derive(Clone, Copy, Debug, PartialEq, Eq, Error)]
 pub enum LookupFault {
