@@ -170,8 +170,8 @@ fn denial_by<L: Lookup>(
 {
     let key = match policy_key(alloc, bound) {
         Ok(key) => key,
-        // The name is well-formed, so that only memory can be wanting.
-        Err(_) => return Err(LookupFault::Memory),
+        Err(KeyFault::NoKey) => unreachable!("a bound policy has a well-formed name"),
+        Err(KeyFault::Memory) => return Err(LookupFault::Memory),
     };
     let found = match lookup.get(alloc, &key)? {
         Some(found) => found,
