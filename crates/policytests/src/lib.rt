@@ -10,6 +10,8 @@ mod answers;
 mod forms;
 mod shelf;
 #[cfg(test)]
+mod stored;
+#[cfg(test)]
 mod typed;
 #[cfg(test)]
 mod typing;

@@ -4,7 +4,8 @@ ghost use Rattle.std.specs.Prelude.{◌≡◌, List, [], ◌∷◌, ◌++◌, ma
 ghost use Rattle.names.specs.Key.{Key as KeyData};
 ghost use Rattle.objects.specs.Objects.{with_value};
 ghost use Rattle.verdict.specs.Objects.{Held};
-ghost use Rattle.verdict.specs.Seen.{found_seen};
+ghost use Rattle.verdict.specs.Seen.{held_by, found_seen};
+ghost use Rattle.policytests.specs.Shelf.{on_shelf};
 
 use names::{Key, Resource};
 use objects::{Entry, Objects};
@@ -20,7 +21,7 @@ pub struct Shelf {
 impl Shelf {
     /// No objects. Takes no memory.
     pub fn new(alloc: Global) -> Shelf
-        ensures { result.objects.entries ≡ [] }
+        ensures { on_shelf result ≡ [] }
     {
         Shelf {
             objects: Objects::new(alloc),
@@ -32,9 +33,10 @@ impl Shelf {
     /// # Errors
     ///
     /// Where no memory is left.
+    #[tactic(auto, using(crate::proofs::Finding::stored_found))]
     pub fn put(&mut self, alloc: Global, key: Key, found: Found) -> Result<(), AllocError>
-        ensures stored { OnOk result (self.new.objects.entries ≡ with_value key found self.old.objects.entries) }
-        ensures unchanged { OnErr result (self.new.objects.entries ≡ self.old.objects.entries) }
+        ensures stored { OnOk result (on_shelf self.new ≡ with_value key (held_by found) (on_shelf self.old)) }
+        ensures unchanged { OnErr result (on_shelf self.new ≡ on_shelf self.old) }
     {
         self.objects.reserve(1)?;
         let entry = Entry::new(alloc, key, found)?;
@@ -44,7 +46,7 @@ impl Shelf {
 }
 
 impl Lookup for Shelf {
-    ghost objects = { λ s. map found_seen s.objects.entries };
+    ghost objects = { on_shelf };
 
     ghost failures = { λ _. 0 };
 

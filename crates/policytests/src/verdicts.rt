@@ -273,8 +273,8 @@ fn a_warning_is_quoted_and_has_an_end(rt: HostRuntime) -> Result<(), Fail> {
     let alloc = rt.alloc();
     // In the texts of JSON a backslash stands before each quote and each backslash of the message.
     assert_eq!(rt;
-        warned(alloc, r#"say \"no\" \\ \u00e9"#)?.as_str(),
-        r#"Validation failed for ValidatingAdmissionPolicy 'p' with binding 'b': say \"no\" \\ ?"#
+        warned(alloc, r#"say \"no\" \\ \u00e9\t"#)?.as_str(),
+        r#"Validation failed for ValidatingAdmissionPolicy 'p' with binding 'b': say \"no\" \\ ??"#
     );
     let mut long = String::new(alloc);
     for _ in 0..300 {

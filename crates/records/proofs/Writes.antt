@@ -9,8 +9,9 @@ use Rattle.documents.specs.Document.{Document}
 use Rattle.requests.specs.Codes.{document_in}
 use Rattle.requests.specs.Manifest.{Manifest, HasForm}
 use Rattle.apicore.specs.History.{Write, put, delete}
-use Rattle.records.specs.Payload.{field, fields, payload, IsStorable}
-use Rattle.records.proofs.Fields.{same-fields}
+use Rattle.fields.specs.Field.{field}
+use Rattle.records.specs.Payload.{fields, payload, IsStorable}
+use Rattle.fields.proofs.Fields.{same-fields}
 use Rattle.records.proofs.Parts.{part-some}
 use Rattle.records.proofs.Keys.{key_bytes-short}
 

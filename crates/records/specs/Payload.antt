@@ -1,14 +1,11 @@
 -- The payload of a log record: the bytes of one write. Numbers are unsigned, the highest byte first.
 use Rattle.std.specs.Prelude.{ℕ, ◌<◌, ◌^◌, List, [], ◌∷◌, ◌++◌, length, IsTrue}
 use Rattle.byteorder.specs.Endian.{big_bytes}
+use Rattle.fields.specs.Field.{field}
 use Rattle.jsondoc.specs.Document.{text}
 use Rattle.names.specs.Key.{is_key, key_bytes}
 use Rattle.requests.specs.Manifest.{HasForm}
 use Rattle.apicore.specs.History.{Write, put, delete}
-
--- Bytes with their number in front, in this many bytes.
-abbrev pub field : (width : ℕ) → List ℕ → List ℕ
-field width bytes = big_bytes width (length bytes) ++ bytes
 
 -- A put has the kind 1, a deletion the kind 2.
 abbrev pub kind : Write → ℕ

@@ -19,7 +19,7 @@
 #![tactic(auto)]
 
 mod fault;
-mod field;
+mod kind;
 mod laws;
 mod stored_write;
 #[cfg(test)]

@@ -10,8 +10,9 @@ ghost use Rattle.records.specs.Payload.{fields, payload, IsStorable};
 ghost use Rattle.records.specs.WriteOf.{write_of};
 
 use crate::RecordFault;
-use crate::field::{split_key, split_kind, split_text};
+use crate::kind::split_kind;
 use crate::write_payload::{DELETE, PUT};
+use fields::{long_field, short_field};
 use names::Key;
 use requests::Manifest;
 use std::alloc::Global;
@@ -49,8 +50,8 @@ fn read_put(alloc: Global, bytes: &[u8]) -> Result<Manifest, RecordFault>
     ensures damaged { IsErrOf result RecordFault.Damaged
         → (k : KeyData) (d : Document) → IsStorable (put k d) → fields (put k d) ≢ bytes.now }
 {
-    let (key, rest) = split_key(bytes).ok_or(RecordFault::Damaged)?;
-    let (document, plans) = split_text(rest).ok_or(RecordFault::Damaged)?;
+    let (key, rest) = short_field(bytes).ok_or(RecordFault::Damaged)?;
+    let (document, plans) = long_field(rest).ok_or(RecordFault::Damaged)?;
     if plans != NO_PLANS.as_slice() {
         return Err(RecordFault::Damaged);
     }
@@ -86,7 +87,7 @@ fn read_delete(alloc: Global, bytes: &[u8]) -> Result<Key, RecordFault>
     ensures damaged { IsErrOf result RecordFault.Damaged
         → (k : KeyData) → IsTrue (is_key k) → fields (delete k) ≢ bytes.now }
 {
-    let (key, rest) = split_key(bytes).ok_or(RecordFault::Damaged)?;
+    let (key, rest) = short_field(bytes).ok_or(RecordFault::Damaged)?;
     if !rest.is_empty() {
         return Err(RecordFault::Damaged);
     }

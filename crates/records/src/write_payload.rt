@@ -6,7 +6,8 @@ ghost use Rattle.jsondoc.specs.Document.{text};
 ghost use Rattle.names.specs.Key.{key_bytes};
 ghost use Rattle.documents.specs.Document.{Document};
 ghost use Rattle.apicore.specs.History.{put, delete};
-ghost use Rattle.records.specs.Payload.{field, payload};
+ghost use Rattle.fields.specs.Field.{field};
+ghost use Rattle.records.specs.Payload.{payload};
 
 use byteorder::{BigEndian, ByteOrder};
 use gatelog::{Body, LogFault};

@@ -51,13 +51,17 @@ fn assert_shown(
     core: &mut Core,
     name: &str,
     code: u16,
-    part: &str,
+    body: &str,
 ) -> Result<(), Fail> {
     let reply = shown(alloc, core, name)?;
     assert_eq!(rt; reply.code(), code);
-    assert!(rt; reply.body().contains(part));
+    assert_eq!(rt; reply.body(), body);
     Ok(())
 }
+
+/// The reply's body where there is no such object.
+pub(crate) const NOT_FOUND: &str =
+    "{\"apiVersion\":\"v1\",\"code\":404,\"kind\":\"Status\",\"message\":\"not found\",\"reason\":\"NotFound\",\"status\":\"Failure\"}";
 
 #[test]
 fn a_created_object_is_shown_with_its_revision(rt: HostRuntime) -> Result<(), Fail> {
@@ -65,7 +69,7 @@ fn a_created_object_is_shown_with_its_revision(rt: HostRuntime) -> Result<(), Fa
         "{\"apiVersion\":\"v1\",\"data\":{\"k\":\"v\"},\"kind\":\"ConfigMap\",\"metadata\":{\"name\":\"a\",\"namespace\":\"default\",\"resourceVersion\":\"2\"}}";
     assert_eq!(rt; body.len(), 123);
     let mut core = new_store(rt.alloc())?;
-    assert_shown(&rt, rt.alloc(), &mut core, "a", 404, "not found")?;
+    assert_shown(&rt, rt.alloc(), &mut core, "a", 404, NOT_FOUND)?;
     let created = created(rt.alloc(), &mut core, "a")?;
     assert_eq!(rt; created.code(), 201);
     assert_eq!(rt; created.body(), body);

@@ -1,5 +1,5 @@
 // Writes that were stored, taken again.
-use crate::creations::{SMALL, new_store, shown};
+use crate::creations::{NOT_FOUND, SMALL, new_store, shown};
 use crate::requesting::{config_map, manifest};
 use apicore::{Core, ReplayFault};
 use names::{Resource, Rules};
@@ -57,11 +57,11 @@ fn assert_state(
     Ok(())
 }
 
+const MADE: &str =
+    "{\"apiVersion\":\"v1\",\"data\":{\"k\":\"v\"},\"kind\":\"ConfigMap\",\"metadata\":{\"name\":\"a\",\"namespace\":\"default\",\"resourceVersion\":\"2\"}}";
+
 const REPLACED: &str =
     "{\"apiVersion\":\"v1\",\"data\":{\"k\":\"w\"},\"kind\":\"ConfigMap\",\"metadata\":{\"name\":\"a\",\"namespace\":\"default\",\"resourceVersion\":\"3\"}}";
-
-const DELETED: &str =
-    "{\"apiVersion\":\"v1\",\"code\":404,\"kind\":\"Status\",\"message\":\"not found\",\"reason\":\"NotFound\",\"status\":\"Failure\"}";
 
 const MADE_AGAIN: &str =
     "{\"apiVersion\":\"v1\",\"data\":{\"k\":\"v\"},\"kind\":\"ConfigMap\",\"metadata\":{\"name\":\"a\",\"namespace\":\"default\",\"resourceVersion\":\"5\"}}";
@@ -71,10 +71,11 @@ fn stored_writes_are_taken_again(rt: HostRuntime) -> Result<(), Fail> {
     let alloc = rt.alloc();
     let mut core = new_store(alloc)?;
     assert_eq!(rt; put_again(alloc, &mut core, "a", "v")?, Ok(()));
+    assert_state(&rt, alloc, &mut core, (2, 1), MADE)?;
     assert_eq!(rt; put_again(alloc, &mut core, "a", "w")?, Ok(()));
     assert_state(&rt, alloc, &mut core, (3, 1), REPLACED)?;
     assert_eq!(rt; delete_again(alloc, &mut core, "a")?, Ok(()));
-    assert_state(&rt, alloc, &mut core, (4, 0), DELETED)?;
+    assert_state(&rt, alloc, &mut core, (4, 0), NOT_FOUND)?;
     assert_eq!(rt; put_again(alloc, &mut core, "a", "v")?, Ok(()));
     assert_state(&rt, alloc, &mut core, (5, 1), MADE_AGAIN)
 }
@@ -110,6 +111,7 @@ fn a_stored_write_above_a_limit_may_not_follow(rt: HostRuntime) -> Result<(), Fa
     assert_eq!(rt; delete_again(alloc, &mut core, "b")?, Ok(()));
     assert_eq!(rt; (core.revision(), core.object_count()), (5, 1));
     assert_eq!(rt; put_again(alloc, &mut core, "c", "v")?, Ok(()));
+    assert_eq!(rt; (core.revision(), core.object_count()), (6, 2));
     // The greatest revision.
     assert_eq!(rt; put_again(alloc, &mut core, "c", "w")?, NOT_ALLOWED);
     assert_eq!(rt; delete_again(alloc, &mut core, "c")?, NOT_ALLOWED);

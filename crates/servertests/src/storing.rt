@@ -231,15 +231,18 @@ fn assert_replied(
     alloc: Global,
     store: &mut Store<MemDevice>,
     request: Request,
-    part: &str,
+    body: &str,
 ) -> Result<(), Fail> {
     let reply = store.apply(alloc, &request)?;
-    assert!(rt; reply.body().contains(part));
+    assert_eq!(rt; reply.body(), body);
     Ok(())
 }
 
 const UPDATED: &str =
     "{\"apiVersion\":\"v1\",\"data\":{\"k\":\"w\"},\"kind\":\"ConfigMap\",\"metadata\":{\"name\":\"a\",\"namespace\":\"default\",\"resourceVersion\":\"4\"}}";
+
+const MADE_AGAIN: &str =
+    "{\"apiVersion\":\"v1\",\"data\":{\"k\":\"v\"},\"kind\":\"ConfigMap\",\"metadata\":{\"name\":\"b\",\"namespace\":\"default\",\"resourceVersion\":\"6\"}}";
 
 #[test]
 fn updates_and_deletions_are_found_again(rt: HostRuntime) -> Result<(), Fail> {
@@ -254,8 +257,7 @@ fn updates_and_deletions_are_found_again(rt: HostRuntime) -> Result<(), Fail> {
     let mut found = opened(alloc, store.into_device())?;
     assert_replied(&rt, alloc, &mut found, get_of(alloc, "a")?, UPDATED)?;
     assert_eq!(rt; code_of(alloc, &mut found, get_of(alloc, "b")?), Ok(404));
-    let version = "\"resourceVersion\":\"6\"";
-    assert_replied(&rt, alloc, &mut found, create_of(alloc, "b")?, version)
+    assert_replied(&rt, alloc, &mut found, create_of(alloc, "b")?, MADE_AGAIN)
 }
 
 fn three_creates(alloc: Global) -> Result<[Request; 3], Fail> {

@@ -22,8 +22,11 @@ use Rattle.verdict.specs.Turns.{if_wanted, held_binding}
 abbrev held_entry : Key × Object → Key × Held
 held_entry o = (o.0, held o.1)
 
+-- ---- maps of values
+
 module _ {A B : Type 0} (f : A → B) where
-  listed-map : (r : Resource) (n : Option Text) (os : List (Key × A)) → listed r n (map (λ o. (o.0, f o.1)) os) ≡ map (λ o. (o.0, f o.1)) (listed r n os)
+  -- what is listed of a map of values
+  pub listed-map : (r : Resource) (n : Option Text) (os : List (Key × A)) → listed r n (map (λ o. (o.0, f o.1)) os) ≡ map (λ o. (o.0, f o.1)) (listed r n os)
   listed-map r n [] = refl
   listed-map r n (o ∷ os) =
       elim (is_of r n o.0) as (λ b. cond b ((o.0, f o.1) ∷ listed r n (map (λ o. (o.0, f o.1)) os)) (listed r n (map (λ o. (o.0, f o.1)) os))
@@ -32,7 +35,8 @@ module _ {A B : Type 0} (f : A → B) where
         | false ↦ listed-map r n os
       ]
 
-  value_at-map : (key : Key) (os : List (Key × A)) → value_at key (map (λ o. (o.0, f o.1)) os) ≡ option_map f (value_at key os)
+  -- what stands under a key in a map of values
+  pub value_at-map : (key : Key) (os : List (Key × A)) → value_at key (map (λ o. (o.0, f o.1)) os) ≡ option_map f (value_at key os)
   value_at-map key [] = refl
   value_at-map key (o ∷ os) =
       elim (eq_by_cmp key_cmp key o.0) as (λ b. cond b (Some (f o.1)) (value_at key (map (λ o. (o.0, f o.1)) os)) ≡ option_map f (cond b (Some o.1) (value_at key os))) [

@@ -3,7 +3,7 @@ use Rattle.std.proofs.Common.{refl, sym, ap, ◌∙◌, ◌≡◌, ℕ, ◌^◌,
 use Rattle.std.proofs.lemmas.List.{append_cancel_left, take_at}
 use Rattle.byteorder.specs.Endian.{big_bytes, big_number}
 use Rattle.byteorder.specs.Numbers.{big_number-reads_back}
-use Rattle.records.specs.Payload.{field}
+use Rattle.fields.specs.Field.{field}
 
 -- What a field begins with decides its number of bytes.
 pub number-field : (width : ℕ) (bytes rest : List ℕ) → length bytes < 256 ^ width → big_number width (field width bytes ++ rest) ≡ length bytes

@@ -1,0 +1,8 @@
+//! What lists of plans promise.
+
+ghost use Rattle.planlist.specs.Laws.{OneList};
+
+/// A law: plans for the same places with the same bytes are the same.
+pub fn one_list()
+    ensures { OneList }
+{}
