@@ -5,5 +5,4 @@ pub mod Seen
 pub mod Trees
 pub mod Variables
 pub mod ExprCode
-pub mod PolicyCode
 pub mod PolicyTrees

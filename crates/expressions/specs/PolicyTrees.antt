@@ -1,13 +1,10 @@
 -- A policy with the trees of its expressions, as contracts see it.
-use Rattle.std.specs.Prelude.{[], List, refl}
-use Rattle.std.specs.Coded.{Coded, code_by, coded×, coded_list}
+use Rattle.std.specs.Prelude.{[], List}
 use Rattle.std.specs.List.{AllByRecursion}
 use Rattle.celread.specs.Tree.{Expr}
 use Rattle.plan.specs.Seen.{IsSmall}
 use Rattle.policy.specs.Spec.{Policy}
-use Rattle.expressions.specs.ExprCode.{coded_expr}
 use Rattle.expressions.specs.Expressions.{sources}
-use Rattle.expressions.specs.PolicyCode.{coded_policy}
 use Rattle.expressions.specs.Typed.{AreTyped}
 
 pub record PolicyTrees : Type 0 where
@@ -19,6 +16,3 @@ pub record PolicyTrees : Type 0 where
 pub record AreCompilable (p : Policy) (trees : List Expr) : Type 0 where
   pub typed : AreTyped p [] (sources p) trees
   pub small : AllByRecursion IsSmall trees
-
-abbrev pub coded_policy_trees : Coded PolicyTrees
-coded_policy_trees = code_by (Policy × List Expr) (coded× coded_policy (coded_list coded_expr)) (λ t. (t.policy, t.trees)) (λ p. record { policy = p.0; trees = p.1 }) (λ _. refl)

@@ -27,13 +27,15 @@ pub struct TypedPolicy {
 }
 
 impl Model for TypedPolicy {
-    ghost use Rattle.expressions.specs.PolicyTrees.{PolicyTrees, AreCompilable, coded_policy_trees};
+    ghost use Rattle.std.specs.Coded.{codes};
+    ghost use Rattle.expressions.specs.ExprCode.{coded_expr};
+    ghost use Rattle.expressions.specs.PolicyTrees.{PolicyTrees, AreCompilable};
     ghost use Rattle.expressions.specs.Seen.{trees_seen};
     ghost use Rattle.policy.specs.Spec.{policy_seen};
 
     ghost Value = { PolicyTrees };
 
-    ghost coded = { coded_policy_trees };
+    ghost coded = { Prim.hlevel (codes, coded_expr) };
 
     ghost view = { λ p. record { policy = policy_seen p.policy; trees = trees_seen p.trees.items } };
 
