@@ -1,5 +1,5 @@
 -- A policy has as many places as expressions.
-use Rattle.std.proofs.Common.{◌≡◌, ◌∙◌, sym, ap, refl, ℕ, ◌+◌, ◌≤◌, ◌<◌, List, [], ◌∷◌, ◌++◌, length, map, Bool, true, false, nat_le, arith, length-append, append_assoc, Option, Some, None}
+use Rattle.std.proofs.Common.{◌≡◌, ◌∙◌, sym, ap, refl, ℕ, ◌+◌, ◌≤◌, ◌<◌, List, [], ◌∷◌, ◌++◌, length, map, Bool, true, false, nat_le, arith, length-append, Option, Some, None}
 use Rattle.std.proofs.lemmas.Bool.Decides.{nat_tests}
 use Rattle.std.proofs.lemmas.List.{length-map}
 use Rattle.std.specs.List.{flat_map}
@@ -39,14 +39,6 @@ places_counted p =
     let d = length-append (map of_variable p.variables) (flat_map of_validation p.validations) in
     omega arith
 
--- and no more variables than expressions
-pub variables_among : (p : Policy) → length p.variables ≤ length (sources p)
-variables_among p =
-    let variables = length-map p.variables of_variable in
-    let a = length-append (map of_condition p.conditions) (map of_variable p.variables ++ flat_map of_validation p.validations) in
-    let b = length-append (map of_variable p.variables) (flat_map of_validation p.validations) in
-    omega arith
-
 -- the places of a policy that has no more than two bytes count, and none of another
 pub counted : (p : Policy) (items : List ℕ) → items ≡ places_of p → length items ≤ 65535
     → Some items ≡ (if nat_le (length (sources p)) 65535 then Some (places_of p) else None)
@@ -59,11 +51,3 @@ pub not_counted : (p : Policy) (items : List ℕ) → items ≡ places_of p → 
 not_counted p items is many =
     let fits : nat_le (length (sources p)) 65535 ≡ false = grind (arith, nat_tests, many, ap (length {A = ℕ}) is, places_counted p) in
     ap (λ (b : Bool). if b then Some (places_of p) else None) (sym fits)
-
--- the places that were gathered, one after another
-pub all_places : (p : Policy) (conditions variables places : List ℕ) (all : ℕ) → all ≡ length p.variables → conditions ≡ map (λ _. 0) p.conditions
-    → variables ≡ conditions ++ variable_places 0 p.variables → places ≡ variables ++ flat_map (validation_places all) p.validations → places ≡ places_of p
-all_places p conditions variables places all counts a b c =
-    c ∙ ap (λ (n : ℕ). variables ++ flat_map (validation_places n) p.validations) counts
-    ∙ ap (λ (xs : List ℕ). xs ++ flat_map (validation_places (length p.variables)) p.validations) (b ∙ ap (λ (xs : List ℕ). xs ++ variable_places 0 p.variables) a)
-    ∙ append_assoc (map (λ _. 0) p.conditions) (variable_places 0 p.variables) (flat_map (validation_places (length p.variables)) p.validations)

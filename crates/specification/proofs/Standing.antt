@@ -16,7 +16,6 @@ use Rattle.expressions.specs.Expressions.{Source, sources}
 use Rattle.expressions.specs.Plans.{each_plan, plans_of}
 use Rattle.expressions.specs.Typed.{AreTyped, IsFirstBad}
 use Rattle.specification.specs.Places.{policy_in}
-use Rattle.specification.proofs.Counting.{variables_among}
 use Rattle.specification.specs.Specification.{Specification, sound, bad_spec, bad_expression, IsSpecification, IsCompiled}
 
 no_plans : (ss : List Source) → each_plan [] ss [] ≡ []
@@ -98,13 +97,7 @@ spelled_of (Some x) q counted = spelled_if (nat_le (length (sources x)) 65535) x
 pub spelled_policy : (d : Data) (q : Policy) → policy_in d ≡ Some q → policy_of d ≡ Some q
 spelled_policy d q counted = spelled_of (policy_of d) q counted
 
--- a policy that is counted has few variables
-pub few_variables : (d : Data) (p q : Policy) → policy_of d ≡ Some p → policy_in d ≡ Some q → length p.variables ≤ 65535
-few_variables d p q is counted =
-    let few = at_most (length (sources p)) 65535 (few_of (policy_of d) p q is counted).0 in
-    omega (arith, few, variables_among p)
-
--- and few expressions
+-- a policy that is counted has few expressions
 pub few_sources : (d : Data) (p : Policy) → policy_in d ≡ Some p → length (sources p) ≤ 65535
 few_sources d p counted = at_most (length (sources p)) 65535 (few_of (policy_of d) p p (spelled_policy d p counted) counted).0
 
