@@ -10,13 +10,9 @@
 #![tactic(auto)]
 
 mod command;
-#[cfg(test)]
-mod object_tests;
 mod problem;
 mod program;
 mod status;
-#[cfg(test)]
-mod tests;
 
 use crate::program::program;
 use crate::status::Status;

@@ -10,7 +10,7 @@ use durable::{CreateFault, Damage, Fault};
 use httpmsg::{Output, write_all};
 
 /// Why the program did not do what it was asked.
-#[derive(Clone, Copy, Debug, PartialEq, Eq)]
+#[derive(Clone, Copy)]
 pub enum Problem {
     FileExists,
     NoStore,
