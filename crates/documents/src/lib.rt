@@ -13,8 +13,6 @@
 mod metadata;
 mod shown;
 mod stored;
-#[cfg(test)]
-mod tests;
 
 pub use metadata::{has_kind, has_metadata, metadata_copy, metadata_text};
 pub use shown::shown_document;

@@ -14,8 +14,6 @@
 mod doc;
 mod escapes;
 mod members;
-#[cfg(test)]
-mod tests;
 mod whole;
 
 pub use doc::{Doc, ReadFault};

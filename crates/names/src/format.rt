@@ -38,18 +38,3 @@ impl Format {
         }
     }
 }
-
-#[cfg(test)]
-mod tests {
-    use super::*;
-
-    #[test]
-    fn the_first_format_has_its_numbers(rt: HostRuntime) {
-        let rules = Format::First.rules();
-        assert_eq!(rt; rules.window_events, 256);
-        assert_eq!(rt; rules.text_limit_bytes, 16_384);
-        assert_eq!(rt; rules.body_limit_bytes, 16_384);
-        assert_eq!(rt; rules.object_limit, 65_536);
-        assert_eq!(rt; rules.greatest_revision, 9_223_372_036_854_775_807);
-    }
-}

@@ -1,0 +1,80 @@
+//! A window of events, each of which tells its revision.
+
+use crate::texts::{number, word};
+use crate::wrong::Wrong;
+use names::{Format, Key, KeyFault, Resource};
+use std::alloc::Global;
+use window::{Change, Window, WindowFault};
+
+fn key(alloc: Global) -> Result<Key, Wrong> {
+    match Key::new(alloc, Resource::ConfigMap, "default", "a") {
+        Ok(key) => Ok(key),
+        Err(KeyFault::NoKey) => Err(Wrong::Told("no key")),
+        Err(KeyFault::Memory) => Err(Wrong::Memory),
+    }
+}
+
+/// The window of a new store.
+pub fn empty(alloc: Global) -> Result<Window<u64>, Wrong> {
+    Ok(Window::new(alloc, Format::First.rules())?)
+}
+
+/// `written REVISION`: further updates up to that revision, the first of all a creation. It gives the window's revision.
+pub fn written(alloc: Global, window: &mut Window<u64>, text: &str) -> Result<String, Wrong> {
+    for revision in window.revision()..number(text)? {
+        let change = if revision == 1 {
+            Change::Added
+        } else {
+            Change::Modified
+        };
+        if window.revision() < u64::MAX - 1 {
+            window.push(change, key(alloc)?, revision.saturating_add(1));
+        }
+    }
+    let revision = window.revision();
+    Ok(format!(in alloc; "{revision}")?)
+}
+
+fn change_word(change: &Change) -> &'static str {
+    match change {
+        Change::Added => "added",
+        Change::Modified => "modified",
+        Change::Deleted => "deleted",
+    }
+}
+
+/// `since REVISION`: how many events there are above it, and the first and the last: what was done and which revision it made.
+pub fn since(alloc: Global, window: &Window<u64>, text: &str) -> Result<String, Wrong> {
+    let events = match window.since(number(text)?) {
+        Ok(events) => events,
+        Err(fault) => return Ok(fault.to_string(alloc)?),
+    };
+    let mut count = 0_u64;
+    let mut first = String::new(alloc);
+    let mut last = String::new(alloc);
+    for event in events {
+        let (change, revision) = (change_word(&event.change), event.revision);
+        if event.document != revision {
+            return Err(Wrong::Told("an event has another's document"));
+        }
+        last = format!(in alloc; "{change} {revision}")?;
+        if count == 0 {
+            first = last.clone()?;
+        }
+        count = count.saturating_add(1);
+    }
+    if count == 0 {
+        return word(alloc, "none");
+    }
+    Ok(format!(in alloc; "{count}, {first} to {last}")?)
+}
+
+/// `window fault FAULT`: what is told of it.
+pub fn told(alloc: Global, text: &str) -> Result<String, Wrong> {
+    let fault = match text {
+        "TooOld" => WindowFault::TooOld,
+        "TooNew" => WindowFault::TooNew,
+        _ => return Err(Wrong::Told("no such fault")),
+    };
+    Ok(fault.to_string(alloc)?)
+}
