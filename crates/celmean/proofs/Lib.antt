@@ -3,4 +3,3 @@ pub mod Numerals
 pub mod Inside
 pub mod Places
 pub mod Kept
-pub mod Means

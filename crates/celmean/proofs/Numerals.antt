@@ -4,7 +4,7 @@ use Rattle.std.specs.Char.{digit_value}
 use Rattle.std.specs.Str.Parse.{AllDigits, IsNumeral, digits_value, without_leading_plus, without_leading_sign, signed_digits_value}
 use Rattle.std.proofs.lemmas.Bool.{and_parts}
 use Rattle.std.proofs.lemmas.Bool.Decides.{nat_tests}
-use Rattle.celtokens.specs.Digits.{all_digits}
+use Rattle.celtree.specs.Digits.{all_digits}
 use Rattle.celmean.specs.Value.{Gives, Error, Int, Uint}
 use Rattle.celmean.specs.Arithmetic.{in_i64, signed, unsigned}
 use Rattle.celmean.specs.Texts.{is_numeral, signed_of_text, unsigned_of_text}

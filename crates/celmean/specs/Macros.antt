@@ -1,7 +1,7 @@
 -- Truth tables and macros, over the outcomes of all their parts (CEL language definition, "Logical operators" and "Macros").
 use Rattle.std.specs.Prelude.{ℕ, suc, Bool, true, false, ◌&&◌, ◌||◌, ◌==◌, nat_lt, if◌then◌else◌, Option, Some, None, List, [], ◌∷◌, map, length}
-use Rattle.celread.specs.declared.tree.Macro.{Macro}
-use Rattle.celread.specs.declared.tree.Macro.TheVariants as macro_of
+use Rattle.celtree.specs.declared.tree.Macro.{Macro}
+use Rattle.celtree.specs.declared.tree.Macro.TheVariants as macro_of
 use Rattle.celmean.specs.Value.{Value, Truth, Sequence, Mapping, sequence, items, Entries, entries, Outcome, Gives, Error}
 use Rattle.celmean.specs.Collections.{list_of}
 

@@ -1,7 +1,7 @@
 -- What a tree means in an environment (CEL language definition, "Evaluation").
 use Rattle.std.specs.Prelude.{ℕ, Bool, false, if◌then◌else◌, List, [], ◌∷◌, codes, bytes_eq}
-use Rattle.celread.specs.Tree as tree
-use Rattle.celread.specs.Tree.{Expr, Exprs, no_items, item, Pairs, no_pairs, pair}
+use Rattle.celtree.specs.Tree as tree
+use Rattle.celtree.specs.Tree.{Expr, Exprs, no_items, item, Pairs, no_pairs, pair}
 use Rattle.celmean.specs.Value.{Value, Null, Truth, Int, Uint, Text, Outcome, Gives, Error, with_value, with_values}
 use Rattle.celmean.specs.Collections.{indexed, member, has_member, list_of, map_of}
 use Rattle.celmean.specs.Macros.{is_true, is_false, range_of, over_items}

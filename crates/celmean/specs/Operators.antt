@@ -1,9 +1,9 @@
 -- The operators (CEL language definition, "Operators").
 use Rattle.std.specs.Prelude.{not, option_map}
-use Rattle.celread.specs.declared.tree.Prefix.{Prefix}
-use Rattle.celread.specs.declared.tree.Prefix.TheVariants as prefix_of
-use Rattle.celread.specs.declared.tree.Operator.{Operator}
-use Rattle.celread.specs.declared.tree.Operator.TheVariants as operator_of
+use Rattle.celtree.specs.declared.tree.Prefix.{Prefix}
+use Rattle.celtree.specs.declared.tree.Prefix.TheVariants as prefix_of
+use Rattle.celtree.specs.declared.tree.Operator.{Operator}
+use Rattle.celtree.specs.declared.tree.Operator.TheVariants as operator_of
 use Rattle.celmean.specs.Value.{Value, Truth, Outcome, Gives, Error, truth_or_error, with_values}
 use Rattle.celmean.specs.Equality.{same}
 use Rattle.celmean.specs.Order.{less}

@@ -1,14 +1,11 @@
--- What the program's values, outcomes and environments stand for.
-use Rattle.std.specs.Prelude.{ℕ, option_map, List, map, string_bytes}
+-- What the program's values and outcomes stand for.
+use Rattle.std.specs.Prelude.{List, map, string_bytes}
 use Rattle.celmean.specs.declared.value.Value.{Value, fold-Value}
 use Rattle.celmean.specs.declared.value.Value.TheOpen.{Value-F}
 use Rattle.celmean.specs.declared.value.Outcome.{Outcome}
 use Rattle.celmean.specs.declared.value.Outcome.TheVariants as outcome
-use Rattle.celmean.specs.declared.environment.Binding.{Binding}
-use Rattle.celmean.specs.declared.environment.Environment.{Environment}
 use Rattle.celmean.specs.Value as seen
-use Rattle.celmean.specs.Value.{sequence, mapping, or_error}
-use Rattle.celmean.specs.Meaning as meaning
+use Rattle.celmean.specs.Value.{sequence, mapping}
 
 -- one level, with each value inside already seen
 abbrev pub value_step : Value-F seen.Value → seen.Value
@@ -41,12 +38,3 @@ outcomes_seen os = map outcome_of os
 
 abbrev pub outcome_pairs_seen : List (Outcome × Outcome) → List (seen.Outcome × seen.Outcome)
 outcome_pairs_seen os = map (λ o. (outcome_of o.0, outcome_of o.1)) os
-
-abbrev pub binding_seen : Binding → List ℕ × seen.Outcome
-binding_seen b = (b.name.now, or_error (option_map (λ v. value_of v.now) b.value))
-
-abbrev pub bindings_seen : List Binding → List (List ℕ × seen.Outcome)
-bindings_seen bs = map binding_seen bs
-
-abbrev pub environment_of : Environment → meaning.Environment
-environment_of e = record { names = bindings_seen e.names.now; variables = bindings_seen e.variables.now }

@@ -2,7 +2,7 @@
 use Rattle.std.specs.Prelude.{ℕ, pos, neg_ℤ, Bool, false, ◌||◌, ◌==◌, if◌then◌else◌, List, [], ◌∷◌, length, chars}
 use Rattle.std.specs.List.{starts_with, ends_with}
 use Rattle.std.specs.Str.Parse.{digits_value}
-use Rattle.celtokens.specs.Digits.{all_digits}
+use Rattle.celtree.specs.Digits.{all_digits}
 use Rattle.celmean.specs.Value.{Outcome, Error}
 use Rattle.celmean.specs.Arithmetic.{signed, unsigned}
 

@@ -7,7 +7,7 @@ ghost use Rattle.celmean.specs.Seen.{value_of, values_seen, entries_seen, outcom
 
 use crate::collections::list_of;
 use crate::value::{Outcome, Value, copy, copy_items};
-use celread::Macro;
+use celtree::Macro;
 use std::alloc::{AllocError, Global};
 
 /// Whether the outcome is true.

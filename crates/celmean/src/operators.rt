@@ -11,7 +11,7 @@ use crate::equality::same;
 use crate::macros::{both, either};
 use crate::order::less;
 use crate::value::{Outcome, Value};
-use celread::{Operator, Prefix};
+use celtree::{Operator, Prefix};
 use std::alloc::AllocError;
 
 fn denial(value: &Value) -> Outcome

@@ -4,7 +4,7 @@ use Rattle.celtokens.specs.Terminal.{Terminal}
 use Rattle.celtokens.specs.Lexes.{Lexes, OneReading}
 use Rattle.celread.specs.declared.fault.ReadFault.{ReadFault}
 use Rattle.celread.specs.declared.fault.ReadFault.TheVariants as fault
-use Rattle.celread.specs.Tree.{Expr}
+use Rattle.celtree.specs.Tree.{Expr}
 use Rattle.celread.specs.Reading.{IsParse, IsReadAs, IsNotRead, IsReadAlone, IsNoParse, IsParseAlone, UnlessMemory}
 
 -- the tokens of a text spell what it is read as

@@ -1,10 +1,10 @@
 -- Calls with another number of arguments.
 use Rattle.std.proofs.Common.{◌≡◌, ◌≢◌, List, [], ◌∷◌, length, Option, None, refl}
-use Rattle.celread.specs.declared.tree.Macro.{Macro}
-use Rattle.celread.specs.declared.tree.Tree.{Tree}
-use Rattle.celread.specs.Tree.{Expr}
+use Rattle.celtree.specs.declared.tree.Macro.{Macro}
+use Rattle.celtree.specs.declared.tree.Tree.{Tree}
+use Rattle.celtree.specs.Tree.{Expr}
 use Rattle.celread.specs.Calls.{has_of, macro_over}
-use Rattle.celread.specs.View.{views}
+use Rattle.celtree.specs.View.{views}
 
 pub has_of_other : (ts : List Tree) → length ts ≢ 1 → ◌≡◌ {A = Option Expr} None (has_of (views ts))
 has_of_other [] other = refl

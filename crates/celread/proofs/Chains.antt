@@ -2,8 +2,8 @@
 use Rattle.std.proofs.Common.{◌≡◌, ◌∙◌, ℕ, suc, Some, List, ◌∷◌, sym, refl, ap}
 use Rattle.std.proofs.lemmas.Option.{same_Some}
 use Rattle.celtokens.specs.Terminal.{Terminal}
-use Rattle.celread.specs.declared.tree.Operator.{Operator}
-use Rattle.celread.specs.Tree.{Expr, Infix}
+use Rattle.celtree.specs.declared.tree.Operator.{Operator}
+use Rattle.celtree.specs.Tree.{Expr, Infix}
 use Rattle.celread.specs.Operators.{infix_of}
 use Rattle.celread.specs.Grammar.{Height, Chain, Spells, operand, last, infixed}
 use Rattle.celread.specs.Ends.{Ends, Read, HasNoTree}

@@ -3,7 +3,7 @@ use Rattle.std.proofs.Common.{◌≡◌, ◌∙◌, List, ◌∷◌, sym, refl, 
 use Rattle.celtokens.specs.declared.sign.Sign.TheVariants as sign
 use Rattle.celtokens.specs.Terminal.{Terminal}
 use Rattle.celtokens.specs.Terminal as token
-use Rattle.celread.specs.Tree.{Expr, Conditional}
+use Rattle.celtree.specs.Tree.{Expr, Conditional}
 use Rattle.celread.specs.Grammar.{Whole, Height, Spells, simple, conditional}
 use Rattle.celread.specs.Ends.{Ends, Read, HasNoTree}
 use Rattle.celread.specs.Ahead.{IsNotNext}

@@ -5,8 +5,8 @@ use Rattle.std.proofs.lemmas.Bool.{or_parts, or_from, cases_eq}
 use Rattle.celtokens.specs.declared.sign.Sign.TheVariants as sign
 use Rattle.celtokens.specs.Terminal.{Terminal}
 use Rattle.celtokens.specs.Terminal as token
-use Rattle.celread.specs.declared.tree.Operator.{Operator}
-use Rattle.celread.specs.declared.tree.Prefix.{Prefix}
+use Rattle.celtree.specs.declared.tree.Operator.{Operator}
+use Rattle.celtree.specs.declared.tree.Prefix.{Prefix}
 use Rattle.celread.specs.Operators.{infix_of}
 use Rattle.celread.specs.Grammar.{Primary, Member, Whole, Prefixed, Height}
 use Rattle.celread.specs.Ends.{is_open, is_suffix, is_question, is_below, Ends}

@@ -5,14 +5,14 @@ use Rattle.celtokens.specs.Terminal.{Terminal}
 use Rattle.celtokens.specs.Terminal as token
 use Rattle.celread.specs.declared.items.Closing.{Closing}
 use Rattle.celread.specs.declared.items.Closing.TheVariants as closing
-use Rattle.celread.specs.declared.tree.Prefix.{Prefix}
-use Rattle.celread.specs.declared.tree.Prefix.TheVariants as prefix_of
-use Rattle.celread.specs.Tree.{Expr, Exprs, no_items, item, Pairs, no_pairs, pair}
+use Rattle.celtree.specs.declared.tree.Prefix.{Prefix}
+use Rattle.celtree.specs.declared.tree.Prefix.TheVariants as prefix_of
+use Rattle.celtree.specs.Tree.{Expr, Exprs, no_items, item, Pairs, no_pairs, pair}
 use Rattle.celread.specs.Operators.{after_prefix}
 use Rattle.celread.specs.Grammar.{Primary, Whole, Height, close_sign, trails, Ending, close, trailing, literal_of, one_token, negative_int, Spells, literal, name, call, brackets, list, map, member, plain, prefixed, operand, simple, conditional, Items, empty, some, MoreItems, end, comma, Entries, no_entry, entries, MoreEntries, end_entries, comma_entry}
 use Rattle.celread.specs.Ends.{Ends, Read, HasNoTree, ReadItems, HasNoItems, ReadEntry, HasNoEntry, ReadEntries, HasNoEntries}
 use Rattle.celread.specs.Ahead.{IsNotNext}
-use Rattle.celread.specs.View.{items_of, pairs_of}
+use Rattle.celtree.specs.View.{items_of, pairs_of}
 
 -- no tree begins with a closing sign
 abbrev pub starts_close : List Terminal → Bool

@@ -1,7 +1,7 @@
 -- The literal in front.
 use Rattle.std.proofs.Common.{◌≡◌, ◌∙◌, ℤ, List, ◌∷◌, None, sym, refl}
 use Rattle.celtokens.specs.Terminal.{Terminal}
-use Rattle.celread.specs.Tree.{Int}
+use Rattle.celtree.specs.Tree.{Int}
 use Rattle.celread.specs.Grammar.{Literal, one_token, negative_int, literal_of}
 use Rattle.celread.specs.Ahead.{HasNoLiteral, IsNegative, HasNoNegative}
 

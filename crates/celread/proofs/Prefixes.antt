@@ -4,9 +4,9 @@ use Rattle.std.proofs.lemmas.Option.{same_Some}
 use Rattle.celtokens.specs.declared.sign.Sign.TheVariants as sign
 use Rattle.celtokens.specs.Terminal.{Terminal}
 use Rattle.celtokens.specs.Terminal as token
-use Rattle.celread.specs.declared.tree.Prefix.{Prefix}
-use Rattle.celread.specs.declared.tree.Prefix.TheVariants as prefix_of
-use Rattle.celread.specs.Tree.{Expr, Unary}
+use Rattle.celtree.specs.declared.tree.Prefix.{Prefix}
+use Rattle.celtree.specs.declared.tree.Prefix.TheVariants as prefix_of
+use Rattle.celtree.specs.Tree.{Expr, Unary}
 use Rattle.celread.specs.Operators.{after_prefix}
 use Rattle.celread.specs.Grammar.{Primary, Member, Prefixed, Height, literal_of, one_token, negative_int, Spells, literal, name, call, brackets, list, map, member, plain, prefixed, bare, again}
 use Rattle.celread.specs.Ends.{Ends, Read, HasNoTree}

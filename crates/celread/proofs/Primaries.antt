@@ -5,7 +5,7 @@ use Rattle.celtokens.specs.declared.sign.Sign.TheVariants as sign
 use Rattle.celtokens.specs.Terminal.{Terminal}
 use Rattle.celtokens.specs.Terminal as token
 use Rattle.celread.specs.declared.items.Closing.TheVariants as closing
-use Rattle.celread.specs.Tree.{Expr, Exprs, Pairs, Name, Sequence, Mapping}
+use Rattle.celtree.specs.Tree.{Expr, Exprs, Pairs, Name, Sequence, Mapping}
 use Rattle.celread.specs.Calls.{call_of}
 use Rattle.celread.specs.Grammar.{Primary, Whole, Literal, one_token, negative_int, Spells, literal, name, call, brackets, list, map, Items}
 use Rattle.celread.specs.Ends.{Ends, Read, HasNoTree, ReadPrimary, HasNoPrimary, ReadComposite, HasNoComposite, ReadItems, HasNoItems, ReadEntries, HasNoEntries}

@@ -3,16 +3,17 @@ use Rattle.std.proofs.Common.{◌≡◌, ℕ, suc, refl, ap, map, ◌++◌, [], 
 use Rattle.std.proofs.lemmas.Result.{err_from_is_err_and}
 use Rattle.celread.specs.declared.fault.ReadFault.{ReadFault}
 use Rattle.celread.specs.declared.fault.ReadFault.TheVariants as fault
-use Rattle.celread.specs.declared.tree.Tree as tree
-use Rattle.celread.specs.declared.tree.Tree.{Tree, Name, Map, Field, Index, Unary, Infix, Conditional, the_lemmas}
-use Rattle.celread.specs.declared.tree.Prefix.{Prefix}
-use Rattle.celread.specs.declared.tree.Operator.{Operator}
-use Rattle.celread.specs.Tree as expr
+use Rattle.celtree.specs.declared.tree.Tree as tree
+use Rattle.celtree.specs.declared.tree.Tree.{Tree, Name, Map, Field, Index, Unary, Infix, Conditional, the_lemmas}
+use Rattle.celtree.specs.declared.tree.Prefix.{Prefix}
+use Rattle.celtree.specs.declared.tree.Operator.{Operator}
+use Rattle.celtree.specs.Tree as expr
 use Rattle.celtokens.specs.Terminal.{Terminal}
-use Rattle.celread.specs.Tree.{Expr}
+use Rattle.celtree.specs.Tree.{Expr}
 use Rattle.celread.specs.Grammar.{Height}
 use Rattle.celread.specs.Ends.{Refuses, Read, HasNoTree}
-use Rattle.celread.specs.View.{view, views, pair_views}
+use Rattle.celtree.specs.View.{view, views, pair_views}
+use Rattle.celtree.proofs.Views.{pair_view}
 
 pub refuses : (e : ReadFault) {P Q : Type 0} → (P → Q) → Refuses e P → Refuses e Q
 refuses fault.NotInGrammar f h = f h
@@ -47,9 +48,6 @@ view-Infix o a b = search (rules, the_lemmas)
 
 pub view-Conditional : (c a b : Box Tree Global) → view (Conditional c a b) ≡ expr.Conditional (view c.value) (view a.value) (view b.value)
 view-Conditional c a b = search (rules, the_lemmas)
-
-abbrev pub pair_view : Tree × Tree → Expr × Expr
-pair_view p = (view p.0, view p.1)
 
 pub map-pair_view : (es : List (Tree × Tree)) (e : Tree × Tree) → map pair_view (es ++ e ∷ []) ≡ map pair_view es ++ (view e.0, view e.1) ∷ []
 map-pair_view [] e = refl

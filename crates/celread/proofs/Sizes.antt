@@ -7,17 +7,17 @@ use Rattle.celtokens.specs.declared.sign.Sign.TheVariants as sign
 use Rattle.celtokens.specs.Terminal.{Terminal}
 use Rattle.celtokens.specs.Terminal as token
 use Rattle.celread.specs.declared.items.Closing.{Closing}
-use Rattle.celread.specs.declared.tree.Macro.{Macro}
-use Rattle.celread.specs.declared.tree.Macro.TheVariants as macro_of
-use Rattle.celread.specs.declared.tree.Prefix.{Prefix}
-use Rattle.celread.specs.declared.tree.Prefix.TheVariants as prefix_of
-use Rattle.celread.specs.Tree.{Expr, Null, Truth, Int, Uint, Text, Field, Has, Call, Method, Over, Exprs, no_items, item, Pairs}
+use Rattle.celtree.specs.declared.tree.Macro.{Macro}
+use Rattle.celtree.specs.declared.tree.Macro.TheVariants as macro_of
+use Rattle.celtree.specs.declared.tree.Prefix.{Prefix}
+use Rattle.celtree.specs.declared.tree.Prefix.TheVariants as prefix_of
+use Rattle.celtree.specs.Tree.{Expr, Null, Truth, Int, Uint, Text, Field, Has, Call, Method, Over, Exprs, no_items, item, Pairs}
 use Rattle.celread.specs.Calls.{macro_named, selection, variable, has_of, macro_of_three, macro_over, unless_macro, method_or_macro, call_of, method_of}
 use Rattle.celread.specs.Operators.{begins_with_int, after_prefix, selector}
 use Rattle.celread.specs.Grammar as grammar
 use Rattle.celread.specs.Grammar.{literal_of, Literal, Level, Suffixes, Chain, close_sign, Ending, Spells, Items, MoreItems, Entries, MoreEntries}
 use Rattle.celread.specs.Reading.{IsReadAs}
-use Rattle.celread.specs.Size.{nodes, nodes_of_items, nodes_of_pairs, text_bytes, text_bytes_of_items, text_bytes_of_pairs}
+use Rattle.celtree.specs.Size.{nodes, nodes_of_items, nodes_of_pairs, text_bytes, text_bytes_of_items, text_bytes_of_pairs}
 use Rattle.celread.proofs.Weights.{bytes_are, weight, weights, lexed_weights}
 
 -- the nodes of a tree, and the bytes of its string literals and field names

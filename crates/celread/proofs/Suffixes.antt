@@ -5,7 +5,7 @@ use Rattle.celtokens.specs.declared.sign.Sign.TheVariants as sign
 use Rattle.celtokens.specs.Terminal.{Terminal}
 use Rattle.celtokens.specs.Terminal as token
 use Rattle.celread.specs.declared.items.Closing.TheVariants as closing
-use Rattle.celread.specs.Tree.{Expr, Exprs, Field, Index}
+use Rattle.celtree.specs.Tree.{Expr, Exprs, Field, Index}
 use Rattle.celread.specs.Calls.{method_of}
 use Rattle.celread.specs.Operators.{selector}
 use Rattle.celread.specs.Grammar.{Primary, Member, Whole, Suffixes, Spells, member, no_suffix, field, method, index, Items}

@@ -6,7 +6,7 @@ use Rattle.std.proofs.Math.Utf8.{scalar}
 use Rattle.std.proofs.lemmas.Bool.{and_parts}
 use Rattle.std.proofs.lemmas.Option.{same_Some, cond_some, some_pair_parts}
 use Rattle.std.proofs.lemmas.Str.{length-encode, len_utf8_bounds, len_utf8_ascii}
-use Rattle.celtokens.specs.Digits.{all_digits}
+use Rattle.celtree.specs.Digits.{all_digits}
 use Rattle.celtokens.specs.Run.{Run, stop, more, is_line_end}
 use Rattle.celtokens.specs.Numeral.{Numeral, decimal, hexadecimal}
 use Rattle.celtokens.specs.Escape.{code_point, named, hex_len, with_rest, hex_digits, escape}

@@ -6,8 +6,8 @@ use Rattle.celtokens.specs.declared.token.Token.{Token}
 use Rattle.celtokens.specs.Seen.{terminals}
 use Rattle.celtokens.specs.Terminal.{Terminal}
 use Rattle.celtokens.specs.Terminal as token
-use Rattle.celread.specs.declared.tree.Operator.{Operator}
-use Rattle.celread.specs.declared.tree.Prefix.TheVariants as prefix_of
+use Rattle.celtree.specs.declared.tree.Operator.{Operator}
+use Rattle.celtree.specs.declared.tree.Prefix.TheVariants as prefix_of
 use Rattle.celread.specs.declared.ahead.Start.{Start}
 use Rattle.celread.specs.declared.ahead.Start.TheVariants as start
 use Rattle.celread.specs.declared.items.Closing.{Closing}
@@ -15,7 +15,7 @@ use Rattle.celread.specs.declared.ahead.Separator.{Separator}
 use Rattle.celread.specs.declared.ahead.Separator.TheVariants as separator
 use Rattle.celread.specs.declared.ahead.Suffix.{Suffix}
 use Rattle.celread.specs.declared.ahead.Suffix.TheVariants as suffix
-use Rattle.celread.specs.Tree.{Expr}
+use Rattle.celtree.specs.Tree.{Expr}
 use Rattle.celread.specs.Grammar.{Literal, Ending, close_sign, trails}
 use Rattle.celread.specs.Operators.{infix_of, after_prefix, selector}
 

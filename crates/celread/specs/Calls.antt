@@ -1,8 +1,8 @@
 -- What a call's tree is, and which calls have none: `has` and the macros are told by their names and their arguments' trees.
 use Rattle.std.specs.Prelude.{ℕ, List, Option, Some, None, option_map, codes, bytes_eq, if◌then◌else◌}
-use Rattle.celread.specs.declared.tree.Macro.{Macro}
-use Rattle.celread.specs.declared.tree.Macro.TheVariants as macro_of
-use Rattle.celread.specs.Tree.{Expr, Name, Field, Has, Call, Method, Over, Exprs, no_items, item}
+use Rattle.celtree.specs.declared.tree.Macro.{Macro}
+use Rattle.celtree.specs.declared.tree.Macro.TheVariants as macro_of
+use Rattle.celtree.specs.Tree.{Expr, Name, Field, Has, Call, Method, Over, Exprs, no_items, item}
 
 -- all, exists, exists_one, map and filter
 abbrev pub macro_named : List ℕ → Option Macro

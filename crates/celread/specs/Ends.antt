@@ -3,11 +3,11 @@ use Rattle.std.specs.Prelude.{◌≡◌, ℕ, suc, Bool, true, false, ◌||◌, 
 use Rattle.celtokens.specs.declared.sign.Sign.TheVariants as sign
 use Rattle.celtokens.specs.Terminal.{Terminal}
 use Rattle.celtokens.specs.Terminal as token
-use Rattle.celread.specs.declared.tree.Operator.{Operator}
+use Rattle.celtree.specs.declared.tree.Operator.{Operator}
 use Rattle.celread.specs.declared.items.Closing.{Closing}
 use Rattle.celread.specs.declared.fault.ReadFault.{ReadFault}
 use Rattle.celread.specs.declared.fault.ReadFault.TheVariants as fault
-use Rattle.celread.specs.Tree.{Expr, Exprs, Pairs}
+use Rattle.celtree.specs.Tree.{Expr, Exprs, Pairs}
 use Rattle.celread.specs.Operators.{infix_of}
 use Rattle.celread.specs.Grammar.{Level, Primary, Member, Whole, Suffixes, Prefixed, Height, Chain, Literal, Spells, Items, Entries}
 

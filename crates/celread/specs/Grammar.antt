@@ -4,11 +4,11 @@ use Rattle.celtokens.specs.declared.sign.Sign.{Sign}
 use Rattle.celtokens.specs.declared.sign.Sign.TheVariants as sign
 use Rattle.celtokens.specs.Terminal.{Terminal}
 use Rattle.celtokens.specs.Terminal as token
-use Rattle.celread.specs.declared.tree.Prefix.{Prefix}
-use Rattle.celread.specs.declared.tree.Operator.{Operator}
+use Rattle.celtree.specs.declared.tree.Prefix.{Prefix}
+use Rattle.celtree.specs.declared.tree.Operator.{Operator}
 use Rattle.celread.specs.declared.items.Closing.{Closing}
 use Rattle.celread.specs.declared.items.Closing.TheVariants as closing
-use Rattle.celread.specs.Tree.{Expr, Null, Truth, Int, Uint, Text, Name, Field, Index, Sequence, Mapping, Unary, Infix, Conditional, Exprs, no_items, item, Pairs, no_pairs, pair}
+use Rattle.celtree.specs.Tree.{Expr, Null, Truth, Int, Uint, Text, Name, Field, Index, Sequence, Mapping, Unary, Infix, Conditional, Exprs, no_items, item, Pairs, no_pairs, pair}
 use Rattle.celread.specs.Calls.{call_of, method_of}
 use Rattle.celread.specs.Operators.{infix_of, after_prefix, selector}
 

@@ -1,10 +1,7 @@
-pub mod Tree
 pub mod Calls
 pub mod Operators
 pub mod Grammar
 pub mod Ends
-pub mod View
 pub mod Ahead
 pub mod Limits
 pub mod Reading
-pub mod Size

@@ -4,9 +4,10 @@ use Rattle.celtokens.specs.Terminal.{Terminal}
 use Rattle.celtokens.specs.Lexes.{Lexes, HasNoTokens}
 use Rattle.celread.specs.declared.fault.ReadFault.{ReadFault}
 use Rattle.celread.specs.declared.fault.ReadFault.TheVariants as fault
-use Rattle.celread.specs.Tree.{Expr}
+use Rattle.celtree.specs.Tree.{Expr}
 use Rattle.celread.specs.Grammar.{IsSpelling}
-use Rattle.celread.specs.Limits.{opens_too_many, nests_within}
+use Rattle.celtree.specs.Nesting.{nests_within}
+use Rattle.celread.specs.Limits.{opens_too_many}
 
 -- the tokens spell the tree, within the limits
 pub record IsParse (ws : List Terminal) (t : Expr) : Type 0 where

@@ -7,8 +7,8 @@ ghost use Rattle.celread.specs.Operators.{infix_sign, infix_of, begins_with_int,
 ghost use Rattle.celread.specs.Ahead.{IsNotNext, IsOperator, HasNoOperator, HasNoPrefix, IsName, HasNoName, IsSelector, HasNoSelector, IsStart, IsSuffix, IsSeparator};
 
 use crate::items::{Closing, close_sign, trails};
-use crate::tree::{Operator, Prefix};
 use celtokens::{Sign, Token};
+use celtree::{Operator, Prefix};
 
 /// The token in front, and what follows it.
 pub(crate) fn first<'a, 'b>(tokens: &'b [Token<'a>]) -> Option<(&'b Token<'a>, &'b [Token<'a>])>

@@ -2,11 +2,11 @@
 
 ghost use Rattle.std.specs.Prelude.{◌≡◌, ◌≢◌, ◌∷◌, [], length, option_map, string_bytes, IfOk, MatchOption};
 ghost use Rattle.celread.specs.Calls.{macro_named, selection, variable, has_of, macro_of_three, macro_over, call_of, method_of};
-ghost use Rattle.celread.specs.Tree.{Over};
-ghost use Rattle.celread.specs.View.{view, views};
-ghost use Rattle.celread.specs.declared.tree.Macro.TheVariants as macro_of;
+ghost use Rattle.celtree.specs.Tree.{Over};
+ghost use Rattle.celtree.specs.View.{view, views};
+ghost use Rattle.celtree.specs.declared.tree.Macro.TheVariants as macro_of;
 
-use crate::tree::{Macro, Tree};
+use celtree::{Macro, Tree};
 use std::alloc::{AllocError, Global};
 
 fn macro_named(name: &str) -> Option<Macro>

@@ -4,8 +4,8 @@ ghost use Rattle.std.specs.Prelude.{◌≡◌, ◌<◌, length, IfOk, IfErr};
 ghost use Rattle.celtokens.specs.Seen.{terminals};
 ghost use Rattle.celread.specs.Grammar.{Member, Whole, Prefixed, Height};
 ghost use Rattle.celread.specs.Ends.{Read, HasNoTree, ReadPrimary, HasNoPrimary, ReadComposite, HasNoComposite, ReadItems, HasNoItems, ReadEntry, HasNoEntry, ReadEntries, HasNoEntries, Refuses};
-ghost use Rattle.celread.specs.Tree.{Conditional};
-ghost use Rattle.celread.specs.View.{view, views, pair_views};
+ghost use Rattle.celtree.specs.Tree.{Conditional};
+ghost use Rattle.celtree.specs.View.{view, views, pair_views};
 
 use crate::ahead::{
     Separator, Start, Suffix, after, after_prefix, operator_at, prefix_at, primary_at,
@@ -15,8 +15,8 @@ use crate::call::{call, method};
 use crate::fault::ReadFault;
 use crate::items::{Closing, close_sign};
 use crate::literal::{literal, text_of};
-use crate::tree::{Prefix, Tree};
 use celtokens::{Sign, Token};
+use celtree::{Prefix, Tree};
 use std::alloc::{AllocError, Global};
 
 // Apart from `expression`, so that its boxes take no room on the stack of a long `a ? b : c ? d : ..`.

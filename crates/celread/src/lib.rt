@@ -8,15 +8,12 @@
 
 mod ahead;
 mod call;
-mod copying;
 mod expression;
 mod fault;
 mod items;
 mod limits;
 mod literal;
 mod reading;
-mod tree;
 
 pub use fault::ReadFault;
 pub use reading::{TEXT_LIMIT, read};
-pub use tree::{Macro, Operator, Prefix, Tree};

@@ -2,11 +2,12 @@
 
 ghost use Rattle.std.specs.Prelude.{◌≡◌, ◌≤◌};
 ghost use Rattle.celtokens.specs.Seen.{terminal, terminals};
-ghost use Rattle.celread.specs.Limits.{open_after, opens_too_many, nests_within, all_within, pairs_within};
-ghost use Rattle.celread.specs.View.{view, views, pair_views};
+ghost use Rattle.celtree.specs.Nesting.{nests_within, all_within, pairs_within};
+ghost use Rattle.celread.specs.Limits.{open_after, opens_too_many};
+ghost use Rattle.celtree.specs.View.{view, views, pair_views};
 
-use crate::tree::Tree;
 use celtokens::{Sign, Token};
+use celtree::Tree;
 
 // How many brackets are open behind the token.
 fn open_after(opened: u32, token: &Token<'_>) -> u32

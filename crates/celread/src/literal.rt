@@ -3,12 +3,12 @@
 ghost use Rattle.std.specs.Prelude.{◌≡◌, ◌<◌, ◌≤◌, ◌^◌, pos, neg_ℤ, length, option_map, string_bytes, encode_utf8_all, IfOk, IfErr, IfSome, OnSome, MatchOption};
 ghost use Rattle.celtokens.specs.Seen.{number, terminal, terminals};
 ghost use Rattle.celread.specs.Grammar.{Literal, literal_of};
-ghost use Rattle.celread.specs.View.{view};
+ghost use Rattle.celtree.specs.View.{view};
 ghost use Rattle.celread.specs.Ahead.{HasNoLiteral, IsNegative, HasNoNegative, IsNegativeInt, IsNoNegativeInt};
 
 use crate::ahead::{after, first};
-use crate::tree::Tree;
 use celtokens::{Number, Sign, Token};
+use celtree::Tree;
 use std::alloc::{AllocError, Global};
 
 fn signed(digits: Number<'_>) -> Option<i64>

@@ -3,14 +3,14 @@
 ghost use Rattle.std.specs.Prelude.{◌+◌, ◌≤◌, length, IfOk, IfErr};
 ghost use Rattle.celtokens.specs.Seen.{terminals};
 ghost use Rattle.celread.specs.Reading.{IsParse, IsParseFault, IsReadAs, IsRefusedBy, IsNotRead, IsReadAlone, IsNoParse, IsParseAlone, UnlessMemory};
-ghost use Rattle.celread.specs.Size.{nodes, text_bytes};
-ghost use Rattle.celread.specs.View.{view};
+ghost use Rattle.celtree.specs.Size.{nodes, text_bytes};
+ghost use Rattle.celtree.specs.View.{view};
 
 use crate::expression::expression;
 use crate::fault::ReadFault;
 use crate::limits::{nests_within, opens_too_many};
-use crate::tree::Tree;
 use celtokens::{Token, characters, one_reading, tokens};
+use celtree::Tree;
 use std::alloc::Global;
 
 /// The longest text that is read, in bytes.

@@ -5,7 +5,7 @@ use Rattle.std.specs.Str.Parse.{digits_value}
 use Rattle.std.proofs.Math.Utf8.{scalar}
 use Rattle.std.proofs.lemmas.Option.{cond_some, some_pair_parts}
 use Rattle.celtokens.specs.declared.text.Style.{Style}
-use Rattle.celtokens.specs.Digits.{all_digits}
+use Rattle.celtree.specs.Digits.{all_digits}
 use Rattle.celtokens.specs.Run.{is_line_end}
 use Rattle.celtokens.specs.Escape.{code_point, named, hex_len, with_rest, hex_digits, escape}
 use Rattle.celtokens.specs.Text.{character}

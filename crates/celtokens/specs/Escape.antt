@@ -2,7 +2,7 @@
 use Rattle.std.specs.Prelude.{ℕ, ◌&&◌, ◌||◌, ◌==◌, nat_le, length, take, drop, Option, Some, None, List, [], ◌∷◌, if◌then◌else◌}
 use Rattle.std.specs.Str.Parse.{digits_value}
 use Rattle.std.proofs.Math.Utf8.{scalar}
-use Rattle.celtokens.specs.Digits.{all_digits}
+use Rattle.celtree.specs.Digits.{all_digits}
 
 -- the code point that the first n digits name, and what follows them
 abbrev pub code_point : ℕ → ℕ → List ℕ → Option (ℕ × List ℕ)

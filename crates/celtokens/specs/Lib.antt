@@ -1,6 +1,5 @@
 pub mod Class
 pub mod Run
-pub mod Digits
 pub mod Numeral
 pub mod Escape
 pub mod Text

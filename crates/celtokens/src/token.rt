@@ -1,7 +1,7 @@
 //! Tokens.
 
 ghost use Rattle.std.specs.Prelude.{◌≡◌, ◌≤◌, true};
-ghost use Rattle.celtokens.specs.Digits.{all_digits};
+ghost use Rattle.celtree.specs.Digits.{all_digits};
 
 use crate::sign::Sign;
 

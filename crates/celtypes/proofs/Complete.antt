@@ -1,6 +1,6 @@
 -- A type that the relation gives is the one that is computed.
 use Rattle.std.proofs.Common.{◌≡◌, Some, List, codes, refl, ◌∙◌}
-use Rattle.celread.specs.Tree.{Expr, Exprs, Pairs}
+use Rattle.celtree.specs.Tree.{Expr, Exprs, Pairs}
 use Rattle.celtypes.specs.Types.{ValueType}
 use Rattle.celtypes.specs.Typing.{Scope, HasType, HaveTypes, HaveKeyTypes, HaveValueTypes, null_literal, bool_literal, int_literal, uint_literal, string_literal, macro_variable, declared_name, variable, field, presence, index, sequence, mapping, denial, negation, sum, arithmetic, connective, equality, comparison, membership, conditional, call, size_method, text_test, test_macro, map_macro, filter_macro, no_types, types, no_key_types, key_types, no_value_types, value_types}
 use Rattle.celtypes.specs.Computed.{type_of, types_of, key_types_of, value_types_of}

@@ -3,7 +3,3 @@ pub mod Steps
 pub mod Relations
 pub mod Complete
 pub mod Sound
-pub mod KindLists
-pub mod KindMacros
-pub mod KindTables
-pub mod KindOfMeaning

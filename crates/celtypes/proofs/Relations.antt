@@ -2,8 +2,8 @@
 use Rattle.std.proofs.Common.{◌≡◌, ℕ, Bool, true, false, cond, Some, List, [], ◌∷◌, codes, bytes_eq, refl, sym, ap, subst, ◌∙◌}
 use Rattle.std.proofs.lemmas.Option.{none-some, same_Some, cond_some}
 use Rattle.std.proofs.lemmas.Bool.{false≢true, false_from_ne_true, and_parts}
-use Rattle.celread.specs.declared.tree.Operator.{Operator}
-use Rattle.celread.specs.declared.tree.Macro.{Macro}
+use Rattle.celtree.specs.declared.tree.Operator.{Operator}
+use Rattle.celtree.specs.declared.tree.Macro.{Macro}
 use Rattle.celtypes.specs.Types.{ValueType, int, uint, bool, string, null, dyn, list, map}
 use Rattle.celtypes.specs.Tables.{Fits, itself, dynamic, Common, alike, unlike, AllAre, none_other, one_more, Element, of_none, of_one_type, of_many_types, IsNumber, signed, unsigned, IsKey, int_key, uint_key, bool_key, string_key, AreKeys, no_keys, keys, Sums, sum_of_numbers, sum_of_strings, sum_of_lists, number_and_dyn, dyn_and_number, string_and_dyn, dyn_and_string, list_and_dyn, dyn_and_list, dyn_and_dyn, IsArithmetic, subtraction, multiplication, division, remainder, Calculates, two_numbers, number_by_dyn, dyn_by_number, dyn_by_dyn, IsConnective, conjunction, disjunction, IsEquality, equal, not_equal, IsComparison, less, less_or_equal, greater, greater_or_equal, Comparable, compare_numbers, compare_strings, compare_bools, ItemOf, list_item, map_key, dyn_item, IndexOf, item_at, value_at, dyn_at, FieldOf, map_field, dyn_field, IsSized, string_size, list_size, map_size, IsConvertible, from_int, from_uint, from_string, Calls, size_of, to_int, to_uint, to_string, to_dyn, IsTextTest, contains, starts_with, ends_with, IsTest, all_items, some_item, one_item}
 use Rattle.celtypes.specs.Computed.{same, common, all_are, element, given, fits_bool, fits_int, fits_uint, fits_string, fits_number, fits_convertible, fits_key, are_keys, fits_sized, fits_ordered, list_sum, dyn_sum, sum_type, dyn_number, number_type, compares, has_items, item_type, index_type, field_type, infix_type, function_type, is_text_test, macro_type}

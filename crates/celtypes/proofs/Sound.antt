@@ -3,13 +3,13 @@ use Rattle.std.proofs.Common.{◌≡◌, ℕ, Bool, true, false, cond, ◌&&◌,
 use Rattle.std.proofs.lemmas.Option.{option_and_then_some, none-some, same_Some}
 use Rattle.std.proofs.lemmas.Bool.{and_parts, false≢true}
 use Rattle.std.proofs.lemmas.Slice.Eq.{bytes_eq-Decides}
-use Rattle.celread.specs.declared.tree.Prefix.{Prefix}
-use Rattle.celread.specs.declared.tree.Prefix.TheVariants as prefix_of
-use Rattle.celread.specs.declared.tree.Operator.{Operator}
-use Rattle.celread.specs.declared.tree.Operator.TheVariants as operator_of
-use Rattle.celread.specs.declared.tree.Macro.{Macro}
-use Rattle.celread.specs.declared.tree.Macro.TheVariants as macro_of
-use Rattle.celread.specs.Tree.{Expr, Null, Truth, Int, Uint, Text, Name, Field, Has, Index, Sequence, Mapping, Unary, Infix, Conditional, Call, Method, Over, Exprs, no_items, item, Pairs, no_pairs, pair}
+use Rattle.celtree.specs.declared.tree.Prefix.{Prefix}
+use Rattle.celtree.specs.declared.tree.Prefix.TheVariants as prefix_of
+use Rattle.celtree.specs.declared.tree.Operator.{Operator}
+use Rattle.celtree.specs.declared.tree.Operator.TheVariants as operator_of
+use Rattle.celtree.specs.declared.tree.Macro.{Macro}
+use Rattle.celtree.specs.declared.tree.Macro.TheVariants as macro_of
+use Rattle.celtree.specs.Tree.{Expr, Null, Truth, Int, Uint, Text, Name, Field, Has, Index, Sequence, Mapping, Unary, Infix, Conditional, Call, Method, Over, Exprs, no_items, item, Pairs, no_pairs, pair}
 use Rattle.celtypes.specs.Types.{ValueType, int, uint, bool, string, null, dyn, list, map}
 use Rattle.celtypes.specs.Tables.{subtraction, multiplication, division, remainder, conjunction, disjunction, equal, not_equal, IsComparison, less, less_or_equal, greater, greater_or_equal, IsConnective, IsTest, all_items, some_item, one_item, ItemOf}
 use Rattle.celtypes.specs.Typing.{Scope, bound, bind, is_declared, is_variables, HasType, HaveTypes, HaveKeyTypes, HaveValueTypes, null_literal, bool_literal, int_literal, uint_literal, string_literal, macro_variable, declared_name, variable, field, presence, index, sequence, mapping, denial, negation, sum, arithmetic, connective, equality, comparison, membership, conditional, call, size_method, text_test, test_macro, map_macro, filter_macro, no_types, types, no_key_types, key_types, no_value_types, value_types}

@@ -4,4 +4,3 @@ pub mod Typing
 pub mod Computed
 pub mod Seen
 pub mod Arguments
-pub mod Kinds

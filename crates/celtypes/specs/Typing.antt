@@ -1,11 +1,11 @@
 -- The type of an expression under declarations, one case a row.
 use Rattle.std.specs.Prelude.{◌≡◌, ◌≢◌, ℕ, ℤ, Bool, true, false, ◌&&◌, ◌||◌, if◌then◌else◌, Option, Some, None, List, [], ◌∷◌, codes, bytes_eq}
-use Rattle.celread.specs.declared.tree.Prefix.TheVariants as prefix_of
-use Rattle.celread.specs.declared.tree.Operator.{Operator}
-use Rattle.celread.specs.declared.tree.Operator.TheVariants as operator_of
-use Rattle.celread.specs.declared.tree.Macro.{Macro}
-use Rattle.celread.specs.declared.tree.Macro.TheVariants as macro_of
-use Rattle.celread.specs.Tree.{Expr, Null, Truth, Int, Uint, Text, Name, Field, Has, Index, Sequence, Mapping, Unary, Infix, Conditional, Call, Method, Over, Exprs, no_items, item, Pairs, no_pairs, pair}
+use Rattle.celtree.specs.declared.tree.Prefix.TheVariants as prefix_of
+use Rattle.celtree.specs.declared.tree.Operator.{Operator}
+use Rattle.celtree.specs.declared.tree.Operator.TheVariants as operator_of
+use Rattle.celtree.specs.declared.tree.Macro.{Macro}
+use Rattle.celtree.specs.declared.tree.Macro.TheVariants as macro_of
+use Rattle.celtree.specs.Tree.{Expr, Null, Truth, Int, Uint, Text, Name, Field, Has, Index, Sequence, Mapping, Unary, Infix, Conditional, Call, Method, Over, Exprs, no_items, item, Pairs, no_pairs, pair}
 use Rattle.celtypes.specs.Types.{ValueType, int, uint, bool, string, null, dyn, list, map}
 use Rattle.celtypes.specs.Tables.{Fits, Common, Element, AreKeys, Sums, IsArithmetic, Calculates, IsConnective, IsEquality, IsComparison, Comparable, ItemOf, IndexOf, FieldOf, IsSized, Calls, IsTextTest, IsTest}
 

@@ -8,7 +8,7 @@ ghost use Rattle.celtypes.specs.Types.{int, uint, string};
 
 use crate::rows::{are_keys, bool_if, fits_bool, fits_convertible, fits_sized, fits_string};
 use crate::types::{CelType, copy, element, list_of, map_of};
-use celread::Macro;
+use celtree::Macro;
 use std::alloc::{AllocError, Global};
 
 // The function of a name with one argument.

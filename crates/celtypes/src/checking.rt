@@ -1,8 +1,8 @@
 //! The type of a tree.
 
 ghost use Rattle.std.specs.Prelude.{◌≡◌, ℕ, List, option_map, option_and_then, string_bytes, IfOk, IfErr};
-ghost use Rattle.celread.specs.Tree as expr;
-ghost use Rattle.celread.specs.View.{view, views, pair_views};
+ghost use Rattle.celtree.specs.Tree as expr;
+ghost use Rattle.celtree.specs.View.{view, views, pair_views};
 ghost use Rattle.celtypes.specs.declared.fault.TypeFault.TheVariants as fault;
 ghost use Rattle.celtypes.specs.Computed.{presence_type, infix_type, type_of, types_of, key_types_of, value_types_of};
 ghost use Rattle.celtypes.specs.Seen.{type_seen, types_seen, scope_seen, declared};
@@ -16,7 +16,7 @@ use crate::operands::{
 use crate::rows::{field_type, prefix_type, presence_type};
 use crate::scope::{Env, Local, Scope, bind, name_type, variable_type};
 use crate::types::{CelType, element, list_of};
-use celread::{Operator, Prefix, Tree};
+use celtree::{Operator, Prefix, Tree};
 use std::alloc::{AllocError, Global};
 
 fn is_variables(tree: &Tree) -> bool

@@ -7,7 +7,7 @@ ghost use Rattle.celtypes.specs.Seen.{type_seen, types_seen};
 use crate::calls::{macro_type, mapping_type, method_type};
 use crate::rows::{conditional_type, index_type, infix_type, item_type};
 use crate::types::CelType;
-use celread::{Macro, Operator};
+use celtree::{Macro, Operator};
 use std::alloc::{AllocError, Global};
 
 /// The type of a macro's variable: `variables` is none.

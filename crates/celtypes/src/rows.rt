@@ -6,7 +6,7 @@ ghost use Rattle.celtypes.specs.Seen.{type_seen, types_seen};
 ghost use Rattle.celtypes.specs.Types.{bool};
 
 use crate::types::{CelType, common, copy, list_of};
-use celread::{Operator, Prefix};
+use celtree::{Operator, Prefix};
 use std::alloc::{AllocError, Global};
 
 /// Whether a row takes the type where it asks for bool.

@@ -6,8 +6,6 @@
 
 mod document;
 mod parts;
-#[cfg(test)]
-mod tests;
 
 pub use document::{document_value, value_of};
 pub use parts::{has_member, item, member};

@@ -5,8 +5,8 @@ use Rattle.std.specs.List.{flat_map}
 use Rattle.std.specs.Option.{option_map_or}
 use Rattle.std.proofs.lemmas.List.{length-map, map-append}
 use Rattle.std.proofs.lemmas.Bool.Decides.{nat_tests}
-use Rattle.celread.specs.Tree.{Expr}
-use Rattle.celread.specs.Limits.{nests_within}
+use Rattle.celtree.specs.Tree.{Expr}
+use Rattle.celtree.specs.Nesting.{nests_within}
 use Rattle.serde_json.specs.Data.{Data}
 use Rattle.matching.specs.Rules.{Attempt}
 use Rattle.celmean.specs.Value.{Outcome, Gives}

@@ -2,7 +2,7 @@
 use Rattle.std.specs.Prelude.{ℕ, ◌∷◌, ◌++◌, ◌==◌, ◌||◌, List, [], Bool, codes, if◌then◌else◌, Option, Some, None, unwrap_or, option_and_then}
 use Rattle.std.specs.List.{list_all, list_any}
 use Rattle.std.specs.Option.{option_map_or}
-use Rattle.celread.specs.Tree.{Expr}
+use Rattle.celtree.specs.Tree.{Expr}
 use Rattle.celmean.specs.Value.{Null, Truth, Int, Uint, Text, Sequence, Mapping, Outcome, Gives, Error}
 use Rattle.celmean.specs.Meaning.{Environment, mean}
 use Rattle.celmean.specs.Macros.{is_true, is_false}

@@ -1,6 +1,6 @@
 -- Plans that stand for the expressions of a policy.
 use Rattle.std.specs.Prelude.{◌≡◌, List, []}
-use Rattle.celread.specs.Tree.{Expr}
+use Rattle.celtree.specs.Tree.{Expr}
 use Rattle.plancode.specs.Plans.{Judged}
 use Rattle.policy.specs.Spec.{Policy}
 use Rattle.expressions.specs.Expressions.{sources}

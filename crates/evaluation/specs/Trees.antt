@@ -1,6 +1,6 @@
 -- A policy's expressions with the trees that they spell, by their order: match conditions, variables, validations.
 use Rattle.std.specs.Prelude.{◌∷◌, List, [], length, drop, Option, Some, None}
-use Rattle.celread.specs.Tree.{Expr}
+use Rattle.celtree.specs.Tree.{Expr}
 use Rattle.policy.specs.Forms.{Text}
 use Rattle.policy.specs.Spec.{Named, Validation, Policy}
 

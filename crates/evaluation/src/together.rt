@@ -2,7 +2,7 @@
 
 ghost use Rattle.std.specs.Prelude.{◌≡◌, [], map, List, None, IfOk};
 ghost use Rattle.serde_json.specs.View.{view};
-ghost use Rattle.celread.specs.Tree.{Expr};
+ghost use Rattle.celtree.specs.Tree.{Expr};
 ghost use Rattle.matching.specs.Rules.{attempt_seen};
 ghost use Rattle.policy.specs.Spec.{named_seen, policy_seen};
 ghost use Rattle.evaluation.specs.Environment.{request_of, seen};

@@ -1,7 +1,7 @@
 -- One expression: whether it is bad, and what is declared behind it.
 use Rattle.std.proofs.Common.{◌≡◌, subst}
 use Rattle.celread.specs.Reading.{IsNotRead}
-use Rattle.celread.specs.Tree.{Expr}
+use Rattle.celtree.specs.Tree.{Expr}
 use Rattle.celtypes.specs.Types.{ValueType}
 use Rattle.celtypes.specs.Typing.{HasType, HasNoType, HasOneTypeAtMost}
 use Rattle.policy.specs.Spec.{Policy}

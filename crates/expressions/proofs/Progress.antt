@@ -2,7 +2,7 @@
 use Rattle.std.proofs.Common.{◌≡◌, ℕ, ◌+◌, ◌<◌, ◌≤◌, List, [], ◌∷◌, ◌++◌, length, map, drop, get_or, refl, sym, ap, subst, ◌∙◌, append_assoc, inl, inr}
 use Rattle.std.proofs.lemmas.List.{append-nil, at_drop_more, at_drop_all}
 use Rattle.std.specs.List.{AllByRecursion}
-use Rattle.celread.specs.Tree.{Expr}
+use Rattle.celtree.specs.Tree.{Expr}
 use Rattle.celtypes.specs.Types.{ValueType}
 use Rattle.plan.specs.Seen.{IsSmall}
 use Rattle.policy.specs.Spec.{Policy}

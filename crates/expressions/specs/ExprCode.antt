@@ -5,13 +5,13 @@ use mathlib.Core.Path.{ap, refl}
 use Rattle.std.proofs.Common.{eq-eqb}
 use Rattle.std.specs.Coded.{code_by}
 use Rattle.jsondoc.specs.DataCode.{head, tail, bytes_code}
-use Rattle.celread.specs.declared.tree.Prefix.{Prefix}
-use Rattle.celread.specs.declared.tree.Prefix.TheVariants as prefix_of
-use Rattle.celread.specs.declared.tree.Operator.{Operator}
-use Rattle.celread.specs.declared.tree.Operator.TheVariants as operator_of
-use Rattle.celread.specs.declared.tree.Macro.{Macro}
-use Rattle.celread.specs.declared.tree.Macro.TheVariants as macro_of
-use Rattle.celread.specs.Tree.{Expr, Null, Truth, Int, Uint, Text, Name, Field, Has, Index, Sequence, Mapping, Unary, Infix, Conditional, Call, Method, Over, Exprs, no_items, item, Pairs, no_pairs, pair}
+use Rattle.celtree.specs.declared.tree.Prefix.{Prefix}
+use Rattle.celtree.specs.declared.tree.Prefix.TheVariants as prefix_of
+use Rattle.celtree.specs.declared.tree.Operator.{Operator}
+use Rattle.celtree.specs.declared.tree.Operator.TheVariants as operator_of
+use Rattle.celtree.specs.declared.tree.Macro.{Macro}
+use Rattle.celtree.specs.declared.tree.Macro.TheVariants as macro_of
+use Rattle.celtree.specs.Tree.{Expr, Null, Truth, Int, Uint, Text, Name, Field, Has, Index, Sequence, Mapping, Unary, Infix, Conditional, Call, Method, Over, Exprs, no_items, item, Pairs, no_pairs, pair}
 
 abbrev pub prefix_number : Prefix → ℕ
 prefix_number prefix_of.Not = 0

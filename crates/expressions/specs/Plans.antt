@@ -1,6 +1,6 @@
 -- The plans of a policy: each of its expressions, compiled, in order.
 use Rattle.std.specs.Prelude.{◌∷◌, ◌++◌, List, [], length}
-use Rattle.celread.specs.Tree.{Expr}
+use Rattle.celtree.specs.Tree.{Expr}
 use Rattle.plan.specs.Compilation.{compiled}
 use Rattle.plancode.specs.Plans.{Judged}
 use Rattle.policy.specs.Forms.{Text}

@@ -1,7 +1,7 @@
 -- A policy with the trees of its expressions, as contracts see it.
 use Rattle.std.specs.Prelude.{[], List}
 use Rattle.std.specs.List.{AllByRecursion}
-use Rattle.celread.specs.Tree.{Expr}
+use Rattle.celtree.specs.Tree.{Expr}
 use Rattle.plan.specs.Seen.{IsSmall}
 use Rattle.policy.specs.Spec.{Policy}
 use Rattle.expressions.specs.Expressions.{sources}

@@ -1,9 +1,9 @@
 -- What the program's expressions stand for, and what its faults tell.
 use Rattle.std.specs.Prelude.{◌≡◌, List, [], map, None, string_bytes}
 use Rattle.serde_json.specs.Data.{Data}
-use Rattle.celread.specs.declared.tree.Tree.{Tree}
-use Rattle.celread.specs.Tree.{Expr}
-use Rattle.celread.specs.View.{view}
+use Rattle.celtree.specs.declared.tree.Tree.{Tree}
+use Rattle.celtree.specs.Tree.{Expr}
+use Rattle.celtree.specs.View.{view}
 use Rattle.policy.specs.Policies.{policy_of}
 use Rattle.policy.specs.Spec.{Policy}
 use Rattle.expressions.specs.declared.fault.PolicyFault.{PolicyFault}

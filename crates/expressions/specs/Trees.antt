@@ -1,7 +1,7 @@
 -- What is known of the tree of one expression.
 use Rattle.std.specs.Prelude.{◌≡◌, ℕ, List}
 use Rattle.celread.specs.Reading.{IsReadAs, IsReadAlone}
-use Rattle.celread.specs.Tree.{Expr}
+use Rattle.celtree.specs.Tree.{Expr}
 use Rattle.celtypes.specs.Types.{ValueType}
 use Rattle.celtypes.specs.Typing.{HasType}
 use Rattle.plan.specs.Seen.{IsSmall}

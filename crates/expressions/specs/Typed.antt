@@ -1,7 +1,7 @@
 -- The trees that the expressions of a policy spell, and the first expression that is bad.
 use Rattle.std.specs.Prelude.{◌≡◌, ◌⊎◌, ◌∷◌, List, [], Some}
 use Rattle.serde_json.specs.Data.{Data}
-use Rattle.celread.specs.Tree.{Expr}
+use Rattle.celtree.specs.Tree.{Expr}
 use Rattle.celread.specs.Reading.{IsReadAs}
 use Rattle.celtypes.specs.Types.{ValueType}
 use Rattle.celtypes.specs.Typing.{HasType}

@@ -1,6 +1,6 @@
 -- Variables, counted and named.
 use Rattle.std.specs.Prelude.{◌≡◌, ℕ, ◌+◌, List, [], ◌∷◌, map}
-use Rattle.celread.specs.Tree.{Expr}
+use Rattle.celtree.specs.Tree.{Expr}
 use Rattle.celtypes.specs.Types.{ValueType}
 use Rattle.policy.specs.Forms.{Text}
 use Rattle.policy.specs.Spec.{Policy}

@@ -2,8 +2,8 @@
 
 ghost use Rattle.std.specs.Prelude.{◌≡◌, ◌≤◌, [], length, map, IfOk, OnOk};
 ghost use Rattle.std.specs.List.{AllByRecursion};
-ghost use Rattle.celread.specs.Tree.{Expr};
-ghost use Rattle.celread.specs.View.{view};
+ghost use Rattle.celtree.specs.Tree.{Expr};
+ghost use Rattle.celtree.specs.View.{view};
 ghost use Rattle.celtypes.specs.Seen.{variables_seen, declared};
 ghost use Rattle.celtypes.specs.Types.{ValueType};
 ghost use Rattle.expressions.specs.Variables.{names_in, HasItsType, Declares, variables_among};
@@ -17,7 +17,7 @@ ghost use Rattle.policy.specs.Spec.{policy_seen};
 
 use crate::source::{Source, sources};
 use crate::typing::{declare, env_at, type_at};
-use celread::Tree;
+use celtree::Tree;
 use celtypes::{Env, Variable, at_most_one_type};
 use instructions::{CodeFault, Name};
 use plan::compile;

@@ -2,8 +2,8 @@
 
 ghost use Rattle.std.specs.Prelude.{◌≡◌, [], List, map, IfOk, IfErr};
 ghost use Rattle.std.specs.List.{AllByRecursion};
-ghost use Rattle.celread.specs.Tree.{Expr};
-ghost use Rattle.celread.specs.View.{view};
+ghost use Rattle.celtree.specs.Tree.{Expr};
+ghost use Rattle.celtree.specs.View.{view};
 ghost use Rattle.expressions.specs.Expressions.{sources};
 ghost use Rattle.expressions.specs.PolicyTrees.{AreCompilable};
 ghost use Rattle.expressions.specs.Seen.{source_seen, IsFaultAmong};
@@ -14,7 +14,7 @@ ghost use Rattle.policy.specs.Spec.{policy_seen};
 use crate::fault::PolicyFault;
 use crate::source::{Source, sources};
 use crate::typing::typed;
-use celread::Tree;
+use celtree::Tree;
 use policy::Policy;
 use std::alloc::Global;
 

@@ -2,10 +2,11 @@
 
 ghost use Rattle.std.specs.Prelude.{IfOk, MatchOption};
 ghost use Rattle.celread.specs.Reading.{IsNotRead};
-ghost use Rattle.celread.specs.View.{view};
+ghost use Rattle.celtree.specs.View.{view};
 ghost use Rattle.expressions.specs.Trees.{IsTreeOf};
 
-use celread::{ReadFault, Tree, read};
+use celread::{ReadFault, read};
+use celtree::Tree;
 use std::alloc::{AllocError, Global};
 
 /// The tree that the text spells, if it spells one within the limits on length and depth.

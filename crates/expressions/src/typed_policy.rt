@@ -1,7 +1,7 @@
 //! Policies whose expressions are read and typed.
 
 ghost use Rattle.std.specs.Prelude.{◌≡◌, ◌≤◌, [], List, length, map, IfOk, IfErr};
-ghost use Rattle.celread.specs.Tree.{Expr};
+ghost use Rattle.celtree.specs.Tree.{Expr};
 ghost use Rattle.expressions.specs.Expressions.{sources};
 ghost use Rattle.expressions.specs.Plans.{plans_of};
 ghost use Rattle.expressions.specs.Seen.{IsFaultOf};
@@ -12,7 +12,7 @@ ghost use Rattle.serde_json.specs.View.{view};
 use crate::fault::PolicyFault;
 use crate::planning::plans_of;
 use crate::reading::trees_of;
-use celread::Tree;
+use celtree::Tree;
 use plancode::Verified;
 use policy::Policy;
 use serde_json::Value as Json;

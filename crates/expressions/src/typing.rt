@@ -1,7 +1,7 @@
 //! The type of an expression, and whether it is as it must be.
 
 ghost use Rattle.std.specs.Prelude.{◌≡◌, ◌↔◌, IsTrue, IfOk, OnOk, MatchOption};
-ghost use Rattle.celread.specs.View.{view};
+ghost use Rattle.celtree.specs.View.{view};
 ghost use Rattle.celtypes.specs.Seen.{type_seen, variables_seen, declared};
 ghost use Rattle.celtypes.specs.Types.{bool, string};
 ghost use Rattle.celtypes.specs.Typing.{HasType, HasNoType};
@@ -13,7 +13,7 @@ ghost use Rattle.policy.specs.Spec.{policy_seen};
 
 use crate::source::{Place, Source};
 use crate::tree::tree_of;
-use celread::Tree;
+use celtree::Tree;
 use celtypes::{CelType, Env, TypeFault, Variable, at_most_one_type, check};
 use policy::Policy;
 use std::alloc::{AllocError, Global};

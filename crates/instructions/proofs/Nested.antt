@@ -4,7 +4,7 @@ use Rattle.std.specs.Prelude.{slice_get}
 use Rattle.std.specs.List.{list_all}
 use Rattle.std.proofs.lemmas.Bool.{eqb-true, ltb-false}
 use Rattle.std.proofs.lemmas.Bool.Decides.{nat_tests}
-use Rattle.celread.specs.declared.tree.Macro.{Macro}
+use Rattle.celtree.specs.declared.tree.Macro.{Macro}
 use Rattle.instructions.specs.declared.fault.CodeFault.TheVariants as fault
 use Rattle.instructions.specs.Op.{Op, IfFalse, IfTrue, Branch, Jump, Over}
 use Rattle.instructions.specs.Judging.{Arrival, Body, height_at, arrivals, takes, targets, left, has_one, goes_past, is_fair, are_fair, is_named, goes_on, opens, runs, judged, step}

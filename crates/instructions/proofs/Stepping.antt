@@ -3,7 +3,7 @@ use Rattle.std.proofs.Common.{◌≡◌, inl, inr, ℕ, ◌+◌, ◌<◌, ◌≤
 use Rattle.std.specs.Prelude.{slice_get}
 use Rattle.std.specs.List.{filter}
 use Rattle.std.proofs.lemmas.Option.{slice_get_within}
-use Rattle.celread.specs.declared.tree.Macro.{Macro}
+use Rattle.celtree.specs.declared.tree.Macro.{Macro}
 use Rattle.instructions.specs.Op.{Op, Over}
 use Rattle.instructions.specs.Judging.{Arrival, Body, height_at, comes_to, arrivals, targets, left, goes_on, opens}
 use Rattle.instructions.specs.WellFormed.{Among, Control, within, begins_body, Comes, goes}

@@ -1,7 +1,7 @@
 -- Instructions as pure data. Texts are bytes of UTF-8; targets are numbers of instructions, counted from 0.
 use Rattle.std.specs.Prelude.{ℕ, ℤ, Bool, List}
-use Rattle.celread.specs.declared.tree.Prefix.{Prefix}
-use Rattle.celread.specs.declared.tree.Macro.{Macro}
+use Rattle.celtree.specs.declared.tree.Prefix.{Prefix}
+use Rattle.celtree.specs.declared.tree.Macro.{Macro}
 use Rattle.instructions.specs.declared.instruction.Name.{Name}
 use Rattle.instructions.specs.declared.instruction.Slot.{Slot}
 use Rattle.instructions.specs.declared.instruction.Binary.{Binary}

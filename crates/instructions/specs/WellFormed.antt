@@ -1,6 +1,6 @@
 -- Which plans are well formed, in words of their own: by what control can reach.
 use Rattle.std.specs.Prelude.{◌≡◌, ◌⊎◌, ◌↔◌, ℕ, ◌+◌, ◌<◌, ◌≤◌, IsTrue, List, [], ◌∷◌, ◌++◌, length, map, Some, Ok, slice_get}
-use Rattle.celread.specs.declared.tree.Macro.{Macro}
+use Rattle.celtree.specs.declared.tree.Macro.{Macro}
 use Rattle.instructions.specs.Op.{Op, Over}
 use Rattle.instructions.specs.Judging.{Arrival, arrivals, takes, targets, is_named, first_fault}
 

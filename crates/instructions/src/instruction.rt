@@ -1,6 +1,6 @@
 //! Instructions and plans.
 
-use celread::{Macro, Prefix};
+use celtree::{Macro, Prefix};
 
 /// A name that is declared for each expression.
 #[derive(Clone, Copy, Debug, PartialEq, Eq)]

@@ -5,12 +5,12 @@ use Rattle.std.proofs.lemmas.Bool.{false≢true, and_parts}
 use Rattle.std.proofs.lemmas.Bool.Decides.{nat_tests}
 use Rattle.std.proofs.lemmas.List.{reverse-reverse, length-reverse}
 use mathlib.Core.List.{reverse-cons}
-use Rattle.celread.specs.declared.tree.Operator.{Operator}
-use Rattle.celread.specs.declared.tree.Operator.TheVariants as operator_of
-use Rattle.celread.specs.declared.tree.Macro.{Macro}
-use Rattle.celread.specs.Tree as expr
-use Rattle.celread.specs.Tree.{Expr, Exprs, no_items, item, Pairs, no_pairs, pair}
-use Rattle.celread.specs.Limits.{nests_within, all_within, pairs_within}
+use Rattle.celtree.specs.declared.tree.Operator.{Operator}
+use Rattle.celtree.specs.declared.tree.Operator.TheVariants as operator_of
+use Rattle.celtree.specs.declared.tree.Macro.{Macro}
+use Rattle.celtree.specs.Tree as expr
+use Rattle.celtree.specs.Tree.{Expr, Exprs, no_items, item, Pairs, no_pairs, pair}
+use Rattle.celtree.specs.Nesting.{nests_within, all_within, pairs_within}
 use Rattle.celmean.specs.Value.{Value, Null, Truth, Int, Uint, Text, Outcome, Gives, Error, with_value, with_values}
 use Rattle.celmean.specs.Collections.{indexed, member, has_member, list_of, map_of}
 use Rattle.celmean.specs.Macros.{is_true, is_false, both, either, range_of, reduced, over_items}

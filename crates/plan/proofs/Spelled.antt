@@ -2,11 +2,11 @@
 use Rattle.std.proofs.Common.{◌≡◌, ℕ, ◌+◌, ◌*◌, ◌≤◌, Bool, true, false, cond, Option, Some, None, List, [], ◌∷◌, ◌++◌, length, ap, ◌∙◌, arith, length-append}
 use Rattle.std.specs.List.{flat_map}
 use Rattle.std.proofs.lemmas.Grind.{flat_map-append}
-use Rattle.celread.specs.declared.tree.Operator.{Operator}
-use Rattle.celread.specs.declared.tree.Operator.TheVariants as operator_of
-use Rattle.celread.specs.Tree as expr
-use Rattle.celread.specs.Tree.{Expr, Exprs, no_items, item, Pairs, no_pairs, pair}
-use Rattle.celread.specs.Size.{nodes, nodes_of_items, nodes_of_pairs, text_bytes, text_bytes_of_items, text_bytes_of_pairs}
+use Rattle.celtree.specs.declared.tree.Operator.{Operator}
+use Rattle.celtree.specs.declared.tree.Operator.TheVariants as operator_of
+use Rattle.celtree.specs.Tree as expr
+use Rattle.celtree.specs.Tree.{Expr, Exprs, no_items, item, Pairs, no_pairs, pair}
+use Rattle.celtree.specs.Size.{nodes, nodes_of_items, nodes_of_pairs, text_bytes, text_bytes_of_items, text_bytes_of_pairs}
 use Rattle.celtypes.specs.Typing.{is_variables}
 use Rattle.instructions.specs.declared.instruction.Name.{Name}
 use Rattle.instructions.specs.declared.instruction.Slot.{Slot}

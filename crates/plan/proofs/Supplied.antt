@@ -2,8 +2,8 @@
 use Rattle.std.proofs.Common.{◌≡◌, ℕ, zero, suc, ◌<◌, Bool, true, false, cond, Option, Some, List, [], ◌∷◌, bytes_eq, map, length, refl, sym, ◌∙◌, arith}
 use Rattle.std.proofs.lemmas.Option.{none-some}
 use Rattle.std.proofs.lemmas.Bool.{false≢true}
-use Rattle.celread.specs.Tree as expr
-use Rattle.celread.specs.Tree.{Expr, Exprs, no_items, item, Pairs, no_pairs, pair}
+use Rattle.celtree.specs.Tree as expr
+use Rattle.celtree.specs.Tree.{Expr, Exprs, no_items, item, Pairs, no_pairs, pair}
 use Rattle.celtypes.specs.Types.{ValueType}
 use Rattle.celtypes.specs.Tables.{Calls, size_of, to_int, to_uint, to_string, to_dyn, IsTextTest, contains, starts_with, ends_with}
 use Rattle.celtypes.specs.Typing.{Scope, bound, is_variables, HasType, null_literal, bool_literal, int_literal, uint_literal, string_literal, macro_variable, declared_name, variable, field, presence, index, sequence, mapping, denial, negation, sum, arithmetic, connective, equality, comparison, membership, conditional, call, size_method, text_test, test_macro, map_macro, filter_macro, HaveTypes, no_types, types, HaveKeyTypes, no_key_types, key_types, HaveValueTypes, no_value_types, value_types}

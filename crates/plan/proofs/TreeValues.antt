@@ -2,10 +2,10 @@
 use Rattle.std.proofs.Common.{◌≡◌, ℕ, ◌≤◌, List, Result, Ok, Err, OnOk, Global, String, drop, length, string_bytes, sym, subst, rules}
 use Rattle.std.proofs.lemmas.List.{drop_all}
 use Rattle.std.proofs.lemmas.Str.{IsUtf8-string_bytes}
-use Rattle.celread.specs.declared.tree.Tree as tree
-use Rattle.celread.specs.declared.tree.Tree.{Tree, the_lemmas}
-use Rattle.celread.specs.Tree as expr
-use Rattle.celread.specs.View.{view, views, pair_views}
+use Rattle.celtree.specs.declared.tree.Tree as tree
+use Rattle.celtree.specs.declared.tree.Tree.{Tree, the_lemmas}
+use Rattle.celtree.specs.Tree as expr
+use Rattle.celtree.specs.View.{view, views, pair_views}
 use Rattle.plan.specs.Values.{HasValues, HaveValues, PairsHaveValues}
 
 view-Text : (s : String Global) → view (tree.Text s) ≡ expr.Text (string_bytes s)

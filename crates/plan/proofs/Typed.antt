@@ -2,8 +2,8 @@
 use Rattle.std.proofs.Common.{◌≡◌, ℕ, Bool, true, false, ◌||◌, ◌&&◌, cond, Some, None, List, [], ◌∷◌, codes, bytes_eq, map, refl, sym, ◌∙◌}
 use Rattle.std.proofs.lemmas.Option.{none-some}
 use Rattle.std.proofs.lemmas.Bool.{false≢true, and_parts}
-use Rattle.celread.specs.Tree as expr
-use Rattle.celread.specs.Tree.{Expr, Exprs, no_items, item, Pairs, no_pairs, pair}
+use Rattle.celtree.specs.Tree as expr
+use Rattle.celtree.specs.Tree.{Expr, Exprs, no_items, item, Pairs, no_pairs, pair}
 use Rattle.celmean.specs.Value.{Outcome, Gives, Error}
 use Rattle.celmean.specs.Functions.{called, method_called}
 use Rattle.celtypes.specs.Types.{ValueType}

@@ -1,7 +1,7 @@
 -- The code of an expression: its operands' code, left to right, and then the instruction that takes them.
 use Rattle.std.specs.Prelude.{ℕ, suc, ◌+◌, if◌then◌else◌, List, [], ◌∷◌, ◌++◌}
-use Rattle.celread.specs.Tree.{Expr, Null, Truth, Int, Uint, Text, Name, Field, Has, Index, Sequence, Mapping, Unary, Infix, Conditional, Call, Method, Exprs, no_items, item, Pairs, no_pairs, pair}
-use Rattle.celread.specs.Tree as expr
+use Rattle.celtree.specs.Tree.{Expr, Null, Truth, Int, Uint, Text, Name, Field, Has, Index, Sequence, Mapping, Unary, Infix, Conditional, Call, Method, Exprs, no_items, item, Pairs, no_pairs, pair}
+use Rattle.celtree.specs.Tree as expr
 use Rattle.celtypes.specs.Typing.{is_variables}
 use Rattle.instructions.specs.Op.{Op, PushInt, PushUint, PushText, PushTruth, PushNull, PushVariable, TakeField, TakeHas, TakeIndex, TakeItems, TakePairs, TakeUnary, TakeCall, Branch, Jump, Over}
 use Rattle.plan.specs.Names.{Names, bind, name_op, place_of}

@@ -2,8 +2,8 @@
 use Rattle.std.specs.Prelude.{◌≡◌, ℕ, true, List, [], map, codes}
 use Rattle.instructions.specs.declared.instruction.Name.{Name}
 use Rattle.instructions.specs.declared.instruction.Name.TheVariants as name_of
-use Rattle.celread.specs.Tree.{Expr}
-use Rattle.celread.specs.Limits.{nests_within}
+use Rattle.celtree.specs.Tree.{Expr}
+use Rattle.celtree.specs.Nesting.{nests_within}
 use Rattle.celmean.specs.Meaning.{Environment, bound, mean}
 use Rattle.celtypes.specs.Typing.{Scope}
 use Rattle.plan.specs.Names.{Names}

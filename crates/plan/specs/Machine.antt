@@ -1,7 +1,7 @@
 -- A machine with a stack of outcomes that runs code.
 use Rattle.std.specs.Prelude.{ℕ, zero, suc, ◌+◌, nat_lt, if◌then◌else◌, Option, Some, None, List, [], ◌∷◌, ◌++◌, length, take, drop, reverse, slice_get, codes}
-use Rattle.celread.specs.declared.tree.Operator.{Operator}
-use Rattle.celread.specs.declared.tree.Operator.TheVariants as operator_of
+use Rattle.celtree.specs.declared.tree.Operator.{Operator}
+use Rattle.celtree.specs.declared.tree.Operator.TheVariants as operator_of
 use Rattle.celmean.specs.Value.{Value, Null, Truth, Int, Uint, Text, Outcome, Gives, Error, or_error, with_value, with_values}
 use Rattle.celmean.specs.Collections.{indexed, member, has_member, list_of, map_of}
 use Rattle.celmean.specs.Macros.{is_true, is_false, both, either, range_of, over_items}

@@ -1,8 +1,8 @@
 -- What the program's names stand for, and which trees are compiled.
 use Rattle.std.specs.Prelude.{◌≡◌, ℕ, ◌+◌, ◌≤◌, true, List, map, string_bytes}
-use Rattle.celread.specs.Tree.{Expr}
-use Rattle.celread.specs.Limits.{nests_within}
-use Rattle.celread.specs.Size.{nodes, text_bytes}
+use Rattle.celtree.specs.Tree.{Expr}
+use Rattle.celtree.specs.Nesting.{nests_within}
+use Rattle.celtree.specs.Size.{nodes, text_bytes}
 use Rattle.celtypes.specs.declared.scope.Variable.{Variable}
 use Rattle.celtypes.specs.Types.{ValueType}
 use Rattle.celtypes.specs.Typing.{Scope, HasType}

@@ -1,7 +1,7 @@
 -- The instructions of operators and functions.
 use Rattle.std.specs.Prelude.{ℕ, if◌then◌else◌, List, [], ◌∷◌, codes, bytes_eq}
-use Rattle.celread.specs.declared.tree.Operator.{Operator}
-use Rattle.celread.specs.declared.tree.Operator.TheVariants as operator_of
+use Rattle.celtree.specs.declared.tree.Operator.{Operator}
+use Rattle.celtree.specs.declared.tree.Operator.TheVariants as operator_of
 use Rattle.instructions.specs.declared.instruction.Binary.TheVariants as binary
 use Rattle.instructions.specs.declared.instruction.Function.{Function}
 use Rattle.instructions.specs.declared.instruction.Function.TheVariants as function

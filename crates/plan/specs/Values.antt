@@ -1,7 +1,7 @@
 -- The values that stand in a tree.
 use Rattle.std.specs.Prelude.{◌<◌, ◌^◌, FitsSigned, IsUtf8}
 use Rattle.std.specs.Int.{w64}
-use Rattle.celread.specs.Tree.{Expr, Null, Truth, Int, Uint, Text, Name, Field, Has, Index, Sequence, Mapping, Unary, Infix, Conditional, Call, Method, Over, Exprs, no_items, item, Pairs, no_pairs, pair}
+use Rattle.celtree.specs.Tree.{Expr, Null, Truth, Int, Uint, Text, Name, Field, Has, Index, Sequence, Mapping, Unary, Infix, Conditional, Call, Method, Over, Exprs, no_items, item, Pairs, no_pairs, pair}
 
 -- each number in the tree has 64 bits, and each string and field name is UTF-8: so it is in each tree of the program
 abbrev mutual

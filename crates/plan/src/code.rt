@@ -6,7 +6,7 @@ ghost use Rattle.instructions.specs.Seen.{op_of, ops_of};
 ghost use Rattle.plan.specs.Tables.{between, steps_between, infix_op};
 
 use crate::operations::infix_instruction;
-use celread::{Macro, Operator};
+use celtree::{Macro, Operator};
 use instructions::Instruction;
 use std::alloc::{AllocError, Global};
 

@@ -1,9 +1,9 @@
 //! The instructions of a tree.
 
 ghost use Rattle.std.specs.Prelude.{◌≡◌, ◌+◌, ◌*◌, ◌≤◌, ◌++◌, string_bytes, length, IfOk, OnOk};
-ghost use Rattle.celread.specs.Tree as expr;
-ghost use Rattle.celread.specs.View.{view, views, pair_views};
-ghost use Rattle.celread.specs.Size.{nodes, text_bytes};
+ghost use Rattle.celtree.specs.Tree as expr;
+ghost use Rattle.celtree.specs.View.{view, views, pair_views};
+ghost use Rattle.celtree.specs.Size.{nodes, text_bytes};
 ghost use Rattle.celtypes.specs.Seen.{declared};
 ghost use Rattle.celtypes.specs.Typing.{is_variables};
 ghost use Rattle.instructions.specs.Bytes.{code, HaveRoom};
@@ -18,7 +18,7 @@ ghost use Rattle.plan.specs.Values.{HasValues, HaveValues, PairsHaveValues};
 use crate::code::{alone, conditional_code, followed, gathered, infix_code, joined, macro_code};
 use crate::names::{Names, bind, name_instruction, place_of};
 use crate::operations::{function_named, method_named, steps_between};
-use celread::{Macro, Operator, Prefix, Tree};
+use celtree::{Macro, Operator, Prefix, Tree};
 use celtypes::Env;
 use instructions::{Instruction, Plan};
 use std::alloc::{AllocError, Global};

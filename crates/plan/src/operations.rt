@@ -4,7 +4,7 @@ ghost use Rattle.std.specs.Prelude.{◌≡◌};
 ghost use Rattle.instructions.specs.Seen.{op_of};
 ghost use Rattle.plan.specs.Tables.{infix_op, steps_between, function_named, method_named};
 
-use celread::Operator;
+use celtree::Operator;
 use instructions::{Binary, Function, Instruction};
 
 /// What takes the two operands of an operator.

@@ -1,10 +1,10 @@
 -- The numbers of operands that are one of a few: a number is read as the operand that is written with it.
 use Rattle.std.proofs.Common.{◌≡◌, ℕ, ◌≤◌, Bool, true, false, cond, eqb, nat_lt, Result, Ok, Err, refl, sym, ap, subst, ◌∙◌}
 use Rattle.std.proofs.lemmas.Bool.{eqb-true, ltb-false, le-ltb}
-use Rattle.celread.specs.declared.tree.Prefix.{Prefix}
-use Rattle.celread.specs.declared.tree.Prefix.TheVariants as prefix
-use Rattle.celread.specs.declared.tree.Macro.{Macro}
-use Rattle.celread.specs.declared.tree.Macro.TheVariants as macro
+use Rattle.celtree.specs.declared.tree.Prefix.{Prefix}
+use Rattle.celtree.specs.declared.tree.Prefix.TheVariants as prefix
+use Rattle.celtree.specs.declared.tree.Macro.{Macro}
+use Rattle.celtree.specs.declared.tree.Macro.TheVariants as macro
 use Rattle.instructions.specs.declared.instruction.Name.{Name}
 use Rattle.instructions.specs.declared.instruction.Name.TheVariants as name
 use Rattle.instructions.specs.declared.instruction.Slot.{Slot}

@@ -2,10 +2,10 @@
 use Rattle.std.specs.Prelude.{ℕ, zero, suc, Bool, true, false, nat_lt, ◌==◌, if◌then◌else◌, List, [], ◌∷◌, length, take, drop, Result, Ok, Err}
 use Rattle.std.specs.Str.{is_utf8}
 use Rattle.std.specs.Int.{Width, w16, w64, byte_len, from_be_bytes, cast_signed}
-use Rattle.celread.specs.declared.tree.Prefix.{Prefix}
-use Rattle.celread.specs.declared.tree.Prefix.TheVariants as prefix
-use Rattle.celread.specs.declared.tree.Macro.{Macro}
-use Rattle.celread.specs.declared.tree.Macro.TheVariants as macro
+use Rattle.celtree.specs.declared.tree.Prefix.{Prefix}
+use Rattle.celtree.specs.declared.tree.Prefix.TheVariants as prefix
+use Rattle.celtree.specs.declared.tree.Macro.{Macro}
+use Rattle.celtree.specs.declared.tree.Macro.TheVariants as macro
 use Rattle.instructions.specs.declared.instruction.Name.{Name}
 use Rattle.instructions.specs.declared.instruction.Name.TheVariants as name
 use Rattle.instructions.specs.declared.instruction.Slot.{Slot}

@@ -22,7 +22,7 @@ ghost use Rattle.plancode.specs.Reading.{
 
 use crate::numbers::{byte, long, short, text};
 use crate::writing::name_byte;
-use celread::{Macro, Prefix};
+use celtree::{Macro, Prefix};
 use instructions::{Binary, CodeFault, Function, Instruction, Name, Slot};
 use std::alloc::Global;
 

@@ -18,7 +18,7 @@ ghost use Rattle.instructions.specs.Bytes.{
 };
 ghost use Rattle.instructions.specs.Seen.{op_of, ops_of, plan_ops};
 
-use celread::{Macro, Prefix};
+use celtree::{Macro, Prefix};
 use instructions::{Binary, Function, Instruction, Name, Plan, Slot};
 use std::alloc::{AllocError, Global};
 

@@ -1,8 +1,8 @@
 -- A macro that is decided before its last item.
 use Rattle.std.proofs.Common.{◌≡◌, ℕ, zero, suc, ◌<◌, ◌≤◌, Bool, true, false, ◌||◌, List, [], ◌∷◌, ◌++◌, length, map, take, drop, get_or, refl, sym, ap, ◌∙◌, arith}
 use Rattle.std.proofs.lemmas.List.{map-append, take_all}
-use Rattle.celread.specs.declared.tree.Macro.{Macro}
-use Rattle.celread.specs.declared.tree.Macro.TheVariants as macro_of
+use Rattle.celtree.specs.declared.tree.Macro.{Macro}
+use Rattle.celtree.specs.declared.tree.Macro.TheVariants as macro_of
 use Rattle.celmean.specs.declared.value.Value as value
 use Rattle.celmean.specs.declared.value.Outcome as outcome
 use Rattle.celmean.specs.Seen.{value_of, values_seen, outcome_of, outcomes_seen}

@@ -1,7 +1,7 @@
 -- When what a macro gives is decided.
 use Rattle.std.specs.Prelude.{Bool, false}
-use Rattle.celread.specs.declared.tree.Macro.{Macro}
-use Rattle.celread.specs.declared.tree.Macro.TheVariants as macro_of
+use Rattle.celtree.specs.declared.tree.Macro.{Macro}
+use Rattle.celtree.specs.declared.tree.Macro.TheVariants as macro_of
 use Rattle.celmean.specs.Value.{Outcome}
 use Rattle.celmean.specs.Macros.{is_true, is_false}
 

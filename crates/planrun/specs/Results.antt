@@ -1,7 +1,7 @@
 -- When code gives what an expression means.
 use Rattle.std.specs.Prelude.{◌≡◌, true, List, []}
-use Rattle.celread.specs.Tree.{Expr}
-use Rattle.celread.specs.Limits.{nests_within}
+use Rattle.celtree.specs.Tree.{Expr}
+use Rattle.celtree.specs.Nesting.{nests_within}
 use Rattle.celmean.specs.Meaning.{Environment}
 use Rattle.celtypes.specs.Typing.{Scope}
 use Rattle.instructions.specs.Op.{Op}

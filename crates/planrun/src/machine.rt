@@ -1,7 +1,7 @@
 //! The machine.
 
 ghost use Rattle.std.specs.Prelude.{◌≡◌, ◌+◌, ◌<◌, ◌≤◌, IsTrue, [], ◌∷◌, ◌++◌, if◌then◌else◌, List, map, length, slice_get, OnOk, IfOk};
-ghost use Rattle.celread.specs.Tree.{Expr};
+ghost use Rattle.celtree.specs.Tree.{Expr};
 ghost use Rattle.celmean.specs.Meaning.{Environment, mean};
 ghost use Rattle.celmean.specs.Value as seen;
 ghost use Rattle.celmean.specs.Macros.{reduced, range_of, over_items};
@@ -24,7 +24,7 @@ use crate::operations::{
 };
 use crate::stack::{pop, push, put, take_top, topmost};
 use celmean::{Outcome, Value, range_of, reduced};
-use celread::Macro;
+use celtree::Macro;
 use instructions::Instruction;
 use plancode::Verified;
 use std::alloc::{AllocError, Global};

@@ -14,7 +14,7 @@ ghost use Rattle.planrun.specs.Seen.{stack_seen};
 use crate::held::{Held, field, has, index, into_outcome};
 use crate::stack::{pop, pop_outcomes, pop_two, push, put, take_many, take_topmost};
 use celmean::{Outcome, both, called, either, infixed, list_of, map_of, method_called, prefixed};
-use celread::{Operator, Prefix};
+use celtree::{Operator, Prefix};
 use instructions::{Binary, Function};
 use std::alloc::{AllocError, Global};
 

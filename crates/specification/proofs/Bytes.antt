@@ -6,8 +6,8 @@ use Rattle.std.specs.Option.{option_map_or}
 use Rattle.serde_json.specs.Data.{Data}
 use Rattle.jsondoc.specs.Document.{text}
 use Rattle.celread.specs.Reading.{IsReadAs}
-use Rattle.celread.specs.Size.{nodes}
-use Rattle.celread.specs.Tree.{Expr, Null, Truth, Int, Uint, Text, Name, Field, Has, Index, Sequence, Mapping, Unary, Infix, Conditional, Call, Method, Over}
+use Rattle.celtree.specs.Size.{nodes}
+use Rattle.celtree.specs.Tree.{Expr, Null, Truth, Int, Uint, Text, Name, Field, Has, Index, Sequence, Mapping, Unary, Infix, Conditional, Call, Method, Over}
 use Rattle.celread.proofs.Sizes.{read_size}
 use Rattle.plan.specs.Compilation.{compiled}
 use Rattle.plan.proofs.Spelled.{code_within}

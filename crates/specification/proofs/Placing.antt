@@ -2,7 +2,7 @@
 use Rattle.std.proofs.Common.{◌≡◌, ◌∙◌, ap, refl, ℕ, suc, ◌+◌, List, [], ◌∷◌, ◌++◌, length, map, arith, length-append, Option, Some, None}
 use Rattle.std.specs.List.{flat_map}
 use Rattle.std.specs.Option.{option_map_or}
-use Rattle.celread.specs.Tree.{Expr}
+use Rattle.celtree.specs.Tree.{Expr}
 use Rattle.policy.specs.Forms.{Text}
 use Rattle.policy.specs.Spec.{Named, Validation, Policy}
 use Rattle.expressions.specs.Expressions.{Place, condition, variable, validation, message, Source, Variables, of_condition, of_variable, of_validation, sources}

@@ -1,7 +1,7 @@
 -- One warning more, and a write that is matched.
 use Rattle.std.proofs.Common.{◌≡◌, List, [], ◌∷◌, ◌++◌, Bool, true, None, if◌then◌else◌, refl, sym, ap, ◌∙◌, rules}
 use Rattle.std.proofs.lemmas.Grind.{common_steps}
-use Rattle.celread.specs.Tree.{Expr}
+use Rattle.celtree.specs.Tree.{Expr}
 use Rattle.matching.specs.Rules.{Attempt}
 use Rattle.matching.specs.Matching.{is_matched}
 use Rattle.policy.specs.Forms.{Text}

@@ -1,7 +1,7 @@
 -- The verdict of policies and bindings on a write (Kubernetes, "Validating Admission Policy").
 use Rattle.std.specs.Prelude.{ℕ, ◌∷◌, ◌++◌, ◌==◌, ◌&&◌, ◌||◌, List, [], map, take, nat_le, if◌then◌else◌, codes, chars, Option, Some, None}
 use Rattle.std.specs.List.{flat_map}
-use Rattle.celread.specs.Tree.{Expr}
+use Rattle.celtree.specs.Tree.{Expr}
 use Rattle.matching.specs.Rules.{Attempt}
 use Rattle.matching.specs.Matching.{is_matched}
 use Rattle.policy.specs.Forms.{Text}

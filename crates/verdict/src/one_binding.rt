@@ -2,7 +2,7 @@
 
 ghost use Rattle.std.specs.Prelude.{◌≡◌, ◌<◌, ◌≤◌, ◌++◌, List, map, option_map, Some, None, IfOk, IsErrOf, string_bytes};
 ghost use Rattle.serde_json.specs.View.{view};
-ghost use Rattle.celread.specs.Tree.{Expr};
+ghost use Rattle.celtree.specs.Tree.{Expr};
 ghost use Rattle.matching.specs.Rules.{attempt_seen};
 ghost use Rattle.policy.specs.Spec.{policy_seen, binding_seen, param_ref_seen};
 ghost use Rattle.evaluation.specs.Environment.{request_of, seen};

@@ -1,5 +1,5 @@
 use Rattle.std.proofs.Common.{arith}
-use Rattle.celread.specs.View.{view}
+use Rattle.celtree.specs.View.{view}
 use Rattle.celread.proofs.CallTrees.{macro_over_other}
 use Rattle.celread.proofs.call.over.Goals as goal
 

@@ -5,8 +5,9 @@ use Rattle.celtokens.specs.Seen.{terminals}
 use Rattle.celread.specs.Grammar.{Member, Literal}
 use Rattle.celread.specs.Ends.{HasNoTree, Read, Refuses}
 use Rattle.celread.specs.Ahead.{HasNoLiteral}
-use Rattle.celread.specs.View.{view, views, pair_views}
-use Rattle.celread.proofs.Refusals.{refuses, handed_on, pair_view, map-pair_view, view-push, no_tree_at, read_at, view-Name, view-List, view-Map, view-Field, view-Index, view-Unary, view-Infix}
+use Rattle.celtree.specs.View.{view, views, pair_views}
+use Rattle.celtree.proofs.Views.{pair_view}
+use Rattle.celread.proofs.Refusals.{refuses, handed_on, map-pair_view, view-push, no_tree_at, read_at, view-Name, view-List, view-Map, view-Field, view-Index, view-Unary, view-Infix}
 use Rattle.celread.proofs.Chains.{going_start, start_none, going_next, next_none, going_end}
 use Rattle.celread.proofs.Prefixes.{unary_plain, unary_plain_none, unary_prefixed, unary_prefixed_none, prefixed_again, prefixed_again_none, prefixed_bare}
 use Rattle.celread.proofs.Suffixes.{member_start, member_none, member_field, member_method, member_no_arguments, member_no_call, member_index, member_no_index, member_open_index, member_end, member_wrong}

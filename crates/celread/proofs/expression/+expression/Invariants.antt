@@ -1,6 +1,6 @@
 use Rattle.std.proofs.Common.{◌+◌, ◌*◌, ◌<◌, length, map}
 use Rattle.celtokens.specs.Seen.{terminals}
-use Rattle.celread.specs.View.{view}
+use Rattle.celtree.specs.View.{view}
 use Rattle.celread.proofs.Chains.{Going}
 use Rattle.celread.proofs.Suffixes.{GoingMember}
 use Rattle.celread.proofs.Lists.{GoingItems, GoingEntries}

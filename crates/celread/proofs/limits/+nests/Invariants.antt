@@ -1,6 +1,6 @@
 use Rattle.std.proofs.Common.{◌≡◌, drop}
-use Rattle.celread.specs.Limits.{all_within, pairs_within}
-use Rattle.celread.specs.View.{views, pair_views}
+use Rattle.celtree.specs.Nesting.{all_within, pairs_within}
+use Rattle.celtree.specs.View.{views, pair_views}
 use Rattle.celread.proofs.limits.+nests.Given as goal
 
 abbrev pub invariant-all_within-loop-item : goal.invariant-all_within-loop-item

@@ -2,9 +2,9 @@ use Rattle.std.proofs.Common.{◌≡◌, ℤ, sym, rules, w64, SFits}
 use Rattle.std.proofs.lemmas.Int.{to_z-of_z}
 use Rattle.celtokens.specs.Seen.{terminals}
 use Rattle.celread.specs.Grammar.{one_token}
-use Rattle.celread.specs.Tree as expr
-use Rattle.celread.specs.View.{view}
-use Rattle.celread.specs.declared.tree.Tree.{Int, the_lemmas}
+use Rattle.celtree.specs.Tree as expr
+use Rattle.celtree.specs.View.{view}
+use Rattle.celtree.specs.declared.tree.Tree.{Int, the_lemmas}
 use Rattle.celread.proofs.Literals.{negative_literal}
 use Rattle.celread.proofs.literal.literal.Goals as goal
 

@@ -5,8 +5,8 @@ use Rattle.celtokens.specs.Lexes.{Lexes, OneReading}
 use Rattle.celtokens.specs.Seen.{terminals}
 use Rattle.celread.specs.Reading.{IsReadAs, IsNotRead, IsReadAlone, IsNoParse, IsParseAlone, UnlessMemory}
 use Rattle.celread.proofs.Alone.{read_alone, not_read}
-use Rattle.celread.specs.Size.{nodes, text_bytes}
-use Rattle.celread.specs.View.{view}
+use Rattle.celtree.specs.Size.{nodes, text_bytes}
+use Rattle.celtree.specs.View.{view}
 use Rattle.celread.proofs.Sizes.{read_size}
 use Rattle.celread.proofs.reading.read.Goals as goal
 

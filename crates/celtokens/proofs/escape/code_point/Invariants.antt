@@ -1,6 +1,6 @@
 use Rattle.std.proofs.Common.{◌≡◌, ◌*◌, ◌^◌, ◌<◌, drop}
 use Rattle.std.specs.Str.Parse.{digits_value, digits_value_after}
-use Rattle.celtokens.specs.Digits.{all_digits}
+use Rattle.celtree.specs.Digits.{all_digits}
 use Rattle.celtokens.proofs.escape.code_point.Given as goal
 
 abbrev pub invariant-loop-digit : goal.invariant-loop-digit

@@ -1,5 +1,5 @@
 use Rattle.std.proofs.Common.{◌≡◌, ◌++◌, option_map, drop}
-use Rattle.celread.specs.View.{views, pair_views}
+use Rattle.celtree.specs.View.{views, pair_views}
 use Rattle.celtypes.specs.Computed.{types_of, key_types_of, value_types_of}
 use Rattle.celtypes.specs.Seen.{types_seen, scope_seen}
 use Rattle.celtypes.proofs.checking.+typed.Given as goal

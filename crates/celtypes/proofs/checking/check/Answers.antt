@@ -1,6 +1,6 @@
 use Rattle.std.proofs.Common.{sym, ◌∙◌}
 use Rattle.std.proofs.lemmas.Option.{none-some}
-use Rattle.celread.specs.View.{view}
+use Rattle.celtree.specs.View.{view}
 use Rattle.celtypes.specs.Seen.{type_seen, declared}
 use Rattle.celtypes.proofs.Complete.{complete}
 use Rattle.celtypes.proofs.Sound.{sound}

@@ -1,4 +1,4 @@
-use Rattle.celread.specs.View.{view}
+use Rattle.celtree.specs.View.{view}
 use Rattle.expressions.specs.Seen.{source_seen}
 use Rattle.expressions.proofs.Compiling.{typed_at, goes_on_at, never_short}
 use Rattle.expressions.proofs.planning.plans.Goals as goal

@@ -1,6 +1,6 @@
 use Rattle.std.proofs.Common.{map, ap, ◌∙◌}
 use Rattle.std.proofs.lemmas.List.{map_push}
-use Rattle.celread.specs.View.{view}
+use Rattle.celtree.specs.View.{view}
 use Rattle.expressions.specs.Seen.{source_seen}
 use Rattle.expressions.proofs.Progress.{begins, goes_on_at, ends_typed_at}
 use Rattle.expressions.proofs.reading.trees.Goals as goal

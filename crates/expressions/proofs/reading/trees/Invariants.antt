@@ -1,5 +1,5 @@
 use Rattle.std.proofs.Common.{map, drop}
-use Rattle.celread.specs.View.{view}
+use Rattle.celtree.specs.View.{view}
 use Rattle.celtypes.specs.Seen.{variables_seen}
 use Rattle.expressions.specs.Seen.{source_seen}
 use Rattle.policy.specs.Spec.{policy_seen}

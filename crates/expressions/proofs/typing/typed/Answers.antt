@@ -1,4 +1,4 @@
-use Rattle.celread.specs.View.{view}
+use Rattle.celtree.specs.View.{view}
 use Rattle.celtypes.specs.Seen.{type_seen}
 use Rattle.expressions.specs.Seen.{source_seen}
 use Rattle.expressions.proofs.Judging.{unread_is_bad, unsuited_is_bad, is_next}

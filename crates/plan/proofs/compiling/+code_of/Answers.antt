@@ -2,9 +2,9 @@ use Rattle.std.proofs.lemmas.List.{drop_more}
 use Rattle.std.proofs.Common.{◌≡◌, List, drop, length, ◌+◌, [], ◌∷◌, ◌++◌, string_bytes, refl, sym, ap, subst, ◌∙◌, arith}
 use Rattle.std.proofs.lemmas.Str.{IsUtf8-string_bytes}
 use Rattle.std.proofs.lemmas.Result.{IfOk-weaker}
-use Rattle.celread.specs.declared.tree.Tree.{Tree}
-use Rattle.celread.specs.Tree as expr
-use Rattle.celread.specs.View.{view, views, pair_views}
+use Rattle.celtree.specs.declared.tree.Tree.{Tree}
+use Rattle.celtree.specs.Tree as expr
+use Rattle.celtree.specs.View.{view, views, pair_views}
 use Rattle.instructions.specs.Op.{TakeIndex, TakeItems, TakePairs, TakeCall, Branch, Jump, Over}
 use Rattle.instructions.specs.Seen.{ops_of}
 use Rattle.plan.specs.Names.{bind}

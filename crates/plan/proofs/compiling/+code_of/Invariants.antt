@@ -1,6 +1,6 @@
 use Rattle.std.proofs.Common.{◌≡◌, ◌+◌, ◌*◌, ◌++◌, drop, length, string_bytes}
-use Rattle.celread.specs.Tree as expr
-use Rattle.celread.specs.View.{view, views, pair_views}
+use Rattle.celtree.specs.Tree as expr
+use Rattle.celtree.specs.View.{view, views, pair_views}
 use Rattle.instructions.specs.Seen.{ops_of}
 use Rattle.plan.specs.Compilation.{size, size_of_items, size_of_pairs, compiled_items, compiled_pairs}
 use Rattle.plan.specs.Seen.{names_seen}

@@ -1,6 +1,6 @@
 use Rattle.std.proofs.Common.{ap, ◌∙◌, arith}
 use Rattle.std.proofs.lemmas.List.{length-map}
-use Rattle.celread.specs.View.{view}
+use Rattle.celtree.specs.View.{view}
 use Rattle.celtypes.specs.Seen.{variable_seen, declared}
 use Rattle.instructions.specs.Seen.{ops_of}
 use Rattle.plan.specs.Compilation.{compiled}

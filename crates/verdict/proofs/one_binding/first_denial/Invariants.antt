@@ -1,5 +1,5 @@
 use Rattle.std.proofs.Common.{◌≡◌, List, Some, map, drop}
-use Rattle.celread.specs.Tree.{Expr}
+use Rattle.celtree.specs.Tree.{Expr}
 use Rattle.matching.specs.Rules.{attempt_seen}
 use Rattle.policy.specs.Spec.{policy_seen}
 use Rattle.evaluation.specs.Environment.{seen}

@@ -1,6 +1,6 @@
 use Rattle.std.proofs.Common.{◌≡◌, ◌<◌, ◌^◌, true, drop}
 use Rattle.std.specs.Str.Parse.{digits_value, digits_value_after}
-use Rattle.celtokens.specs.Digits.{all_digits}
+use Rattle.celtree.specs.Digits.{all_digits}
 use Rattle.celtokens.proofs.token.Number.value.Given as goal
 
 abbrev pub invariant-loop-c : goal.invariant-loop-c

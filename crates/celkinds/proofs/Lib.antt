@@ -1,0 +1,4 @@
+pub mod KindLists
+pub mod KindMacros
+pub mod KindTables
+pub mod KindOfMeaning

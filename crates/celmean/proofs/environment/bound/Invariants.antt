@@ -1,7 +1,0 @@
-use Rattle.std.proofs.Common.{◌≡◌, drop}
-use Rattle.celmean.specs.Meaning.{bound}
-use Rattle.celmean.specs.Seen.{bindings_seen}
-use Rattle.celmean.proofs.environment.bound.Given as goal
-
-abbrev pub invariant-loop-binding : goal.invariant-loop-binding
-invariant-loop-binding l = bound l.name (bindings_seen (drop l.binding-index l.bindings)) ≡ bound l.name (bindings_seen l.bindings)

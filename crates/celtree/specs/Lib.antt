@@ -1,0 +1,5 @@
+pub mod Tree
+pub mod View
+pub mod Size
+pub mod Nesting
+pub mod Digits
