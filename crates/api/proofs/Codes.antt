@@ -10,11 +10,10 @@ use Rattle.requests.specs.declared.refusal.Refusal.TheVariants.{MalformedRequest
 use Rattle.requests.specs.Manifest.{Body, sound}
 use Rattle.requests.specs.Refusal.{answer}
 use Rattle.requests.specs.Request.{Request, get, list, watch, create, replace, delete, refused}
-use Rattle.apicore.specs.History.{History}
 use Rattle.apicore.specs.Listing.{watching}
 use Rattle.apicore.specs.Reply.{Reply, status, showing}
 use Rattle.apicore.specs.Step.{refusal, reply}
-use Rattle.apicore.specs.View.{View, view, stored_at, document_at}
+use Rattle.apicore.specs.View.{View, stored_at, document_at}
 use Rattle.durable.specs.Rules.{first_rules}
 use Rattle.httpmsg.specs.Stream.{Message}
 use Rattle.routes.specs.Asked.{asked}
@@ -81,9 +80,9 @@ request_code rules v (replace m) = replaced_code rules v m.key m.body m.version
 request_code rules v (delete k asked) =
     choice_code (refusal rules v (delete k asked)) (showing 200 (document_at v k) (v.revision + 1)) (omega arith, omega arith)
 
-either_code : (b : Bool) (h : History) (m : Message) → IsStatusCode (reply_of h (record { message = m; is_served = b })).code
-either_code true h m = request_code first_rules (view first_rules h) (asked m)
-either_code false h m = refusal_code OutOfMemory
+either_code : (b : Bool) (v : View) (m : Message) → IsStatusCode (reply_of v (record { message = m; is_served = b })).code
+either_code true v m = request_code first_rules v (asked m)
+either_code false v m = refusal_code OutOfMemory
 
-pub reply_code : (h : History) (a : Answered) → IsStatusCode (reply_of h a).code
-reply_code h a = either_code a.is_served h a.message
+pub reply_code : (v : View) (a : Answered) → IsStatusCode (reply_of v a).code
+reply_code v a = either_code a.is_served v a.message

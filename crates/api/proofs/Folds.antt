@@ -1,40 +1,60 @@
 -- Answers, one after another.
-use Rattle.std.proofs.Common.{◌≡◌, ℕ, List, [], ◌∷◌, ◌++◌, refl, ap, sym, ◌∙◌, append_assoc, subst, false, Result, Ok, Err}
+use Rattle.std.proofs.Common.{arith, ◌≡◌, ◌≤◌, ◌⊎◌, inl, inr, ⊎_elim, ℕ, List, [], ◌∷◌, ◌++◌, refl, ap, sym, ◌∙◌, append_assoc, subst, false, Result, Ok, Err}
 use Rattle.std.proofs.lemmas.List.{append-nil, map-append}
 use Rattle.device.specs.declared.device.Device.{Ghosts}
 use Rattle.device.proofs.Moments.{followed_by}
 use Rattle.requests.specs.declared.refusal.Refusal.TheVariants.{StorageFailed}
 use Rattle.apicore.specs.History.{Write, History}
+use Rattle.apicore.specs.View.{View, view, after_all}
+use Rattle.apicore.proofs.ViewLemmas.{after_all-append}
 use Rattle.durable.specs.declared.store.Store.{Store}
 use Rattle.durable.specs.Rules.{first_rules}
 use Rattle.durable.specs.Stands.{StandsFor}
-use Rattle.durable.specs.Settled.{device_of, IsFound, IsSettledAt, IsLeftAt, LeavesSome}
+use Rattle.durable.specs.Settled.{device_of, serves, shown, IsFound, IsSettledAt, IsLeftAt, LeavesSome}
+use Rattle.durable.proofs.Answering.{view-after}
 use Rattle.durable.proofs.Findings.{leaves-idle}
-use Rattle.httpmsg.specs.Flow.{TookSome, Writes}
+use Rattle.httpmsg.specs.Flow.{HasCause, TookSome, Writes}
 use Rattle.httpmsg.specs.Stream.{Message}
 use Rattle.api.specs.declared.fault.ServeFault.{ServeFault}
 use Rattle.api.specs.declared.fault.ServeFault.TheVariants.{Read, Write as WriteFault, Device, Memory, Damaged, Failed}
 use Rattle.api.specs.ReplyBytes.{reply_bytes, closing_bytes}
-use Rattle.api.specs.Answers.{Answered, served, messages, writes_of, reply_of, all_writes, all_bytes, HasApplied, Answers, WritesSome, MeetsFailure, Stops}
+use Rattle.api.specs.Answers.{Answered, served, messages, writes_of, reply_of, all_writes, all_bytes, AllRefused, HasGrown, WhereSettled, HasApplied, Answers, WritesSome, MeetsFailure, Stops}
 
-pub all_writes-append : (h : History) (xs ys : List Answered) → all_writes h (xs ++ ys) ≡ all_writes h xs ++ all_writes (h ++ all_writes h xs) ys
-all_writes-append h [] ys = ap (λ g. all_writes g ys) (sym (append-nil h))
-all_writes-append h (x ∷ xs) ys =
-    let w : List Write = writes_of h x in
-    let more : List Write = all_writes (h ++ w) xs in
-    ap (λ r. w ++ r) (all_writes-append (h ++ w) xs ys)
-    ∙ sym (append_assoc w more (all_writes ((h ++ w) ++ more) ys))
-    ∙ ap (λ g. (w ++ more) ++ all_writes g ys) (append_assoc h w more)
+-- what is seen after some answers
+abbrev pub seen : View → List Answered → View
+seen v xs = after_all first_rules v (all_writes v xs)
 
-pub all_bytes-append : (h : History) (xs ys : List Answered) → all_bytes h (xs ++ ys) ≡ all_bytes h xs ++ all_bytes (h ++ all_writes h xs) ys
-all_bytes-append h [] ys = ap (λ g. all_bytes g ys) (sym (append-nil h))
-all_bytes-append h (x ∷ xs) ys =
-    let w : List Write = writes_of h x in
-    let more : List Write = all_writes (h ++ w) xs in
-    let bytes : List ℕ = reply_bytes x.message (reply_of h x) in
-    ap (λ r. bytes ++ r) (all_bytes-append (h ++ w) xs ys)
-    ∙ sym (append_assoc bytes (all_bytes (h ++ w) xs) (all_bytes ((h ++ w) ++ more) ys))
-    ∙ ap (λ g. (bytes ++ all_bytes (h ++ w) xs) ++ all_bytes g ys) (append_assoc h w more)
+pub all_writes-append : (v : View) (xs ys : List Answered) → all_writes v (xs ++ ys) ≡ all_writes v xs ++ all_writes (seen v xs) ys
+all_writes-append v [] ys = refl
+all_writes-append v (x ∷ xs) ys =
+    let w : List Write = writes_of v x in
+    let u : View = after_all first_rules v w in
+    let more : List Write = all_writes u xs in
+    ap (λ r. w ++ r) (all_writes-append u xs ys)
+    ∙ sym (append_assoc w more (all_writes (after_all first_rules u more) ys))
+    ∙ ap (λ z. (w ++ more) ++ all_writes z ys) (sym (after_all-append first_rules v w more))
+
+pub all_bytes-append : (v : View) (xs ys : List Answered) → all_bytes v (xs ++ ys) ≡ all_bytes v xs ++ all_bytes (seen v xs) ys
+all_bytes-append v [] ys = refl
+all_bytes-append v (x ∷ xs) ys =
+    let w : List Write = writes_of v x in
+    let u : View = after_all first_rules v w in
+    let more : List Write = all_writes u xs in
+    let bytes : List ℕ = reply_bytes x.message (reply_of v x) in
+    ap (λ r. bytes ++ r) (all_bytes-append u xs ys)
+    ∙ sym (append_assoc bytes (all_bytes u xs) (all_bytes (after_all first_rules u more) ys))
+    ∙ ap (λ z. (bytes ++ all_bytes u xs) ++ all_bytes z ys) (sym (after_all-append first_rules v w more))
+
+seen-append : (v : View) (xs ys : List Answered) → seen v (xs ++ ys) ≡ seen (seen v xs) ys
+seen-append v xs ys = ap (after_all first_rules v) (all_writes-append v xs ys) ∙ after_all-append first_rules v (all_writes v xs) (all_writes (seen v xs) ys)
+
+AllRefused-append : (xs ys : List Answered) → AllRefused xs → AllRefused ys → AllRefused (xs ++ ys)
+AllRefused-append [] ys first second = second
+AllRefused-append (x ∷ xs) ys first second = (first.0, AllRefused-append xs ys first.1 second)
+
+-- the view of a history, and of what follows it
+pub seen_view : (v : View) (h : History) (ws : List Write) → v ≡ view first_rules h → after_all first_rules v ws ≡ view first_rules (h ++ ws)
+seen_view v h ws is = ap (λ x. after_all first_rules x ws) is ∙ view-after h ws
 
 -- ---- what is found
 
@@ -81,45 +101,48 @@ module _ {D : Type 0} {g : Ghosts D} where
     left = λ c is. found_after h first kept writes c (left.left c is);
   }
 
-  pub applied_then : (old mid new : Store D g) (h : History) (xs ys : List Answered) → HasApplied old mid h xs
-      → HasApplied mid new (h ++ all_writes h xs) ys → HasApplied old new h (xs ++ ys)
-  applied_then old mid new h xs ys before after =
-      let writes : all_writes h (xs ++ ys) ≡ all_writes h xs ++ all_writes (h ++ all_writes h xs) ys = all_writes-append h xs ys in
+  pub applied_then : (old mid new : Store D g) (v : View) (xs ys : List Answered) → HasApplied old mid v xs
+      → HasApplied mid new (seen v xs) ys → HasApplied old new v (xs ++ ys)
+  applied_then old mid new v xs ys before after =
+      let us : List Write = all_writes v xs in
+      let ws : List Write = all_writes (seen v xs) ys in
+      let writes : all_writes v (xs ++ ys) ≡ us ++ ws = all_writes-append v xs ys in
       record {
-        settled = subst (IsSettledAt first_rules new)
-            (append_assoc h (all_writes h xs) (all_writes (h ++ all_writes h xs) ys) ∙ ap (λ w. h ++ w) (sym writes)) after.settled;
-        moments = subst (LeavesSome first_rules old new h) (sym writes)
-            (moments_then old mid new h (all_writes h xs) (all_writes (h ++ all_writes h xs) ys) before.moments after.moments);
+        serving = after.serving ∙ before.serving;
+        shows = after.shows ∙ sym (seen-append v xs ys);
+        failed = λ stopped.
+            let first = before.failed stopped in
+            let second = after.failed (before.serving ∙ stopped) in
+            (second.0 ∙ first.0, AllRefused-append xs ys first.1 second.1);
+        settled = λ h is settled. subst (IsSettledAt first_rules new) (append_assoc h us ws ∙ ap (λ w. h ++ w) (sym writes))
+            (after.settled (h ++ us) (seen_view v h us is) (before.settled h is settled));
+        moments = λ h is settled. subst (LeavesSome first_rules old new h) (sym writes)
+            (moments_then old mid new h us ws (before.moments h is settled)
+            (after.moments (h ++ us) (seen_view v h us is) (before.settled h is settled)));
       }
 
-  pub applied_none : (store : Store D g) (h : History)
-      → ((c : List ℕ) → g.disk.since (device_of store) (g.disk.moment (device_of store)) c → g.disk.left (device_of store) c)
-      → IsSettledAt first_rules store h → HasApplied store store h []
-  applied_none store h only_now settled = record {
-    settled = subst (IsSettledAt first_rules store) (sym (append-nil h)) settled;
-    moments = leaves-idle first_rules store h [] only_now settled;
+  pub applied_none : (store : Store D g) (v : View) → shown store ≡ v
+      → (g.disk.keeps (device_of store) → (c : List ℕ) → g.disk.since (device_of store) (g.disk.moment (device_of store)) c → g.disk.left (device_of store) c)
+      → HasApplied store store v []
+  applied_none store v shows only_now = record {
+    serving = refl;
+    shows = shows;
+    failed = λ stopped. (refl, tt);
+    settled = λ h is settled. subst (IsSettledAt first_rules store) (sym (append-nil h)) settled;
+    moments = λ h is settled. leaves-idle first_rules store h [] (only_now settled.keeps) settled;
   }
-
-  pub applied_one : (old new : Store D g) (h : History) (a : Answered) → IsSettledAt first_rules new (h ++ writes_of h a)
-      → LeavesSome first_rules old new h (writes_of h a) → HasApplied old new h (a ∷ [])
-  applied_one old new h a settled moments =
-      let one : writes_of h a ≡ writes_of h a ++ [] = sym (append-nil (writes_of h a)) in
-      record {
-        settled = subst (λ w. IsSettledAt first_rules new (h ++ w)) one settled;
-        moments = subst (LeavesSome first_rules old new h) one moments;
-      }
 
 -- ---- bytes and messages
 
-pub bytes_one : (h : History) (a : Answered) (closing : List ℕ) → reply_bytes a.message (reply_of h a) ++ closing ≡ all_bytes h (a ∷ []) ++ closing
-bytes_one h a closing = ap (λ b. b ++ closing) (sym (append-nil (reply_bytes a.message (reply_of h a))))
+pub bytes_one : (v : View) (a : Answered) (closing : List ℕ) → reply_bytes a.message (reply_of v a) ++ closing ≡ all_bytes v (a ∷ []) ++ closing
+bytes_one v a closing = ap (λ b. b ++ closing) (sym (append-nil (reply_bytes a.message (reply_of v a))))
 
-pub bytes_then : (h : History) (xs ys : List Answered) (closing : List ℕ)
-    → (all_bytes h xs ++ []) ++ (all_bytes (h ++ all_writes h xs) ys ++ closing) ≡ all_bytes h (xs ++ ys) ++ closing
-bytes_then h xs ys closing =
-    let back : List ℕ = all_bytes (h ++ all_writes h xs) ys in
-    ap (λ b. b ++ (back ++ closing)) (append-nil (all_bytes h xs)) ∙ sym (append_assoc (all_bytes h xs) back closing)
-    ∙ ap (λ b. b ++ closing) (sym (all_bytes-append h xs ys))
+pub bytes_then : (v : View) (xs ys : List Answered) (closing : List ℕ)
+    → (all_bytes v xs ++ []) ++ (all_bytes (seen v xs) ys ++ closing) ≡ all_bytes v (xs ++ ys) ++ closing
+bytes_then v xs ys closing =
+    let back : List ℕ = all_bytes (seen v xs) ys in
+    ap (λ b. b ++ (back ++ closing)) (append-nil (all_bytes v xs)) ∙ sym (append_assoc (all_bytes v xs) back closing)
+    ∙ ap (λ b. b ++ closing) (sym (all_bytes-append v xs ys))
 
 pub messages_then : (xs ys : List Answered) (ms ns : List Message) → messages xs ≡ ms → messages ys ≡ ns → messages (xs ++ ys) ≡ ms ++ ns
 messages_then xs ys ms ns first second = map-append (λ (a : Answered). a.message) xs ys ∙ ap (λ z. z ++ messages ys) first ∙ ap (λ z. ms ++ z) second
@@ -136,43 +159,55 @@ pub took_some_of : {O T E : Type 0} (took : O → O → List ℕ → Type 0) (o 
 took_some_of took o p bytes (Ok x) writes = record { front = bytes; rest = []; split = sym (append-nil bytes); taken = writes }
 took_some_of took o p bytes (Err e) writes = writes
 
+-- all of it, unless the output failed
+pub took_whole : {O T E : Type 0} (took : O → O → List ℕ → Type 0) (o p : O) (bytes : List ℕ) (r : Result T E) (before now : ℕ)
+    → (writes : Writes took o p bytes r) → HasCause before now r → ((took_some_of took o p bytes r writes).rest ≡ []) ⊎ HasGrown before now
+unfolding took_some_of
+took_whole took o p bytes (Ok x) before now writes cause = inl refl
+took_whole took o p bytes (Err e) before now writes cause = inr (cause.failed refl)
+
+pub grown_after : (a b c : ℕ) → a ≤ b → HasGrown b c → HasGrown a c
+grown_after a b c le (inl grown) = inl (omega (arith, le, grown))
+grown_after a b c le (inr most) = inr most
+
 -- ---- answers
 
 module _ {O D : Type 0} {g : Ghosts D} (took : O → O → List ℕ → Type 0) where
-  pub answers_none : (o : O) (store : Store D g) (h : History) → took o o []
-      → ((c : List ℕ) → g.disk.since (device_of store) (g.disk.moment (device_of store)) c → g.disk.left (device_of store) c)
-      → IsSettledAt first_rules store h → Answers took o o store store h [] []
-  answers_none o store h none only_now settled = record { answered = []; answers = refl; written = none; store = applied_none store h only_now settled }
+  pub answers_none : (o : O) (store : Store D g) (v : View) → took o o [] → shown store ≡ v
+      → (g.disk.keeps (device_of store) → (c : List ℕ) → g.disk.since (device_of store) (g.disk.moment (device_of store)) c → g.disk.left (device_of store) c)
+      → Answers took o o store store v [] []
+  answers_none o store v none shows only_now = record { answered = []; answers = refl; written = none; store = applied_none store v shows only_now }
 
   -- the answer to one message
-  pub answers_one : (o p : O) (old new : Store D g) (h : History) (a : Answered) → took o p (reply_bytes a.message (reply_of h a))
-      → IsSettledAt first_rules new (h ++ writes_of h a) → LeavesSome first_rules old new h (writes_of h a)
-      → Answers took o p old new h (a.message ∷ []) []
-  answers_one o p old new h a written settled moments = record {
+  pub answers_one : (o p : O) (old new : Store D g) (v : View) (a : Answered) → took o p (reply_bytes a.message (reply_of v a))
+      → HasApplied old new v (a ∷ []) → Answers took o p old new v (a.message ∷ []) []
+  answers_one o p old new v a written applied = record {
     answered = a ∷ [];
     answers = refl;
-    written = subst (took o p) (sym (append-nil (reply_bytes a.message (reply_of h a))) ∙ bytes_one h a []) written;
-    store = applied_one old new h a settled moments;
+    written = subst (took o p) (sym (append-nil (reply_bytes a.message (reply_of v a))) ∙ bytes_one v a []) written;
+    store = applied;
   }
 
   -- a beginning of the answer to one message
-  pub writes_some_one : (o p : O) (old new : Store D g) (h : History) (a : Answered) → TookSome took o p (reply_bytes a.message (reply_of h a))
-      → IsSettledAt first_rules new (h ++ writes_of h a) → LeavesSome first_rules old new h (writes_of h a)
-      → WritesSome took o p old new h (a.message ∷ []) []
-  writes_some_one o p old new h a written settled moments = record {
+  pub writes_some_one : (o p : O) (old new : Store D g) (v : View) (a : Answered) → TookSome took o p (reply_bytes a.message (reply_of v a))
+      → HasApplied old new v (a ∷ []) → WritesSome took o p old new v (a.message ∷ []) []
+  writes_some_one o p old new v a written applied = record {
     answered = a ∷ [];
     waiting = [];
     split = refl;
-    written = subst (TookSome took o p) (sym (append-nil (reply_bytes a.message (reply_of h a))) ∙ bytes_one h a []) written;
-    store = applied_one old new h a settled moments;
+    written = subst (TookSome took o p) (sym (append-nil (reply_bytes a.message (reply_of v a))) ∙ bytes_one v a []) written;
+    store = applied;
   }
 
-  -- the device failed at one message
-  pub fails_at_one : (o p : O) (old new : Store D g) (h : History) (m : Message) → TookSome took o p (closing_bytes false StorageFailed)
-      → IsLeftAt first_rules new h [] (writes_of h (served m)) → LeavesSome first_rules old new h (writes_of h (served m))
-      → MeetsFailure took o p old new h (m ∷ [])
-  fails_at_one o p old new h m written left moments =
-      let one : writes_of h (served m) ≡ all_writes h (served m ∷ []) = sym (append-nil (writes_of h (served m))) in
+  -- the device failed at one message, now or before
+  pub fails_at_one : (failures : O → ℕ) (o p : O) (old new : Store D g) (v : View) (m : Message)
+      → (written : TookSome took o p (closing_bytes false StorageFailed)) → (written.rest ≡ []) ⊎ HasGrown (failures o) (failures p)
+      → serves new ≡ false → (serves old ≡ false → new ≡ old)
+      → WhereSettled old v (λ h. IsLeftAt first_rules new h [] (writes_of v (served m)))
+      → WhereSettled old v (λ h. LeavesSome first_rules old new h (writes_of v (served m)))
+      → MeetsFailure took o p old new failures v (m ∷ [])
+  fails_at_one failures o p old new v m written whole stopped failed left moments =
+      let one : writes_of v (served m) ≡ all_writes v (served m ∷ []) = sym (append-nil (writes_of v (served m))) in
       record {
         answered = [];
         failing = m;
@@ -181,23 +216,17 @@ module _ {O D : Type 0} {g : Ghosts D} (took : O → O → List ℕ → Type 0) 
         closing = written.front;
         unwritten = written.rest;
         refusal = written.split;
+        whole = whole;
         written = written.taken;
-        left = subst (IsLeftAt first_rules new h []) one left;
-        moments = subst (LeavesSome first_rules old new h) one moments;
+        stopped = stopped;
+        failed = λ f. (failed f, tt);
+        left = λ h is settled. subst (IsLeftAt first_rules new h []) one (left h is settled);
+        moments = λ h is settled. subst (LeavesSome first_rules old new h) one (moments h is settled);
       }
 
-  -- further messages wait
-  pub stops_before : (o p : O) (old new : Store D g) (h : History) (ms more : List Message) (fault : ServeFault)
-      → Stops took o p old new h ms fault → Stops took o p old new h (ms ++ more) fault
-  stops_before o p old new h ms more Read stops = stops
-  stops_before o p old new h ms more WriteFault stops = record {
-    answered = stops.answered;
-    waiting = stops.waiting ++ more;
-    split = ap (λ z. z ++ more) stops.split ∙ append_assoc (messages stops.answered) stops.waiting more;
-    written = stops.written;
-    store = stops.store;
-  }
-  stops_before o p old new h ms more Device stops = record {
+  abbrev fails_before : (failures : O → ℕ) (o p : O) (old new : Store D g) (v : View) (ms more : List Message)
+      → MeetsFailure took o p old new failures v ms → MeetsFailure took o p old new failures v (ms ++ more)
+  fails_before failures o p old new v ms more stops = record {
     answered = stops.answered;
     failing = stops.failing;
     waiting = stops.waiting ++ more;
@@ -205,39 +234,55 @@ module _ {O D : Type 0} {g : Ghosts D} (took : O → O → List ℕ → Type 0) 
     closing = stops.closing;
     unwritten = stops.unwritten;
     refusal = stops.refusal;
+    whole = stops.whole;
     written = stops.written;
+    stopped = stops.stopped;
+    failed = stops.failed;
     left = stops.left;
     moments = stops.moments;
   }
-  stops_before o p old new h ms more Memory stops = stops
-  stops_before o p old new h ms more (Damaged damage) stops = stops
-  stops_before o p old new h ms more Failed stops = stops
+
+  -- further messages wait
+  pub stops_before : (failures : O → ℕ) (o p : O) (old new : Store D g) (v : View) (ms more : List Message) (fault : ServeFault)
+      → Stops took failures o p old new v ms fault → Stops took failures o p old new v (ms ++ more) fault
+  stops_before failures o p old new v ms more Read stops = stops
+  stops_before failures o p old new v ms more WriteFault stops = record {
+    answered = stops.answered;
+    waiting = stops.waiting ++ more;
+    split = ap (λ z. z ++ more) stops.split ∙ append_assoc (messages stops.answered) stops.waiting more;
+    written = stops.written;
+    store = stops.store;
+  }
+  stops_before failures o p old new v ms more Device stops = fails_before failures o p old new v ms more stops
+  stops_before failures o p old new v ms more Memory stops = stops
+  stops_before failures o p old new v ms more (Damaged damage) stops = stops
+  stops_before failures o p old new v ms more Failed stops = fails_before failures o p old new v ms more stops
 
 module _ {O D : Type 0} {g : Ghosts D} (took : O → O → List ℕ → Type 0)
     (took_then : (old mid new : O) (front back : List ℕ) → took old mid front → took mid new back → took old new (front ++ back)) where
   -- the answers to some messages and then to others
-  pub answers_then : (o q p : O) (old mid new : Store D g) (h : History) (ms ns : List Message) (closing : List ℕ)
-      → (before : Answers took o q old mid h ms []) → Answers took q p mid new (h ++ all_writes h before.answered) ns closing
-      → Answers took o p old new h (ms ++ ns) closing
-  answers_then o q p old mid new h ms ns closing before after =
+  pub answers_then : (o q p : O) (old mid new : Store D g) (v : View) (ms ns : List Message) (closing : List ℕ)
+      → (before : Answers took o q old mid v ms []) → Answers took q p mid new (seen v before.answered) ns closing
+      → Answers took o p old new v (ms ++ ns) closing
+  answers_then o q p old mid new v ms ns closing before after =
       let xs : List Answered = before.answered in
       let ys : List Answered = after.answered in
       record {
         answered = xs ++ ys;
         answers = messages_then xs ys ms ns before.answers after.answers;
-        written = subst (took o p) (bytes_then h xs ys closing)
-            (took_then o q p (all_bytes h xs ++ []) (all_bytes (h ++ all_writes h xs) ys ++ closing) before.written after.written);
-        store = applied_then old mid new h xs ys before.store after.store;
+        written = subst (took o p) (bytes_then v xs ys closing)
+            (took_then o q p (all_bytes v xs ++ []) (all_bytes (seen v xs) ys ++ closing) before.written after.written);
+        store = applied_then old mid new v xs ys before.store after.store;
       }
 
   -- the answers to some messages, and then some of those to others
-  abbrev pub writes_some_then : (o q p : O) (old mid new : Store D g) (h : History) (ms ns : List Message) (closing : List ℕ)
-      → (before : Answers took o q old mid h ms []) → WritesSome took q p mid new (h ++ all_writes h before.answered) ns closing
-      → WritesSome took o p old new h (ms ++ ns) closing
-  writes_some_then o q p old mid new h ms ns closing before after =
+  abbrev pub writes_some_then : (o q p : O) (old mid new : Store D g) (v : View) (ms ns : List Message) (closing : List ℕ)
+      → (before : Answers took o q old mid v ms []) → WritesSome took q p mid new (seen v before.answered) ns closing
+      → WritesSome took o p old new v (ms ++ ns) closing
+  writes_some_then o q p old mid new v ms ns closing before after =
       let xs : List Answered = before.answered in
       let ys : List Answered = after.answered in
-      let front : List ℕ = all_bytes h xs ++ [] in
+      let front : List ℕ = all_bytes v xs ++ [] in
       record {
         answered = xs ++ ys;
         waiting = after.waiting;
@@ -245,25 +290,26 @@ module _ {O D : Type 0} {g : Ghosts D} (took : O → O → List ℕ → Type 0)
         written = record {
           front = front ++ after.written.front;
           rest = after.written.rest;
-          split = sym (bytes_then h xs ys closing) ∙ ap (λ b. front ++ b) after.written.split
+          split = sym (bytes_then v xs ys closing) ∙ ap (λ b. front ++ b) after.written.split
               ∙ sym (append_assoc front after.written.front after.written.rest);
           taken = took_then o q p front after.written.front before.written after.written.taken;
         };
-        store = applied_then old mid new h xs ys before.store after.store;
+        store = applied_then old mid new v xs ys before.store after.store;
       }
 
   -- the answers to some messages, and then the device fails at another
-  pub fails_then : (o q p : O) (old mid new : Store D g) (h : History) (ms ns : List Message)
-      → (before : Answers took o q old mid h ms []) → MeetsFailure took q p mid new (h ++ all_writes h before.answered) ns
-      → MeetsFailure took o p old new h (ms ++ ns)
-  fails_then o q p old mid new h ms ns before after =
+  pub fails_then : (failures : O → ℕ) (o q p : O) → failures o ≤ failures q → (old mid new : Store D g) (v : View) (ms ns : List Message)
+      → (before : Answers took o q old mid v ms []) → MeetsFailure took q p mid new failures (seen v before.answered) ns
+      → MeetsFailure took o p old new failures v (ms ++ ns)
+  fails_then failures o q p later old mid new v ms ns before after =
       let xs : List Answered = before.answered in
       let ys : List Answered = after.answered in
       let last : List Answered = served after.failing ∷ [] in
-      let first : List Write = all_writes h xs in
-      let kept : first ++ all_writes (h ++ first) ys ≡ all_writes h (xs ++ ys) = sym (all_writes-append h xs ys) in
-      let all : first ++ all_writes (h ++ first) (ys ++ last) ≡ all_writes h ((xs ++ ys) ++ last) =
-      sym (all_writes-append h xs (ys ++ last)) ∙ ap (all_writes h) (sym (append_assoc xs ys last))
+      let first : List Write = all_writes v xs in
+      let u : View = seen v xs in
+      let kept : first ++ all_writes u ys ≡ all_writes v (xs ++ ys) = sym (all_writes-append v xs ys) in
+      let all : first ++ all_writes u (ys ++ last) ≡ all_writes v ((xs ++ ys) ++ last) =
+      sym (all_writes-append v xs (ys ++ last)) ∙ ap (all_writes v) (sym (append_assoc xs ys last))
       in
       record {
         answered = xs ++ ys;
@@ -273,21 +319,29 @@ module _ {O D : Type 0} {g : Ghosts D} (took : O → O → List ℕ → Type 0)
         closing = after.closing;
         unwritten = after.unwritten;
         refusal = after.refusal;
-        written = subst (took o p) (bytes_then h xs ys after.closing)
-            (took_then o q p (all_bytes h xs ++ []) (all_bytes (h ++ first) ys ++ after.closing) before.written after.written);
-        left = subst (λ k. IsLeftAt first_rules new h k (all_writes h ((xs ++ ys) ++ last))) kept
-            (subst (IsLeftAt first_rules new h (first ++ all_writes (h ++ first) ys)) all
-            (left_after new h first (all_writes (h ++ first) ys) (all_writes (h ++ first) (ys ++ last)) after.left));
-        moments = subst (LeavesSome first_rules old new h) all
-            (moments_then old mid new h first (all_writes (h ++ first) (ys ++ last)) before.store.moments after.moments);
+        whole = ⊎_elim (λ none. inl none) (λ grown. inr (grown_after (failures o) (failures q) (failures p) later grown)) after.whole;
+        written = subst (took o p) (bytes_then v xs ys after.closing)
+            (took_then o q p (all_bytes v xs ++ []) (all_bytes u ys ++ after.closing) before.written after.written);
+        stopped = after.stopped;
+        failed = λ stopped.
+            let earlier = before.store.failed stopped in
+            let then_ = after.failed (before.store.serving ∙ stopped) in
+            (then_.0 ∙ earlier.0, AllRefused-append xs ys earlier.1 then_.1);
+        left = λ h is settled. subst (λ k. IsLeftAt first_rules new h k (all_writes v ((xs ++ ys) ++ last))) kept
+            (subst (IsLeftAt first_rules new h (first ++ all_writes u ys)) all
+            (left_after new h first (all_writes u ys) (all_writes u (ys ++ last))
+            (after.left (h ++ first) (seen_view v h first is) (before.store.settled h is settled))));
+        moments = λ h is settled. subst (LeavesSome first_rules old new h) all
+            (moments_then old mid new h first (all_writes u (ys ++ last)) (before.store.moments h is settled)
+            (after.moments (h ++ first) (seen_view v h first is) (before.store.settled h is settled)));
       }
 
-  pub stops_then : (o q p : O) (old mid new : Store D g) (h : History) (ms ns : List Message) (fault : ServeFault)
-      → (before : Answers took o q old mid h ms []) → Stops took q p mid new (h ++ all_writes h before.answered) ns fault
-      → Stops took o p old new h (ms ++ ns) fault
-  stops_then o q p old mid new h ms ns Read before after = after
-  stops_then o q p old mid new h ms ns WriteFault before after = writes_some_then o q p old mid new h ms ns [] before after
-  stops_then o q p old mid new h ms ns Device before after = fails_then o q p old mid new h ms ns before after
-  stops_then o q p old mid new h ms ns Memory before after = after
-  stops_then o q p old mid new h ms ns (Damaged damage) before after = after
-  stops_then o q p old mid new h ms ns Failed before after = after
+  pub stops_then : (failures : O → ℕ) (o q p : O) → failures o ≤ failures q → (old mid new : Store D g) (v : View) (ms ns : List Message) (fault : ServeFault)
+      → (before : Answers took o q old mid v ms []) → Stops took failures q p mid new (seen v before.answered) ns fault
+      → Stops took failures o p old new v (ms ++ ns) fault
+  stops_then failures o q p later old mid new v ms ns Read before after = after
+  stops_then failures o q p later old mid new v ms ns WriteFault before after = writes_some_then o q p old mid new v ms ns [] before after
+  stops_then failures o q p later old mid new v ms ns Device before after = fails_then failures o q p later old mid new v ms ns before after
+  stops_then failures o q p later old mid new v ms ns Memory before after = after
+  stops_then failures o q p later old mid new v ms ns (Damaged damage) before after = after
+  stops_then failures o q p later old mid new v ms ns Failed before after = fails_then failures o q p later old mid new v ms ns before after

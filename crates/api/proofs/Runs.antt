@@ -1,12 +1,11 @@
 -- A connection, piece after piece.
-use Rattle.std.proofs.Common.{◌≡◌, ℕ, List, [], ◌∷◌, ◌++◌, ap, sym, ◌∙◌, refl, subst, append_assoc, Some, None, inl, inr, ◌⊎◌, false, Bool, Result, Ok, Err, MatchResult, IsErrOf, ◌≤◌, arith}
+use Rattle.std.proofs.Common.{◌≡◌, ℕ, List, [], ◌∷◌, ◌++◌, ap, sym, ◌∙◌, refl, subst, append_assoc, Some, None, inl, inr, ◌⊎◌, false, Bool, Result, Ok, Err, IfOk, MatchResult, IsErrOf, ◌≤◌, arith}
 use Rattle.std.proofs.lemmas.List.{append-nil}
 use Rattle.device.specs.declared.device.Device.{Ghosts}
 use Rattle.requests.specs.declared.refusal.Refusal.TheVariants.{OutOfMemory}
-use Rattle.apicore.specs.History.{History}
+use Rattle.apicore.specs.View.{View}
 use Rattle.durable.specs.declared.store.Store.{Store}
-use Rattle.durable.specs.Rules.{first_rules}
-use Rattle.durable.specs.Settled.{device_of, IsSettledAt}
+use Rattle.durable.specs.Settled.{device_of, shown}
 use Rattle.httpmsg.specs.declared.head.End.{End}
 use Rattle.httpmsg.specs.Flow.{TookSome}
 use Rattle.httpmsg.specs.Stream.{Message, Progress, IsCut}
@@ -14,43 +13,43 @@ use Rattle.httpmsg.proofs.Cuts.{empty_unfinished}
 use Rattle.api.specs.declared.fault.ServeFault.{ServeFault}
 use Rattle.api.specs.declared.fault.ServeFault.TheVariants.{Read, Write, Device, Memory, Damaged, Failed}
 use Rattle.api.specs.ReplyBytes.{closing_bytes, end_bytes}
-use Rattle.api.specs.Answers.{messages, all_writes, all_bytes, Answers, WritesSome, MeetsFailure, HasGrown}
-use Rattle.api.specs.Piece.{TellsMore, Breaks, StepsWrong, Finishes, FinishesInPart}
-use Rattle.api.specs.Serving.{Ends, IsClosing, HasEnded, HasReadSome, HasWrittenSome, HasLackedMemory, HasStopped, HasAllCauses, Exchanged}
-use Rattle.api.proofs.Folds.{answers_none, answers_then, writes_some_then, fails_then}
+use Rattle.api.specs.Answers.{messages, all_bytes, Answers, WritesSome, MeetsFailure}
+use Rattle.api.specs.Piece.{TellsMore, FailsAtMore, Breaks, StepsWrong, Finishes, FinishesInPart}
+use Rattle.api.specs.Serving.{Ends, IsClosing, HasEnded, HasReadSome, HasWrittenSome, HasFailed, HasLackedMemory, HasStopped, HasAllCauses, Exchanged}
+use Rattle.api.proofs.Folds.{seen, grown_after, answers_none, answers_then, writes_some_then, fails_then}
 use Rattle.api.proofs.Streams.{at_once, ended_stream}
 
 -- The bytes that were cut are these messages, which are answered, and a piece behind them is read and not fed yet.
 pub record SoFar {I O D : Type 0} {g : Ghosts D} (gave : I → I → List ℕ → Type 0) (took : O → O → List ℕ → Type 0) (i j : I) (o p : O)
-    (old new : Store D g) (h : History) (now : Progress) (piece : List ℕ) : Type 0 where
+    (old new : Store D g) (v : View) (now : Progress) (piece : List ℕ) : Type 0 where
   pub read : List ℕ
   pub ms : List Message
   pub given : gave i j (read ++ piece)
   pub cut : IsCut read ms now
-  pub answers : Answers took o p old new h ms []
+  pub answers : Answers took o p old new v ms []
 
 nothing_waits : {A : Type 0} (xs ys : List A) → [] ≡ xs ++ ys → ys ≡ []
 nothing_waits [] ys e = sym e
 nothing_waits (x ∷ xs) ys e = cc
 
-module _ {I O D : Type 0} {g : Ghosts D} (gave : I → I → List ℕ → Type 0) (took : O → O → List ℕ → Type 0) where
+module _ {I O D : Type 0} {g : Ghosts D} (gave : I → I → List ℕ → Type 0) (took : O → O → List ℕ → Type 0) (failures : O → ℕ) where
   -- before the first piece
-  pub so_far_none : (i : I) (o : O) (store : Store D g) (h : History) → gave i i [] → took o o []
-      → ((c : List ℕ) → g.disk.since (device_of store) (g.disk.moment (device_of store)) c → g.disk.left (device_of store) c)
-      → IsSettledAt first_rules store h → SoFar gave took i i o o store store h (record { pending = []; end = None }) []
-  so_far_none i o store h none_given none_taken only_now settled = record {
+  pub so_far_none : (i : I) (o : O) (store : Store D g) (v : View) → gave i i [] → took o o []
+      → (g.disk.keeps (device_of store) → (c : List ℕ) → g.disk.since (device_of store) (g.disk.moment (device_of store)) c → g.disk.left (device_of store) c)
+      → shown store ≡ v → SoFar gave took i i o o store store v (record { pending = []; end = None }) []
+  so_far_none i o store v none_given none_taken only_now shows = record {
     read = [];
     ms = [];
     given = none_given;
     cut = (refl, empty_unfinished [] refl);
-    answers = answers_none took o store h none_taken only_now settled;
+    answers = answers_none took o store v none_taken shows only_now;
   }
 
   -- the output failed
-  wrote_some : (i j : I) (o p : O) (old new : Store D g) (h : History) (ms : List Message) (closing : List ℕ) (cut uncut : List ℕ) (now : Progress)
-      → gave i j (cut ++ uncut) → IsCut cut ms now → (some : WritesSome took o p old new h ms closing)
-      → (closing ≡ []) ⊎ ((some.waiting ≡ []) × IsClosing cut ms closing) → Exchanged gave took i j o p (HasWrittenSome old new h)
-  wrote_some i j o p old new h ms closing cut uncut now given is_cut some closes = record {
+  wrote_some : (i j : I) (o p : O) (old new : Store D g) (v : View) (ms : List Message) (closing : List ℕ) (cut uncut : List ℕ) (now : Progress)
+      → gave i j (cut ++ uncut) → IsCut cut ms now → (some : WritesSome took o p old new v ms closing)
+      → (closing ≡ []) ⊎ ((some.waiting ≡ []) × IsClosing cut ms closing) → Exchanged gave took i j o p (HasWrittenSome old new v)
+  wrote_some i j o p old new v ms closing cut uncut now given is_cut some closes = record {
     read = cut ++ uncut;
     written = some.written.front;
     gave_them = given;
@@ -81,12 +80,12 @@ module _ {I O D : Type 0} {g : Ghosts D} (gave : I → I → List ℕ → Type 0
           inr (last.0, subst (λ xs. IsClosing cut xs closing) all last.1)
 
   -- memory was refused to further bytes
-  lacked : (i j : I) (o p : O) (old new : Store D g) (h : History) (ms : List Message) (cut uncut : List ℕ) (now : Progress)
-      → gave i j (cut ++ uncut) → IsCut cut ms now → Answers took o p old new h ms (closing_bytes false OutOfMemory)
-      → Exchanged gave took i j o p (HasLackedMemory old new h)
-  lacked i j o p old new h ms cut uncut now given is_cut all = record {
+  lacked : (i j : I) (o p : O) (old new : Store D g) (v : View) (ms : List Message) (cut uncut : List ℕ) (now : Progress)
+      → gave i j (cut ++ uncut) → IsCut cut ms now → Answers took o p old new v ms (closing_bytes false OutOfMemory)
+      → Exchanged gave took i j o p (HasLackedMemory old new v)
+  lacked i j o p old new v ms cut uncut now given is_cut all = record {
     read = cut ++ uncut;
-    written = all_bytes h all.answered ++ closing_bytes false OutOfMemory;
+    written = all_bytes v all.answered ++ closing_bytes false OutOfMemory;
     gave_them = given;
     took_them = all.written;
     holds = record {
@@ -102,12 +101,12 @@ module _ {I O D : Type 0} {g : Ghosts D} (gave : I → I → List ℕ → Type 0
   }
 
   -- the stream was served to its end
-  served_to_end : (i j : I) (o p : O) (old new : Store D g) (h : History) (ms : List Message) (ended : Type 0) (read : List ℕ) (end : End)
-      → gave i j read → Ends ended read ms end → Answers took o p old new h ms (end_bytes end)
-      → Exchanged gave took i j o p (λ r w. HasEnded old new h r w ended end)
-  served_to_end i j o p old new h ms ended read end given stream all = record {
+  served_to_end : (i j : I) (o p : O) (old new : Store D g) (v : View) (ms : List Message) (ended : Type 0) (read : List ℕ) (end : End)
+      → gave i j read → Ends ended read ms end → Answers took o p old new v ms (end_bytes end)
+      → Exchanged gave took i j o p (λ r w. HasEnded old new v r w ended end)
+  served_to_end i j o p old new v ms ended read end given stream all = record {
     read = read;
-    written = all_bytes h all.answered ++ end_bytes end;
+    written = all_bytes v all.answered ++ end_bytes end;
     gave_them = given;
     took_them = all.written;
     holds = record {
@@ -119,15 +118,15 @@ module _ {I O D : Type 0} {g : Ghosts D} (gave : I → I → List ℕ → Type 0
   }
 
   -- the input failed
-  pub failed_to_read : (i j k : I) (o p : O) (old new : Store D g) (h : History) (now : Progress)
+  pub failed_to_read : (i j k : I) (o p : O) (old new : Store D g) (v : View) (now : Progress)
       → ((old mid new : I) (front back : List ℕ) → gave old mid front → gave mid new back → gave old new (front ++ back))
-      → SoFar gave took i j o p old new h now [] → gave j k [] → now.end ≡ None → Exchanged gave took i k o p (HasReadSome old new h)
-  failed_to_read i j k o p old new h now gave_then so_far nothing open_ =
+      → SoFar gave took i j o p old new v now [] → gave j k [] → now.end ≡ None → Exchanged gave took i k o p (HasReadSome old new v)
+  failed_to_read i j k o p old new v now gave_then so_far nothing open_ =
       let all = so_far.answers in
       let Given : List ℕ → Type 0 = λ bytes. gave i k bytes in
       record {
         read = so_far.read;
-        written = all_bytes h all.answered ++ [];
+        written = all_bytes v all.answered ++ [];
         gave_them = subst Given (append-nil (so_far.read ++ []) ∙ append-nil so_far.read) (gave_then i j k (so_far.read ++ []) [] so_far.given nothing);
         took_them = all.written;
         holds = record {
@@ -137,16 +136,16 @@ module _ {I O D : Type 0} {g : Ghosts D} (gave : I → I → List ℕ → Type 0
             subst (λ e. IsCut so_far.read (messages all.answered) (record { pending = now.pending; end = e })) open_
                 (subst (λ xs. IsCut so_far.read xs now) (sym all.answers) so_far.cut),
           );
-          text = append-nil (all_bytes h all.answered);
+          text = append-nil (all_bytes v all.answered);
           store = all.store;
         };
       }
 
   -- a further piece
-  pub so_far_read : (i j k : I) (o p : O) (old new : Store D g) (h : History) (now : Progress) (piece : List ℕ)
+  pub so_far_read : (i j k : I) (o p : O) (old new : Store D g) (v : View) (now : Progress) (piece : List ℕ)
       → ((old mid new : I) (front back : List ℕ) → gave old mid front → gave mid new back → gave old new (front ++ back))
-      → SoFar gave took i j o p old new h now [] → gave j k piece → SoFar gave took i k o p old new h now piece
-  so_far_read i j k o p old new h now piece gave_then so_far more = record {
+      → SoFar gave took i j o p old new v now [] → gave j k piece → SoFar gave took i k o p old new v now piece
+  so_far_read i j k o p old new v now piece gave_then so_far more = record {
     read = so_far.read;
     ms = so_far.ms;
     given = subst (λ bytes. gave i k (bytes ++ piece)) (append-nil so_far.read) (gave_then i j k (so_far.read ++ []) piece so_far.given more);
@@ -156,41 +155,41 @@ module _ {I O D : Type 0} {g : Ghosts D} (gave : I → I → List ℕ → Type 0
 
   module _ (took_then : (old mid new : O) (front back : List ℕ) → took old mid front → took mid new back → took old new (front ++ back)) where
     -- the piece is fed, and its messages are answered
-    pub so_far_told : (i j : I) (o p q : O) (old mid new : Store D g) (h : History) (before now : Progress) (piece : List ℕ)
-        → (so_far : SoFar gave took i j o p old mid h before piece)
-        → TellsMore took p q mid new (h ++ all_writes h so_far.answers.answered) so_far.read so_far.ms before piece now []
-        → SoFar gave took i j o q old new h now []
-    so_far_told i j o p q old mid new h before now piece so_far told = record {
+    pub so_far_told : (i j : I) (o p q : O) (old mid new : Store D g) (v : View) (before now : Progress) (piece : List ℕ)
+        → (so_far : SoFar gave took i j o p old mid v before piece)
+        → TellsMore took failures p q mid new (seen v so_far.answers.answered) so_far.read so_far.ms before piece now []
+        → SoFar gave took i j o q old new v now []
+    so_far_told i j o p q old mid new v before now piece so_far told = record {
       read = so_far.read ++ piece;
       ms = so_far.ms ++ told.more;
       given = subst (λ bytes. gave i j bytes) (sym (append-nil (so_far.read ++ piece))) so_far.given;
       cut = told.cut;
-      answers = answers_then took took_then o p q old mid new h so_far.ms told.more [] so_far.answers told.answers;
+      answers = answers_then took took_then o p q old mid new v so_far.ms told.more [] so_far.answers told.answers;
     }
 
     -- the piece ends the stream
-    pub ended_by : (i j : I) (o p q : O) (old mid new : Store D g) (h : History) (before now : Progress) (piece : List ℕ) (ended : Type 0) (end : End)
-        → (so_far : SoFar gave took i j o p old mid h before piece)
-        → TellsMore took p q mid new (h ++ all_writes h so_far.answers.answered) so_far.read so_far.ms before piece now (end_bytes end)
-        → now.end ≡ Some end → Exchanged gave took i j o q (λ r w. HasEnded old new h r w ended end)
-    ended_by i j o p q old mid new h before now piece ended end so_far told is =
-        served_to_end i j o q old new h (so_far.ms ++ told.more) ended (so_far.read ++ piece) end so_far.given
+    pub ended_by : (i j : I) (o p q : O) (old mid new : Store D g) (v : View) (before now : Progress) (piece : List ℕ) (ended : Type 0) (end : End)
+        → (so_far : SoFar gave took i j o p old mid v before piece)
+        → TellsMore took failures p q mid new (seen v so_far.answers.answered) so_far.read so_far.ms before piece now (end_bytes end)
+        → now.end ≡ Some end → Exchanged gave took i j o q (λ r w. HasEnded old new v r w ended end)
+    ended_by i j o p q old mid new v before now piece ended end so_far told is =
+        served_to_end i j o q old new v (so_far.ms ++ told.more) ended (so_far.read ++ piece) end so_far.given
         (inr (at_once (so_far.read ++ piece) (so_far.ms ++ told.more) now end told.cut is))
-        (answers_then took took_then o p q old mid new h so_far.ms told.more (end_bytes end) so_far.answers told.answers)
+        (answers_then took took_then o p q old mid new v so_far.ms told.more (end_bytes end) so_far.answers told.answers)
 
-    answers_and : (o p q : O) (old new : Store D g) (h : History) (ms : List Message) (closing : List ℕ) → Answers took o p old new h ms []
-        → took p q closing → Answers took o q old new h ms closing
-    answers_and o p q old new h ms closing all more = record {
+    answers_and : (o p q : O) (old new : Store D g) (v : View) (ms : List Message) (closing : List ℕ) → Answers took o p old new v ms []
+        → took p q closing → Answers took o q old new v ms closing
+    answers_and o p q old new v ms closing all more = record {
       answered = all.answered;
       answers = all.answers;
-      written = subst (λ b. took o q (b ++ closing)) (append-nil (all_bytes h all.answered)) (took_then o p q (all_bytes h all.answered ++ []) closing all.written more);
+      written = subst (λ b. took o q (b ++ closing)) (append-nil (all_bytes v all.answered)) (took_then o p q (all_bytes v all.answered ++ []) closing all.written more);
       store = all.store;
     }
 
-    abbrev writes_and : (o p q : O) (old new : Store D g) (h : History) (ms : List Message) (closing : List ℕ) → Answers took o p old new h ms []
-        → TookSome took p q closing → WritesSome took o q old new h ms closing
-    writes_and o p q old new h ms closing all some =
-        let front : List ℕ = all_bytes h all.answered ++ [] in
+    abbrev writes_and : (o p q : O) (old new : Store D g) (v : View) (ms : List Message) (closing : List ℕ) → Answers took o p old new v ms []
+        → TookSome took p q closing → WritesSome took o q old new v ms closing
+    writes_and o p q old new v ms closing all some =
+        let front : List ℕ = all_bytes v all.answered ++ [] in
         record {
           answered = all.answered;
           waiting = [];
@@ -198,7 +197,7 @@ module _ {I O D : Type 0} {g : Ghosts D} (gave : I → I → List ℕ → Type 0
           written = record {
             front = front ++ some.front;
             rest = some.rest;
-            split = ap (λ b. b ++ closing) (sym (append-nil (all_bytes h all.answered))) ∙ ap (λ b. front ++ b) some.split
+            split = ap (λ b. b ++ closing) (sym (append-nil (all_bytes v all.answered))) ∙ ap (λ b. front ++ b) some.split
                 ∙ sym (append_assoc front some.front some.rest);
             taken = took_then o p q front some.front all.written some.taken;
           };
@@ -206,84 +205,58 @@ module _ {I O D : Type 0} {g : Ghosts D} (gave : I → I → List ℕ → Type 0
         }
 
     -- the input has ended
-    pub finished : (i j k : I) (o p q : O) (old new : Store D g) (h : History) (now : Progress) (ended : Type 0) (end : End)
+    pub finished : (i j k : I) (o p q : O) (old new : Store D g) (v : View) (now : Progress) (ended : Type 0) (end : End)
         → ((old mid new : I) (front back : List ℕ) → gave old mid front → gave mid new back → gave old new (front ++ back))
-        → (so_far : SoFar gave took i j o p old new h now []) → gave j k [] → ended → Finishes took p q so_far.read so_far.ms end
-        → Exchanged gave took i k o q (λ r w. HasEnded old new h r w ended end)
-    finished i j k o p q old new h now ended end gave_then so_far nothing has_ended finishes =
+        → (so_far : SoFar gave took i j o p old new v now []) → gave j k [] → ended → Finishes took p q so_far.read so_far.ms end
+        → Exchanged gave took i k o q (λ r w. HasEnded old new v r w ended end)
+    finished i j k o p q old new v now ended end gave_then so_far nothing has_ended finishes =
         let Given : List ℕ → Type 0 = λ bytes. gave i k bytes in
-        served_to_end i k o q old new h so_far.ms ended so_far.read end
+        served_to_end i k o q old new v so_far.ms ended so_far.read end
         (subst Given (append-nil (so_far.read ++ []) ∙ append-nil so_far.read) (gave_then i j k (so_far.read ++ []) [] so_far.given nothing))
-        (inl (has_ended, finishes.stream)) (answers_and o p q old new h so_far.ms (end_bytes end) so_far.answers finishes.written)
+        (inl (has_ended, finishes.stream)) (answers_and o p q old new v so_far.ms (end_bytes end) so_far.answers finishes.written)
 
-    pub finished_in_part : (i j k : I) (o p q : O) (old new : Store D g) (h : History) (now : Progress) (fault : ServeFault)
+    pub finished_in_part : (i j k : I) (o p q : O) (old new : Store D g) (v : View) (now : Progress) (fault : ServeFault)
         → ((old mid new : I) (front back : List ℕ) → gave old mid front → gave mid new back → gave old new (front ++ back))
-        → (so_far : SoFar gave took i j o p old new h now []) → gave j k [] → FinishesInPart took p q so_far.read so_far.ms fault
-        → Exchanged gave took i k o q (HasStopped old new h fault)
-    finished_in_part i j k o p q old new h now fault gave_then so_far nothing part =
-        let Stopped : ServeFault → Type 0 = λ f. Exchanged gave took i k o q (HasStopped old new h f) in
+        → (so_far : SoFar gave took i j o p old new v now []) → gave j k [] → FinishesInPart took p q so_far.read so_far.ms fault
+        → Exchanged gave took i k o q (HasStopped old new v (failures o) (failures q) fault)
+    finished_in_part i j k o p q old new v now fault gave_then so_far nothing part =
+        let Stopped : ServeFault → Type 0 = λ f. Exchanged gave took i k o q (HasStopped old new v (failures o) (failures q) f) in
         let closing : List ℕ = end_bytes part.end in
         let closes : IsClosing so_far.read so_far.ms closing = inl (part.end, part.stream, refl) in
         subst Stopped (sym part.is)
-        (wrote_some i k o q old new h so_far.ms closing so_far.read [] now
+        (wrote_some i k o q old new v so_far.ms closing so_far.read [] now
         (subst (λ bytes. gave i k bytes) (append-nil (so_far.read ++ [])) (gave_then i j k (so_far.read ++ []) [] so_far.given nothing)) so_far.cut
-        (writes_and o p q old new h so_far.ms closing so_far.answers part.written) (inr (refl, closes)))
+        (writes_and o p q old new v so_far.ms closing so_far.answers part.written) (inr (refl, closes)))
 
     -- no further piece is taken
-    pub no_more : (i j : I) (o p q : O) (old new : Store D g) (h : History) (now : Progress) (piece : List ℕ)
-        → SoFar gave took i j o p old new h now piece → took p q (closing_bytes false OutOfMemory)
-        → Exchanged gave took i j o q (HasLackedMemory old new h)
-    no_more i j o p q old new h now piece so_far written =
-        lacked i j o q old new h so_far.ms so_far.read piece now so_far.given so_far.cut
-        (answers_and o p q old new h so_far.ms (closing_bytes false OutOfMemory) so_far.answers written)
+    pub no_more : (i j : I) (o p q : O) (old new : Store D g) (v : View) (now : Progress) (piece : List ℕ)
+        → SoFar gave took i j o p old new v now piece → took p q (closing_bytes false OutOfMemory)
+        → Exchanged gave took i j o q (HasLackedMemory old new v)
+    no_more i j o p q old new v now piece so_far written =
+        lacked i j o q old new v so_far.ms so_far.read piece now so_far.given so_far.cut
+        (answers_and o p q old new v so_far.ms (closing_bytes false OutOfMemory) so_far.answers written)
 
-    pub no_more_in_part : (i j : I) (o p q : O) (old new : Store D g) (h : History) (now : Progress) (piece : List ℕ)
-        → SoFar gave took i j o p old new h now piece → TookSome took p q (closing_bytes false OutOfMemory)
-        → Exchanged gave took i j o q (HasWrittenSome old new h)
-    no_more_in_part i j o p q old new h now piece so_far some =
+    pub no_more_in_part : (i j : I) (o p q : O) (old new : Store D g) (v : View) (now : Progress) (piece : List ℕ)
+        → SoFar gave took i j o p old new v now piece → TookSome took p q (closing_bytes false OutOfMemory)
+        → Exchanged gave took i j o q (HasWrittenSome old new v)
+    no_more_in_part i j o p q old new v now piece so_far some =
         let closing : List ℕ = closing_bytes false OutOfMemory in
         let closes : IsClosing so_far.read so_far.ms closing = inr refl in
-        wrote_some i j o q old new h so_far.ms closing so_far.read piece now so_far.given so_far.cut
-        (writes_and o p q old new h so_far.ms closing so_far.answers some) (inr (refl, closes))
+        wrote_some i j o q old new v so_far.ms closing so_far.read piece now so_far.given so_far.cut
+        (writes_and o p q old new v so_far.ms closing so_far.answers some) (inr (refl, closes))
 
-    -- a piece stops serving
-    pub broken_by : (i j : I) (o p q : O) (old mid new : Store D g) (h : History) (before now : Progress) (piece : List ℕ) (fault : ServeFault)
-        → (so_far : SoFar gave took i j o p old mid h before piece)
-        → Breaks took p q mid new (h ++ all_writes h so_far.answers.answered) so_far.read so_far.ms before piece now fault
-        → Exchanged gave took i j o q (HasStopped old new h fault)
-    broken_by i j o p q old mid new h before now piece Read so_far breaks = absurd breaks
-    broken_by i j o p q old mid new h before now piece Write so_far (inl some) =
-        wrote_some i j o q old new h (so_far.ms ++ some.more) [] (so_far.read ++ piece) [] now
-        (subst (λ bytes. gave i j bytes) (sym (append-nil (so_far.read ++ piece))) so_far.given) some.cut
-        (writes_some_then took took_then o p q old mid new h so_far.ms some.more [] so_far.answers some.some) (inl refl)
-    broken_by i j o p q old mid new h before now piece Write so_far (inr (inl part)) =
-        let closing : List ℕ = end_bytes part.end in
-        let none : List Message = [] in
-        let same : so_far.ms ++ none ≡ so_far.ms = append-nil so_far.ms in
-        let cut : IsCut (so_far.read ++ piece) (so_far.ms ++ none) now = subst (λ xs. IsCut (so_far.read ++ piece) xs now) (sym same) part.cut in
-        let closes : IsClosing (so_far.read ++ piece) (so_far.ms ++ none) closing =
-        inl (part.end, ended_stream (so_far.read ++ piece) (so_far.ms ++ none) now part.end cut part.is, refl)
-        in
-        wrote_some i j o q old new h (so_far.ms ++ none) closing (so_far.read ++ piece) [] now
-        (subst (λ bytes. gave i j bytes) (sym (append-nil (so_far.read ++ piece))) so_far.given) cut
-        (writes_some_then took took_then o p q old mid new h so_far.ms none closing so_far.answers part.some)
-        (inr (nothing_waits (messages part.some.answered) part.some.waiting part.some.split, closes))
-    broken_by i j o p q old mid new h before now piece Write so_far (inr (inr (some, same_cut))) =
-        let closing : List ℕ = closing_bytes false OutOfMemory in
-        let none : List Message = [] in
-        let same : so_far.ms ++ none ≡ so_far.ms = append-nil so_far.ms in
-        let closes : IsClosing so_far.read (so_far.ms ++ none) closing = inr refl in
-        wrote_some i j o q old new h (so_far.ms ++ none) closing so_far.read piece before so_far.given
-        (subst (λ xs. IsCut so_far.read xs before) (sym same) so_far.cut)
-        (writes_some_then took took_then o p q old mid new h so_far.ms none closing so_far.answers some)
-        (inr (nothing_waits (messages some.answered) some.waiting some.split, closes))
-    broken_by i j o p q old mid new h before now piece Device so_far fails =
-        let all : MeetsFailure took o q old new h (so_far.ms ++ fails.more) =
-        fails_then took took_then o p q old mid new h so_far.ms fails.more so_far.answers fails.fails
+    -- the device failed at a message of the piece, now or before
+    abbrev failed_by : (i j : I) (o p q : O) → failures o ≤ failures p → (old mid new : Store D g) (v : View) (before now : Progress) (piece : List ℕ)
+        → (so_far : SoFar gave took i j o p old mid v before piece)
+        → FailsAtMore took failures p q mid new (seen v so_far.answers.answered) so_far.read so_far.ms before piece now
+        → Exchanged gave took i j o q (λ r w. HasFailed old new v r w (failures o) (failures q))
+    failed_by i j o p q later old mid new v before now piece so_far fails =
+        let all : MeetsFailure took o q old new failures v (so_far.ms ++ fails.more) =
+        fails_then took took_then failures o p q later old mid new v so_far.ms fails.more so_far.answers fails.fails
         in
         record {
           read = so_far.read ++ piece;
-          written = all_bytes h all.answered ++ all.closing;
+          written = all_bytes v all.answered ++ all.closing;
           gave_them = so_far.given;
           took_them = all.written;
           holds = record {
@@ -295,71 +268,114 @@ module _ {I O D : Type 0} {g : Ghosts D} (gave : I → I → List ℕ → Type 0
             closing = all.closing;
             unwritten = all.unwritten;
             refusal = all.refusal;
+            whole = all.whole;
             text = refl;
+            stopped = all.stopped;
+            failed = all.failed;
             left = all.left;
             moments = all.moments;
           };
         }
-    broken_by i j o p q old mid new h before now piece Memory so_far (refused, same_cut) =
+
+    -- a piece stops serving
+    pub broken_by : (i j : I) (o p q : O) → failures o ≤ failures p → (old mid new : Store D g) (v : View) (before now : Progress) (piece : List ℕ) (fault : ServeFault)
+        → (so_far : SoFar gave took i j o p old mid v before piece)
+        → Breaks took failures p q mid new (seen v so_far.answers.answered) so_far.read so_far.ms before piece now fault
+        → Exchanged gave took i j o q (HasStopped old new v (failures o) (failures q) fault)
+    broken_by i j o p q later old mid new v before now piece Read so_far breaks = absurd breaks
+    broken_by i j o p q later old mid new v before now piece Write so_far (inl some) =
+        wrote_some i j o q old new v (so_far.ms ++ some.more) [] (so_far.read ++ piece) [] now
+        (subst (λ bytes. gave i j bytes) (sym (append-nil (so_far.read ++ piece))) so_far.given) some.cut
+        (writes_some_then took took_then o p q old mid new v so_far.ms some.more [] so_far.answers some.some) (inl refl)
+    broken_by i j o p q later old mid new v before now piece Write so_far (inr (inl part)) =
+        let closing : List ℕ = end_bytes part.end in
         let none : List Message = [] in
-        lacked i j o q old new h (so_far.ms ++ none) so_far.read piece before so_far.given
+        let same : so_far.ms ++ none ≡ so_far.ms = append-nil so_far.ms in
+        let cut : IsCut (so_far.read ++ piece) (so_far.ms ++ none) now = subst (λ xs. IsCut (so_far.read ++ piece) xs now) (sym same) part.cut in
+        let closes : IsClosing (so_far.read ++ piece) (so_far.ms ++ none) closing =
+        inl (part.end, ended_stream (so_far.read ++ piece) (so_far.ms ++ none) now part.end cut part.is, refl)
+        in
+        wrote_some i j o q old new v (so_far.ms ++ none) closing (so_far.read ++ piece) [] now
+        (subst (λ bytes. gave i j bytes) (sym (append-nil (so_far.read ++ piece))) so_far.given) cut
+        (writes_some_then took took_then o p q old mid new v so_far.ms none closing so_far.answers part.some)
+        (inr (nothing_waits (messages part.some.answered) part.some.waiting part.some.split, closes))
+    broken_by i j o p q later old mid new v before now piece Write so_far (inr (inr (some, same_cut))) =
+        let closing : List ℕ = closing_bytes false OutOfMemory in
+        let none : List Message = [] in
+        let same : so_far.ms ++ none ≡ so_far.ms = append-nil so_far.ms in
+        let closes : IsClosing so_far.read (so_far.ms ++ none) closing = inr refl in
+        wrote_some i j o q old new v (so_far.ms ++ none) closing so_far.read piece before so_far.given
+        (subst (λ xs. IsCut so_far.read xs before) (sym same) so_far.cut)
+        (writes_some_then took took_then o p q old mid new v so_far.ms none closing so_far.answers some)
+        (inr (nothing_waits (messages some.answered) some.waiting some.split, closes))
+    broken_by i j o p q later old mid new v before now piece Device so_far fails =
+        failed_by i j o p q later old mid new v before now piece so_far fails
+    broken_by i j o p q later old mid new v before now piece Memory so_far (refused, same_cut) =
+        let none : List Message = [] in
+        lacked i j o q old new v (so_far.ms ++ none) so_far.read piece before so_far.given
         (subst (λ xs. IsCut so_far.read xs before) (sym (append-nil so_far.ms)) so_far.cut)
-        (answers_then took took_then o p q old mid new h so_far.ms none (closing_bytes false OutOfMemory) so_far.answers refused)
-    broken_by i j o p q old mid new h before now piece (Damaged damage) so_far breaks = absurd breaks
-    broken_by i j o p q old mid new h before now piece Failed so_far breaks = absurd breaks
+        (answers_then took took_then o p q old mid new v so_far.ms none (closing_bytes false OutOfMemory) so_far.answers refused)
+    broken_by i j o p q later old mid new v before now piece (Damaged damage) so_far breaks = absurd breaks
+    broken_by i j o p q later old mid new v before now piece Failed so_far fails =
+        failed_by i j o p q later old mid new v before now piece so_far fails
 
     -- ---- the steps of a connection
 
     -- the stream ends
-    pub ended_at : (i j k : I) (o p q : O) (old mid new : Store D g) (h : History) (before now : Progress) (piece : List ℕ) (ended : Type 0) (end : End)
+    pub ended_at : (i j k : I) (o p q : O) (old mid new : Store D g) (v : View) (before now : Progress) (piece : List ℕ) (ended : Type 0) (end : End)
         → ((old mid new : I) (front back : List ℕ) → gave old mid front → gave mid new back → gave old new (front ++ back))
-        → (so_far : SoFar gave took i j o p old mid h before piece)
-        → TellsMore took p q mid new (h ++ all_writes h so_far.answers.answered) so_far.read so_far.ms before piece now (end_bytes end)
+        → (so_far : SoFar gave took i j o p old mid v before piece)
+        → TellsMore took failures p q mid new (seen v so_far.answers.answered) so_far.read so_far.ms before piece now (end_bytes end)
         × (now.end ≡ Some end) × gave j k []
-        → Exchanged gave took i k o q (λ r w. HasEnded old new h r w ended end)
-    ended_at i j k o p q old mid new h before now piece ended end gave_then so_far (told, is, nothing) =
+        → Exchanged gave took i k o q (λ r w. HasEnded old new v r w ended end)
+    ended_at i j k o p q old mid new v before now piece ended end gave_then so_far (told, is, nothing) =
         let whole : List ℕ = so_far.read ++ piece in
         let given : gave i k whole = subst (λ bytes. gave i k bytes) (append-nil whole) (gave_then i j k whole [] so_far.given nothing) in
-        let later : SoFar gave took i k o p old mid h before piece =
+        let later : SoFar gave took i k o p old mid v before piece =
         record { read = so_far.read; ms = so_far.ms; given = given; cut = so_far.cut; answers = so_far.answers }
         in
-        ended_by i k o p q old mid new h before now piece ended end later told is
+        ended_by i k o p q old mid new v before now piece ended end later told is
 
     -- a step stops serving
-    pub wrong_at : (i j k : I) (o p q : O) (old mid new : Store D g) (h : History) (before now : Progress) (piece : List ℕ) (fault : ServeFault)
+    pub wrong_at : (i j k : I) (o p q : O) → failures o ≤ failures p → (old mid new : Store D g) (v : View) (before now : Progress) (piece : List ℕ) (fault : ServeFault)
         → ((old mid new : I) (front back : List ℕ) → gave old mid front → gave mid new back → gave old new (front ++ back))
-        → (so_far : SoFar gave took i j o p old mid h before piece)
-        → StepsWrong gave took j k p q mid new (h ++ all_writes h so_far.answers.answered) so_far.read so_far.ms before piece now fault
-        → Exchanged gave took i k o q (HasStopped old new h fault)
-    wrong_at i j k o p q old mid new h before now piece fault gave_then so_far (inl breaks, nothing) =
+        → (so_far : SoFar gave took i j o p old mid v before piece)
+        → StepsWrong gave took failures j k p q mid new (seen v so_far.answers.answered) so_far.read so_far.ms before piece now fault
+        → Exchanged gave took i k o q (HasStopped old new v (failures o) (failures q) fault)
+    wrong_at i j k o p q less old mid new v before now piece fault gave_then so_far (inl breaks, nothing) =
         let whole : List ℕ = so_far.read ++ piece in
         let given : gave i k whole = subst (λ bytes. gave i k bytes) (append-nil whole) (gave_then i j k whole [] so_far.given nothing) in
-        let later : SoFar gave took i k o p old mid h before piece =
+        let later : SoFar gave took i k o p old mid v before piece =
         record { read = so_far.read; ms = so_far.ms; given = given; cut = so_far.cut; answers = so_far.answers }
         in
-        broken_by i k o p q old mid new h before now piece fault later breaks
-    wrong_at i j k o p q old mid new h before now piece fault gave_then so_far (inr (is, told, open_), nothing) =
-        let Stopped : ServeFault → Type 0 = λ f. Exchanged gave took i k o q (HasStopped old new h f) in
+        broken_by i k o p q less old mid new v before now piece fault later breaks
+    wrong_at i j k o p q later old mid new v before now piece fault gave_then so_far (inr (is, told, open_), nothing) =
+        let Stopped : ServeFault → Type 0 = λ f. Exchanged gave took i k o q (HasStopped old new v (failures o) (failures q) f) in
         subst Stopped (sym is)
-        (failed_to_read i j k o q old new h now gave_then (so_far_told i j o p q old mid new h before now piece so_far told) nothing open_)
+        (failed_to_read i j k o q old new v now gave_then (so_far_told i j o p q old mid new v before now piece so_far told) nothing open_)
 
     -- the input has ended, and the stream is finished or not
-    pub finished_at : (i j k : I) (o p q : O) (old new : Store D g) (h : History) (now : Progress) (ended : Type 0) (r : Result End ServeFault)
+    pub finished_at : (i j k : I) (o p q : O) (old new : Store D g) (v : View) (now : Progress) (ended : Type 0) (r : Result End ServeFault)
         → ((old mid new : I) (front back : List ℕ) → gave old mid front → gave mid new back → gave old new (front ++ back))
-        → (so_far : SoFar gave took i j o p old new h now []) → gave j k [] → ended
+        → (so_far : SoFar gave took i j o p old new v now []) → gave j k [] → ended
         → MatchResult r (Finishes took p q so_far.read so_far.ms) (FinishesInPart took p q so_far.read so_far.ms)
-        → MatchResult r (λ end. Exchanged gave took i k o q (λ a w. HasEnded old new h a w ended end))
-        (λ fault. Exchanged gave took i k o q (HasStopped old new h fault))
-    finished_at i j k o p q old new h now ended (Ok end) gave_then so_far nothing has_ended finishes =
-        finished i j k o p q old new h now ended end gave_then so_far nothing has_ended finishes
-    finished_at i j k o p q old new h now ended (Err fault) gave_then so_far nothing has_ended part =
-        finished_in_part i j k o p q old new h now fault gave_then so_far nothing part
+        → MatchResult r (λ end. Exchanged gave took i k o q (λ a w. HasEnded old new v a w ended end))
+        (λ fault. Exchanged gave took i k o q (HasStopped old new v (failures o) (failures q) fault))
+    finished_at i j k o p q old new v now ended (Ok end) gave_then so_far nothing has_ended finishes =
+        finished i j k o p q old new v now ended end gave_then so_far nothing has_ended finishes
+    finished_at i j k o p q old new v now ended (Err fault) gave_then so_far nothing has_ended part =
+        finished_in_part i j k o p q old new v now fault gave_then so_far nothing part
 
 -- ---- causes
 
-grown_after : (a b c : ℕ) → a ≤ b → HasGrown b c → HasGrown a c
-grown_after a b c le (inl grown) = inl (omega (arith, le, grown))
-grown_after a b c le (inr most) = inr most
+-- what is said of an answer, of its success and of its error
+pub at_ok : {T E : Type 0} (r : Result T E) (P : T → Type 0) (Q : E → Type 0) → MatchResult r P Q → IfOk r P
+at_ok (Ok v) P Q holds = holds
+at_ok (Err e) P Q holds = tt
+
+pub at_error : {T E : Type 0} (r : Result T E) (P : T → Type 0) (Q : E → Type 0) (e : E) → MatchResult r P Q → IsErrOf r e → Q e
+at_error (Ok v) P Q e holds is = cc
+at_error (Err f) P Q e holds is = let same : f ≡ e = cc in subst Q same holds
 
 retyped : {T S : Type 0} (fault other : ServeFault) → IsErrOf {T = S} (Err fault) other → IsErrOf {T = T} (Err fault) other
 retyped fault other is = let same : fault ≡ other = cc in ap Err same

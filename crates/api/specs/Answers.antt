@@ -5,10 +5,10 @@ use Rattle.requests.specs.declared.refusal.Refusal.TheVariants.{OutOfMemory, Sto
 use Rattle.apicore.specs.History.{Write, History}
 use Rattle.apicore.specs.Reply.{Reply, status}
 use Rattle.apicore.specs.Step.{writes, reply}
-use Rattle.apicore.specs.View.{view}
+use Rattle.apicore.specs.View.{View, view, after_all}
 use Rattle.durable.specs.declared.store.Store.{Store}
 use Rattle.durable.specs.Rules.{first_rules}
-use Rattle.durable.specs.Settled.{IsSettledAt, IsLeftAt, LeavesSome}
+use Rattle.durable.specs.Settled.{serves, shown, IsSettledAt, IsLeftAt, LeavesSome}
 use Rattle.httpmsg.specs.Flow.{TookSome}
 use Rattle.httpmsg.specs.Stream.{Message}
 use Rattle.routes.specs.Asked.{asked}
@@ -32,65 +32,82 @@ answered_by m found = record { message = m; is_served = is_some found }
 abbrev pub messages : List Answered → List Message
 messages answered = map (λ a. a.message) answered
 
--- ---- one message, at a history
+-- ---- one message, where v is shown
 
 -- the writes of its request: none where memory was refused to it
-abbrev pub writes_of : History → Answered → List Write
-writes_of h a = if a.is_served then writes first_rules (view first_rules h) (asked a.message) else []
+abbrev pub writes_of : View → Answered → List Write
+writes_of v a = if a.is_served then writes first_rules v (asked a.message) else []
 
 -- the reply to its request, or that memory was refused to it
-abbrev pub reply_of : History → Answered → Reply
-reply_of h a = if a.is_served then reply first_rules (view first_rules h) (asked a.message) else status OutOfMemory
+abbrev pub reply_of : View → Answered → Reply
+reply_of v a = if a.is_served then reply first_rules v (asked a.message) else status OutOfMemory
 
--- ---- messages, one after another, from a history on
+-- ---- messages, one after another
 
-abbrev pub all_writes : History → List Answered → List Write
-all_writes h [] = []
-all_writes h (a ∷ more) = writes_of h a ++ all_writes (h ++ writes_of h a) more
+abbrev pub all_writes : View → List Answered → List Write
+all_writes v [] = []
+all_writes v (a ∷ more) = writes_of v a ++ all_writes (after_all first_rules v (writes_of v a)) more
 
-abbrev pub all_bytes : History → List Answered → List ℕ
-all_bytes h [] = []
-all_bytes h (a ∷ more) = reply_bytes a.message (reply_of h a) ++ all_bytes (h ++ writes_of h a) more
+abbrev pub all_bytes : View → List Answered → List ℕ
+all_bytes v [] = []
+all_bytes v (a ∷ more) = reply_bytes a.message (reply_of v a) ++ all_bytes (after_all first_rules v (writes_of v a)) more
+
+-- memory was refused to each of them
+abbrev pub AllRefused : List Answered → Type 0
+AllRefused [] = Unit {0}
+AllRefused (a ∷ more) = (a.is_served ≡ false) × AllRefused more
+
+-- failures grew, or can grow no more
+abbrev pub HasGrown : (before now : ℕ) → Type 0
+HasGrown before now = (before < now) ⊎ (now ≡ 2 ^ 64 - 1)
 
 -- ---- what a call that answers messages leaves
 
--- The store, settled at the history before, is settled behind the writes of the answers. At every moment since a crash leaves
--- the history followed by some first ones of them.
-pub record HasApplied {D : Type 0} {g : Ghosts D} (old new : Store D g) (h : History) (answered : List Answered) : Type 0 where
-  pub settled : IsSettledAt first_rules new (h ++ all_writes h answered)
-  pub moments : LeavesSome first_rules old new h (all_writes h answered)
+-- Where old, which showed v, was settled at a history.
+abbrev pub WhereSettled : {D : Type 0} {g : Ghosts D} → Store D g → View → (History → Type 0) → Type 0
+WhereSettled old v P = (h : History) → v ≡ view first_rules h → IsSettledAt first_rules old h → P h
+
+-- The store showed v, and shows what the answers leave. One that had failed is as it was. One that was settled at a history is
+-- settled behind the writes of the answers, and at every moment since a crash leaves that history followed by some first ones of them.
+pub record HasApplied {D : Type 0} {g : Ghosts D} (old new : Store D g) (v : View) (answered : List Answered) : Type 0 where
+  pub serving : serves new ≡ serves old
+  pub shows : shown new ≡ after_all first_rules v (all_writes v answered)
+  pub failed : serves old ≡ false → (new ≡ old) × AllRefused answered
+  pub settled : WhereSettled old v (λ h. IsSettledAt first_rules new (h ++ all_writes v answered))
+  pub moments : WhereSettled old v (λ h. LeavesSome first_rules old new h (all_writes v answered))
 
 -- The store's reply to a message, none where memory was refused, is the model's, and its writes are in the store.
-pub record HasReplied {D : Type 0} {g : Ghosts D} (old new : Store D g) (h : History) (m : Message) (found : Option Reply) : Type 0 where
-  pub reply : unwrap_or found (status OutOfMemory) ≡ reply_of h (answered_by m found)
-  pub settled : IsSettledAt first_rules new (h ++ writes_of h (answered_by m found))
-  pub moments : LeavesSome first_rules old new h (writes_of h (answered_by m found))
+pub record HasReplied {D : Type 0} {g : Ghosts D} (old new : Store D g) (v : View) (m : Message) (found : Option Reply) : Type 0 where
+  pub reply : unwrap_or found (status OutOfMemory) ≡ reply_of v (answered_by m found)
+  pub store : HasApplied old new v (answered_by m found ∷ [])
 
--- The device failed at a message: its writes stand, or they do not.
-pub record HasFailedAt {D : Type 0} {g : Ghosts D} (old new : Store D g) (h : History) (m : Message) (fault : ServeFault) : Type 0 where
-  pub is : fault ≡ ServeFaults.Device
-  pub left : IsLeftAt first_rules new h [] (writes_of h (served m))
-  pub moments : LeavesSome first_rules old new h (writes_of h (served m))
+-- The device failed at a message, whose writes stand or do not; or it had failed before, and nothing is done.
+pub record HasFailedAt {D : Type 0} {g : Ghosts D} (old new : Store D g) (v : View) (m : Message) (fault : ServeFault) : Type 0 where
+  pub stopped : serves new ≡ false
+  pub is : ((fault ≡ ServeFaults.Device) × (serves old ≡ true)) ⊎ ((fault ≡ ServeFaults.Failed) × (serves old ≡ false) × (new ≡ old))
+  pub left : WhereSettled old v (λ h. IsLeftAt first_rules new h [] (writes_of v (served m)))
+  pub moments : WhereSettled old v (λ h. LeavesSome first_rules old new h (writes_of v (served m)))
 
 module _ {O D : Type 0} {g : Ghosts D} (took : O → O → List ℕ → Type 0) (o p : O) (old new : Store D g) where
   -- The messages are answered, and behind the replies closing bytes are written.
-  pub record Answers (h : History) (ms : List Message) (closing : List ℕ) : Type 0 where
+  pub record Answers (v : View) (ms : List Message) (closing : List ℕ) : Type 0 where
     pub answered : List Answered
     pub answers : messages answered ≡ ms
-    pub written : took o p (all_bytes h answered ++ closing)
-    pub store : HasApplied old new h answered
+    pub written : took o p (all_bytes v answered ++ closing)
+    pub store : HasApplied old new v answered
 
   -- The output failed: some first messages were applied, and a beginning of their replies and of closing bytes is written.
-  pub record WritesSome (h : History) (ms : List Message) (closing : List ℕ) : Type 0 where
+  pub record WritesSome (v : View) (ms : List Message) (closing : List ℕ) : Type 0 where
     pub answered : List Answered
     pub waiting : List Message
     pub split : ms ≡ messages answered ++ waiting
-    pub written : TookSome took o p (all_bytes h answered ++ closing)
-    pub store : HasApplied old new h answered
+    pub written : TookSome took o p (all_bytes v answered ++ closing)
+    pub store : HasApplied old new v answered
 
-  -- The device failed at a message: those before it are answered, and then a refusal that closes is written, or a beginning
-  -- of it. The store has stopped; what is found has the writes that were answered, and perhaps that of the message.
-  pub record MeetsFailure (h : History) (ms : List Message) : Type 0 where
+  -- The device failed at a message, now or before: those before it are answered, and then a refusal that closes is written, the whole
+  -- of it unless the output failed. What is found of a store that was settled has the writes that were answered, and perhaps that of
+  -- the message.
+  pub record MeetsFailure (failures : O → ℕ) (v : View) (ms : List Message) : Type 0 where
     pub answered : List Answered
     pub failing : Message
     pub waiting : List Message
@@ -98,25 +115,24 @@ module _ {O D : Type 0} {g : Ghosts D} (took : O → O → List ℕ → Type 0) 
     pub closing : List ℕ
     pub unwritten : List ℕ
     pub refusal : closing_bytes false StorageFailed ≡ closing ++ unwritten
-    pub written : took o p (all_bytes h answered ++ closing)
-    pub left : IsLeftAt first_rules new h (all_writes h answered) (all_writes h (answered ++ served failing ∷ []))
-    pub moments : LeavesSome first_rules old new h (all_writes h (answered ++ served failing ∷ []))
+    pub whole : (unwritten ≡ []) ⊎ HasGrown (failures o) (failures p)
+    pub written : took o p (all_bytes v answered ++ closing)
+    pub stopped : serves new ≡ false
+    pub failed : serves old ≡ false → (new ≡ old) × AllRefused answered
+    pub left : WhereSettled old v (λ h. IsLeftAt first_rules new h (all_writes v answered) (all_writes v (answered ++ served failing ∷ [])))
+    pub moments : WhereSettled old v (λ h. LeavesSome first_rules old new h (all_writes v (answered ++ served failing ∷ [])))
 
 -- ---- why answering ends early
 
--- how answering messages stops at a store that was settled: only by the output or by the device
-abbrev pub Stops : {O D : Type 0} {g : Ghosts D} → (O → O → List ℕ → Type 0) → O → O → Store D g → Store D g
-    → History → List Message → ServeFault → Type 0
-Stops took o p old new h ms ServeFaults.Read = ⊥
-Stops took o p old new h ms ServeFaults.Write = WritesSome took o p old new h ms []
-Stops took o p old new h ms ServeFaults.Device = MeetsFailure took o p old new h ms
-Stops took o p old new h ms ServeFaults.Memory = ⊥
-Stops took o p old new h ms (ServeFaults.Damaged damage) = ⊥
-Stops took o p old new h ms ServeFaults.Failed = ⊥
-
--- failures grew, or can grow no more
-abbrev pub HasGrown : (before now : ℕ) → Type 0
-HasGrown before now = (before < now) ⊎ (now ≡ 2 ^ 64 - 1)
+-- how answering messages stops: only by the output or by the device, now or before
+abbrev pub Stops : {O D : Type 0} {g : Ghosts D} → (O → O → List ℕ → Type 0) → (O → ℕ) → O → O → Store D g → Store D g
+    → View → List Message → ServeFault → Type 0
+Stops took failures o p old new v ms ServeFaults.Read = ⊥
+Stops took failures o p old new v ms ServeFaults.Write = WritesSome took o p old new v ms []
+Stops took failures o p old new v ms ServeFaults.Device = MeetsFailure took o p old new failures v ms
+Stops took failures o p old new v ms ServeFaults.Memory = ⊥
+Stops took failures o p old new v ms (ServeFaults.Damaged damage) = ⊥
+Stops took failures o p old new v ms ServeFaults.Failed = MeetsFailure took o p old new failures v ms
 
 -- The output's and the device's fault are answered only where theirs grew, and `Failed` only where the store had stopped.
 pub record HasCauses {T : Type 0} (output_old output_new device_old device_new : ℕ) (serves_old serves_new : Bool) (result : Result T ServeFault) : Type 0 where

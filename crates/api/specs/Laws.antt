@@ -3,6 +3,7 @@ use Rattle.std.specs.Prelude.{◌≡◌, ℕ, List, [], ◌∷◌, ◌++◌, map
 use Rattle.apicore.specs.History.{History}
 use Rattle.apicore.specs.Reply.{Reply}
 use Rattle.apicore.specs.Step.{runs}
+use Rattle.apicore.specs.View.{view}
 use Rattle.durable.specs.Rules.{first_rules}
 use Rattle.httpmsg.specs.Stream.{Message}
 use Rattle.routes.specs.Asked.{asked}
@@ -19,5 +20,5 @@ replies_bytes (m ∷ ms) (r ∷ replies) = reply_bytes m r ++ replies_bytes ms r
 abbrev pub AnswersAreRuns : Type 0
 AnswersAreRuns =
     (h : History) (ms : List Message) →
-    (h ++ all_writes h (map served ms) ≡ (runs first_rules h (map asked ms)).0)
-    × (all_bytes h (map served ms) ≡ replies_bytes ms (runs first_rules h (map asked ms)).1)
+    (h ++ all_writes (view first_rules h) (map served ms) ≡ (runs first_rules h (map asked ms)).0)
+    × (all_bytes (view first_rules h) (map served ms) ≡ replies_bytes ms (runs first_rules h (map asked ms)).1)

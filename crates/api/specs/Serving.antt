@@ -2,16 +2,16 @@
 use Rattle.std.specs.Prelude.{◌≡◌, ℕ, ◌≤◌, ◌⊎◌, List, [], ◌∷◌, ◌++◌, Bool, false, None, Result, IsErrOf, OnOk}
 use Rattle.device.specs.declared.device.Device.{Ghosts}
 use Rattle.requests.specs.declared.refusal.Refusal.TheVariants.{OutOfMemory, StorageFailed}
-use Rattle.apicore.specs.History.{History}
+use Rattle.apicore.specs.View.{View}
 use Rattle.durable.specs.declared.store.Store.{Store}
 use Rattle.durable.specs.Rules.{first_rules}
-use Rattle.durable.specs.Settled.{IsLeftAt, LeavesSome}
+use Rattle.durable.specs.Settled.{serves, IsLeftAt, LeavesSome}
 use Rattle.httpmsg.specs.declared.head.End.{End}
 use Rattle.httpmsg.specs.Stream.{Message, IsStream, Progress, IsCut}
 use Rattle.api.specs.declared.fault.ServeFault.{ServeFault}
 use Rattle.api.specs.declared.fault.ServeFault.TheVariants as ServeFaults
 use Rattle.api.specs.ReplyBytes.{closing_bytes, end_bytes}
-use Rattle.api.specs.Answers.{Answered, served, messages, all_writes, all_bytes, HasApplied, HasGrown}
+use Rattle.api.specs.Answers.{Answered, served, messages, all_writes, all_bytes, AllRefused, WhereSettled, HasApplied, HasGrown}
 
 -- The whole input was read and is this stream, or whatever follows what was read, the stream is this.
 abbrev pub Ends : (ended : Type 0) → (read : List ℕ) → List Message → End → Type 0
@@ -27,20 +27,20 @@ abbrev pub IsClosing : (read : List ℕ) → List Message → (closing : List �
 IsClosing read ms closing =
     ((end : End) × IsStream read ms end × (closing ≡ end_bytes end)) ⊎ (closing ≡ closing_bytes false OutOfMemory)
 
-module _ {D : Type 0} {g : Ghosts D} (old new : Store D g) (h : History) (read written : List ℕ) where
+module _ {D : Type 0} {g : Ghosts D} (old new : Store D g) (v : View) (read written : List ℕ) where
   -- The stream was served to its end: the replies to its messages are written, and then that of its end.
   pub record HasEnded (ended : Type 0) (end : End) : Type 0 where
     pub answered : List Answered
     pub stream : Ends ended read (messages answered) end
-    pub text : written ≡ all_bytes h answered ++ end_bytes end
-    pub store : HasApplied old new h answered
+    pub text : written ≡ all_bytes v answered ++ end_bytes end
+    pub store : HasApplied old new v answered
 
   -- The input failed: the whole messages of what was read are answered.
   pub record HasReadSome : Type 0 where
     pub answered : List Answered
     pub stream : GoesOn read (messages answered)
-    pub text : written ≡ all_bytes h answered
-    pub store : HasApplied old new h answered
+    pub text : written ≡ all_bytes v answered
+    pub store : HasApplied old new v answered
 
   -- The output failed: some first messages were applied, and what is written is a beginning of their replies, and of what
   -- closes behind them.
@@ -55,12 +55,13 @@ module _ {D : Type 0} {g : Ghosts D} (old new : Store D g) (h : History) (read w
     pub closing : List ℕ
     pub closes : (closing ≡ []) ⊎ ((waiting ≡ []) × IsClosing cut (messages answered) closing)
     pub unwritten : List ℕ
-    pub text : all_bytes h answered ++ closing ≡ written ++ unwritten
-    pub store : HasApplied old new h answered
+    pub text : all_bytes v answered ++ closing ≡ written ++ unwritten
+    pub store : HasApplied old new v answered
 
-  -- The device failed at a message: those before it are answered, and then a refusal that closes is written, or a beginning
-  -- of it. The store has stopped; what is found has the writes that were answered, and perhaps that of the message.
-  pub record HasFailed : Type 0 where
+  -- The device failed at a message, now or before: those before it are answered, and then a refusal that closes is written, the whole
+  -- of it unless the output failed. What is found of a store that was settled has the writes that were answered, and perhaps that of
+  -- the message.
+  pub record HasFailed (output_old output_new : ℕ) : Type 0 where
     pub answered : List Answered
     pub failing : Message
     pub waiting : List Message
@@ -69,9 +70,12 @@ module _ {D : Type 0} {g : Ghosts D} (old new : Store D g) (h : History) (read w
     pub closing : List ℕ
     pub unwritten : List ℕ
     pub refusal : closing_bytes false StorageFailed ≡ closing ++ unwritten
-    pub text : written ≡ all_bytes h answered ++ closing
-    pub left : IsLeftAt first_rules new h (all_writes h answered) (all_writes h (answered ++ served failing ∷ []))
-    pub moments : LeavesSome first_rules old new h (all_writes h (answered ++ served failing ∷ []))
+    pub whole : (unwritten ≡ []) ⊎ HasGrown output_old output_new
+    pub text : written ≡ all_bytes v answered ++ closing
+    pub stopped : serves new ≡ false
+    pub failed : serves old ≡ false → (new ≡ old) × AllRefused answered
+    pub left : WhereSettled old v (λ h. IsLeftAt first_rules new h (all_writes v answered) (all_writes v (answered ++ served failing ∷ [])))
+    pub moments : WhereSettled old v (λ h. LeavesSome first_rules old new h (all_writes v (answered ++ served failing ∷ [])))
 
   -- Memory was refused to further bytes: the messages before them are answered, and then a refusal that closes is written.
   pub record HasLackedMemory : Type 0 where
@@ -81,17 +85,17 @@ module _ {D : Type 0} {g : Ghosts D} (old new : Store D g) (h : History) (read w
     pub parts : read ≡ cut ++ uncut
     pub progress : Progress
     pub stream : IsCut cut (messages answered) progress
-    pub text : written ≡ all_bytes h answered ++ closing_bytes false OutOfMemory
-    pub store : HasApplied old new h answered
+    pub text : written ≡ all_bytes v answered ++ closing_bytes false OutOfMemory
+    pub store : HasApplied old new v answered
 
--- how serving stops at a store that was settled
-abbrev pub HasStopped : {D : Type 0} {g : Ghosts D} → Store D g → Store D g → History → ServeFault → List ℕ → List ℕ → Type 0
-HasStopped old new h ServeFaults.Read read written = HasReadSome old new h read written
-HasStopped old new h ServeFaults.Write read written = HasWrittenSome old new h read written
-HasStopped old new h ServeFaults.Device read written = HasFailed old new h read written
-HasStopped old new h ServeFaults.Memory read written = HasLackedMemory old new h read written
-HasStopped old new h (ServeFaults.Damaged damage) read written = ⊥
-HasStopped old new h ServeFaults.Failed read written = ⊥
+-- how serving stops
+abbrev pub HasStopped : {D : Type 0} {g : Ghosts D} → Store D g → Store D g → View → (output_old output_new : ℕ) → ServeFault → List ℕ → List ℕ → Type 0
+HasStopped old new v m n ServeFaults.Read read written = HasReadSome old new v read written
+HasStopped old new v m n ServeFaults.Write read written = HasWrittenSome old new v read written
+HasStopped old new v m n ServeFaults.Device read written = HasFailed old new v read written m n
+HasStopped old new v m n ServeFaults.Memory read written = HasLackedMemory old new v read written
+HasStopped old new v m n (ServeFaults.Damaged damage) read written = ⊥
+HasStopped old new v m n ServeFaults.Failed read written = HasFailed old new v read written m n
 
 -- The input gave some bytes and the output took some, of which this holds.
 pub record Exchanged {I O : Type 0} (gave : I → I → List ℕ → Type 0) (took : O → O → List ℕ → Type 0) (input_old input_new : I)

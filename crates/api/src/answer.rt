@@ -3,11 +3,10 @@
 ghost use Rattle.std.specs.Prelude.{◌≡◌, ◌≢◌, ◌≤◌, ◌++◌, [], ◌∷◌, List, false, true, IfOk, OnOk, OnErr, IfErr, IsErrOf, MatchResult, option_map, unwrap_or};
 ghost use Rattle.requests.specs.declared.refusal.Refusal.TheVariants.{OutOfMemory};
 ghost use Rattle.requests.specs.RequestOf.{request_of};
-ghost use Rattle.apicore.specs.History.{History};
+ghost use Rattle.apicore.specs.View.{View};
 ghost use Rattle.apicore.specs.Reply.{status};
 ghost use Rattle.device.specs.Disk.{HasFailed};
-ghost use Rattle.durable.specs.Rules.{first_rules};
-ghost use Rattle.durable.specs.Settled.{device_of, serves, IsSettledAt};
+ghost use Rattle.durable.specs.Settled.{device_of, serves, shown};
 ghost use Rattle.routes.specs.Asked.{asked};
 ghost use Rattle.api.specs.ReplyBytes.{allow_in};
 ghost use Rattle.api.specs.Answers.{HasReplied, HasFailedAt, Answers, Stops, HasCauses};
@@ -30,8 +29,8 @@ fn reply_to<D: Device>(
     store: &mut Store<D>,
 ) -> Result<Option<Reply>, ServeFault>
     requires { request_of request.now ≡ asked message.now }
-    ensures replied { (h : History) → IsSettledAt first_rules store.old h → IfOk result (HasReplied store.old store.new h message.now) }
-    ensures stopped { (h : History) → IsSettledAt first_rules store.old h → IfErr result (HasFailedAt store.old store.new h message.now) }
+    ensures replied { (v : View) → shown store.old ≡ v → IfOk result (HasReplied store.old store.new v message.now) }
+    ensures stopped { (v : View) → shown store.old ≡ v → IfErr result (HasFailedAt store.old store.new v message.now) }
     ensures never_read { result ≢ Err ServeFault.Read }
     ensures never_write { result ≢ Err ServeFault.Write }
     ensures failed { IsErrOf result ServeFault.Failed → serves store.old ≡ false }
@@ -55,9 +54,9 @@ fn answer_to<D: Device>(
     message: &Message,
     store: &mut Store<D>,
 ) -> Result<Answer, ServeFault>
-    ensures replied { (h : History) → IsSettledAt first_rules store.old h → IfOk result (λ answer. HasReplied store.old store.new h message.now answer.reply) }
+    ensures replied { (v : View) → shown store.old ≡ v → IfOk result (λ answer. HasReplied store.old store.new v message.now answer.reply) }
     ensures allow { IfOk result (λ answer. option_map (λ methods. methods.now) answer.allow ≡ allow_in message.now (unwrap_or answer.reply (status OutOfMemory))) }
-    ensures stopped { (h : History) → IsSettledAt first_rules store.old h → IfErr result (HasFailedAt store.old store.new h message.now) }
+    ensures stopped { (v : View) → shown store.old ≡ v → IfErr result (HasFailedAt store.old store.new v message.now) }
     ensures never_read { result ≢ Err ServeFault.Read }
     ensures never_write { result ≢ Err ServeFault.Write }
     ensures failed { IsErrOf result ServeFault.Failed → serves store.old ≡ false }
@@ -91,9 +90,9 @@ fn answer<O: Output, D: Device>(
     output: &mut O,
     store: &mut Store<D>,
 ) -> Result<(), ServeFault>
-    ensures outcome { (h : History) → IsSettledAt first_rules store.old h → MatchResult result
-        (λ _. Answers O.took output.old output.new store.old store.new h (message.now ∷ []) [])
-        (Stops O.took output.old output.new store.old store.new h (message.now ∷ [])) }
+    ensures outcome { (v : View) → shown store.old ≡ v → MatchResult result
+        (λ _. Answers O.took output.old output.new store.old store.new v (message.now ∷ []) [])
+        (Stops O.took O.failures output.old output.new store.old store.new v (message.now ∷ [])) }
     ensures causes { HasCauses (O.failures output.old) (O.failures output.new) (D.disk.failures (device_of store.old))
         (D.disk.failures (device_of store.new)) (serves store.old) (serves store.new) result }
 {
@@ -118,9 +117,9 @@ pub(crate) fn answer_all<O: Output, D: Device>(
     output: &mut O,
     store: &mut Store<D>,
 ) -> Result<(), ServeFault>
-    ensures outcome { (h : History) → IsSettledAt first_rules store.old h → MatchResult result
-        (λ _. Answers O.took output.old output.new store.old store.new h messages.now [])
-        (Stops O.took output.old output.new store.old store.new h messages.now) }
+    ensures outcome { (v : View) → shown store.old ≡ v → MatchResult result
+        (λ _. Answers O.took output.old output.new store.old store.new v messages.now [])
+        (Stops O.took O.failures output.old output.new store.old store.new v messages.now) }
     ensures causes { HasCauses (O.failures output.old) (O.failures output.new) (D.disk.failures (device_of store.old))
         (D.disk.failures (device_of store.new)) (serves store.old) (serves store.new) result }
 {

@@ -1,9 +1,8 @@
 //! A connection, served.
 
 ghost use Rattle.std.specs.Prelude.{◌≡◌, ◌≢◌, ◌<◌, ◌⊎◌, [], length, false, None, IfOk, IsErrOf, MatchResult};
-ghost use Rattle.apicore.specs.History.{History};
-ghost use Rattle.durable.specs.Rules.{first_rules};
-ghost use Rattle.durable.specs.Settled.{device_of, serves, IsSettledAt};
+ghost use Rattle.apicore.specs.View.{View};
+ghost use Rattle.durable.specs.Settled.{device_of, serves, shown};
 ghost use Rattle.durable.specs.declared.fault.Damage.{Damage as DamageData};
 ghost use Rattle.api.specs.Answers.{HasGrown};
 ghost use Rattle.api.specs.Serving.{HasEnded, HasReadSome, HasWrittenSome, HasFailed, HasLackedMemory, HasStopped, HasAllCauses, Exchanged};
@@ -38,10 +37,11 @@ fn serve_pieces<I: Input, O: Output, D: Device>(
 ) -> Result<End, ServeFault>
     requires cutter { cutter ≡ record { pending = []; end = None } }
     requires buffer { 0 < length buffer.old }
-    ensures outcome { (h : History) → IsSettledAt first_rules store.old h → MatchResult result
+    ensures outcome { (v : View) → shown store.old ≡ v → MatchResult result
         (λ end. Exchanged I.gave O.took input.old input.new output.old output.new
-        (λ read written. HasEnded store.old store.new h read written (I.has_ended input.new) end))
-        (λ fault. Exchanged I.gave O.took input.old input.new output.old output.new (HasStopped store.old store.new h fault)) }
+        (λ read written. HasEnded store.old store.new v read written (I.has_ended input.new) end))
+        (λ fault. Exchanged I.gave O.took input.old input.new output.old output.new
+        (HasStopped store.old store.new v (O.failures output.old) (O.failures output.new) fault)) }
     ensures causes { HasAllCauses (I.failures input.old) (I.failures input.new) (O.failures output.old) (O.failures output.new)
         (D.disk.failures (device_of store.old)) (D.disk.failures (device_of store.new)) (serves store.old) (serves store.new) result }
 {
@@ -84,22 +84,24 @@ pub fn serve<I: Input, O: Output, D: Device>(
     output: &mut O,
     store: &mut Store<D>,
 ) -> Result<End, ServeFault>
-    ensures ended { (h : History) → IsSettledAt first_rules store.old h
-        → IfOk result (λ end. Exchanged I.gave O.took input.old input.new output.old output.new
-        (λ read written. HasEnded store.old store.new h read written (I.has_ended input.new) end)) }
-    ensures read { (h : History) → IsSettledAt first_rules store.old h → IsErrOf result ServeFault.Read
-        → Exchanged I.gave O.took input.old input.new output.old output.new (HasReadSome store.old store.new h) }
-    ensures write { (h : History) → IsSettledAt first_rules store.old h → IsErrOf result ServeFault.Write
-        → Exchanged I.gave O.took input.old input.new output.old output.new (HasWrittenSome store.old store.new h) }
-    ensures device { (h : History) → IsSettledAt first_rules store.old h → IsErrOf result ServeFault.Device
-        → Exchanged I.gave O.took input.old input.new output.old output.new (HasFailed store.old store.new h) }
+    ensures ended { (v : View) → shown store.old ≡ v → IfOk result (λ end. Exchanged I.gave O.took input.old input.new output.old output.new
+        (λ read written. HasEnded store.old store.new v read written (I.has_ended input.new) end)) }
+    ensures read { (v : View) → shown store.old ≡ v → IsErrOf result ServeFault.Read
+        → Exchanged I.gave O.took input.old input.new output.old output.new (HasReadSome store.old store.new v) }
+    ensures write { (v : View) → shown store.old ≡ v → IsErrOf result ServeFault.Write
+        → Exchanged I.gave O.took input.old input.new output.old output.new (HasWrittenSome store.old store.new v) }
+
+    // Also of a store that had failed.
+    ensures device { (v : View) → shown store.old ≡ v → IsErrOf result ServeFault.Device ⊎ IsErrOf result ServeFault.Failed
+        → Exchanged I.gave O.took input.old input.new output.old output.new
+        (λ read written. HasFailed store.old store.new v read written (O.failures output.old) (O.failures output.new)) }
 
     // Nothing was read, written or changed, or memory was refused to further bytes.
-    ensures memory { (h : History) → IsSettledAt first_rules store.old h → IsErrOf result ServeFault.Memory
+    ensures memory { (v : View) → shown store.old ≡ v → IsErrOf result ServeFault.Memory
         → ((input.new ≡ input.old) × (output.new ≡ output.old) × (store.new ≡ store.old))
-        ⊎ Exchanged I.gave O.took input.old input.new output.old output.new (HasLackedMemory store.old store.new h) }
+        ⊎ Exchanged I.gave O.took input.old input.new output.old output.new (HasLackedMemory store.old store.new v) }
 
-    ensures never_damaged { (h : History) → IsSettledAt first_rules store.old h → (damage : DamageData) → result ≢ Err (ServeFault.Damaged damage) }
+    ensures never_damaged { (damage : DamageData) → result ≢ Err (ServeFault.Damaged damage) }
     ensures failed { IsErrOf result ServeFault.Failed → serves store.old ≡ false }
     ensures read_cause { IsErrOf result ServeFault.Read → HasGrown (I.failures input.old) (I.failures input.new) }
     ensures write_cause { IsErrOf result ServeFault.Write → HasGrown (O.failures output.old) (O.failures output.new) }

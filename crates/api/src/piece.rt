@@ -2,9 +2,8 @@
 
 ghost use Rattle.std.specs.Prelude.{◌≡◌, ◌≢◌, ◌<◌, ◌≤◌, ◌⊎◌, ℕ, List, [], length, take, false, Some, None, IfErr, IsErrOf, MatchResult};
 ghost use Rattle.requests.specs.declared.refusal.Refusal.TheVariants as refusal;
-ghost use Rattle.apicore.specs.History.{History};
-ghost use Rattle.durable.specs.Rules.{first_rules};
-ghost use Rattle.durable.specs.Settled.{device_of, serves, IsSettledAt};
+ghost use Rattle.apicore.specs.View.{View};
+ghost use Rattle.durable.specs.Settled.{device_of, serves, shown};
 ghost use Rattle.httpmsg.specs.declared.head.BrokenMessage.{BrokenMessage as BrokenData};
 ghost use Rattle.httpmsg.specs.Flow.{TookSome};
 ghost use Rattle.httpmsg.specs.Stream.{Message as MessageData, IsCut};
@@ -43,10 +42,10 @@ pub(crate) fn serve_piece<O: Output, D: Device>(
     output: &mut O,
     store: &mut Store<D>,
 ) -> Result<Told, ServeFault>
-    ensures outcome { (h : History) (read : List ℕ) (ms : List MessageData) → IsSettledAt first_rules store.old h → IsCut read ms cutter.old
+    ensures outcome { (v : View) (read : List ℕ) (ms : List MessageData) → shown store.old ≡ v → IsCut read ms cutter.old
         → MatchResult result
-        (Tells O.took output.old output.new store.old store.new h read ms cutter.old piece.now cutter.new)
-        (Breaks O.took output.old output.new store.old store.new h read ms cutter.old piece.now cutter.new) }
+        (Tells O.took O.failures output.old output.new store.old store.new v read ms cutter.old piece.now cutter.new)
+        (Breaks O.took O.failures output.old output.new store.old store.new v read ms cutter.old piece.now cutter.new) }
     ensures causes { HasCauses (O.failures output.old) (O.failures output.new) (D.disk.failures (device_of store.old))
         (D.disk.failures (device_of store.new)) (serves store.old) (serves store.new) result }
 {
@@ -121,11 +120,12 @@ pub(crate) fn next_step<I: Input, O: Output, D: Device>(
 ) -> Result<Step, ServeFault>
     requires count { count ≤ length buffer.old }
     requires room { 0 < length buffer.old }
-    ensures outcome { (h : History) (read : List ℕ) (ms : List MessageData) → IsSettledAt first_rules store.old h → IsCut read ms cutter.old
+    ensures outcome { (v : View) (read : List ℕ) (ms : List MessageData) → shown store.old ≡ v → IsCut read ms cutter.old
         → MatchResult result
-        (Steps I.gave O.took input.old input.new output.old output.new store.old store.new h read ms cutter.old (take count buffer.old) cutter.new
+        (Steps I.gave O.took O.failures input.old input.new output.old output.new store.old store.new v read ms cutter.old (take count buffer.old) cutter.new
         buffer.new (I.has_ended input.new))
-        (StepsWrong I.gave O.took input.old input.new output.old output.new store.old store.new h read ms cutter.old (take count buffer.old) cutter.new) }
+        (StepsWrong I.gave O.took O.failures input.old input.new output.old output.new store.old store.new v read ms cutter.old (take count buffer.old)
+        cutter.new) }
     ensures fits { (n : ℕ) → result ≡ Ok (Step.Feed n) → n ≤ length buffer.new }
     ensures causes { HasAllCauses (I.failures input.old) (I.failures input.new) (O.failures output.old) (O.failures output.new)
         (D.disk.failures (device_of store.old)) (D.disk.failures (device_of store.new)) (serves store.old) (serves store.new) result }

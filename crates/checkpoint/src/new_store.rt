@@ -130,8 +130,11 @@ pub fn start<D: Device>(alloc: Global, device: &mut D) -> Result<Root, StartFaul
     ensures durable { D.disk.keeps device.old → OnOk result (Only (D.disk.content device.new) (D.disk.left device.new)) }
 
     ensures ran { Ran D.disk device.old device.new (Torn 0 4608) }
-    ensures not_empty { D.disk.keeps device.old → IsErrOf result StartFault.NotEmpty
-        → (D.disk.content device.old ≡ [] → ⊥) × (D.disk.content device.new ≡ D.disk.content device.old) }
+    ensures not_empty { D.disk.keeps device.old → IsErrOf result StartFault.NotEmpty → D.disk.content device.old ≡ [] → ⊥ }
+
+    // A device with sectors is left as it was, at every moment.
+    ensures untouched { IsErrOf result StartFault.NotEmpty → Ran D.disk device.old device.new Same }
+
     ensures memory { IsErrOf result StartFault.Memory → device.new ≡ device.old }
     ensures cause { IsErrOf result StartFault.Device → HasFailed D.disk device.old device.new }
 {

@@ -36,11 +36,13 @@ module _ {D : Type 0} (disk : Disk D) (rules : Rules) (old new : D) (core : Stat
         };
       }
 
-  pub opened_holds : disk.keeps new → HoldsHistory rules disk new h
-  opened_holds keeps =
-      let For : List ℕ → Type 0 = λ x. StandsFor rules x h in
-      let read : StandsFor rules (disk.content new) h = subst For (sym same) found.stands in
-      record { keeps = keeps; read = read; left = λ c left. subst For (sym (synced c left)) read }
+-- what a history stands for that the content stood for before the sync
+pub opened_holds : {D : Type 0} (disk : Disk D) (rules : Rules) (old new : D) → disk.content new ≡ disk.content old → Only (disk.content new) (disk.left new)
+    → (h : History) → StandsFor rules (disk.content old) h → disk.keeps new → HoldsHistory rules disk new h
+opened_holds disk rules old new same synced h stands keeps =
+    let For : List ℕ → Type 0 = λ x. StandsFor rules x h in
+    let read : StandsFor rules (disk.content new) h = subst For (sym same) stands in
+    record { keeps = keeps; read = read; left = λ c left. subst For (sym (synced c left)) read }
 
 -- of the faults two are left where the store is found and did not fail before
 pub device_or_memory : (f : Fault) → (f ≡ fault.Failed → ⊥) → ((damage : Damage) → f ≡ fault.Damaged damage → ⊥) → (f ≡ fault.Device) ⊎ (f ≡ fault.Memory)

@@ -13,7 +13,7 @@ use Rattle.apicore.specs.View.{view, IsHistory}
 use Rattle.records.specs.Payload.{payload}
 use Rattle.recovery.specs.Written.{IsWritten}
 use Rattle.recovery.proofs.Histories.{one_history as payloads_one}
-use Rattle.durable.specs.Laws.{AtMostOneHistory}
+use Rattle.durable.specs.Laws.{AtMostOneView}
 use Rattle.durable.specs.Opened.{IsStoreOf}
 use Rattle.durable.specs.Stands.{StandsFor}
 
@@ -64,13 +64,13 @@ stands_read rules content root log payloads core counts pages revision start hol
       },
     )
 
--- a content stands for one history
-pub one_history : AtMostOneHistory
-one_history rules content g h first second =
+-- the histories of a content have one view
+pub one_view : AtMostOneView
+one_view rules content g h first second =
     let written = written_here rules content g first second.root second.counts (map payload second.later) second.last second.log in
     let own = written_here rules content h second second.root second.counts (map payload second.later) second.last second.log in
     let same : first.later ≡ second.later = payloads_one rules first.later second.later (map payload second.later) written own in
     let both : g ≡ h =
     first.parts ∙ ap (λ (b : History). b ++ first.later) first.checkpoint.no_writes ∙ same
     ∙ sym (second.parts ∙ ap (λ (b : History). b ++ second.later) second.checkpoint.no_writes) in
-    (both, ap (view rules) both)
+    ap (view rules) both

@@ -1,6 +1,6 @@
 -- A run of requests, one after the other.
-use Rattle.std.proofs.Common.{◌≡◌, ◌∙◌, sym, ap, subst, ◌+◌, ◌<◌, ◌++◌, ℕ, List, [], ◌∷◌, length, refl, map, take, drop, get_or}
-use Rattle.std.proofs.lemmas.List.{append-nil, append_assoc, map-append, take-map, take-append-drop}
+use Rattle.std.proofs.Common.{arith, ◌≡◌, ◌∙◌, sym, ap, subst, ◌+◌, ◌<◌, ◌++◌, ℕ, List, [], ◌∷◌, length, refl, map, take, drop, get_or}
+use Rattle.std.proofs.lemmas.List.{append-nil, append_assoc, length-append, nil_from_length, map-append, take-map, take-append-drop}
 use Rattle.std.proofs.lemmas.Grind.{take_at_read}
 use Rattle.device.specs.declared.device.Device.{Ghosts}
 use Rattle.device.proofs.Moments.{followed_by}
@@ -13,7 +13,7 @@ use Rattle.apicore.specs.View.{View, view, empty, after_all}
 use Rattle.apicore.proofs.ViewLemmas.{after_all-append}
 use Rattle.durable.specs.declared.store.Store.{Store}
 use Rattle.durable.specs.Stands.{StandsFor}
-use Rattle.durable.specs.Settled.{added, IsFound, IsSettledAt, IsLeftAt, LeavesSome, HasServed, HasStopped, device_of}
+use Rattle.durable.specs.Settled.{added, ServesAt, IsFound, IsSettledAt, IsLeftAt, LeavesSome, HasAnswered, HasServed, HasStopped, device_of}
 use Rattle.durable.proofs.Findings.{leaves-idle}
 
 -- ---- what is found, for longer lists of writes
@@ -156,6 +156,48 @@ pub served_none : {D : Type 0} {g : Ghosts D} (rules : Rules) (store : Store D g
 served_none rules store h only_now settled =
     let At : History → Type 0 = λ x. IsSettledAt rules store x in
     record { settled = subst At (sym (append-nil h)) settled; answered = refl; moments = leaves-idle rules store h [] only_now settled }
+
+-- ---- runs by what is shown
+
+view_one : (rules : Rules) (v : View) (rs : List Request) (r : Request)
+    → after_all rules v (accepted rules v (rs ++ r ∷ []))
+    ≡ after_all rules (after_all rules v (accepted rules v rs)) (writes rules (after_all rules v (accepted rules v rs)) r)
+view_one rules v rs r =
+    let us : List Write = accepted rules v rs in
+    let ws : List Write = writes rules (after_all rules v us) r in
+    ap (after_all rules v) (accepted-append rules v rs (r ∷ []) ∙ ap (λ (w : List Write). us ++ w) (append-nil ws)) ∙ after_all-append rules v us ws
+
+pub answered_none : {D : Type 0} {g : Ghosts D} (rules : Rules) (store : Store D g) (v : View) → ServesAt store v → HasAnswered rules store v [] []
+answered_none rules store v serving = record { serving = serving; answered = refl }
+
+-- one request more
+pub answered_more : {D : Type 0} {g : Ghosts D} (rules : Rules) (mid new : Store D g) (v : View) (done : List Request) (given : List Reply)
+    → HasAnswered rules mid v done given → (r : Request) (answer : Reply) → answer ≡ reply rules (after_all rules v (accepted rules v done)) r
+    → ServesAt new (after_all rules (after_all rules v (accepted rules v done)) (writes rules (after_all rules v (accepted rules v done)) r))
+    → HasAnswered rules new v (done ++ r ∷ []) (given ++ answer ∷ [])
+answered_more rules mid new v done given so_far r answer is serving = record {
+  serving = subst (ServesAt new) (sym (view_one rules v done r)) serving;
+  answered = ap (λ (x : List Reply). x ++ answer ∷ []) so_far.answered ∙ ap (λ x. replies rules v done ++ x ∷ []) is
+      ∙ sym (replies-append rules v done (r ∷ []));
+}
+
+no_parts : (us ws tail : List Write) → us ++ (ws ++ tail) ≡ [] → (us ≡ []) × (ws ≡ [])
+no_parts us ws tail none =
+    let sum : length us + (length ws + length tail) ≡ 0 = sym (length-append us (ws ++ tail) ∙ ap (λ n. length us + n) (length-append ws tail)) ∙ ap length none in
+    (nil_from_length us (omega (arith, sum)), nil_from_length ws (omega (arith, sum)))
+
+-- where requests write nothing, neither do the first of them nor the next
+pub none_in_none : (rules : Rules) (v : View) (rs : List Request) (r : Request) (later : List Request) → accepted rules v (rs ++ r ∷ later) ≡ []
+    → (accepted rules v rs ≡ []) × (writes rules (after_all rules v (accepted rules v rs)) r ≡ [])
+none_in_none rules v rs r later none =
+    let us : List Write = accepted rules v rs in
+    let mid : View = after_all rules v us in
+    let ws : List Write = writes rules mid r in
+    no_parts us ws (accepted rules (after_all rules mid ws) later) (sym (accepted-append rules v rs (r ∷ later)) ∙ none)
+
+-- a store that is settled at a history serves, and shows its view
+pub settled_serves : {D : Type 0} {g : Ghosts D} (rules : Rules) (store : Store D g) (h : History) → IsSettledAt rules store h → ServesAt store (view rules h)
+settled_serves rules store h settled = record { working = settled.working; shows = settled.shows }
 
 -- ---- the requests of a slice
 

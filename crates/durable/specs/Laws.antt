@@ -5,8 +5,6 @@ use Rattle.apicore.specs.History.{History}
 use Rattle.apicore.specs.View.{view}
 use Rattle.durable.specs.Stands.{StandsFor}
 
--- A content stands for at most one history, and so for at most one view.
-abbrev pub AtMostOneHistory : Type 0
-AtMostOneHistory =
-    (rules : Rules) (content : List ℕ) (g h : History) → StandsFor rules content g → StandsFor rules content h
-    → (g ≡ h) × (view rules g ≡ view rules h)
+-- The histories that a content stands for have one view.
+abbrev pub AtMostOneView : Type 0
+AtMostOneView = (rules : Rules) (content : List ℕ) (g h : History) → StandsFor rules content g → StandsFor rules content h → view rules g ≡ view rules h

@@ -7,7 +7,7 @@ use Rattle.requests.specs.Request.{Request}
 use Rattle.apicore.specs.History.{Write, History}
 use Rattle.apicore.specs.Reply.{Reply}
 use Rattle.apicore.specs.Step.{accepted, replies}
-use Rattle.apicore.specs.View.{View, view}
+use Rattle.apicore.specs.View.{View, view, after_all}
 use Rattle.durable.specs.declared.store.Store.{Store}
 use Rattle.durable.specs.Stands.{StandsFor}
 
@@ -39,6 +39,11 @@ module _ {D : Type 0} {g : Ghosts D} where
   abbrev pub LeavesSome : Rules → (old new : Store D g) → History → List Write → Type 0
   LeavesSome rules old new h writes = LeavesOnly g.disk (device_of old) (device_of new) (IsFound rules h [] writes)
 
+-- The store serves, and shows this. Nothing is said of its device.
+pub record ServesAt {D : Type 0} {g : Ghosts D} (store : Store D g) (v : View) : Type 0 where
+  pub working : serves store ≡ true
+  pub shows : shown store ≡ v
+
 -- The store serves and shows this history, and it would be found again, after a crash and without one.
 pub record IsSettledAt {D : Type 0} {g : Ghosts D} (rules : Rules) (store : Store D g) (h : History) : Type 0 where
   pub working : serves store ≡ true
@@ -53,6 +58,11 @@ pub record IsLeftAt {D : Type 0} {g : Ghosts D} (rules : Rules) (store : Store D
   pub keeps : g.disk.keeps (device_of store)
   pub read : IsFound rules h kept writes (g.disk.content (device_of store))
   pub left : (c : List ℕ) → g.disk.left (device_of store) c → IsFound rules h kept writes c
+
+-- A store that showed v has answered these requests as the model does, serves, and shows what they leave.
+pub record HasAnswered {D : Type 0} {g : Ghosts D} (rules : Rules) (new : Store D g) (v : View) (requests : List Request) (given : List Reply) : Type 0 where
+  pub serving : ServesAt new (after_all rules v (accepted rules v requests))
+  pub answered : given ≡ replies rules v requests
 
 -- A run from old, which was settled at the history, has answered these requests, and the store is settled after them.
 pub record HasServed {D : Type 0} {g : Ghosts D} (rules : Rules) (old new : Store D g) (h : History) (requests : List Request) (given : List Reply) : Type 0 where

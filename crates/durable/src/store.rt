@@ -1,4 +1,4 @@
-ghost use Rattle.std.specs.Prelude.{◌≡◌, ◌≢◌, ◌≤◌, ◌++◌, ◌∷◌, [], List, ℕ, length, take, map, true, false, is_ok, None, Some, IsSome, IfSome, MatchOption, IfOk, IfErr, OnOk, OnErr, IsErrOf, ◌⊎◌};
+ghost use Rattle.std.specs.Prelude.{◌≡◌, ◌≢◌, ◌≤◌, ◌++◌, ◌∷◌, [], List, ℕ, length, take, map, true, false, is_ok, None, Some, IsSome, IfSome, IfOk, IfErr, OnOk, OnErr, IsErrOf, ◌⊎◌};
 ghost use Rattle.durable.specs.Rules.{first_rules};
 ghost use Rattle.durable.specs.Ready.{IsReady};
 
@@ -33,10 +33,10 @@ impl<D: Device> Store<D> {
     ghost use Rattle.durable.specs.Ready.{HoldsHistory};
     ghost use Rattle.durable.specs.declared.fault.Fault.TheVariants as Fault;
     ghost use Rattle.apicore.specs.History.{Write, History};
-    ghost use Rattle.apicore.specs.Step.{reply, writes};
-    ghost use Rattle.apicore.specs.View.{view, after_all, MayFollow};
+    ghost use Rattle.apicore.specs.Step.{reply, writes, accepted, replies};
+    ghost use Rattle.apicore.specs.View.{View, view, after_all, MayFollow};
     ghost use Rattle.durable.specs.Stands.{StandsFor};
-    ghost use Rattle.durable.specs.Settled.{device_of, serves, shown, IsFound, IsSettledAt, IsLeftAt, LeavesSome, HasServed, HasStopped};
+    ghost use Rattle.durable.specs.Settled.{device_of, serves, shown, ServesAt, IsFound, IsSettledAt, IsLeftAt, LeavesSome, HasAnswered, HasServed, HasStopped};
 
     /// Opens the store on a device: syncs it, reads it, and writes nothing. With a refusal it gives the device back.
     ///
@@ -46,9 +46,7 @@ impl<D: Device> Store<D> {
     pub fn open(alloc: Global, device: D) -> Result<Store<D>, (Fault, D)>
         ensures settled { (h : History) → D.disk.keeps device → StandsFor first_rules (D.disk.content device) h
             → IfOk result (λ store. IsSettledAt first_rules store h) }
-
-        // No store is opened on a content that stands for no history.
-        ensures found { D.disk.keeps device → IfOk result (λ store. (h : History) × IsSettledAt first_rules store h) }
+        ensures serves { IfOk result (λ store. serves store ≡ true) }
 
         // At every moment a crash leaves what it might have left before.
         ensures any_moment { D.disk.keeps device → IfOk result (λ store. LeavesOnly D.disk device (device_of store) (D.disk.left device)) }
@@ -96,8 +94,17 @@ impl<D: Device> Store<D> {
     /// `Device` only where the device failed in this call: the write may stand or not, and the store answers `Failed` from then
     /// on. `Memory` changes nothing. `Failed` after a failure, with no call of the device.
     pub fn apply(&mut self, alloc: Global, request: &Request) -> Result<Reply, Fault>
-        ensures reply { (h : History) → IsSettledAt first_rules self.old h
-            → IfOk result (λ r. r ≡ reply first_rules (view first_rules h) (request_of request.now)) }
+        ensures reply { (v : View) → ServesAt self.old v → IfOk result (λ r. r ≡ reply first_rules v (request_of request.now)) }
+        ensures serving { (v : View) → ServesAt self.old v
+            → OnOk result (ServesAt self.new (after_all first_rules v (writes first_rules v (request_of request.now)))) }
+        ensures memory_serving { (v : View) → ServesAt self.old v → IsErrOf result Fault.Memory
+            → ServesAt self.new v × (device_of self.new ≡ device_of self.old) }
+
+        // A request without a write leaves the device as it is.
+        ensures untouched { (v : View) → ServesAt self.old v → writes first_rules v (request_of request.now) ≡ []
+            → device_of self.new ≡ device_of self.old }
+
+        // Where the device keeps the disk model, what is acknowledged is found again.
         ensures settled { (h : History) → IsSettledAt first_rules self.old h
             → OnOk result (IsSettledAt first_rules self.new (h ++ writes first_rules (view first_rules h) (request_of request.now))) }
         ensures any_moment { (h : History) → IsSettledAt first_rules self.old h
@@ -169,8 +176,20 @@ impl<D: Device> Store<D> {
     /// # Errors
     ///
     /// As [`Store::apply`]: the fault is that of the request behind those that were answered. There is memory for the replies of all
-    /// requests before the first is applied, or the fault is `Memory` with no reply.
+    /// requests before the first is applied, or the fault is `Memory` with no reply. A store that has failed answers `Failed`, also
+    /// where there is no request.
     pub fn run(&mut self, alloc: Global, requests: &[Request]) -> (Vec<Reply>, Option<Fault>)
+        ensures all_answered { (v : View) → ServesAt self.old v → result.1 ≡ None
+            → HasAnswered first_rules self.new v (map request_of requests.now) result.0.items }
+        ensures memory_answered { (v : View) → ServesAt self.old v → result.1 ≡ Some Fault.Memory
+            → HasAnswered first_rules self.new v (take (length result.0.items) (map request_of requests.now)) result.0.items }
+        ensures device_answered { (v : View) → ServesAt self.old v → result.1 ≡ Some Fault.Device
+            → result.0.items ≡ replies first_rules v (take (length result.0.items) (map request_of requests.now)) }
+
+        // Requests without a write leave the device as it is.
+        ensures untouched { (v : View) → ServesAt self.old v → accepted first_rules v (map request_of requests.now) ≡ []
+            → device_of self.new ≡ device_of self.old }
+
         ensures all { (h : History) → IsSettledAt first_rules self.old h → result.1 ≡ None
             → HasServed first_rules self.old self.new h (map request_of requests.now) result.0.items }
         ensures memory { (h : History) → IsSettledAt first_rules self.old h → result.1 ≡ Some Fault.Memory
@@ -178,11 +197,13 @@ impl<D: Device> Store<D> {
         ensures device { (h : History) → IsSettledAt first_rules self.old h → result.1 ≡ Some Fault.Device
             → HasStopped first_rules self.old self.new h (take (length result.0.items) (map request_of requests.now)) (map request_of requests.now) result.0.items }
         ensures refusal { serves self.old ≡ true → IfSome result.1 (λ fault. (fault ≡ Fault.Device) ⊎ (fault ≡ Fault.Memory)) }
-        ensures failed { serves self.old ≡ false → (self.new ≡ self.old) × (result.0.items ≡ []) }
-        ensures failed_fault { serves self.old ≡ false → MatchOption result.1 (requests.now ≡ []) (λ fault. (fault ≡ Fault.Failed) ⊎ (fault ≡ Fault.Memory)) }
+        ensures failed { serves self.old ≡ false → (self.new ≡ self.old) × (result.0.items ≡ []) × (result.1 ≡ Some Fault.Failed) }
         ensures cause { result.1 ≡ Some Fault.Device → HasFailed D.disk (device_of self.old) (device_of self.new) }
         ensures count { D.disk.failures (device_of self.old) ≤ D.disk.failures (device_of self.new) }
     {
+        if !self.settled() {
+            return (Vec::new(alloc), Some(Fault::Failed));
+        }
         let mut replies = match Vec::with_capacity(alloc, requests.len()) {
             Ok(replies) => replies,
             Err(_) => return (Vec::new(alloc), Some(Fault::Memory)),

@@ -1,5 +1,8 @@
 -- What the program tells of a problem, and how it then ends.
-use Rattle.std.specs.Prelude.{ℕ, List, codes}
+use Rattle.std.specs.Prelude.{◌≡◌, ℕ, ◌⊎◌, List, [], ◌++◌, codes}
+use Rattle.api.specs.Answers.{HasGrown}
+use Rattle.api.specs.declared.fault.ServeFault as serve
+use Rattle.api.specs.declared.fault.ServeFault.TheVariants as serve_fault
 use Rattle.device.specs.declared.file_device.CreateFault as file_create
 use Rattle.device.specs.declared.file_device.CreateFault.TheVariants as file_create_fault
 use Rattle.device.specs.declared.file_device.OpenFault as file_open
@@ -9,6 +12,7 @@ use Rattle.durable.specs.declared.fault.Fault as store
 use Rattle.durable.specs.declared.fault.Fault.TheVariants as store_fault
 use Rattle.durable.specs.declared.new_store.CreateFault as store_create
 use Rattle.durable.specs.declared.new_store.CreateFault.TheVariants as store_create_fault
+use Rattle.httpmsg.specs.Flow.{TookSome}
 use Rattle.gated.specs.declared.problem.Problem.{Problem}
 use Rattle.gated.specs.declared.problem.Problem.TheVariants as problem
 use Rattle.gated.specs.declared.status.Status.{Status}
@@ -25,6 +29,16 @@ text_of problem.DeviceFailed = codes "device failed"
 text_of problem.StreamFailed = codes "input or output failed"
 text_of problem.OutOfMemory = codes "out of memory"
 
+-- the line
+abbrev pub line_of : Problem → List ℕ
+line_of p = codes "gated: " ++ text_of p ++ codes "\n"
+
+-- the bytes were taken, all of them unless the output failed
+pub record TellsAll {E : Type 0} (took : E → E → List ℕ → Type 0) (failures : E → ℕ) (old new : E) (bytes : List ℕ) : Type 0 where
+  pub some : TookSome took old new bytes
+  pub whole : (some.rest ≡ []) ⊎ HasGrown (failures old) (failures new)
+
+-- how the program ends
 abbrev pub status_of : Problem → Status
 status_of problem.FileExists = status.NoStore
 status_of problem.NoStore = status.NoStore
@@ -55,3 +69,11 @@ of_store store_fault.Device = problem.DeviceFailed
 of_store store_fault.Memory = problem.OutOfMemory
 of_store (store_fault.Damaged d) = problem.Damaged d
 of_store store_fault.Failed = problem.DeviceFailed
+
+abbrev pub of_serve : serve.ServeFault → Problem
+of_serve serve_fault.Read = problem.StreamFailed
+of_serve serve_fault.Write = problem.StreamFailed
+of_serve serve_fault.Device = problem.DeviceFailed
+of_serve serve_fault.Memory = problem.OutOfMemory
+of_serve (serve_fault.Damaged d) = problem.Damaged d
+of_serve serve_fault.Failed = problem.DeviceFailed

@@ -1,13 +1,14 @@
 //! What keeps the program from doing what it was asked.
 
 ghost use Rattle.std.specs.Prelude.{◌≡◌, codes, ◌++◌};
-ghost use Rattle.gated.specs.Problem.{text_of, status_of, of_file_create, of_file_open, of_store_create, of_store};
+ghost use Rattle.gated.specs.Problem.{text_of, line_of, TellsAll, status_of, of_file_create, of_file_open, of_store_create, of_store, of_serve};
+ghost use Rattle.httpmsg.specs.Flow.{HasCause, Writes};
 
 use crate::status::Status;
 use api::ServeFault;
 use device::{CreateFault as FileCreateFault, OpenFault};
 use durable::{CreateFault, Damage, Fault};
-use httpmsg::{Output, write_all};
+use httpmsg::{Output, StreamFault, write_all};
 
 /// Why the program did not do what it was asked.
 #[derive(Clone, Copy)]
@@ -99,6 +100,8 @@ impl From<Fault> for Problem {
 }
 
 impl From<ServeFault> for Problem {
+    ghost from_gives = { λ fault problem. problem ≡ of_serve fault };
+
     fn from(fault: ServeFault) -> Problem {
         match fault {
             ServeFault::Read | ServeFault::Write => Problem::StreamFailed,
@@ -111,16 +114,24 @@ impl From<ServeFault> for Problem {
 
 /// Tells of a problem in a line, as far as it can be told, and gives the status to end with. It takes no memory.
 pub fn tell<E: Output>(problem: Problem, errors: &mut E) -> Status
-    ensures { result ≡ status_of problem }
+    ensures status { result ≡ status_of problem }
+    ensures line { TellsAll E.took E.failures errors.old errors.new (line_of problem) }
 {
-    for piece in [
-        b"gated: ".as_slice(),
-        problem.text().as_bytes(),
-        b"\n".as_slice(),
-    ] {
-        if write_all(errors, piece).is_err() {
-            break;
-        }
-    }
+    // Nothing can be told of a failure to tell.
+    let _ = write_line(errors, problem.text());
     problem.status()
+}
+
+// Writes the program's name and a text in a line.
+fn write_line<E: Output>(errors: &mut E, text: &str) -> Result<(), StreamFault>
+    ensures writes { Writes E.took errors.old errors.new (codes "gated: " ++ text.now ++ codes "\n") result }
+    ensures cause { HasCause (E.failures errors.old) (E.failures errors.new) result }
+{
+    if let Err(fault) = write_all(errors, b"gated: ") {
+        return Err(fault);
+    }
+    if let Err(fault) = write_all(errors, text.as_bytes()) {
+        return Err(fault);
+    }
+    write_all(errors, b"\n")
 }

@@ -1,5 +1,5 @@
 -- The first message of some bytes, from the head that begins them.
-use Rattle.std.proofs.Common.{◌≡◌, ◌≢◌, ℕ, ◌+◌, ◌-◌, ◌<◌, ◌≤◌, inl, List, [], ◌∷◌, ◌++◌, length, take, drop, refl, arith, ap, sym, ◌∙◌, length-append, length-drop, subst, None, false}
+use Rattle.std.proofs.Common.{◌≡◌, ◌≢◌, ℕ, ◌+◌, ◌-◌, ◌<◌, ◌≤◌, inl, inr, List, [], ◌∷◌, ◌++◌, length, take, drop, refl, arith, ap, sym, ◌∙◌, length-append, length-drop, subst, None, false}
 use Rattle.std.proofs.lemmas.List.{take-append-drop, length-take-le, drop-drop}
 use Rattle.httparse.specs.Grammar.{RequestHead, IsRequestHead, print_request}
 use Rattle.httparse.proofs.GrammarLemmas.{request_unique}
@@ -8,7 +8,7 @@ use Rattle.httpmsg.specs.declared.head.End.TheVariants.{Broken}
 use Rattle.httpmsg.specs.declared.front.Front.TheVariants.{Whole}
 use Rattle.httpmsg.specs.Head.{Head, head_of, method_of, says_close, content_length, fault_of}
 use Rattle.httpmsg.specs.Front.{IsFront}
-use Rattle.httpmsg.specs.Stream.{Message, message_of, BeginsWith, Takes, IsUnfinished, EndsAtOnce}
+use Rattle.httpmsg.specs.Stream.{Message, message_of, BeginsWith, Takes, Waits, IsUnfinished, EndsAtOnce}
 
 -- a head has a byte at least
 pub head_some : (h : RequestHead) → IsRequestHead h → 0 < length (print_request h)
@@ -33,9 +33,16 @@ head_length bytes h len inside b =
 -- a head without its whole body: no message yet, and few bytes
 pub waits : (bytes : List ℕ) (view : Head) (len : ℕ) → IsFront bytes (Whole view len) → fault_of view ≡ None
     → length (drop len bytes) < content_length view → content_length view ≤ 16384
-    → (length bytes < 24576) × IsUnfinished bytes
+    → (length bytes < 24576) × Waits bytes × IsUnfinished bytes
 waits bytes view len (inside, (h, begins, is)) sound short small = (
   omega (arith, inside, (head_length bytes h len inside begins).0, short, small, length-drop len bytes),
+  inr (inr (record {
+    head = h;
+    rest = drop len bytes;
+    begins = begins;
+    sound = ap fault_of (sym is) ∙ sound;
+    short = omega (arith, short, ap content_length is);
+  })),
   λ k rest b.
       let same = one_head bytes h k (drop len bytes) rest begins b in
       let view_is : view ≡ head_of k = is ∙ ap head_of same.0 in

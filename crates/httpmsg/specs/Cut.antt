@@ -6,12 +6,12 @@ use Rattle.httpmsg.specs.declared.cutter.TheConstants.{PENDING_LIMIT}
 use Rattle.httpmsg.specs.declared.head.MessageFault.TheVariants as Fault
 use Rattle.httpmsg.specs.declared.head.End.{End}
 use Rattle.httpmsg.specs.declared.head.End.TheVariants.{Clean, Broken}
-use Rattle.httpmsg.specs.Stream.{Message, Takes, IsUnfinished, EndsAtOnce, Progress, IsCut}
+use Rattle.httpmsg.specs.Stream.{Message, Takes, Waits, IsUnfinished, EndsAtOnce, Progress, IsCut}
 
 -- the bytes begin with a message of so many bytes, or with none yet, or end the stream whatever follows
 abbrev pub IsNext : List ℕ → Next → Type 0
 IsNext bytes (Whole m len) = (0 < len) × (len ≤ length bytes) × Takes bytes m (drop len bytes)
-IsNext bytes Unfinished = (length bytes < PENDING_LIMIT) × IsUnfinished bytes
+IsNext bytes Unfinished = (length bytes < PENDING_LIMIT) × Waits bytes × IsUnfinished bytes
 IsNext bytes (Fails broken) = EndsAtOnce bytes (Broken broken)
 
 -- whatever is cut from the rest is, behind these messages, cut from the bytes

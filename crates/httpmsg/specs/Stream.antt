@@ -1,7 +1,7 @@
 -- The messages of a stream of bytes, and how it ends (RFC 9112).
 use Rattle.std.specs.Prelude.{◌≡◌, ◌≢◌, ℕ, ◌<◌, ◌≤◌, ◌⊎◌, Bool, true, false, List, [], ◌∷◌, ◌++◌, length, Option, Some, None, MatchOption}
 use Rattle.std.specs.Bool.{MatchBool}
-use Rattle.httparse.specs.Grammar.{RequestHead, ReadsRequest, print_request}
+use Rattle.httparse.specs.Grammar.{RequestHead, ReadsRequest, MayBecomeRequest, print_request}
 use Rattle.httpmsg.specs.declared.head.TheConstants.{HEAD_LIMIT}
 use Rattle.httpmsg.specs.declared.head.Method.{Method}
 use Rattle.httpmsg.specs.declared.head.Method.TheVariants.{Get, Head, Post, Put, Delete, Other}
@@ -40,6 +40,19 @@ abbrev pub IsUnfinished : List ℕ → Type 0
 IsUnfinished bytes =
     (h : RequestHead) (rest : List ℕ) → BeginsWith bytes h rest
     → (fault_of (head_of h) ≡ None) × (length rest < content_length (head_of h))
+
+-- a head without a fault begins the bytes, and its body is not there in full
+pub record LacksBody (bytes : List ℕ) : Type 0 where
+  pub head : RequestHead
+  pub rest : List ℕ
+  pub begins : BeginsWith bytes head rest
+  pub sound : fault_of (head_of head) ≡ None
+  pub short : length rest < content_length (head_of head)
+
+-- More bytes may help: there are none yet, or the parse of a head has not failed in fewer bytes than a head may have, or a body is
+-- not there in full.
+abbrev pub Waits : List ℕ → Type 0
+Waits bytes = (bytes ≡ []) ⊎ (((length bytes < HEAD_LIMIT) × MayBecomeRequest bytes) ⊎ LacksBody bytes)
 
 -- the bytes end inside a message, or are none
 pub record EndsInside (bytes : List ℕ) (broken : BrokenMessage) : Type 0 where

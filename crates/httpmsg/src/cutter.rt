@@ -1,8 +1,8 @@
 //! Messages cut from the bytes of a connection as they come.
 
-ghost use Rattle.std.specs.Prelude.{◌≡◌, ◌≢◌, ◌+◌, ◌<◌, ◌≤◌, ◌⊎◌, ℕ, List, [], ◌++◌, length, take, drop, IfOk, IfSome, IfNone, IsErrOf, MatchResult, IsTrue, ◌↔◌, Option, Some, None};
+ghost use Rattle.std.specs.Prelude.{◌≡◌, ◌≢◌, ◌+◌, ◌<◌, ◌≤◌, ◌⊎◌, ℕ, List, [], ◌++◌, length, take, drop, IfOk, OnOk, IfSome, IfNone, IsErrOf, MatchResult, IsTrue, ◌↔◌, Option, Some, None};
 ghost use Rattle.httpmsg.specs.Head.{fault_of, content_length};
-ghost use Rattle.httpmsg.specs.Stream.{Message as MessageData, IsStream, StreamIsUnique, IsCut, is_head};
+ghost use Rattle.httpmsg.specs.Stream.{Message as MessageData, IsStream, StreamIsUnique, IsCut, Waits, is_head};
 ghost use Rattle.httpmsg.specs.declared.head.BrokenMessage.{BrokenMessage};
 ghost use Rattle.httpmsg.specs.Front.{IsFront};
 ghost use Rattle.httpmsg.specs.Cut.{IsNext, Leads, end_of};
@@ -94,6 +94,7 @@ fn cut_all(alloc: Global, bytes: &[u8], room: &mut [HeaderSpan]) -> Result<Run, 
     ensures cut { IfOk result (λ run. (run.at ≤ length bytes.now)
         × IsCut bytes.now run.messages.items (record { pending = drop run.at bytes.now; end = run.end })) }
     ensures bound { IfOk result (λ run. run.end ≡ None → length bytes.now < run.at + PENDING_LIMIT) }
+    ensures waits { IfOk result (λ run. run.end ≡ None → Waits (drop run.at bytes.now)) }
 {
     let mut messages = Vec::new(alloc);
     let mut at = 0;
@@ -165,6 +166,7 @@ fn cut_piece(
     requires { length room.old ≡ FIELD_ROOM }
     ensures cut { IfOk result (λ p. IsCut (pending.now ++ bytes.now) p.messages.items (record { pending = p.pending.items; end = p.end })) }
     ensures bound { IfOk result (λ p. p.end ≡ None → length p.pending.items < PENDING_LIMIT) }
+    ensures waits { IfOk result (λ p. p.end ≡ None → Waits p.pending.items) }
 {
     let bytes = joined(alloc, pending, bytes)?;
     let run = cut_all(alloc, &bytes, room)?;
@@ -246,6 +248,9 @@ impl Cutter {
             → IsCut (all ++ bytes.now) ms self.new × (self.new.end ≡ Some (End.Broken b)) }
         ensures told { IfOk result (λ more. more.items ≡ [] → (b : BrokenMessage) → self.new.end ≡ Some (End.Broken b) → ⊥) }
         ensures bounded { self.new.end ≡ None → length self.new.pending < PENDING_LIMIT }
+
+        // A fault is told as soon as the parse fails, or as many bytes as a head may have hold none: else more bytes may help.
+        ensures waits { OnOk result (self.new.end ≡ None → Waits self.new.pending) }
         ensures memory { result ≡ Err CutFault.Memory → self.new ≡ self.old }
     {
         if let Some(end) = self.end {

@@ -1,14 +1,13 @@
 use Rattle.std.proofs.Common.{◌≡◌, ◌≤◌, ◌<◌, length, take}
-use Rattle.apicore.specs.History.{History}
-use Rattle.durable.specs.Rules.{first_rules}
-use Rattle.durable.specs.Settled.{device_of, serves, IsSettledAt}
+use Rattle.apicore.specs.View.{View}
+use Rattle.durable.specs.Settled.{device_of, serves, shown}
 use Rattle.api.proofs.Runs.{SoFar}
 use Rattle.api.proofs.connection.serve_pieces.Given as goal
 
 abbrev pub invariant-loop : goal.invariant-loop
 invariant-loop g l =
-    ((h : History) → IsSettledAt first_rules l.fn.store h
-    → SoFar g.I.Input.gave g.O.Output.took l.fn.input l.input l.fn.output l.output l.fn.store l.store h l.cutter (take l.count l.buffer))
+    ((v : View) → shown l.fn.store ≡ v
+    → SoFar g.I.Input.gave g.O.Output.took l.fn.input l.input l.fn.output l.output l.fn.store l.store v l.cutter (take l.count l.buffer))
     × (l.count ≤ length l.buffer)
     × (0 < length l.buffer)
     × (g.I.Input.failures l.fn.input ≤ g.I.Input.failures l.input)

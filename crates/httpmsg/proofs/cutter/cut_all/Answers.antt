@@ -13,7 +13,14 @@ returns-in-Unfinished-clause-cut c =
     let IsNextHere : Next → Type 0 = λ n. IsNext (drop c.messages.at c.args.bytes.now) n in
     let found : IsNextHere c.in_ok-next_message.field-0 = simp take_rest at c.in_ok-next_message.ensures in
     let next : IsNextHere Unfinished = subst IsNextHere c.in-Unfinished.is found in
-    (c.messages.invariant.0, leads_stop _ _ _ _ c.messages.invariant.1 (refl, next.1))
+    (c.messages.invariant.0, leads_stop _ _ _ _ c.messages.invariant.1 (refl, next.2))
+
+pub returns-in-Unfinished-clause-waits : goal.returns-in-Unfinished-clause-waits
+returns-in-Unfinished-clause-waits c is =
+    let IsNextHere : Next → Type 0 = λ n. IsNext (drop c.messages.at c.args.bytes.now) n in
+    let found : IsNextHere c.in_ok-next_message.field-0 = simp take_rest at c.in_ok-next_message.ensures in
+    let next : IsNextHere Unfinished = subst IsNextHere c.in-Unfinished.is found in
+    next.1
 
 pub returns-in-Fails-clause-cut : goal.returns-in-Fails-clause-cut
 returns-in-Fails-clause-cut c =

@@ -1,4 +1,5 @@
-use Rattle.std.proofs.Common.{◌≡◌, ◌≢◌, length, [], true, false, arith, ap, sym, ◌∙◌}
+use Rattle.std.proofs.Common.{◌≡◌, ◌≢◌, length, [], true, false, arith, ap, sym, ◌∙◌, inl}
+use Rattle.std.proofs.lemmas.List.{nil_from_length}
 use Rattle.std.specs.Prelude.{◌==◌}
 use Rattle.std.proofs.lemmas.Bool.Decides.{nat_tests}
 use Rattle.httpmsg.proofs.Cuts.{empty_unfinished, never_ends}
@@ -8,7 +9,7 @@ pub returns-then-is_empty : goal.returns-then-is_empty
 returns-then-is_empty c =
     let test : (length c.args.bytes.now == 0) ≡ true = sym c.is_empty.ensures ∙ c.if-is_empty.true in
     let none : length c.args.bytes.now ≡ 0 = grind (arith, nat_tests) in
-    (omega (arith, none), empty_unfinished c.args.bytes.now none)
+    (omega (arith, none), inl (nil_from_length c.args.bytes.now none), empty_unfinished c.args.bytes.now none)
 
 pub returns-in-Never : goal.returns-in-Never
 returns-in-Never c =

@@ -1,5 +1,6 @@
-use Rattle.std.proofs.Common.{length, take, arith}
-use Rattle.httparse.specs.Grammar.{HasNoRequest}
+use Rattle.std.proofs.Common.{◌≡◌, ◌∙◌, subst, length, take, arith}
+use Rattle.std.proofs.lemmas.List.{take_all}
+use Rattle.httparse.specs.Grammar.{HasNoRequest, MayBecomeRequest}
 use Rattle.httparse.specs.Outcome.{OnPartial}
 use Rattle.httparse.specs.Spans.{IsRequestOf}
 use Rattle.httpmsg.proofs.Fronts.{begins_first, front_whole, never_later, never_read}
@@ -18,7 +19,11 @@ returns-then-bytes-lt-HEAD_LIMIT c =
     let answer : OnPartial c.parse_request.result (HasNoRequest c.first_bytes-first.result.now) = c.parse_request.ensures.partial in
     let none : HasNoRequest c.first_bytes-first.result.now = rw (c.in-Ok-Partial.is, c.in-Ok-Partial.field-0-is) at answer in
     let first : HasNoRequest (take 8192 c.args.bytes.now) = rw (← c.first_bytes-first.ensures) none in
-    (c.if-bytes-lt-HEAD_LIMIT.true, λ h rest b. first h _ (begins_first c.args.bytes.now h rest b))
+    let may : OnPartial c.parse_request.result (MayBecomeRequest c.first_bytes-first.result.now) = c.parse_request.ensures.unfinished in
+    let becomes : MayBecomeRequest c.first_bytes-first.result.now = rw (c.in-Ok-Partial.is, c.in-Ok-Partial.field-0-is) at may in
+    let all : c.first_bytes-first.result.now ≡ c.args.bytes.now =
+    c.first_bytes-first.ensures ∙ take_all 8192 c.args.bytes.now (omega (arith, c.if-bytes-lt-HEAD_LIMIT.true)) in
+    (c.if-bytes-lt-HEAD_LIMIT.true, subst MayBecomeRequest all becomes, λ h rest b. first h _ (begins_first c.args.bytes.now h rest b))
 
 pub returns-else-bytes-lt-HEAD_LIMIT : goal.returns-else-bytes-lt-HEAD_LIMIT
 returns-else-bytes-lt-HEAD_LIMIT c =

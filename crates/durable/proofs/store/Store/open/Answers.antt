@@ -1,11 +1,9 @@
-use Rattle.std.proofs.Common.{◌≡◌, ◌∙◌, ap, subst, refl, Err}
+use Rattle.std.proofs.Common.{◌∙◌, ap, refl, Err}
 use Rattle.std.proofs.lemmas.Grind.{merely}
-use Rattle.apicore.specs.History.{History}
 use Rattle.durable.specs.Rules.{first_rules}
-use Rattle.durable.specs.Opened.{IsStoreOf}
 use Rattle.durable.proofs.Answering.{settled_from}
 use Rattle.durable.proofs.Readiness.{opened_ready, opened_holds, device_or_memory}
-use Rattle.durable.proofs.Reading.{one_history}
+use Rattle.durable.proofs.Reading.{one_view}
 use Rattle.durable.proofs.store.Store.open.Goals as goal
 
 pub invariant_of-result : goal.invariant_of-result
@@ -19,24 +17,12 @@ invariant_of-result g c = record {
       (c.in-Ok.ensures.durable kept) found.0 found.1 c.in-Ok.ensures.works);
 }
 
-pub returns-in-Ok-clause-found : goal.returns-in-Ok-clause-found
-returns-in-Ok-clause-found g c keeps =
-    let found = c.in-Ok.ensures.found keeps in (
-      found.0,
-      settled_from _ found.0 refl found.1.shows
-          (opened_holds g.D.Device.disk first_rules c.args.device c.synced_store.new.device c.in-Ok.opened.core c.in-Ok.opened.log (c.synced_store.ensures.ran.seen keeps)
-          (c.in-Ok.ensures.durable keeps) found.0 found.1 (c.synced_store.ensures.ran.kept keeps)),
-    )
-
 pub returns-in-Ok-clause-settled : goal.returns-in-Ok-clause-settled
 returns-in-Ok-clause-settled g c h keeps stands =
     let found = c.in-Ok.ensures.found keeps in
-    let same : found.0 ≡ h = (one_history first_rules (g.D.Device.disk.content c.args.device) found.0 h found.1.stands stands).0 in
-    let Of : History → Type 0 = λ x. IsStoreOf first_rules (g.D.Device.disk.content c.args.device) c.in-Ok.opened.core c.in-Ok.opened.log x in
-    let here = subst Of same found.1 in
-    settled_from _ h refl here.shows
-    (opened_holds g.D.Device.disk first_rules c.args.device c.synced_store.new.device c.in-Ok.opened.core c.in-Ok.opened.log (c.synced_store.ensures.ran.seen keeps)
-    (c.in-Ok.ensures.durable keeps) h here (c.synced_store.ensures.ran.kept keeps))
+    settled_from _ h refl (found.1.shows ∙ one_view first_rules (g.D.Device.disk.content c.args.device) found.0 h found.1.stands stands)
+    (opened_holds g.D.Device.disk first_rules c.args.device c.synced_store.new.device (c.synced_store.ensures.ran.seen keeps) (c.in-Ok.ensures.durable keeps) h stands
+    (c.synced_store.ensures.ran.kept keeps))
 
 pub returns-in-Err-clause-refusal : goal.returns-in-Err-clause-refusal
 returns-in-Err-clause-refusal g c h keeps stands =
