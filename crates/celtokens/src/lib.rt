@@ -13,8 +13,6 @@ mod lexer;
 mod number;
 mod run;
 mod sign;
-#[cfg(test)]
-mod tests;
 mod text;
 mod token;
 mod word;

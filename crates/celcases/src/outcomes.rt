@@ -1,0 +1,180 @@
+//! What expressions give, in two ways: by the plain program of the meaning, over the tree, and by the compiled plan.
+
+ghost use Rattle.std.specs.Prelude.{◌≡◌, ◌≤◌, length, IfSome};
+
+use crate::scope::dyn_variable;
+use crate::values::shown_outcome;
+use crate::wrong::Wrong;
+use celmean::{Outcome, Value};
+use celplain::{Binding, Environment, evaluate};
+use celread::read;
+use celtypes::{Env, check};
+use celvalues::document_value;
+use instructions::Name;
+use jsondoc::Doc;
+use plan::compile;
+use plancode::{Verified, decode, encode};
+use planrun::{Bindings, run};
+use std::alloc::{AllocError, Global};
+
+const REQUEST: &[u8] = b"{\"operation\":\"CREATE\",\"dryRun\":false}";
+
+const PARAMS: &[u8] = b"{\"limit\":5}";
+
+// What the expression means, if it is one.
+fn meant(alloc: Global, text: &str, environment: &Environment<'_>) -> Option<Outcome> {
+    let tree = read(alloc, text).ok()?;
+    evaluate(alloc, &tree, environment).ok()
+}
+
+// The code of the expression, if it is an expression that has a type.
+fn encoded(alloc: Global, text: &str, env: &Env<'_>) -> Option<Vec<u8>>
+    requires { length env.now.variables.now ≤ 65535 }
+{
+    let tree = read(alloc, text).ok()?;
+    match check(alloc, &tree, env) {
+        Ok(_) => {
+            let plan = compile(alloc, &tree, env).ok()?;
+            encode(alloc, &plan).ok()
+        }
+        Err(_) => None,
+    }
+}
+
+fn compiled(alloc: Global, text: &str, env: &Env<'_>) -> Option<Verified>
+    requires { length env.now.variables.now ≤ 65535 }
+    ensures { IfSome result (λ p. p.vars ≡ length env.now.variables.now) }
+{
+    let bytes = encoded(alloc, text, env)?;
+    decode(alloc, &bytes, env.variables.len() as u16, Name::Params).ok()
+}
+
+// What the expression's plan gives, if it is an expression that has a type.
+fn planned(alloc: Global, text: &str, env: &Env<'_>, bindings: &Bindings<'_>) -> Option<Outcome>
+    requires few { length env.now.variables.now ≤ 65535 }
+    requires bound { length bindings.now.variables.now ≡ length env.now.variables.now }
+{
+    let plan = compiled(alloc, text, env)?;
+    run(alloc, &plan, bindings).ok()
+}
+
+fn names<'a>(
+    object: &'a Value,
+    old_object: &'a Value,
+    request: &'a Value,
+    params: &'a Value,
+) -> [Binding<'a>; 4] {
+    [
+        Binding {
+            name: "object",
+            value: Some(object),
+        },
+        Binding {
+            name: "oldObject",
+            value: Some(old_object),
+        },
+        Binding {
+            name: "request",
+            value: Some(request),
+        },
+        Binding {
+            name: "params",
+            value: Some(params),
+        },
+    ]
+}
+
+fn variables<'a>(fine: &'a Value, last: &'a Value) -> [Binding<'a>; 3] {
+    [
+        Binding {
+            name: "fine",
+            value: Some(fine),
+        },
+        Binding {
+            name: "broken",
+            value: None,
+        },
+        Binding {
+            name: "last",
+            value: Some(last),
+        },
+    ]
+}
+
+// A document of the program.
+fn document(alloc: Global, text: &[u8]) -> Result<Doc, Wrong> {
+    match Doc::read(alloc, text) {
+        Ok(document) => Ok(document),
+        Err(_) => Err(Wrong::Told("no document of the program is read")),
+    }
+}
+
+/// What the expression means, as a row has it.
+///
+/// `oldObject` is null, `variables.fine` is 7, `variables.broken` is the error, and `variables.last` is true.
+pub(crate) fn meaning_text(alloc: Global, text: &str, object: &Doc) -> Result<String, Wrong> {
+    let object = document_value(alloc, object)?;
+    let request = document_value(alloc, &document(alloc, REQUEST)?)?;
+    let params = document_value(alloc, &document(alloc, PARAMS)?)?;
+    let environment = Environment {
+        names: &names(&object, &Value::Null, &request, &params),
+        variables: &variables(&Value::Int(7), &Value::Bool(true)),
+    };
+    Ok(shown_outcome(alloc, &meant(alloc, text, &environment)))
+}
+
+/// What the expression's plan gives, as a row has it, where names stand for the same.
+pub(crate) fn plan_text(alloc: Global, text: &str, object: &Doc) -> Result<String, Wrong> {
+    let request = document(alloc, REQUEST)?;
+    let params = document(alloc, PARAMS)?;
+    let none = Doc::null();
+    let bindings = Bindings {
+        object: object.value(),
+        old_object: none.value(),
+        request: request.value(),
+        params: params.value(),
+        variables: &[
+            Outcome::Gives(Value::Int(7)),
+            Outcome::Error,
+            Outcome::Gives(Value::Bool(true)),
+        ],
+    };
+    let declared = [
+        dyn_variable(alloc, "fine")?,
+        dyn_variable(alloc, "broken")?,
+        dyn_variable(alloc, "last")?,
+    ];
+    let env = Env {
+        has_params: true,
+        variables: &declared,
+    };
+    Ok(shown_outcome(alloc, &planned(alloc, text, &env, &bindings)))
+}
+
+/// What the expression means beside one object, which `variables.fine` stands for too; `variables.broken` is the error.
+pub(crate) fn lone_meaning_text(
+    alloc: Global,
+    text: &str,
+    object: &Doc,
+) -> Result<String, AllocError> {
+    let object = document_value(alloc, object)?;
+    let names = [Binding {
+        name: "object",
+        value: Some(&object),
+    }];
+    let variables = [
+        Binding {
+            name: "fine",
+            value: Some(&object),
+        },
+        Binding {
+            name: "broken",
+            value: None,
+        },
+    ];
+    let environment = Environment {
+        names: &names,
+        variables: &variables,
+    };
+    Ok(shown_outcome(alloc, &meant(alloc, text, &environment)))
+}

@@ -1,0 +1,178 @@
+//! Trees as rows have them.
+
+use crate::texts::{put, put_copy};
+use celread::{ReadFault, read};
+use celtree::{Macro, Operator, Prefix, Tree};
+use std::alloc::Global;
+use std::fmt::Write;
+
+fn operator_sign(operator: Operator) -> &'static str {
+    match operator {
+        Operator::Multiply => "*",
+        Operator::Divide => "/",
+        Operator::Remainder => "%",
+        Operator::Add => "+",
+        Operator::Subtract => "-",
+        Operator::Less => "<",
+        Operator::LessEqual => "<=",
+        Operator::Greater => ">",
+        Operator::GreaterEqual => ">=",
+        Operator::Equal => "==",
+        Operator::NotEqual => "!=",
+        Operator::In => "in",
+        Operator::And => "&&",
+        Operator::Or => "||",
+    }
+}
+
+fn macro_name(kind: Macro) -> &'static str {
+    match kind {
+        Macro::All => "all",
+        Macro::Exists => "exists",
+        Macro::ExistsOne => "exists_one",
+        Macro::Map => "map",
+        Macro::Filter => "filter",
+    }
+}
+
+fn prefix_sign(prefix: Prefix) -> &'static str {
+    match prefix {
+        Prefix::Not => "!",
+        Prefix::Negate => "-",
+    }
+}
+
+// A tree without trees in it.
+fn put_leaf(out: &mut String, tree: &Tree) {
+    match tree {
+        Tree::Null => put(out, "null"),
+        Tree::Bool(true) => put(out, "true"),
+        Tree::Bool(false) => put(out, "false"),
+        Tree::Int(value) => {
+            let _ = write!(out, "{value}");
+        }
+        Tree::Uint(value) => {
+            let _ = write!(out, "{value}u");
+        }
+        Tree::Text(text) => put_between(out, "\"", text, "\""),
+        Tree::Name(name) => put(out, name),
+        _ => put(out, "?"),
+    }
+}
+
+// A tree in brackets, the operator between its operands.
+#[cycle(put)]
+fn put_tree(out: &mut String, tree: &Tree) {
+    match tree {
+        Tree::Field(of, name) => {
+            put_tree(out, of);
+            put_between(out, ".", name, "");
+        }
+        Tree::Has(of, name) => {
+            put(out, "(has ");
+            put_tree(out, of);
+            put_between(out, ".", name, ")");
+        }
+        Tree::Index(of, index) => {
+            put_tree(out, of);
+            put(out, "[");
+            put_tree(out, index);
+            put(out, "]");
+        }
+        Tree::List(items) => put_trees(out, "[", items, " ]"),
+        Tree::Map(entries) => put_entries(out, entries),
+        Tree::Unary(prefix, of) => {
+            put_between(out, "(", prefix_sign(*prefix), " ");
+            put_tree(out, of);
+            put(out, ")");
+        }
+        Tree::Infix(operator, left, right) => {
+            put(out, "(");
+            put_tree(out, left);
+            put_between(out, " ", operator_sign(*operator), " ");
+            put_tree(out, right);
+            put(out, ")");
+        }
+        Tree::Conditional(test, first, second) => {
+            put(out, "(");
+            put_tree(out, test);
+            put(out, " ? ");
+            put_tree(out, first);
+            put(out, " : ");
+            put_tree(out, second);
+            put(out, ")");
+        }
+        Tree::Call(name, arguments) => {
+            put(out, name);
+            put_trees(out, "(", arguments, " )");
+        }
+        Tree::Method(of, name, arguments) => {
+            put_tree(out, of);
+            put_between(out, ".", name, "");
+            put_trees(out, "(", arguments, " )");
+        }
+        Tree::Macro(kind, of, variable, body) => {
+            put(out, "(");
+            put_tree(out, of);
+            put_between(out, " ", macro_name(*kind), " ");
+            put_between(out, "", variable, " ");
+            put_tree(out, body);
+            put(out, ")");
+        }
+        _ => put_leaf(out, tree),
+    }
+}
+
+fn put_between(out: &mut String, before: &str, part: &str, behind: &str) {
+    put(out, before);
+    put(out, part);
+    put(out, behind);
+}
+
+#[cycle(put)]
+fn put_trees(out: &mut String, before: &str, trees: &Vec<Tree>, behind: &str) {
+    put(out, before);
+    for tree in trees {
+        put(out, " ");
+        put_tree(out, tree);
+    }
+    put(out, behind);
+}
+
+#[cycle(put)]
+fn put_entries(out: &mut String, entries: &Vec<(Tree, Tree)>) {
+    put(out, "{");
+    for (key, value) in entries {
+        put(out, " ");
+        put_tree(out, key);
+        put(out, ": ");
+        put_tree(out, value);
+    }
+    put(out, " }");
+}
+
+// A tree that was read, and its copy where that looks otherwise.
+fn put_tree_and_copy(alloc: Global, out: &mut String, tree: &Tree) {
+    put_tree(out, tree);
+    match tree.clone() {
+        Ok(copy) => {
+            let mut copied = String::new(alloc);
+            put_tree(&mut copied, &copy);
+            put_copy(out, &copied);
+        }
+        Err(_) => put(out, ", which is not copied"),
+    }
+}
+
+/// The tree of a text as it is written in a row, or why there is none.
+pub(crate) fn tree_text(alloc: Global, text: &str) -> String {
+    let mut out = String::new(alloc);
+    match read(alloc, text) {
+        Ok(tree) => put_tree_and_copy(alloc, &mut out, &tree),
+        Err(ReadFault::TooLong) => put(&mut out, "too long"),
+        Err(ReadFault::TooDeep) => put(&mut out, "too deep"),
+        Err(ReadFault::NotInGrammar) => put(&mut out, "no"),
+        Err(ReadFault::Memory) => put(&mut out, "memory"),
+    }
+    out
+}
