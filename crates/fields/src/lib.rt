@@ -14,9 +14,6 @@ ghost use Rattle.fields.specs.Field.{field};
 
 use byteorder::{BigEndian, ByteOrder};
 
-#[cfg(test)]
-mod tests;
-
 /// The bytes whose number stands in two bytes, and what stands behind them: `None` where there are fewer.
 pub fn short_field(bytes: &[u8]) -> Option<(&[u8], &[u8])>
     ensures parts { IfSome result (λ parts. bytes.now ≡ field 2 parts.0.now ++ parts.1.now) }

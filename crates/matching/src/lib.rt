@@ -17,8 +17,6 @@
 mod attempt;
 mod rules;
 mod selector;
-#[cfg(test)]
-mod tests;
 
 pub use attempt::{Attempt, is_guarded, matches};
 pub use rules::{Entry, MatchRules, Operation, OperationEntry, Requirement, Rule, RuleScope};

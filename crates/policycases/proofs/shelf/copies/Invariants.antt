@@ -1,6 +1,6 @@
 use Rattle.std.proofs.Common.{◌≡◌, ◌++◌, map, drop}
 use Rattle.verdict.specs.Seen.{found_seen}
-use Rattle.policytests.proofs.shelf.copies.Given as goal
+use Rattle.policycases.proofs.shelf.copies.Given as goal
 
 -- those copied, and then those that are left
 abbrev pub invariant-loop-entry : goal.invariant-loop-entry

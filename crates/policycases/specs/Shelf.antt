@@ -1,7 +1,7 @@
 -- What stands on a shelf, as a lookup finds it.
 use Rattle.std.specs.Prelude.{List, map}
 use Rattle.names.specs.Key.{Key}
-use Rattle.policytests.specs.declared.shelf.Shelf.{Shelf}
+use Rattle.policycases.specs.declared.shelf.Shelf.{Shelf}
 use Rattle.verdict.specs.Objects.{Held}
 use Rattle.verdict.specs.Seen.{found_seen}
 

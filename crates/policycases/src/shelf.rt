@@ -5,7 +5,7 @@ ghost use Rattle.names.specs.Key.{Key as KeyData};
 ghost use Rattle.objects.specs.Objects.{with_value};
 ghost use Rattle.verdict.specs.Objects.{Held};
 ghost use Rattle.verdict.specs.Seen.{held_by, found_seen};
-ghost use Rattle.policytests.specs.Shelf.{on_shelf};
+ghost use Rattle.policycases.specs.Shelf.{on_shelf};
 
 use names::{Key, Resource};
 use objects::{Entry, Objects};

@@ -1,0 +1,154 @@
+//! Bytes as lines have them, and what they spell.
+
+use crate::line::first_word;
+use crate::wrong::Wrong;
+use fields::{long_field, short_field};
+use plancode::Verified;
+use planlist::{ReadPlansFault, read_plans, write_plans};
+use std::alloc::{AllocError, Global};
+use std::fmt::Write;
+
+// What stands for no bytes, and for no places.
+const NONE: &str = "-";
+
+fn digit(letter: u8) -> Result<u8, Wrong> {
+    match letter {
+        b'0'..=b'9' => Ok(letter - b'0'),
+        b'a'..=b'f' => Ok(letter - b'a' + 10),
+        _ => Err(Wrong::Told("no hex digit")),
+    }
+}
+
+/// The bytes that a text spells: two hex digits each, or `-` for none.
+///
+/// # Errors
+///
+/// Where it spells none, or no memory is left.
+pub fn read_bytes(alloc: Global, text: &str) -> Result<Vec<u8>, Wrong> {
+    let mut bytes = Vec::new(alloc);
+    if text == NONE {
+        return Ok(bytes);
+    }
+    let mut high = None;
+    for letter in text.bytes() {
+        let digit = digit(letter)?;
+        match high {
+            None => high = Some(digit),
+            Some(first) => {
+                bytes.push((first << 4) | digit)?;
+                high = None;
+            }
+        }
+    }
+    match high {
+        None => Ok(bytes),
+        Some(_) => Err(Wrong::Told("a byte is two hex digits")),
+    }
+}
+
+/// Adds bytes to a text, as lines have them.
+///
+/// # Errors
+///
+/// Where no memory is left.
+pub fn put_bytes(text: &mut String, bytes: &[u8]) -> Result<(), AllocError> {
+    if bytes.is_empty() {
+        return text.push_str(NONE);
+    }
+    for byte in bytes {
+        write!(text, "{byte:02x}")?;
+    }
+    Ok(())
+}
+
+fn field_answer(alloc: Global, parts: Option<(&[u8], &[u8])>) -> Result<String, Wrong> {
+    let mut answer = String::new(alloc);
+    match parts {
+        Some((inside, behind)) => {
+            put_bytes(&mut answer, inside)?;
+            answer.push_str(" ")?;
+            put_bytes(&mut answer, behind)?;
+        }
+        None => answer.push_str("none")?,
+    }
+    Ok(answer)
+}
+
+/// The field in front whose length stands in two bytes, and what stands behind it.
+///
+/// # Errors
+///
+/// Where the text spells no bytes, or no memory is left.
+pub fn short_field_answer(alloc: Global, text: &str) -> Result<String, Wrong> {
+    field_answer(alloc, short_field(&read_bytes(alloc, text)?))
+}
+
+/// The field in front whose length stands in four bytes, and what stands behind it.
+///
+/// # Errors
+///
+/// Where the text spells no bytes, or no memory is left.
+pub fn long_field_answer(alloc: Global, text: &str) -> Result<String, Wrong> {
+    field_answer(alloc, long_field(&read_bytes(alloc, text)?))
+}
+
+// For how many variables each plan is.
+fn read_places(alloc: Global, text: &str) -> Result<Vec<u16>, Wrong> {
+    let mut places = Vec::new(alloc);
+    if text == NONE {
+        return Ok(places);
+    }
+    for word in text.split(',') {
+        match word.parse::<u16>() {
+            Ok(place) => places.push(place)?,
+            Err(_) => return Err(Wrong::Told("no number of variables")),
+        }
+    }
+    Ok(places)
+}
+
+/// Adds for how many variables each plan is, as lines have it.
+///
+/// # Errors
+///
+/// Where no memory is left.
+pub fn put_places(text: &mut String, plans: &[Verified]) -> Result<(), AllocError> {
+    if plans.is_empty() {
+        return text.push_str(NONE);
+    }
+    let mut separator = "";
+    for plan in plans {
+        let place = plan.vars();
+        write!(text, "{separator}{place}")?;
+        separator = ",";
+    }
+    Ok(())
+}
+
+// For how many variables each of the plans is, and their bytes.
+fn written_again(alloc: Global, plans: &[Verified]) -> Result<String, Wrong> {
+    let Ok(bytes) = write_plans(alloc, plans) else {
+        return Err(Wrong::Told("the plans are not written"));
+    };
+    let mut answer = String::new(alloc);
+    put_places(&mut answer, plans)?;
+    answer.push_str(" ")?;
+    put_bytes(&mut answer, &bytes)?;
+    Ok(answer)
+}
+
+/// The plans for these places that the bytes spell, written again, or `damaged`.
+///
+/// # Errors
+///
+/// Where the words spell no places or no bytes, or no memory is left.
+pub fn plans_answer(alloc: Global, words: &str) -> Result<String, Wrong> {
+    let (places, bytes) = first_word(words);
+    let places = read_places(alloc, places)?;
+    let bytes = read_bytes(alloc, bytes)?;
+    match read_plans(alloc, &places, &bytes) {
+        Ok(plans) => written_again(alloc, &plans),
+        Err(ReadPlansFault::Damaged) => Ok(String::from_str(alloc, "damaged")?),
+        Err(ReadPlansFault::Memory) => Err(Wrong::Memory),
+    }
+}

@@ -1,0 +1,147 @@
+//! What policies say of writes.
+
+use crate::expressed::plans_of;
+use crate::line::first_word;
+use crate::shelf::Shelf;
+use crate::writes::{Write, document, key, value_of};
+use crate::wrong::Wrong;
+use documents::Document;
+use evaluation::{Conditions, Denial, conditions, evaluate, failure, request_document};
+use expressions::TypedPolicy;
+use jsondoc::Doc;
+use names::{Key, Resource};
+use plancode::Verified;
+use policy::{FailurePolicy, Policy};
+use std::alloc::Global;
+use verdict::{Found, Lookup, denial_text};
+
+// The plans of a document's expressions, if it is a policy.
+fn plans_in(alloc: Global, resource: Resource, document: &Doc) -> Result<Vec<Verified>, Wrong> {
+    match resource {
+        Resource::ValidatingAdmissionPolicy => {
+            let policy = TypedPolicy::read(alloc, document.value())?;
+            plans_of(alloc, &policy)
+        }
+        _ => Ok(Vec::new(alloc)),
+    }
+}
+
+/// Stores what a text spells, with the plans of its expressions if it is a policy.
+///
+/// # Errors
+///
+/// Where it spells no document, or a policy with a fault, or no memory is left.
+pub fn put(alloc: Global, shelf: &mut Shelf, key: Key, text: &str) -> Result<(), Wrong> {
+    let document = document(alloc, text)?;
+    let found = Found {
+        plans: plans_in(alloc, key.resource(), &document)?,
+        document: Document::new(document),
+        revision: 2,
+    };
+    Ok(shelf.put(alloc, key, found)?)
+}
+
+/// Stores the object of a resource with this name and this spec.
+///
+/// # Errors
+///
+/// As those of [`put`], and where it has no key.
+pub fn put_spec(
+    alloc: Global,
+    shelf: &mut Shelf,
+    resource: Resource,
+    name: &str,
+    spec: &str,
+) -> Result<(), Wrong> {
+    let api_version = resource.api_version();
+    let kind = resource.kind();
+    let text = format!(in alloc;
+        "{{\"apiVersion\":\"{api_version}\",\"kind\":\"{kind}\",\"metadata\":{{\"name\":\"{name}\"}},\"spec\":{spec}}}"
+    )?;
+    put(alloc, shelf, key(alloc, resource, name)?, &text)
+}
+
+fn denial_answer(alloc: Global, denial: Option<Denial>) -> Result<String, Wrong> {
+    match denial {
+        Some(Denial { reason, message }) => Ok(format!(in alloc; "denies {reason:?} {message}")?),
+        None => Ok(String::from_str(alloc, "passes")?),
+    }
+}
+
+// What the policy says of the write, with a parameter if one is given.
+fn policy_answer(
+    alloc: Global,
+    policy: &Policy,
+    plans: &[Verified],
+    write: &Write,
+    param: &Option<Doc>,
+) -> Result<String, Wrong> {
+    let attempt = write.attempt();
+    let request = request_document(alloc, &attempt)?;
+    match conditions(alloc, policy, plans, &attempt, &request)? {
+        Conditions::Met => {
+            let param = value_of(param);
+            let denial = evaluate(alloc, policy, plans, &attempt, &request, param)?;
+            denial_answer(alloc, denial)
+        }
+        Conditions::Unmet => Ok(String::from_str(alloc, "unmet")?),
+        Conditions::Neither(name) => Ok(format!(in alloc; "neither {name}")?),
+    }
+}
+
+/// What the policy of this name says of the write by itself.
+///
+/// # Errors
+///
+/// Where there is no such policy, or no memory is left.
+pub fn evaluation_answer(
+    alloc: Global,
+    shelf: &mut Shelf,
+    name: &str,
+    write: &Write,
+    param: &Option<Doc>,
+) -> Result<String, Wrong> {
+    let key = key(alloc, Resource::ValidatingAdmissionPolicy, name)?;
+    let Some(found) = shelf.get(alloc, &key)? else {
+        return Err(Wrong::Told("no such policy"));
+    };
+    match Policy::of(alloc, found.document.json().value())? {
+        Some(policy) => policy_answer(alloc, &policy, &found.plans, write, param),
+        None => Err(Wrong::Told("no policy")),
+    }
+}
+
+/// What expressions see of the write.
+///
+/// # Errors
+///
+/// Where no memory is left.
+pub fn request_answer(alloc: Global, write: &Write) -> Result<String, Wrong> {
+    let request = request_document(alloc, &write.attempt())?;
+    Ok(request.to_string(alloc)?)
+}
+
+/// What a policy that has this failure policy says where it cannot be evaluated.
+///
+/// # Errors
+///
+/// Where there is no such failure policy, or no memory is left.
+pub fn failure_answer(alloc: Global, word: &str, message: &str) -> Result<String, Wrong> {
+    let failure_policy = match word {
+        "Fail" => FailurePolicy::Fail,
+        "Ignore" => FailurePolicy::Ignore,
+        _ => return Err(Wrong::Told("no such failure policy")),
+    };
+    let message = String::from_str(alloc, message)?;
+    denial_answer(alloc, failure(failure_policy, message))
+}
+
+/// The message of the refusal of a write that a policy denies by a binding.
+///
+/// # Errors
+///
+/// Where no memory is left.
+pub fn refusal_answer(alloc: Global, words: &str, message: &str) -> Result<String, Wrong> {
+    let (policy, binding) = first_word(words);
+    Ok(denial_text(alloc, policy, binding, message)?)
+}
