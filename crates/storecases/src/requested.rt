@@ -26,16 +26,10 @@ pub fn message_text(
     })
 }
 
-/// What a message asks for.
-pub fn message_request(
-    alloc: Global,
-    method: &str,
-    target: &str,
-    body: &str,
-) -> Result<Routed, Wrong> {
-    let text = message_text(alloc, method, target, body)?;
+/// What the first message of a connection asks for.
+pub fn first_request(alloc: Global, sent: &[u8]) -> Result<Routed, Wrong> {
     let mut cutter = Cutter::new(alloc)?;
-    let messages = match cutter.feed(alloc, text.as_bytes()) {
+    let messages = match cutter.feed(alloc, sent) {
         Ok(messages) => messages,
         Err(CutFault::Broken(_)) => return Err(Wrong::Told("the message has a fault")),
         Err(CutFault::Memory) => return Err(Wrong::Memory),
@@ -44,6 +38,17 @@ pub fn message_request(
         Some(message) => Ok(route(alloc, &Routes::new(alloc)?, message)?),
         None => Err(Wrong::Told("no message")),
     }
+}
+
+/// What a message asks for.
+pub fn message_request(
+    alloc: Global,
+    method: &str,
+    target: &str,
+    body: &str,
+) -> Result<Routed, Wrong> {
+    let text = message_text(alloc, method, target, body)?;
+    first_request(alloc, text.as_bytes())
 }
 
 fn key_text(alloc: Global, key: &Key) -> Result<String, Wrong> {

@@ -2,9 +2,11 @@
 
 use crate::connections::serve_bytes;
 use crate::place::{Place, created, open_on};
+use crate::requested::first_request;
 use crate::wrong::{Wrong, wanted};
 use device::{MemDevice, Pick};
 use durable::Store;
+use requests::Request;
 use std::alloc::Global;
 
 const ROOM_SECTORS: u64 = 24;
@@ -36,17 +38,36 @@ fn listed(alloc: Global, store: &mut Store<MemDevice>) -> Result<Vec<u8>, Wrong>
     Ok(written)
 }
 
-// Makes the writes, each in a connection of its own, as far as they are taken: how many are.
-fn told(alloc: Global, store: &mut Store<MemDevice>, writes: &[Vec<u8>]) -> Result<usize, Wrong> {
-    let mut count = 0_usize;
+fn requests_of(alloc: Global, writes: &[Vec<u8>]) -> Result<Vec<Request>, Wrong> {
+    let mut requests = Vec::new(alloc);
     for write in writes {
-        let (_, written) = serve_bytes(alloc, store, write)?;
-        if !is_taken(&written) {
-            return Ok(count);
-        }
-        count = count.saturating_add(1);
+        let request = first_request(alloc, write)?.request;
+        requests.push(request)?;
     }
-    Ok(count)
+    Ok(requests)
+}
+
+// Runs requests, of which each that is answered is taken: how many are.
+fn run(alloc: Global, store: &mut Store<MemDevice>, requests: &[Request]) -> Result<usize, Wrong> {
+    let (replies, _) = store.run(alloc, requests);
+    for reply in replies.iter() {
+        let code = reply.code();
+        wanted(code == 200 || code == 201, "a write is refused")?;
+    }
+    Ok(replies.len())
+}
+
+// Makes the writes as far as they are taken, the first in a connection and the others in one run: how many are.
+fn told(alloc: Global, store: &mut Store<MemDevice>, writes: &[Vec<u8>]) -> Result<usize, Wrong> {
+    let Some((first, others)) = writes.split_first() else {
+        return Ok(0);
+    };
+    let (_, written) = serve_bytes(alloc, store, first)?;
+    if !is_taken(&written) {
+        return Ok(0);
+    }
+    let count = run(alloc, store, &requests_of(alloc, others)?)?;
+    Ok(count.saturating_add(1))
 }
 
 // The lists that are shown before the first write and behind each, where nothing fails.
