@@ -2,7 +2,7 @@
 
 use crate::texts::first_word;
 use crate::wrong::Wrong;
-use crate::{documents, edits, events, names_asked, stored};
+use crate::{documents_asked, edits, events, names_asked, stored};
 use jsondoc::{Doc, text_escapes};
 use objects::Objects;
 use std::alloc::Global;
@@ -106,15 +106,15 @@ fn of_names(alloc: Global, word: &str, rest: &str) -> Result<Option<String>, Wro
 
 fn of_documents(alloc: Global, word: &str, rest: &str) -> Result<Option<String>, Wrong> {
     let answer = match word {
-        "json" => documents::read_text(alloc, rest),
-        "json-bytes" => documents::read_hex(alloc, rest),
-        "nested" => documents::nested(alloc, rest),
-        "string" => documents::long_string(alloc, rest),
-        "shown" => documents::shown(alloc, rest),
-        "has-kind" => documents::kind(alloc, rest),
-        "has-metadata" => documents::metadata(alloc, rest),
-        "metadata" => documents::text_in_metadata(alloc, rest),
-        "copied-metadata" => documents::copied_metadata(alloc, rest),
+        "json" => documents_asked::read_text(alloc, rest),
+        "json-bytes" => documents_asked::read_hex(alloc, rest),
+        "nested" => documents_asked::nested(alloc, rest),
+        "string" => documents_asked::long_string(alloc, rest),
+        "shown" => documents_asked::shown(alloc, rest),
+        "has-kind" => documents_asked::kind(alloc, rest),
+        "has-metadata" => documents_asked::metadata(alloc, rest),
+        "metadata" => documents_asked::text_in_metadata(alloc, rest),
+        "copied-metadata" => documents_asked::copied_metadata(alloc, rest),
         _ => return Ok(None),
     };
     answer.map(Some)

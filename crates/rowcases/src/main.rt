@@ -8,7 +8,7 @@
 #![tactic(auto)]
 
 mod bench;
-mod documents;
+mod documents_asked;
 mod edits;
 mod events;
 mod names_asked;
