@@ -1,0 +1,73 @@
+//! The words, numbers and bytes of a line.
+
+use crate::wrong::Wrong;
+use std::alloc::Global;
+
+/// An answer that is a text.
+///
+/// # Errors
+///
+/// Want of memory.
+pub fn text(alloc: Global, text: &str) -> Result<String, Wrong> {
+    Ok(String::from_str(alloc, text)?)
+}
+
+/// `yes` or `no`.
+///
+/// # Errors
+///
+/// Want of memory.
+pub fn yes_or_no(alloc: Global, holds: bool) -> Result<String, Wrong> {
+    text(alloc, if holds { "yes" } else { "no" })
+}
+
+/// The first word of a text, and what stands behind the blank after it.
+pub fn first_word(text: &str) -> (&str, &str) {
+    match text.split_once(' ') {
+        Some((word, rest)) => (word, rest),
+        None => (text, ""),
+    }
+}
+
+/// The number that a text spells in decimal digits.
+///
+/// # Errors
+///
+/// Where it spells none below 2^64.
+pub fn number(text: &str) -> Result<u64, Wrong> {
+    match text.parse::<u64>() {
+        Ok(number) => Ok(number),
+        Err(_) => Err(Wrong::Told("no number")),
+    }
+}
+
+/// The bytes of a text, two hex digits each, with blanks between them.
+///
+/// # Errors
+///
+/// Where a word is no byte, and want of memory.
+pub fn bytes(alloc: Global, text: &str) -> Result<Vec<u8>, Wrong> {
+    let mut bytes = Vec::new(alloc);
+    for word in text.split_whitespace() {
+        match u8::from_str_radix(word, 16) {
+            Ok(byte) if word.len() == 2 => bytes.push(byte)?,
+            _ => return Err(Wrong::Told("a byte is two hex digits")),
+        }
+    }
+    Ok(bytes)
+}
+
+/// Bytes as lines have them: two hex digits each, with blanks between them.
+///
+/// # Errors
+///
+/// Want of memory.
+pub fn spelled(alloc: Global, bytes: &[u8]) -> Result<String, Wrong> {
+    let mut text = String::new(alloc);
+    for byte in bytes {
+        let space = if text.is_empty() { "" } else { " " };
+        let word = format!(in alloc; "{space}{byte:02x}")?;
+        text.push_str(word.as_str())?;
+    }
+    Ok(text)
+}
