@@ -7,9 +7,13 @@
 
 mod report;
 mod run;
+mod text_builder;
+mod word_reader;
 mod words;
 mod wrong;
 
 pub use run::{Bench, run_files};
+pub use text_builder::TextBuilder;
+pub use word_reader::WordReader;
 pub use words::{bytes, first_word, number, spelled, text, yes_or_no};
 pub use wrong::{Wrong, compare, wanted};

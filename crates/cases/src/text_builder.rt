@@ -1,0 +1,50 @@
+//! A text that is gathered piece by piece.
+
+use crate::wrong::Wrong;
+use std::alloc::Global;
+use std::fmt::Display;
+
+/// A text that is gathered piece by piece. Whether memory was wanting is asked once, at its end.
+#[derive(Drop)]
+pub struct TextBuilder {
+    text: String,
+    // whether a piece is missing
+    has_failed: bool,
+}
+
+impl TextBuilder {
+    /// A text with nothing in it.
+    pub fn new(alloc: Global) -> TextBuilder {
+        TextBuilder {
+            text: String::new(alloc),
+            has_failed: false,
+        }
+    }
+
+    /// Adds a piece.
+    pub fn push(&mut self, piece: &str) {
+        if self.text.push_str(piece).is_err() {
+            self.has_failed = true;
+        }
+    }
+
+    /// Adds what a value shows.
+    pub fn show<T: Display>(&mut self, value: &T) {
+        if write!(self.text, "{value}").is_err() {
+            self.has_failed = true;
+        }
+    }
+
+    /// The whole text.
+    ///
+    /// # Errors
+    ///
+    /// Where memory was wanting for a piece.
+    pub fn end(self) -> Result<String, Wrong> {
+        if self.has_failed {
+            Err(Wrong::Memory)
+        } else {
+            Ok(self.text)
+        }
+    }
+}
