@@ -15,5 +15,5 @@ mod wrong;
 pub use run::{Bench, run_files};
 pub use text_builder::TextBuilder;
 pub use word_reader::WordReader;
-pub use words::{bytes, first_word, number, spelled, text, yes_or_no};
+pub use words::{bytes, first_word, number, shown, spelled, text, yes_or_no};
 pub use wrong::{Wrong, compare, wanted};

@@ -28,6 +28,14 @@ impl TextBuilder {
         }
     }
 
+    /// Adds a word, behind a blank unless it is the first.
+    pub fn word(&mut self, word: &str) {
+        if !self.text.is_empty() {
+            self.push(" ");
+        }
+        self.push(word);
+    }
+
     /// Adds what a value shows.
     pub fn show<T: Display>(&mut self, value: &T) {
         if write!(self.text, "{value}").is_err() {

@@ -2,6 +2,7 @@
 
 use crate::wrong::Wrong;
 use std::alloc::Global;
+use std::fmt::Display;
 
 /// An answer that is a text.
 ///
@@ -70,4 +71,13 @@ pub fn spelled(alloc: Global, bytes: &[u8]) -> Result<String, Wrong> {
         text.push_str(word.as_str())?;
     }
     Ok(text)
+}
+
+/// What a value shows.
+///
+/// # Errors
+///
+/// Want of memory.
+pub fn shown<T: Display>(alloc: Global, value: &T) -> Result<String, Wrong> {
+    Ok(value.to_string(alloc)?)
 }

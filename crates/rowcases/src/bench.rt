@@ -1,8 +1,7 @@
 //! What the rows of a file are asked of, and the questions by their words.
 
-use crate::texts::first_word;
-use crate::wrong::Wrong;
 use crate::{documents_asked, edits, events, names_asked, stored};
+use cases::{Wrong, compare, first_word};
 use jsondoc::{Doc, text_escapes};
 use objects::Objects;
 use std::alloc::Global;
@@ -16,9 +15,8 @@ pub struct Bench {
     window: Window<u64>,
 }
 
-impl Bench {
-    /// A bench with nothing on it.
-    pub fn new(alloc: Global) -> Result<Bench, Wrong> {
+impl cases::Bench for Bench {
+    fn new(alloc: Global, _file: &str) -> Result<Bench, Wrong> {
         text_escapes();
         Ok(Bench {
             document: Doc::empty_object(alloc),
@@ -27,68 +25,54 @@ impl Bench {
         })
     }
 
-    /// The answer to a question.
-    pub fn answer(&mut self, alloc: Global, question: &str) -> Result<String, Wrong> {
+    // A row: `QUESTION => ANSWER`.
+    fn line(&mut self, alloc: Global, line: &str) -> Result<u64, Wrong> {
+        let Some((question, wanted)) = line.split_once(" => ") else {
+            return Err(Wrong::Told("no row: QUESTION => ANSWER"));
+        };
         let (word, rest) = first_word(question);
-        if let Some(answer) = of_names(alloc, word, rest)? {
-            return Ok(answer);
-        }
-        if let Some(answer) = of_documents(alloc, word, rest)? {
-            return Ok(answer);
-        }
-        if let Some(answer) = self.of_the_document(alloc, word, rest)? {
-            return Ok(answer);
-        }
-        if let Some(answer) = self.of_the_objects(alloc, word, rest)? {
-            return Ok(answer);
-        }
-        match word {
-            "written" => events::written(alloc, &mut self.window, rest),
-            "since" => events::since(alloc, &self.window, rest),
-            "window-fault" => events::told(alloc, rest),
-            _ => Err(Wrong::Told("no such question")),
-        }
+        let found = self.of_the_document(alloc, word, rest)?;
+        compare(alloc, found.as_str(), wanted)?;
+        Ok(1)
     }
 
-    fn of_the_document(
-        &mut self,
-        alloc: Global,
-        word: &str,
-        rest: &str,
-    ) -> Result<Option<String>, Wrong> {
-        let answer = match word {
+    fn end(&mut self, _alloc: Global) -> Result<u64, Wrong> {
+        Ok(0)
+    }
+}
+
+// Each of these answers the questions of its kind, and hands on the others.
+impl Bench {
+    fn of_the_document(&mut self, alloc: Global, word: &str, rest: &str) -> Result<String, Wrong> {
+        match word {
             "put" => edits::put(alloc, &mut self.document, rest),
             "member" => edits::member(alloc, &self.document, rest),
             "characters" => edits::characters(alloc, &self.document, rest),
             "remove" => edits::remove(alloc, &mut self.document, rest),
             "members" => edits::members(alloc, &self.document),
             "items" => edits::items(alloc, &self.document, rest),
-            _ => return Ok(None),
-        };
-        answer.map(Some)
+            _ => self.of_the_objects(alloc, word, rest),
+        }
     }
 
-    fn of_the_objects(
-        &mut self,
-        alloc: Global,
-        word: &str,
-        rest: &str,
-    ) -> Result<Option<String>, Wrong> {
-        let answer = match word {
+    fn of_the_objects(&mut self, alloc: Global, word: &str, rest: &str) -> Result<String, Wrong> {
+        match word {
             "store" => stored::store(alloc, &mut self.objects, rest),
             "found" => stored::found(alloc, &self.objects, rest),
             "delete" => stored::delete(alloc, &mut self.objects, rest),
             "count" => stored::count(alloc, &self.objects),
             "list" => stored::list(alloc, &self.objects, rest),
             "fill" => stored::fill(alloc, &mut self.objects, rest),
-            _ => return Ok(None),
-        };
-        answer.map(Some)
+            "written" => events::written(alloc, &mut self.window, rest),
+            "since" => events::since(alloc, &self.window, rest),
+            "window-fault" => events::told(alloc, rest),
+            _ => of_names(alloc, word, rest),
+        }
     }
 }
 
-fn of_names(alloc: Global, word: &str, rest: &str) -> Result<Option<String>, Wrong> {
-    let answer = match word {
+fn of_names(alloc: Global, word: &str, rest: &str) -> Result<String, Wrong> {
+    match word {
         "name" => names_asked::name(alloc, rest),
         "namespace" => names_asked::namespace(alloc, rest),
         "key" => names_asked::key_bytes(alloc, rest),
@@ -99,14 +83,13 @@ fn of_names(alloc: Global, word: &str, rest: &str) -> Result<Option<String>, Wro
         "plural" => names_asked::with_plural(alloc, rest),
         "kind" => names_asked::with_kind(alloc, rest),
         "format" => names_asked::format_numbers(alloc),
-        _ => return Ok(None),
-    };
-    answer.map(Some)
+        _ => of_documents(alloc, word, rest),
+    }
 }
 
-fn of_documents(alloc: Global, word: &str, rest: &str) -> Result<Option<String>, Wrong> {
-    let answer = match word {
-        "json" => documents_asked::read_text(alloc, rest),
+fn of_documents(alloc: Global, word: &str, rest: &str) -> Result<String, Wrong> {
+    match word {
+        "json" => documents_asked::read_bytes(alloc, rest.as_bytes()),
         "json-bytes" => documents_asked::read_hex(alloc, rest),
         "nested" => documents_asked::nested(alloc, rest),
         "string" => documents_asked::long_string(alloc, rest),
@@ -115,7 +98,6 @@ fn of_documents(alloc: Global, word: &str, rest: &str) -> Result<Option<String>,
         "has-metadata" => documents_asked::metadata(alloc, rest),
         "metadata" => documents_asked::text_in_metadata(alloc, rest),
         "copied-metadata" => documents_asked::copied_metadata(alloc, rest),
-        _ => return Ok(None),
-    };
-    answer.map(Some)
+        _ => Err(Wrong::Told("no such question")),
+    }
 }

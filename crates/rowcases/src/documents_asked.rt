@@ -1,8 +1,7 @@
 //! Questions on JSON documents and on objects as documents.
 
 use crate::names_asked::resource;
-use crate::texts::{bytes_of, first_word, number, word, yes_or_no};
-use crate::wrong::Wrong;
+use cases::{TextBuilder, Wrong, bytes, first_word, number, text, wanted, yes_or_no};
 use documents::{Document, has_kind, has_metadata, metadata_copy, metadata_text, shown_document};
 use jsondoc::{Doc, ReadFault};
 use std::alloc::Global;
@@ -16,70 +15,59 @@ pub fn document(alloc: Global, text: &str) -> Result<Doc, Wrong> {
     }
 }
 
-// The text of what the bytes spell, read and copied, which must read to itself; or why they spell none.
-fn read_bytes(alloc: Global, bytes: &[u8]) -> Result<String, Wrong> {
-    let text = match Doc::read(alloc, bytes) {
+/// `json TEXT`: the text of what the bytes spell, read and copied, which must read to itself; or why they spell none.
+pub fn read_bytes(alloc: Global, bytes: &[u8]) -> Result<String, Wrong> {
+    let written = match Doc::read(alloc, bytes) {
         Ok(document) => document.clone()?.text(alloc)?,
         Err(ReadFault::Memory) => return Err(Wrong::Memory),
-        Err(ReadFault::NotJson) => return word(alloc, "no JSON"),
-        Err(ReadFault::Number) => return word(alloc, "a number that is not taken"),
+        Err(ReadFault::NotJson) => return text(alloc, "no JSON"),
+        Err(ReadFault::Number) => return text(alloc, "a number that is not taken"),
     };
-    let again = document(alloc, text.as_str())?.text(alloc)?;
-    if again.as_str() == text.as_str() {
-        Ok(text)
-    } else {
-        Err(Wrong::Told("its text reads to another document"))
-    }
-}
-
-/// `json TEXT`: the text of the document that it spells.
-pub fn read_text(alloc: Global, text: &str) -> Result<String, Wrong> {
-    read_bytes(alloc, text.as_bytes())
+    let again = document(alloc, written.as_str())?.text(alloc)?;
+    wanted(
+        again.as_str() == written.as_str(),
+        "its text reads to another document",
+    )?;
+    Ok(written)
 }
 
 /// `bytes of json HEX ..`: the same of bytes.
 pub fn read_hex(alloc: Global, text: &str) -> Result<String, Wrong> {
-    let bytes = bytes_of(alloc, text)?;
-    read_bytes(alloc, bytes.as_slice())
+    read_bytes(alloc, bytes(alloc, text)?.as_slice())
 }
 
-// So many of the one character, and then so many of the other.
-fn between(alloc: Global, front: char, count: u64, back: char) -> Result<String, Wrong> {
-    let mut text = String::new(alloc);
-    for _ in 0..count {
-        text.push(front)?;
+// `the same` where a text is the one that it spells.
+fn same_or(alloc: Global, spelled: String) -> Result<String, Wrong> {
+    let read = read_bytes(alloc, spelled.as_bytes())?;
+    if read.as_str() == spelled.as_str() {
+        return text(alloc, "the same");
     }
-    for _ in 0..count {
-        text.push(back)?;
-    }
-    Ok(text)
+    Ok(read)
 }
 
-// `the same` where the text is the one that it spells.
-fn same_or(alloc: Global, text: &str) -> Result<String, Wrong> {
-    let read = read_bytes(alloc, text.as_bytes())?;
-    if read.as_str() == text {
-        word(alloc, "the same")
-    } else {
-        Ok(read)
+fn push_times(made: &mut TextBuilder, times: u64, piece: &str) {
+    for _ in 0..times {
+        made.push(piece);
     }
 }
 
 /// `nested N`: so many lists, one in another.
 pub fn nested(alloc: Global, text: &str) -> Result<String, Wrong> {
-    let lists = between(alloc, '[', number(text)?, ']')?;
-    same_or(alloc, lists.as_str())
+    let depth = number(text)?;
+    let mut lists = TextBuilder::new(alloc);
+    push_times(&mut lists, depth, "[");
+    push_times(&mut lists, depth, "]");
+    same_or(alloc, lists.end()?)
 }
 
 /// `string N`: a string of so many characters.
 pub fn long_string(alloc: Global, text: &str) -> Result<String, Wrong> {
-    let mut string = String::new(alloc);
-    string.push('"')?;
-    for _ in 0..number(text)? {
-        string.push('v')?;
-    }
-    string.push('"')?;
-    same_or(alloc, string.as_str())
+    let length = number(text)?;
+    let mut string = TextBuilder::new(alloc);
+    string.push("\"");
+    push_times(&mut string, length, "v");
+    string.push("\"");
+    same_or(alloc, string.end()?)
 }
 
 /// `shown REVISION JSON`: the stored document as it is shown with a revision.
@@ -105,7 +93,7 @@ pub fn metadata(alloc: Global, text: &str) -> Result<String, Wrong> {
 pub fn text_in_metadata(alloc: Global, text: &str) -> Result<String, Wrong> {
     let (name, json) = first_word(text);
     let document = document(alloc, json)?;
-    word(alloc, metadata_text(&document, name).unwrap_or("none"))
+    self::text(alloc, metadata_text(&document, name).unwrap_or("none"))
 }
 
 /// `copied metadata JSON`: the metadata, copied.

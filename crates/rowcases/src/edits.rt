@@ -1,7 +1,6 @@
 //! A document that is made by its calls, member by member.
 
-use crate::texts::{first_word, word};
-use crate::wrong::Wrong;
+use cases::{Wrong, first_word, text};
 use jsondoc::Doc;
 use std::alloc::Global;
 
@@ -48,21 +47,21 @@ pub fn put(alloc: Global, document: &mut Doc, text: &str) -> Result<String, Wron
 pub fn member(alloc: Global, document: &Doc, name: &str) -> Result<String, Wrong> {
     match document.get(name) {
         Some(value) => Ok(Doc::copy_of(value)?.text(alloc)?),
-        None => word(alloc, "none"),
+        None => self::text(alloc, "none"),
     }
 }
 
 /// `string NAME`: the member's characters, if it is a text.
 pub fn characters(alloc: Global, document: &Doc, name: &str) -> Result<String, Wrong> {
     let found = document.get(name).and_then(|value| value.as_str());
-    word(alloc, found.unwrap_or("none"))
+    text(alloc, found.unwrap_or("none"))
 }
 
 /// `remove NAME`: what was removed.
 pub fn remove(alloc: Global, document: &mut Doc, name: &str) -> Result<String, Wrong> {
     match document.remove(name) {
         Some(removed) => Ok(removed.text(alloc)?),
-        None => word(alloc, "none"),
+        None => self::text(alloc, "none"),
     }
 }
 
@@ -80,7 +79,7 @@ pub fn members(alloc: Global, document: &Doc) -> Result<String, Wrong> {
 /// `items NAME`: how many the list has that is this member.
 pub fn items(alloc: Global, document: &Doc, name: &str) -> Result<String, Wrong> {
     let Some(value) = document.get(name) else {
-        return word(alloc, "none");
+        return text(alloc, "none");
     };
     let list = Doc::copy_of(value)?;
     match list.as_array() {
@@ -88,6 +87,6 @@ pub fn items(alloc: Global, document: &Doc, name: &str) -> Result<String, Wrong>
             let count = items.len();
             Ok(format!(in alloc; "{count}")?)
         }
-        None => word(alloc, "none"),
+        None => self::text(alloc, "none"),
     }
 }

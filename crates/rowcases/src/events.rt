@@ -1,17 +1,13 @@
 //! A window of events, each of which tells its revision.
 
-use crate::texts::{number, word};
-use crate::wrong::Wrong;
-use names::{Format, Key, KeyFault, Resource};
+use crate::names_asked::no_key;
+use cases::{Wrong, number, shown};
+use names::{Format, Key, Resource};
 use std::alloc::Global;
 use window::{Change, Window, WindowFault};
 
 fn key(alloc: Global) -> Result<Key, Wrong> {
-    match Key::new(alloc, Resource::ConfigMap, "default", "a") {
-        Ok(key) => Ok(key),
-        Err(KeyFault::NoKey) => Err(Wrong::Told("no key")),
-        Err(KeyFault::Memory) => Err(Wrong::Memory),
-    }
+    Key::new(alloc, Resource::ConfigMap, "default", "a").map_err(no_key)
 }
 
 /// The window of a new store.
@@ -31,8 +27,7 @@ pub fn written(alloc: Global, window: &mut Window<u64>, text: &str) -> Result<St
             window.push(change, key(alloc)?, revision.saturating_add(1));
         }
     }
-    let revision = window.revision();
-    Ok(format!(in alloc; "{revision}")?)
+    shown(alloc, &window.revision())
 }
 
 fn change_word(change: &Change) -> &'static str {
@@ -47,7 +42,7 @@ fn change_word(change: &Change) -> &'static str {
 pub fn since(alloc: Global, window: &Window<u64>, text: &str) -> Result<String, Wrong> {
     let events = match window.since(number(text)?) {
         Ok(events) => events,
-        Err(fault) => return Ok(fault.to_string(alloc)?),
+        Err(fault) => return shown(alloc, &fault),
     };
     let mut count = 0_u64;
     let mut first = String::new(alloc);
@@ -64,17 +59,16 @@ pub fn since(alloc: Global, window: &Window<u64>, text: &str) -> Result<String, 
         count = count.saturating_add(1);
     }
     if count == 0 {
-        return word(alloc, "none");
+        return cases::text(alloc, "none");
     }
     Ok(format!(in alloc; "{count}, {first} to {last}")?)
 }
 
 /// `window fault FAULT`: what is told of it.
 pub fn told(alloc: Global, text: &str) -> Result<String, Wrong> {
-    let fault = match text {
-        "TooOld" => WindowFault::TooOld,
-        "TooNew" => WindowFault::TooNew,
-        _ => return Err(Wrong::Told("no such fault")),
-    };
-    Ok(fault.to_string(alloc)?)
+    match text {
+        "TooOld" => shown(alloc, &WindowFault::TooOld),
+        "TooNew" => shown(alloc, &WindowFault::TooNew),
+        _ => Err(Wrong::Told("no such fault")),
+    }
 }

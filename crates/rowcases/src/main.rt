@@ -1,7 +1,7 @@
-//! Runs the rows of keys, documents, objects and events: lines `QUESTION => ANSWER`, in files whose names end in `.rows`.
+//! Runs the rows of keys, documents, objects and events: lines `QUESTION => ANSWER`, in the files of its folder `data`.
 //!
 //! ```text
-//! rowcases FILE ..      with no FILE, every such file of the current folder
+//! rowcases FILE ..      with no FILE, every file of the current folder but those that end in .md
 //! ```
 //!
 //! Each row whose answer is another is told by its file and line. The status is 0 where each row holds and there was one.
@@ -12,18 +12,13 @@ mod documents_asked;
 mod edits;
 mod events;
 mod names_asked;
-mod report;
 mod stored;
 mod texts;
-mod wrong;
 
-use crate::report::{Report, run_files};
+use crate::bench::Bench;
+use cases::run_files;
 use std::process::ExitCode;
 
 fn main(rt: HostRuntime) -> ExitCode {
-    match run_files(&rt, rt.alloc()) {
-        Ok(Report { passed, failed: 0 }) if passed > 0 => ExitCode::SUCCESS,
-        Ok(_) => ExitCode::FAILURE,
-        Err(_) => ExitCode::from(2),
-    }
+    run_files::<Bench, _>(&rt, rt.alloc())
 }

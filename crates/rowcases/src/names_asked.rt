@@ -1,7 +1,7 @@
 //! Questions on names, keys, resources and formats.
 
-use crate::texts::{bytes_of, first_word, number, or_empty, quoted, spelled, word, yes_or_no};
-use crate::wrong::Wrong;
+use crate::texts::{or_dash, or_empty, quoted};
+use cases::{TextBuilder, WordReader, Wrong, bytes, first_word, number, shown, spelled, text, wanted, yes_or_no};
 use names::{Format, Key, KeyFault, Resource, ResourceTable, Scope, check_name, check_namespace};
 use std::alloc::Global;
 
@@ -15,15 +15,22 @@ pub fn resource(plural: &str) -> Result<Resource, Wrong> {
     Err(Wrong::Told("no such resource"))
 }
 
+/// Why there is no key.
+pub fn no_key(fault: KeyFault) -> Wrong {
+    match fault {
+        KeyFault::NoKey => Wrong::Told("no key"),
+        KeyFault::Memory => Wrong::Memory,
+    }
+}
+
 /// The key that `RESOURCE NAMESPACE NAME` names, and what stands behind it.
 pub fn key(alloc: Global, text: &str) -> Result<(Key, &str), Wrong> {
-    let (plural, rest) = first_word(text);
-    let (namespace, rest) = first_word(rest);
-    let (name, rest) = first_word(rest);
-    match Key::new(alloc, resource(plural)?, or_empty(namespace), name) {
-        Ok(key) => Ok((key, rest)),
-        Err(KeyFault::NoKey) => Err(Wrong::Told("no key")),
-        Err(KeyFault::Memory) => Err(Wrong::Memory),
+    let mut words = WordReader::new(text);
+    let resource = resource(words.word())?;
+    let namespace = or_empty(words.word());
+    match Key::new(alloc, resource, namespace, words.word()) {
+        Ok(key) => Ok((key, words.rest())),
+        Err(fault) => Err(no_key(fault)),
     }
 }
 
@@ -41,32 +48,27 @@ pub fn namespace(alloc: Global, text: &str) -> Result<String, Wrong> {
 
 // A key's parts.
 fn parts(alloc: Global, key: &Key) -> Result<String, Wrong> {
-    let (plural, name) = (key.resource().plural(), key.name());
-    let namespace = if key.namespace().is_empty() {
-        "-"
-    } else {
-        key.namespace()
-    };
-    Ok(format!(in alloc; "{plural} {namespace} {name}")?)
+    let mut line = TextBuilder::new(alloc);
+    line.word(key.resource().plural());
+    line.word(or_dash(key.namespace()));
+    line.word(key.name());
+    line.end()
 }
 
 /// `key RESOURCE NAMESPACE NAME`: its bytes, which must read back to it.
 pub fn key_bytes(alloc: Global, text: &str) -> Result<String, Wrong> {
     let (key, _) = key(alloc, text)?;
     let bytes = key.bytes(alloc)?;
-    match Key::read(alloc, bytes.as_slice()) {
-        Ok(read) if read == key => spelled(alloc, bytes.as_slice()),
-        Ok(_) => Err(Wrong::Told("its bytes read to another key")),
-        Err(_) => Err(Wrong::Told("its bytes read to no key")),
-    }
+    let read = Key::read(alloc, bytes.as_slice()).map_err(no_key)?;
+    wanted(read == key, "its bytes read to another key")?;
+    spelled(alloc, bytes.as_slice())
 }
 
 /// `bytes HEX ..`: the key that they spell, copied.
 pub fn key_read(alloc: Global, text: &str) -> Result<String, Wrong> {
-    let bytes = bytes_of(alloc, text)?;
-    match Key::read(alloc, bytes.as_slice()) {
+    match Key::read(alloc, bytes(alloc, text)?.as_slice()) {
         Ok(key) => parts(alloc, &key.clone()?),
-        Err(KeyFault::NoKey) => word(alloc, "no key"),
+        Err(KeyFault::NoKey) => self::text(alloc, "no key"),
         Err(KeyFault::Memory) => Err(Wrong::Memory),
     }
 }
@@ -75,7 +77,7 @@ pub fn key_read(alloc: Global, text: &str) -> Result<String, Wrong> {
 pub fn order(alloc: Global, text: &str) -> Result<String, Wrong> {
     let (low, rest) = key(alloc, text)?;
     let (high, _) = key(alloc, rest)?;
-    word(alloc, order_of(&low, &high))
+    self::text(alloc, order_of(&low, &high))
 }
 
 fn order_of(low: &Key, high: &Key) -> &'static str {
@@ -99,24 +101,28 @@ fn order_of(low: &Key, high: &Key) -> &'static str {
 
 /// `told FAULT`: what is told of it.
 pub fn told(alloc: Global, text: &str) -> Result<String, Wrong> {
-    let fault = match text {
-        "NoKey" => KeyFault::NoKey,
-        "Memory" => KeyFault::Memory,
-        _ => return Err(Wrong::Told("no such fault")),
-    };
-    Ok(fault.to_string(alloc)?)
+    match text {
+        "NoKey" => shown(alloc, &KeyFault::NoKey),
+        "Memory" => shown(alloc, &KeyFault::Memory),
+        _ => Err(Wrong::Told("no such fault")),
+    }
 }
 
 /// `format`: the numbers of the first format: events, bytes of a text and of a body, objects, the greatest revision.
 pub fn format_numbers(alloc: Global) -> Result<String, Wrong> {
     let rules = Format::First.rules();
-    let (events, text, body) = (
+    let mut line = TextBuilder::new(alloc);
+    for limit in [
         rules.window_events,
         rules.text_limit_bytes,
         rules.body_limit_bytes,
-    );
-    let (objects, revision) = (rules.object_limit, rules.greatest_revision);
-    Ok(format!(in alloc; "{events} {text} {body} {objects} {revision}")?)
+        rules.object_limit,
+    ] {
+        line.show(&limit);
+        line.push(" ");
+    }
+    line.show(&rules.greatest_revision);
+    line.end()
 }
 
 // Whether each way of finding the resource finds it.
@@ -133,34 +139,35 @@ pub fn numbered(alloc: Global, text: &str) -> Result<String, Wrong> {
         return Err(Wrong::Told("a resource's number is a byte"));
     };
     let Some(resource) = ResourceTable::numbered(number) else {
-        return word(alloc, "none");
+        return self::text(alloc, "none");
     };
-    if resource.number() != number || !is_found(resource) {
-        return Err(Wrong::Told("it is not found again"));
-    }
-    let group = if resource.group().is_empty() {
-        "-"
-    } else {
-        resource.group()
-    };
-    let scope = match (resource.scope(), resource.is_namespaced()) {
+    wanted(
+        resource.number() == number && is_found(resource),
+        "it is not found again",
+    )?;
+    let mut line = TextBuilder::new(alloc);
+    line.word(resource.api_version());
+    line.word(or_dash(resource.group()));
+    line.word(resource.version());
+    line.word(resource.plural());
+    line.word(resource.kind());
+    line.word(scope_word(resource));
+    line.end()
+}
+
+fn scope_word(resource: Resource) -> &'static str {
+    match (resource.scope(), resource.is_namespaced()) {
         (Scope::Namespaced, true) => "namespaced",
         (Scope::Cluster, false) => "cluster",
         _ => "no scope",
-    };
-    let (api_version, version) = (resource.api_version(), resource.version());
-    let (plural, kind) = (resource.plural(), resource.kind());
-    Ok(format!(in alloc; "{api_version} {group} {version} {plural} {kind} {scope}")?)
+    }
 }
 
 // The number of a resource, or none.
 fn number_of(alloc: Global, resource: Option<Resource>) -> Result<String, Wrong> {
     match resource {
-        Some(resource) => {
-            let number = resource.number();
-            Ok(format!(in alloc; "{number}")?)
-        }
-        None => word(alloc, "none"),
+        Some(resource) => shown(alloc, &resource.number()),
+        None => text(alloc, "none"),
     }
 }
 

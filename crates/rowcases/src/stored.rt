@@ -1,17 +1,16 @@
 //! Objects in a map: puts, removals and lists of numbers under keys.
 
-use crate::names_asked::{key, resource};
-use crate::texts::{first_word, number, word};
-use crate::wrong::Wrong;
-use names::{Key, KeyFault, Resource};
+use crate::names_asked::{key, no_key, resource};
+use cases::{TextBuilder, Wrong, first_word, number, shown, text, wanted};
+use names::{Key, Resource};
 use objects::{Entry, Objects};
 use std::alloc::Global;
 
 // A number, or none.
 fn number_or_none(alloc: Global, value: Option<u64>) -> Result<String, Wrong> {
     match value {
-        Some(value) => Ok(format!(in alloc; "{value}")?),
-        None => word(alloc, "none"),
+        Some(value) => shown(alloc, &value),
+        None => text(alloc, "none"),
     }
 }
 
@@ -40,13 +39,14 @@ pub fn delete(alloc: Global, objects: &mut Objects<u64>, text: &str) -> Result<S
 /// `count`: how many objects there are.
 pub fn count(alloc: Global, objects: &Objects<u64>) -> Result<String, Wrong> {
     let count = objects.len();
-    if objects.is_empty() != (count == 0) {
-        return Err(Wrong::Told("whether there is none is told otherwise"));
-    }
+    wanted(
+        objects.is_empty() == (count == 0),
+        "whether there is none is told otherwise",
+    )?;
     if count == 0 {
-        word(alloc, "none")
+        text(alloc, "none")
     } else {
-        Ok(format!(in alloc; "{count}")?)
+        shown(alloc, &count)
     }
 }
 
@@ -58,29 +58,21 @@ pub fn list(alloc: Global, objects: &Objects<u64>, text: &str) -> Result<String,
     } else {
         Some(namespace)
     };
-    let mut told = String::new(alloc);
-    for entry in objects.list(alloc, resource(plural)?, namespace)? {
-        if !told.is_empty() {
-            told.push(' ')?;
-        }
-        let value = *entry.value();
-        let text = format!(in alloc; "{value}")?;
-        told.push_str(text.as_str())?;
+    let entries = objects.list(alloc, resource(plural)?, namespace)?;
+    if entries.is_empty() {
+        return self::text(alloc, "none");
     }
-    if told.is_empty() {
-        word(alloc, "none")
-    } else {
-        Ok(told)
+    let mut told = TextBuilder::new(alloc);
+    for entry in entries.iter() {
+        told.word("");
+        told.show(entry.value());
     }
+    told.end()
 }
 
 fn numbered_key(alloc: Global, number: u64) -> Result<Key, Wrong> {
     let name = format!(in alloc; "{number:05}")?;
-    match Key::new(alloc, Resource::ConfigMap, "default", name.as_str()) {
-        Ok(key) => Ok(key),
-        Err(KeyFault::NoKey) => Err(Wrong::Told("no key")),
-        Err(KeyFault::Memory) => Err(Wrong::Memory),
-    }
+    Key::new(alloc, Resource::ConfigMap, "default", name.as_str()).map_err(no_key)
 }
 
 /// `fill N`: room for N objects, and configmaps of five digits from 1 to N - 1, each with its number, and then the one with 0.
@@ -93,9 +85,7 @@ pub fn fill(alloc: Global, objects: &mut Objects<u64>, text: &str) -> Result<Str
     for number in (1..count).chain(0..1) {
         objects.reserve(1)?;
         let entry = Entry::new(alloc, numbered_key(alloc, number)?, number)?;
-        if objects.put(entry).is_some() {
-            return Err(Wrong::Told("there was one"));
-        }
+        wanted(objects.put(entry).is_none(), "there was one")?;
     }
     self::count(alloc, objects)
 }
