@@ -1,5 +1,5 @@
 -- A text that is read as one tree is read as no other, and one that is refused is read as none.
-use Rattle.std.proofs.Common.{◌≡◌, ℕ, List, chars, subst}
+use Rattle.std.proofs.Common.{ℕ, List, chars, subst}
 use Rattle.celtokens.specs.Terminal.{Terminal}
 use Rattle.celtokens.specs.Lexes.{Lexes, OneReading}
 use Rattle.celread.specs.declared.fault.ReadFault.{ReadFault}

@@ -91,6 +91,21 @@ fn three(mut arguments: Vec<Tree>) -> Option<(Tree, Tree, Tree)>
     Some((first, second, third))
 }
 
+// A macro over a tree, with its variable and its body.
+fn with_variable(
+    alloc: Global,
+    kind: Macro,
+    of: Tree,
+    variable: String,
+    body: Tree,
+) -> Result<Tree, AllocError>
+    ensures { IfOk result (λ t. view t ≡ Over kind (view of) (string_bytes variable) (view body)) }
+{
+    let of = Box::new(alloc, of)?;
+    let body = Box::new(alloc, body)?;
+    Ok(Tree::Macro(kind, of, variable, body))
+}
+
 fn plain_macro(
     alloc: Global,
     kind: Macro,
@@ -102,9 +117,8 @@ fn plain_macro(
 {
     match variable(name) {
         Some(variable) => {
-            let of = Box::new(alloc, of)?;
-            let body = Box::new(alloc, body)?;
-            Ok(Some(Tree::Macro(kind, of, variable, body)))
+            let tree = with_variable(alloc, kind, of, variable, body)?;
+            Ok(Some(tree))
         }
         None => Ok(None),
     }
@@ -123,11 +137,9 @@ fn filtered_map(
     match variable(name) {
         Some(variable) => {
             let copy = variable.clone()?;
-            let of = Box::new(alloc, of)?;
-            let test = Box::new(alloc, test)?;
-            let body = Box::new(alloc, body)?;
-            let filter = Box::new(alloc, Tree::Macro(Macro::Filter, of, copy, test))?;
-            Ok(Some(Tree::Macro(Macro::Map, filter, variable, body)))
+            let filter = with_variable(alloc, Macro::Filter, of, copy, test)?;
+            let tree = with_variable(alloc, Macro::Map, filter, variable, body)?;
+            Ok(Some(tree))
         }
         None => Ok(None),
     }

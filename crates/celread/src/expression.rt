@@ -1,10 +1,10 @@
 //! One pass over the tokens, by recursive descent.
 
-ghost use Rattle.std.specs.Prelude.{◌≡◌, ◌<◌, length, IfOk, IfErr};
+ghost use Rattle.std.specs.Prelude.{◌≡◌, ◌<◌, length, encode_utf8_all, IfOk, IfErr};
 ghost use Rattle.celtokens.specs.Seen.{terminals};
 ghost use Rattle.celread.specs.Grammar.{Member, Whole, Prefixed, Height};
 ghost use Rattle.celread.specs.Ends.{Read, HasNoTree, ReadPrimary, HasNoPrimary, ReadComposite, HasNoComposite, ReadItems, HasNoItems, ReadEntry, HasNoEntry, ReadEntries, HasNoEntries, Refuses};
-ghost use Rattle.celtree.specs.Tree.{Conditional};
+ghost use Rattle.celtree.specs.Tree.{Conditional, Field, Index, Infix};
 ghost use Rattle.celtree.specs.View.{view, views, pair_views};
 
 use crate::ahead::{
@@ -16,7 +16,7 @@ use crate::fault::ReadFault;
 use crate::items::{Closing, close_sign};
 use crate::literal::{literal, text_of};
 use celtokens::{Sign, Token};
-use celtree::{Prefix, Tree};
+use celtree::{Operator, Prefix, Tree};
 use std::alloc::{AllocError, Global};
 
 // Apart from `expression`, so that its boxes take no room on the stack of a long `a ? b : c ? d : ..`.
@@ -27,6 +27,35 @@ fn conditional(alloc: Global, test: Tree, first: Tree, second: Tree) -> Result<T
     let first = Box::new(alloc, first)?;
     let second = Box::new(alloc, second)?;
     Ok(Tree::Conditional(test, first, second))
+}
+
+fn field(alloc: Global, of: Tree, name: &[char]) -> Result<Tree, AllocError>
+    ensures { IfOk result (λ t. view t ≡ Field (view of) (encode_utf8_all name.now)) }
+{
+    let of = Box::new(alloc, of)?;
+    let name = text_of(alloc, name)?;
+    Ok(Tree::Field(of, name))
+}
+
+fn indexed(alloc: Global, of: Tree, index: Tree) -> Result<Tree, AllocError>
+    ensures { IfOk result (λ t. view t ≡ Index (view of) (view index)) }
+{
+    let of = Box::new(alloc, of)?;
+    let index = Box::new(alloc, index)?;
+    Ok(Tree::Index(of, index))
+}
+
+fn joined(
+    alloc: Global,
+    operator: Operator,
+    left: Tree,
+    right: Tree,
+) -> Result<Tree, AllocError>
+    ensures { IfOk result (λ t. view t ≡ Infix operator (view left) (view right)) }
+{
+    let left = Box::new(alloc, left)?;
+    let right = Box::new(alloc, right)?;
+    Ok(Tree::Infix(operator, left, right))
 }
 
 /// An expression, and what follows it.
@@ -76,9 +105,8 @@ fn infix<'a, 'b>(
         match operator_at(rest, lower) {
             Some((operator, behind)) => {
                 let (right, after) = infix(alloc, behind, lower)?;
-                let first = Box::new(alloc, left)?;
-                let second = Box::new(alloc, right)?;
-                left = Tree::Infix(operator, first, second);
+                let tree = joined(alloc, operator, left, right)?;
+                left = tree;
                 rest = after;
             }
             None => return Ok((left, rest)),
@@ -140,9 +168,8 @@ fn member<'a, 'b>(
     'suffixes: loop {
         match suffix_at(rest) {
             Suffix::Field(name, behind) => {
-                let base = Box::new(alloc, of)?;
-                let name = text_of(alloc, name)?;
-                of = Tree::Field(base, name);
+                let tree = field(alloc, of, name)?;
+                of = tree;
                 rest = behind;
             }
             Suffix::Method(name, behind) => {
@@ -160,9 +187,8 @@ fn member<'a, 'b>(
                 let (index, inside) = expression(alloc, behind)?;
                 match after(inside, Sign::CloseBracket) {
                     Some(behind) => {
-                        let base = Box::new(alloc, of)?;
-                        let index = Box::new(alloc, index)?;
-                        of = Tree::Index(base, index);
+                        let tree = indexed(alloc, of, index)?;
+                        of = tree;
                         rest = behind;
                     }
                     None => return Err(ReadFault::NotInGrammar),

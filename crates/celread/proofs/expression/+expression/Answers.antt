@@ -7,7 +7,7 @@ use Rattle.celread.specs.Ends.{HasNoTree, Read, Refuses}
 use Rattle.celread.specs.Ahead.{HasNoLiteral}
 use Rattle.celtree.specs.View.{view, views, pair_views}
 use Rattle.celtree.proofs.Views.{pair_view}
-use Rattle.celread.proofs.Refusals.{refuses, handed_on, map-pair_view, view-push, no_tree_at, read_at, view-Name, view-List, view-Map, view-Field, view-Index, view-Unary, view-Infix}
+use Rattle.celread.proofs.Refusals.{refuses, handed_on, map-pair_view, view-push, no_tree_at, read_at, view-Name, view-List, view-Map, view-Unary}
 use Rattle.celread.proofs.Chains.{going_start, start_none, going_next, next_none, going_end}
 use Rattle.celread.proofs.Prefixes.{unary_plain, unary_plain_none, unary_prefixed, unary_prefixed_none, prefixed_again, prefixed_again_none, prefixed_bare}
 use Rattle.celread.proofs.Suffixes.{member_start, member_none, member_field, member_method, member_no_arguments, member_no_call, member_index, member_no_index, member_open_index, member_end, member_wrong}
@@ -92,7 +92,7 @@ pub infix-operators-init : goal.infix-operators-init
 infix-operators-init t c = record { going = going_start (c.args.height - 1) (terminals c.args.tokens.now) (view c.in_ok-left.left) (terminals c.in_ok-left.rest.now) c.in_ok-left.ensures.tree; shorter = c.in_ok-left.ensures.shorter }
 
 pub infix-operators-preserved : goal.infix-operators-preserved
-infix-operators-preserved t c = record { going = rw (view-Infix c.in-Some.operator c.in_ok-first-in-Some.first c.in_ok-second-in-Some.second, c.in_ok-first-in-Some.ensures.ok, c.in_ok-second-in-Some.ensures.ok) (going_next (c.args.height - 1) c.in-Some.ensures.value.0 c.in-Some.operator (terminals c.in-Some.behind.now) c.in-Some.ensures.value.2 (terminals c.args.tokens.now) (view c.operators.left) (terminals c.operators.rest.now) (view c.in_ok-right-in-Some.right) (terminals c.in_ok-right-in-Some.after.now) c.operators.invariant.going c.in-Some.ensures.value.1 c.in_ok-right-in-Some.ensures.tree); shorter = omega (arith, c.in-Some.ensures.shorter, c.in_ok-right-in-Some.ensures.shorter, c.operators.invariant.shorter) }
+infix-operators-preserved t c = record { going = rw c.in_ok-tree-in-Some.ensures (going_next (c.args.height - 1) c.in-Some.ensures.value.0 c.in-Some.operator (terminals c.in-Some.behind.now) c.in-Some.ensures.value.2 (terminals c.args.tokens.now) (view c.operators.left) (terminals c.operators.rest.now) (view c.in_ok-right-in-Some.right) (terminals c.in_ok-right-in-Some.after.now) c.operators.invariant.going c.in-Some.ensures.value.1 c.in_ok-right-in-Some.ensures.tree); shorter = omega (arith, c.in-Some.ensures.shorter, c.in_ok-right-in-Some.ensures.shorter, c.operators.invariant.shorter) }
 
 pub infix-returns-in-None-clause-tree : goal.infix-returns-in-None-clause-tree
 infix-returns-in-None-clause-tree t c = read_at c.args.height (c.args.height - 1) (terminals c.args.tokens.now) (view c.operators.left) (terminals c.operators.rest.now) (let e : c.args.height ≡ suc (c.args.height - 1) = omega arith in e) (going_end (c.args.height - 1) (terminals c.args.tokens.now) (view c.operators.left) (terminals c.operators.rest.now) c.operators.invariant.going c.in-None.ensures.value)
@@ -134,10 +134,10 @@ pub member-suffixes-init : goal.member-suffixes-init
 member-suffixes-init t c = record { going = member_start (terminals c.args.tokens.now) (view c.in_ok-of.of) (terminals c.in_ok-of.rest.now) c.in_ok-of.ensures.tree; shorter = c.in_ok-of.ensures.shorter }
 
 pub member-suffixes-preserved-in-Field : goal.member-suffixes-preserved-in-Field
-member-suffixes-preserved-in-Field t c = record { going = rw (view-Field c.in_ok-base-in-Field.base c.in_ok-name-in-Field.name, c.in_ok-base-in-Field.ensures.ok, c.in_ok-name-in-Field.ensures) (member_field (terminals c.args.tokens.now) (view c.suffixes.of) (terminals c.suffixes.rest.now) c.suffixes.invariant.going c.in-Field.ensures.0 (encode_utf8_all c.in-Field.name.now) c.in-Field.ensures.2 (terminals c.in-Field.behind.now) c.in-Field.ensures.1 c.in-Field.ensures.3); shorter = omega (arith, c.in-Field.ensures.4, c.suffixes.invariant.shorter) }
+member-suffixes-preserved-in-Field t c = record { going = rw c.in_ok-tree-in-Field.ensures (member_field (terminals c.args.tokens.now) (view c.suffixes.of) (terminals c.suffixes.rest.now) c.suffixes.invariant.going c.in-Field.ensures.0 (encode_utf8_all c.in-Field.name.now) c.in-Field.ensures.2 (terminals c.in-Field.behind.now) c.in-Field.ensures.1 c.in-Field.ensures.3); shorter = omega (arith, c.in-Field.ensures.4, c.suffixes.invariant.shorter) }
 
 pub member-suffixes-preserved : goal.member-suffixes-preserved
-member-suffixes-preserved t c = record { going = rw (view-Index c.in_ok-base-in-Some-after.base c.in_ok-index-in-Some-after.index, c.in_ok-base-in-Some-after.ensures.ok, c.in_ok-index-in-Some-after.ensures.ok) (member_index (terminals c.args.tokens.now) (view c.suffixes.of) (terminals c.suffixes.rest.now) c.suffixes.invariant.going (terminals c.in-Index.behind.now) (view c.in_ok-index-in-Index.index) (terminals c.in-Some-after.behind.now) c.in-Index.ensures.0 (rw c.in-Some-after.ensures.value at c.in_ok-index-in-Index.ensures.tree)); shorter = omega (arith, c.in-Index.ensures.1, c.in_ok-index-in-Index.ensures.shorter, c.in-Some-after.ensures.shorter, c.suffixes.invariant.shorter) }
+member-suffixes-preserved t c = record { going = rw c.in_ok-tree-in-Some-after.ensures (member_index (terminals c.args.tokens.now) (view c.suffixes.of) (terminals c.suffixes.rest.now) c.suffixes.invariant.going (terminals c.in-Index.behind.now) (view c.in_ok-index-in-Index.index) (terminals c.in-Some-after.behind.now) c.in-Index.ensures.0 (rw c.in-Some-after.ensures.value at c.in_ok-index-in-Index.ensures.tree)); shorter = omega (arith, c.in-Index.ensures.1, c.in_ok-index-in-Index.ensures.shorter, c.in-Some-after.ensures.shorter, c.suffixes.invariant.shorter) }
 
 pub member-suffixes-preserved-in-Some : goal.member-suffixes-preserved-in-Some
 member-suffixes-preserved-in-Some t c = record { going = member_method (terminals c.args.tokens.now) (view c.suffixes.of) (terminals c.suffixes.rest.now) c.suffixes.invariant.going c.in-Method.ensures.0 (encode_utf8_all c.in-Method.name.now) c.in-Method.ensures.2 (terminals c.in-Method.behind.now) (views c.in_ok-arguments-in-Method.arguments.items) (view c.in-Some.tree) (terminals c.in_ok-arguments-in-Method.after.now) c.in-Method.ensures.1 c.in_ok-arguments-in-Method.ensures.items (sym (rw (c.in-Some.is, c.in_ok-name-in-Method.ensures) at c.in_ok-tree-in-Method.ensures)); shorter = omega (arith, c.in-Method.ensures.3, c.in_ok-arguments-in-Method.ensures.shorter, c.suffixes.invariant.shorter) }
