@@ -17,8 +17,6 @@ mod open;
 mod root;
 mod roots;
 mod sector;
-#[cfg(test)]
-mod tests;
 
 pub use new_store::{StartFault, start};
 pub use open::{RootFault, counted_root};

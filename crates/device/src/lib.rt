@@ -23,8 +23,6 @@ mod memory;
 mod raw_file;
 mod script;
 mod sector_file;
-#[cfg(test)]
-mod tests;
 
 pub use device::{Device, DeviceFault, write_through};
 pub use file_device::{CreateFault, FileDevice, OpenFault};

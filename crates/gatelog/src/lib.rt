@@ -19,8 +19,6 @@ mod fault;
 mod gate_log;
 mod record;
 mod recovery;
-#[cfg(test)]
-mod tests;
 mod write_record;
 
 pub use fault::LogFault;

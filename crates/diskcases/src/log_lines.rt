@@ -1,0 +1,174 @@
+//! Lines on a log.
+
+use crate::bench::ended;
+use crate::payloads::{payload, payloads};
+use cases::{WordReader, Wrong, shown, text};
+use device::{Device, MemDevice};
+use gatelog::{Body, Log, LogFault};
+use names::{Key, Resource};
+use records::{delete_payload, put_payload};
+use std::alloc::Global;
+
+/// The log that a case opened.
+#[derive(Drop)]
+pub struct LogLines {
+    pub log: Option<Log>,
+}
+
+/// The key of the configmap `a` in `default`.
+pub fn settings(alloc: Global) -> Result<Key, Wrong> {
+    match Key::new(alloc, Resource::ConfigMap, "default", "a") {
+        Ok(key) => Ok(key),
+        Err(_) => Err(Wrong::Memory),
+    }
+}
+
+impl LogLines {
+    /// The empty log, if the place is at most the length.
+    pub fn start(&mut self, device: &mut MemDevice, at: u64) -> Result<(), LogFault> {
+        self.log = None;
+        if at <= device.len()? {
+            self.log = Some(Log::start(device, at)?);
+        }
+        Ok(())
+    }
+
+    /// The log that begins at a gate.
+    pub fn open(&mut self, device: &mut MemDevice, at: u64) -> Result<(), LogFault> {
+        self.log = None;
+        self.log = Some(Log::open(device, at)?);
+        Ok(())
+    }
+
+    /// The empty log at the last gate.
+    pub fn restart(&mut self, device: &MemDevice) -> Result<(), LogFault> {
+        let gate = match &self.log {
+            Some(log) => log.last_gate(),
+            None => return Err(LogFault::Damaged),
+        };
+        if gate >= 1 << 54 {
+            return Err(LogFault::Damaged);
+        }
+        self.log = Some(Log::restart(device, gate));
+        Ok(())
+    }
+
+    // Appends a body. The device is asked for its length first.
+    fn add(&mut self, device: &mut MemDevice, body: Body) -> Result<(), LogFault> {
+        let Some(log) = &mut self.log else {
+            return Err(LogFault::Damaged);
+        };
+        if log.last_gate() >= device.len()? {
+            return Err(LogFault::Damaged);
+        }
+        log.append(device, body)
+    }
+
+    /// `append PAYLOAD`.
+    pub fn append(
+        &mut self,
+        alloc: Global,
+        device: &mut MemDevice,
+        line: &str,
+    ) -> Result<Result<(), LogFault>, Wrong> {
+        let payload = payload(alloc, line)?;
+        let mut body = Body::new(alloc)?;
+        match body.extend(payload.as_slice()) {
+            Ok(()) => Ok(self.add(device, body)),
+            Err(fault) => Ok(Err(fault)),
+        }
+    }
+
+    /// `append-set AT TEXT PAYLOAD`: the text stands in place of the payload's bytes from there on.
+    pub fn append_set(
+        &mut self,
+        alloc: Global,
+        device: &mut MemDevice,
+        line: &str,
+    ) -> Result<Result<(), LogFault>, Wrong> {
+        let mut words = WordReader::new(line);
+        let (at, with) = (words.number() as usize, words.word());
+        words.end()?;
+        let payload = payload(alloc, words.rest())?;
+        let mut body = Body::new(alloc)?;
+        match body.extend(payload.as_slice()) {
+            Ok(()) if at <= payload.len() && with.len() <= payload.len() - at => {
+                body.set(at, with.as_bytes());
+                Ok(self.add(device, body))
+            }
+            _ => Err(Wrong::Told("there is no such place inside")),
+        }
+    }
+
+    /// `append-put TEXT`: the record of a put of the configmap with this text.
+    pub fn append_put(
+        &mut self,
+        alloc: Global,
+        device: &mut MemDevice,
+        line: &str,
+    ) -> Result<Result<(), LogFault>, Wrong> {
+        match put_payload(alloc, &settings(alloc)?, line) {
+            Ok(body) => Ok(self.add(device, body)),
+            Err(fault) => Ok(Err(fault)),
+        }
+    }
+
+    /// `append-delete`: the record of a deletion of the configmap.
+    pub fn append_delete(
+        &mut self,
+        alloc: Global,
+        device: &mut MemDevice,
+    ) -> Result<Result<(), LogFault>, Wrong> {
+        match delete_payload(alloc, &settings(alloc)?) {
+            Ok(body) => Ok(self.add(device, body)),
+            Err(fault) => Ok(Err(fault)),
+        }
+    }
+
+    /// `records PAYLOAD ; ..`: whether the log has these payloads.
+    pub fn records(
+        &mut self,
+        alloc: Global,
+        device: &mut MemDevice,
+        line: &str,
+    ) -> Result<String, Wrong> {
+        let wanted = payloads(alloc, line)?;
+        let Some(log) = &mut self.log else {
+            return Err(Wrong::Told("there is no log"));
+        };
+        match log.records(alloc, device) {
+            Ok(found) if found == wanted => text(alloc, "ok"),
+            Ok(found) => {
+                let count = found.len();
+                Ok(format!(in alloc; "other payloads, {count}")?)
+            }
+            Err(fault) => shown(alloc, &fault),
+        }
+    }
+
+    /// `gate`: the log's last gate.
+    pub fn gate(&self, alloc: Global) -> Result<String, Wrong> {
+        match &self.log {
+            Some(log) => shown(alloc, &log.last_gate()),
+            None => Err(Wrong::Told("there is no log")),
+        }
+    }
+}
+
+const PART: usize = 1 << 20;
+
+/// `filled PARTS BYTES`: a payload of so many parts of a mebibyte, to which so many bytes are added.
+pub fn filled(alloc: Global, line: &str) -> Result<String, Wrong> {
+    let mut words = WordReader::new(line);
+    let (parts, rest) = (words.number(), words.number());
+    words.end()?;
+    let part = vec![in alloc; 7u8; PART]?;
+    let mut body = Body::new(alloc)?;
+    for _ in 0..parts {
+        if body.extend(part.as_slice()).is_err() {
+            return Err(Wrong::Told("the parts do not fit"));
+        }
+    }
+    let more = part.get(..rest as usize).unwrap_or(&[]);
+    ended(alloc, body.extend(more))
+}
