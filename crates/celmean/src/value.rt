@@ -6,7 +6,7 @@ ghost use Rattle.celmean.specs.Seen.{value_of, values_seen, entries_seen};
 use std::alloc::AllocError;
 
 /// What an expression gives where it has no error.
-#[derive(Debug, Drop)]
+#[derive(Drop)]
 pub enum Value {
     /// `null`
     Null,
@@ -25,7 +25,7 @@ pub enum Value {
 }
 
 /// What an expression gives: a value, or the one error.
-#[derive(Debug, Drop)]
+#[derive(Drop)]
 pub enum Outcome {
     /// A value.
     Gives(Value),

@@ -9,7 +9,7 @@ use celmean::{Outcome, Value};
 use std::alloc::{AllocError, Global};
 
 /// A name, and the value that it stands for: none, where it stands for the error.
-#[derive(Clone, Copy, Debug)]
+#[derive(Clone, Copy)]
 pub struct Binding<'a> {
     /// The name.
     pub name: &'a str,
@@ -18,7 +18,7 @@ pub struct Binding<'a> {
 }
 
 /// What the names of an expression stand for.
-#[derive(Clone, Copy, Debug)]
+#[derive(Clone, Copy)]
 pub struct Environment<'a> {
     /// `object`, `request` and the like, and the variables of macros, the innermost first.
     pub names: &'a [Binding<'a>],

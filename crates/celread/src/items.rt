@@ -6,7 +6,7 @@ ghost use Rattle.celread.specs.Grammar.{close_sign, trails};
 use celtokens::Sign;
 
 /// The sign that ends a list of items.
-#[derive(Clone, Copy, Debug)]
+#[derive(Clone, Copy)]
 pub(crate) enum Closing {
     /// `)`, behind a call's arguments.
     Parenthesis,

@@ -4,7 +4,7 @@ ghost use Rattle.std.specs.Prelude.{◌≡◌};
 ghost use Rattle.celtokens.specs.Class.{class, is_quote, first_quote};
 
 /// What a lexeme can be, by its first character.
-#[derive(Clone, Copy, Debug)]
+#[derive(Clone, Copy)]
 pub(crate) enum Class {
     /// Tab, line feed, form feed, carriage return or space.
     Blank,

@@ -4,7 +4,7 @@ ghost use Rattle.std.specs.Prelude.{◌≡◌};
 ghost use Rattle.celtokens.specs.Run.{is_in, is_line_end, front, behind};
 
 /// A kind of character, of which a run is made.
-#[derive(Clone, Copy, Debug)]
+#[derive(Clone, Copy)]
 pub(crate) enum Kind {
     /// An ASCII letter, an ASCII digit or `_`.
     InWord,

@@ -9,7 +9,7 @@ use crate::run::is_line_end;
 use std::alloc::{AllocError, Global};
 
 /// How a string is delimited and read.
-#[derive(Clone, Copy, Debug)]
+#[derive(Clone, Copy)]
 pub(crate) struct Style {
     /// Whether a backslash is a character like others.
     pub raw: bool,

@@ -58,7 +58,7 @@ pub enum Macro {
 }
 
 /// The tree of an expression.
-#[derive(Debug, Drop)]
+#[derive(Drop)]
 pub enum Tree {
     /// `null`
     Null,

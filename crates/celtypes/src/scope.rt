@@ -9,7 +9,7 @@ use crate::types::{CelType, copy};
 use std::alloc::{AllocError, Global};
 
 /// A variable of a policy: its expression stands before the ones that name it by `variables.NAME`.
-#[derive(Debug, Drop)]
+#[derive(Drop)]
 pub struct Variable {
     /// The name behind `variables.`
     pub name: String,
@@ -18,7 +18,7 @@ pub struct Variable {
 }
 
 /// What is declared. `object`, `oldObject` and `request` always are, with any value.
-#[derive(Clone, Copy, Debug)]
+#[derive(Clone, Copy)]
 pub struct Env<'a> {
     /// Whether `params` is declared, with any value.
     pub has_params: bool,

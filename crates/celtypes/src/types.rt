@@ -9,7 +9,7 @@ use std::alloc::{AllocError, Global};
 use std::fmt::{self, Display, Formatter};
 
 /// The type of an expression.
-#[derive(Debug, Drop)]
+#[derive(Drop)]
 pub enum CelType {
     /// Signed numbers.
     Int,
