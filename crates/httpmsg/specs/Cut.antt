@@ -2,7 +2,6 @@
 use Rattle.std.specs.Prelude.{ℕ, ◌<◌, ◌≤◌, List, ◌++◌, [], ◌∷◌, length, drop, unwrap_or, false}
 use Rattle.httpmsg.specs.declared.cutter.Next.{Next}
 use Rattle.httpmsg.specs.declared.cutter.Next.TheVariants.{Whole, Unfinished, Fails}
-use Rattle.httpmsg.specs.declared.cutter.TheConstants.{PENDING_LIMIT}
 use Rattle.httpmsg.specs.declared.head.MessageFault.TheVariants as Fault
 use Rattle.httpmsg.specs.declared.head.End.{End}
 use Rattle.httpmsg.specs.declared.head.End.TheVariants.{Clean, Broken}
@@ -11,7 +10,7 @@ use Rattle.httpmsg.specs.Stream.{Message, Takes, Waits, IsUnfinished, EndsAtOnce
 -- the bytes begin with a message of so many bytes, or with none yet, or end the stream whatever follows
 abbrev pub IsNext : List ℕ → Next → Type 0
 IsNext bytes (Whole m len) = (0 < len) × (len ≤ length bytes) × Takes bytes m (drop len bytes)
-IsNext bytes Unfinished = (length bytes < PENDING_LIMIT) × Waits bytes × IsUnfinished bytes
+IsNext bytes Unfinished = (length bytes < 24576) × Waits bytes × IsUnfinished bytes
 IsNext bytes (Fails broken) = EndsAtOnce bytes (Broken broken)
 
 -- whatever is cut from the rest is, behind these messages, cut from the bytes

@@ -1,7 +1,6 @@
 -- What begins the bytes of a connection.
 use Rattle.std.specs.Prelude.{◌≡◌, ℕ, ◌<◌, ◌≤◌, List, ◌++◌, length, drop}
 use Rattle.httparse.specs.Grammar.{RequestHead, MayBecomeRequest}
-use Rattle.httpmsg.specs.declared.head.TheConstants.{HEAD_LIMIT}
 use Rattle.httpmsg.specs.declared.front.Front.{Front}
 use Rattle.httpmsg.specs.declared.front.Front.TheVariants.{Whole, Unfinished, Never}
 use Rattle.httpmsg.specs.Head.{head_of}
@@ -12,5 +11,5 @@ abbrev pub IsFront : List ℕ → Front → Type 0
 IsFront bytes (Whole view len) =
     (len ≤ length bytes) × ((h : RequestHead) × BeginsWith bytes h (drop len bytes) × (view ≡ head_of h))
 IsFront bytes Unfinished =
-    (length bytes < HEAD_LIMIT) × MayBecomeRequest bytes × ((h : RequestHead) (rest : List ℕ) → BeginsWith bytes h rest → ⊥)
+    (length bytes < 8192) × MayBecomeRequest bytes × ((h : RequestHead) (rest : List ℕ) → BeginsWith bytes h rest → ⊥)
 IsFront bytes Never = (more : List ℕ) (h : RequestHead) (rest : List ℕ) → BeginsWith (bytes ++ more) h rest → ⊥

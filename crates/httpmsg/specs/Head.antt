@@ -7,7 +7,6 @@ use Rattle.std.specs.Str.Parse.{digits_value}
 use Rattle.httparse.specs.Ascii.{comma}
 use Rattle.httparse.specs.Grammar.{RequestHead, trim_ows}
 use Rattle.httparse.specs.Spans.{name_and_value}
-use Rattle.httpmsg.specs.declared.head.TheConstants.{FIELD_LIMIT, BODY_LIMIT}
 use Rattle.httpmsg.specs.declared.head.Method.{Method}
 use Rattle.httpmsg.specs.declared.head.Method.TheVariants.{Get, Head as HeadMethod, Post, Put, Delete, Other}
 use Rattle.httpmsg.specs.declared.head.MessageFault.{MessageFault}
@@ -87,11 +86,11 @@ has_field name h = nat_lt 0 (length (values name h.fields))
 abbrev pub fault_rows : Head → List (MessageFault × Bool)
 fault_rows h =
     (Fault.Version, h.minor == 0)
-    ∷ (Fault.TooManyFields, nat_lt FIELD_LIMIT (length h.fields))
+    ∷ (Fault.TooManyFields, nat_lt 32 (length h.fields))
     ∷ (Fault.TransferCoding, has_field (codes "transfer-encoding") h)
     ∷ (Fault.Host, not (length (values (codes "host") h.fields) == 1))
     ∷ (Fault.ContentLength, not (is_length (values (codes "content-length") h.fields)))
-    ∷ (Fault.BodyTooLarge, nat_lt BODY_LIMIT (content_length h))
+    ∷ (Fault.BodyTooLarge, nat_lt 16384 (content_length h))
     ∷ (Fault.Expectation, has_field (codes "expect") h)
     ∷ (Fault.Target, not (starts_with (λ a b. a == b) h.target (codes "/")))
     ∷ []

@@ -4,4 +4,5 @@ pub mod Front
 pub mod Cut
 pub mod Flow
 pub mod Response
+pub mod Sheet
 pub mod KnownLaws

@@ -2,7 +2,6 @@
 use Rattle.std.specs.Prelude.{◌≡◌, ◌≢◌, ℕ, ◌<◌, ◌≤◌, ◌⊎◌, Bool, true, false, List, [], ◌∷◌, ◌++◌, length, Option, Some, None, MatchOption}
 use Rattle.std.specs.Bool.{MatchBool}
 use Rattle.httparse.specs.Grammar.{RequestHead, ReadsRequest, MayBecomeRequest, print_request}
-use Rattle.httpmsg.specs.declared.head.TheConstants.{HEAD_LIMIT}
 use Rattle.httpmsg.specs.declared.head.Method.{Method}
 use Rattle.httpmsg.specs.declared.head.Method.TheVariants.{Get, Head, Post, Put, Delete, Other}
 use Rattle.httpmsg.specs.declared.head.MessageFault.TheVariants as Fault
@@ -25,7 +24,7 @@ message_of h body =
 -- the bytes are this head, which is no longer than a head may be, and then the rest
 pub record BeginsWith (bytes : List ℕ) (h : RequestHead) (rest : List ℕ) : Type 0 where
   pub reads : ReadsRequest bytes h rest
-  pub fits : length (print_request h) ≤ HEAD_LIMIT
+  pub fits : length (print_request h) ≤ 8192
 
 -- the bytes are this message, which has no fault, and then the rest
 pub record Takes (bytes : List ℕ) (m : Message) (rest : List ℕ) : Type 0 where
@@ -52,7 +51,7 @@ pub record LacksBody (bytes : List ℕ) : Type 0 where
 -- More bytes may help: there are none yet, or the parse of a head has not failed in fewer bytes than a head may have, or a body is
 -- not there in full.
 abbrev pub Waits : List ℕ → Type 0
-Waits bytes = (bytes ≡ []) ⊎ (((length bytes < HEAD_LIMIT) × MayBecomeRequest bytes) ⊎ LacksBody bytes)
+Waits bytes = (bytes ≡ []) ⊎ (((length bytes < 8192) × MayBecomeRequest bytes) ⊎ LacksBody bytes)
 
 -- the bytes end inside a message, or are none
 pub record EndsInside (bytes : List ℕ) (broken : BrokenMessage) : Type 0 where

@@ -93,7 +93,7 @@ fn cut_all(alloc: Global, bytes: &[u8], room: &mut [HeaderSpan]) -> Result<Run, 
     requires { length room.old ≡ FIELD_ROOM }
     ensures cut { IfOk result (λ run. (run.at ≤ length bytes.now)
         × IsCut bytes.now run.messages.items (record { pending = drop run.at bytes.now; end = run.end })) }
-    ensures bound { IfOk result (λ run. run.end ≡ None → length bytes.now < run.at + PENDING_LIMIT) }
+    ensures bound { IfOk result (λ run. run.end ≡ None → length bytes.now < run.at + 24576) }
     ensures waits { IfOk result (λ run. run.end ≡ None → Waits (drop run.at bytes.now)) }
 {
     let mut messages = Vec::new(alloc);
@@ -165,7 +165,7 @@ fn cut_piece(
 ) -> Result<Piece, AllocError>
     requires { length room.old ≡ FIELD_ROOM }
     ensures cut { IfOk result (λ p. IsCut (pending.now ++ bytes.now) p.messages.items (record { pending = p.pending.items; end = p.end })) }
-    ensures bound { IfOk result (λ p. p.end ≡ None → length p.pending.items < PENDING_LIMIT) }
+    ensures bound { IfOk result (λ p. p.end ≡ None → length p.pending.items < 24576) }
     ensures waits { IfOk result (λ p. p.end ≡ None → Waits p.pending.items) }
 {
     let bytes = joined(alloc, pending, bytes)?;
@@ -247,7 +247,7 @@ impl Cutter {
             → (b : BrokenMessage) → result ≡ Err (CutFault.Broken b)
             → IsCut (all ++ bytes.now) ms self.new × (self.new.end ≡ Some (End.Broken b)) }
         ensures told { IfOk result (λ more. more.items ≡ [] → (b : BrokenMessage) → self.new.end ≡ Some (End.Broken b) → ⊥) }
-        ensures bounded { self.new.end ≡ None → length self.new.pending < PENDING_LIMIT }
+        ensures bounded { self.new.end ≡ None → length self.new.pending < 24576 }
 
         // A fault is told as soon as the parse fails, or as many bytes as a head may have hold none: else more bytes may help.
         ensures waits { OnOk result (self.new.end ≡ None → Waits self.new.pending) }

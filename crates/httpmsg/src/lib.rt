@@ -6,10 +6,12 @@ mod front;
 mod head;
 mod message;
 mod response;
+mod sheet;
 mod streams;
 
 pub use cutter::{CutFault, Cutter, one_stream};
 pub use head::{BODY_LIMIT, BrokenMessage, End, FIELD_LIMIT, HEAD_LIMIT, MessageFault, Method};
 pub use message::Message;
 pub use response::Response;
+pub use sheet::Sheet;
 pub use streams::{Input, Output, Std, StreamFault, write_all};

@@ -6,6 +6,7 @@ ghost use Rattle.http.specs.StatusCode.{code_digits, reason_phrase};
 ghost use Rattle.httpmsg.specs.Flow.{HasCause, Writes};
 ghost use Rattle.httpmsg.specs.Response.{crlf, front_lines, allow_line, warning_line, close_line, content, response_bytes};
 
+use crate::sheet::Sheet;
 use crate::streams::{Output, StreamFault, write_all};
 use http::StatusCode;
 use std::marker::Model;
@@ -211,5 +212,21 @@ impl<'r> Response<'r> {
             Err(fault) => return Err(fault),
         }
         write_back(output, self.closes, self.content())
+    }
+
+    /// Writes the bytes of the response in one piece, where the sheet has room for them. It takes no memory.
+    pub fn write_at_once<O: Output>(
+        &self,
+        output: &mut O,
+        sheet: &mut Sheet,
+    ) -> Result<(), StreamFault>
+        ensures writes { Writes O.took output.old output.new (response_bytes self.now) result }
+        ensures cause { HasCause (O.failures output.old) (O.failures output.new) result }
+    {
+        sheet.clear();
+        match self.write(sheet) {
+            Ok(()) => write_all(output, sheet.bytes()),
+            Err(_) => self.write(output),
+        }
     }
 }
