@@ -16,7 +16,7 @@ use crate::reply::{Answer, allow_in, write_found, write_storage_failed};
 use apicore::Reply;
 use device::Device;
 use durable::{Fault, Store};
-use httpmsg::{Message, Output};
+use httpmsg::{Message, Output, Sheet};
 use requests::Request;
 use routes::{Routes, route};
 use std::alloc::{AllocError, Global};
@@ -88,6 +88,7 @@ fn answer<O: Output, D: Device>(
     routes: &Routes,
     message: &Message,
     output: &mut O,
+    sheet: &mut Sheet,
     store: &mut Store<D>,
 ) -> Result<(), ServeFault>
     ensures outcome { (v : View) → shown store.old ≡ v → MatchResult result
@@ -97,13 +98,13 @@ fn answer<O: Output, D: Device>(
         (D.disk.failures (device_of store.new)) (serves store.old) (serves store.new) result }
 {
     match answer_to(alloc, routes, message, store) {
-        Ok(answer) => match write_found(output, message, &answer) {
+        Ok(answer) => match write_found(output, sheet, message, &answer) {
             Ok(()) => Ok(()),
             Err(_) => Err(ServeFault::Write),
         },
         Err(fault) => {
             // The store's fault counts, also where the refusal can't be written.
-            let _ = write_storage_failed(output);
+            let _ = write_storage_failed(output, sheet);
             Err(fault)
         }
     }
@@ -115,6 +116,7 @@ pub(crate) fn answer_all<O: Output, D: Device>(
     routes: &Routes,
     messages: &[Message],
     output: &mut O,
+    sheet: &mut Sheet,
     store: &mut Store<D>,
 ) -> Result<(), ServeFault>
     ensures outcome { (v : View) → shown store.old ≡ v → MatchResult result
@@ -124,7 +126,7 @@ pub(crate) fn answer_all<O: Output, D: Device>(
         (D.disk.failures (device_of store.new)) (serves store.old) (serves store.new) result }
 {
     for message in messages {
-        match answer(alloc, routes, message, output, store) {
+        match answer(alloc, routes, message, output, sheet, store) {
             Ok(()) => {}
             Err(fault) => return Err(fault),
         }

@@ -8,16 +8,15 @@ ghost use Rattle.api.specs.Answers.{HasGrown};
 ghost use Rattle.api.specs.Serving.{HasEnded, HasReadSome, HasWrittenSome, HasFailed, HasLackedMemory, HasStopped, HasAllCauses, Exchanged};
 
 use crate::fault::ServeFault;
-use crate::piece::{Step, finish, next_step};
+use crate::piece::{Connection, Step, next_step};
 use crate::reply::write_no_more;
 use device::Device;
 use durable::Store;
-use httpmsg::{Cutter, End, Input, Output};
-use routes::Routes;
+use httpmsg::{End, Input, Output};
 use std::alloc::{AllocError, Global};
 
 /// How many bytes are read at once, at most.
-const BUFFER_BYTES: usize = 16384;
+const BUFFER_BYTES: usize = 8192;
 
 fn new_buffer(alloc: Global) -> Result<Vec<u8>, AllocError>
     ensures { IfOk result (λ buffer. 0 < length buffer.items) }
@@ -28,14 +27,13 @@ fn new_buffer(alloc: Global) -> Result<Vec<u8>, AllocError>
 // Reads and answers piece after piece, to the end of the stream.
 fn serve_pieces<I: Input, O: Output, D: Device>(
     alloc: Global,
-    routes: &Routes,
-    mut cutter: Cutter,
+    mut connection: Connection,
     buffer: &mut [u8],
     input: &mut I,
     output: &mut O,
     store: &mut Store<D>,
 ) -> Result<End, ServeFault>
-    requires cutter { cutter ≡ record { pending = []; end = None } }
+    requires fresh { connection.cutter ≡ record { pending = []; end = None } }
     requires buffer { 0 < length buffer.old }
     ensures outcome { (v : View) → shown store.old ≡ v → MatchResult result
         (λ end. Exchanged I.gave O.took input.old input.new output.old output.new
@@ -47,24 +45,15 @@ fn serve_pieces<I: Input, O: Output, D: Device>(
 {
     let mut count = 0;
     for _ in 0..u64::MAX {
-        match next_step(
-            alloc,
-            routes,
-            &mut cutter,
-            buffer,
-            count,
-            input,
-            output,
-            store,
-        ) {
+        match next_step(alloc, &mut connection, buffer, count, input, output, store) {
             Ok(Step::Feed(more)) => count = more,
-            Ok(Step::Finish) => return finish(cutter, output),
+            Ok(Step::Finish) => return connection.finish(output),
             Ok(Step::End(end)) => return Ok(end),
             Err(fault) => return Err(fault),
         }
     }
     // No connection gives that many pieces.
-    match write_no_more(output) {
+    match write_no_more(output, &mut connection.sheet) {
         Ok(()) => Err(ServeFault::Memory),
         Err(_) => Err(ServeFault::Write),
     }
@@ -108,17 +97,17 @@ pub fn serve<I: Input, O: Output, D: Device>(
     ensures device_cause { IsErrOf result ServeFault.Device
         → HasGrown (D.disk.failures (device_of store.old)) (D.disk.failures (device_of store.new)) }
 {
-    let (routes, cutter, mut buffer) = match tools(alloc) {
+    let (connection, mut buffer) = match tools(alloc) {
         Ok(tools) => tools,
         Err(AllocError) => return Err(ServeFault::Memory),
     };
-    serve_pieces(alloc, &routes, cutter, &mut buffer, input, output, store)
+    serve_pieces(alloc, connection, &mut buffer, input, output, store)
 }
 
 // All that serving a connection needs memory for.
-fn tools(alloc: Global) -> Result<(Routes, Cutter, Vec<u8>), AllocError>
-    ensures cutter { IfOk result (λ tools. tools.1 ≡ record { pending = []; end = None }) }
-    ensures buffer { IfOk result (λ tools. 0 < length tools.2.items) }
+fn tools(alloc: Global) -> Result<(Connection, Vec<u8>), AllocError>
+    ensures fresh { IfOk result (λ tools. tools.0.cutter ≡ record { pending = []; end = None }) }
+    ensures buffer { IfOk result (λ tools. 0 < length tools.1.items) }
 {
-    Ok((Routes::new(alloc)?, Cutter::new(alloc)?, new_buffer(alloc)?))
+    Ok((Connection::new(alloc)?, new_buffer(alloc)?))
 }

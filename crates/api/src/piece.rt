@@ -1,6 +1,6 @@
 //! Pieces of an input, and its end.
 
-ghost use Rattle.std.specs.Prelude.{◌≡◌, ◌≢◌, ◌<◌, ◌≤◌, ◌⊎◌, ℕ, List, [], length, take, false, Some, None, IfErr, IsErrOf, MatchResult};
+ghost use Rattle.std.specs.Prelude.{◌≡◌, ◌≢◌, ◌<◌, ◌≤◌, ◌⊎◌, ℕ, List, [], length, take, false, Some, None, IfOk, IfErr, IsErrOf, MatchResult};
 ghost use Rattle.requests.specs.declared.refusal.Refusal.TheVariants as refusal;
 ghost use Rattle.apicore.specs.View.{View};
 ghost use Rattle.durable.specs.Settled.{device_of, serves, shown};
@@ -18,9 +18,9 @@ use crate::fault::ServeFault;
 use crate::reply::{write_fault, write_no_more};
 use device::Device;
 use durable::Store;
-use httpmsg::{CutFault, Cutter, End, Input, Message, Output};
+use httpmsg::{CutFault, Cutter, End, Input, Message, Output, Sheet};
 use routes::Routes;
-use std::alloc::Global;
+use std::alloc::{AllocError, Global};
 
 /// What a piece of the input told.
 #[derive(Clone, Copy)]
@@ -33,33 +33,87 @@ pub(crate) enum Told {
     Ends(End),
 }
 
-/// Feeds a piece of the input, and answers what it tells.
-pub(crate) fn serve_piece<O: Output, D: Device>(
-    alloc: Global,
-    routes: &Routes,
-    cutter: &mut Cutter,
-    piece: &[u8],
-    output: &mut O,
-    store: &mut Store<D>,
-) -> Result<Told, ServeFault>
-    ensures outcome { (v : View) (read : List ℕ) (ms : List MessageData) → shown store.old ≡ v → IsCut read ms cutter.old
-        → MatchResult result
-        (Tells O.took O.failures output.old output.new store.old store.new v read ms cutter.old piece.now cutter.new)
-        (Breaks O.took O.failures output.old output.new store.old store.new v read ms cutter.old piece.now cutter.new) }
-    ensures causes { HasCauses (O.failures output.old) (O.failures output.new) (D.disk.failures (device_of store.old))
-        (D.disk.failures (device_of store.new)) (serves store.old) (serves store.new) result }
-{
-    match cutter.feed(alloc, piece) {
-        Ok(messages) => match answer_all(alloc, routes, &messages, output, store) {
-            Ok(()) => Ok(told_by(&messages, cutter)),
-            Err(fault) => Err(fault),
-        },
-        Err(fault) => answer_fault(fault, output),
+/// A connection that is served: how far its bytes are cut, and what its replies are made with, which is all that its memory is
+/// needed for.
+///
+/// It holds neither an input nor a store, so pieces of several connections may be taken by turns over one store.
+#[derive(Drop)]
+pub(crate) struct Connection {
+    pub(crate) cutter: Cutter,
+    pub(crate) sheet: Sheet,
+    pub(crate) routes: Routes,
+}
+
+impl Connection {
+    /// A connection of which nothing was read.
+    pub(crate) fn new(alloc: Global) -> Result<Connection, AllocError>
+        ensures { IfOk result (λ connection. connection.cutter ≡ record { pending = []; end = None }) }
+    {
+        Ok(Connection {
+            cutter: Cutter::new(alloc)?,
+            sheet: Sheet::new(alloc)?,
+            routes: Routes::new(alloc)?,
+        })
+    }
+
+    /// Takes a piece of the input, and answers what it tells.
+    pub(crate) fn take_piece<O: Output, D: Device>(
+        &mut self,
+        alloc: Global,
+        piece: &[u8],
+        output: &mut O,
+        store: &mut Store<D>,
+    ) -> Result<Told, ServeFault>
+        ensures outcome { (v : View) (read : List ℕ) (ms : List MessageData) → shown store.old ≡ v → IsCut read ms self.old.cutter
+            → MatchResult result
+            (Tells O.took O.failures output.old output.new store.old store.new v read ms self.old.cutter piece.now self.new.cutter)
+            (Breaks O.took O.failures output.old output.new store.old store.new v read ms self.old.cutter piece.now self.new.cutter) }
+        ensures causes { HasCauses (O.failures output.old) (O.failures output.new) (D.disk.failures (device_of store.old))
+            (D.disk.failures (device_of store.new)) (serves store.old) (serves store.new) result }
+    {
+        let Connection {
+            cutter,
+            sheet,
+            routes,
+        } = self;
+        match cutter.feed(alloc, piece) {
+            Ok(messages) => match answer_all(alloc, routes, &messages, output, sheet, store) {
+                Ok(()) => Ok(told_by(&messages, cutter)),
+                Err(fault) => Err(fault),
+            },
+            Err(fault) => answer_fault(fault, output, sheet),
+        }
+    }
+
+    /// Ends the stream where the input has ended.
+    pub(crate) fn finish<O: Output>(self, output: &mut O) -> Result<End, ServeFault>
+        ensures outcome { (read : List ℕ) (ms : List MessageData) → IsCut read ms self.cutter → self.cutter.end ≡ None → MatchResult result
+            (Finishes O.took output.old output.new read ms) (FinishesInPart O.took output.old output.new read ms) }
+        ensures later { O.failures output.old ≤ O.failures output.new }
+        ensures cause { IsErrOf result ServeFault.Write → HasGrown (O.failures output.old) (O.failures output.new) }
+        ensures only { IfErr result (λ fault. fault ≡ ServeFault.Write) }
+    {
+        let Connection {
+            cutter,
+            mut sheet,
+            routes: _,
+        } = self;
+        match cutter.finish() {
+            Ok(()) => Ok(End::Clean),
+            Err(broken) => match write_fault(output, &mut sheet, broken) {
+                Ok(()) => Ok(End::Broken(broken)),
+                Err(_) => Err(ServeFault::Write),
+            },
+        }
     }
 }
 
 // Answers a piece that gives no messages.
-fn answer_fault<O: Output>(fault: CutFault, output: &mut O) -> Result<Told, ServeFault>
+fn answer_fault<O: Output>(
+    fault: CutFault,
+    output: &mut O,
+    sheet: &mut Sheet,
+) -> Result<Told, ServeFault>
     ensures broken { (broken : BrokenData) → fault ≡ CutFault.Broken broken → MatchResult result
         (λ told. (told ≡ Told.Ends (End.Broken broken)) × O.took output.old output.new (end_bytes (End.Broken broken)))
         (λ stop. (stop ≡ ServeFault.Write) × TookSome O.took output.old output.new (end_bytes (End.Broken broken))) }
@@ -71,11 +125,11 @@ fn answer_fault<O: Output>(fault: CutFault, output: &mut O) -> Result<Told, Serv
     ensures only { IfErr result (λ stop. (stop ≡ ServeFault.Memory) ⊎ (stop ≡ ServeFault.Write)) }
 {
     match fault {
-        CutFault::Broken(broken) => match write_fault(output, broken) {
+        CutFault::Broken(broken) => match write_fault(output, sheet, broken) {
             Ok(()) => Ok(Told::Ends(End::Broken(broken))),
             Err(_) => Err(ServeFault::Write),
         },
-        CutFault::Memory => match write_no_more(output) {
+        CutFault::Memory => match write_no_more(output, sheet) {
             Ok(()) => Err(ServeFault::Memory),
             Err(_) => Err(ServeFault::Write),
         },
@@ -110,8 +164,7 @@ pub(crate) enum Step {
 /// Feeds so many bytes of the buffer, answers what they tell, and reads on where they told no message.
 pub(crate) fn next_step<I: Input, O: Output, D: Device>(
     alloc: Global,
-    routes: &Routes,
-    cutter: &mut Cutter,
+    connection: &mut Connection,
     buffer: &mut [u8],
     count: usize,
     input: &mut I,
@@ -120,17 +173,17 @@ pub(crate) fn next_step<I: Input, O: Output, D: Device>(
 ) -> Result<Step, ServeFault>
     requires count { count ≤ length buffer.old }
     requires room { 0 < length buffer.old }
-    ensures outcome { (v : View) (read : List ℕ) (ms : List MessageData) → shown store.old ≡ v → IsCut read ms cutter.old
+    ensures outcome { (v : View) (read : List ℕ) (ms : List MessageData) → shown store.old ≡ v → IsCut read ms connection.old.cutter
         → MatchResult result
-        (Steps I.gave O.took O.failures input.old input.new output.old output.new store.old store.new v read ms cutter.old (take count buffer.old) cutter.new
+        (Steps I.gave O.took O.failures input.old input.new output.old output.new store.old store.new v read ms connection.old.cutter (take count buffer.old) connection.new.cutter
         buffer.new (I.has_ended input.new))
-        (StepsWrong I.gave O.took O.failures input.old input.new output.old output.new store.old store.new v read ms cutter.old (take count buffer.old)
-        cutter.new) }
+        (StepsWrong I.gave O.took O.failures input.old input.new output.old output.new store.old store.new v read ms connection.old.cutter (take count buffer.old)
+        connection.new.cutter) }
     ensures fits { (n : ℕ) → result ≡ Ok (Step.Feed n) → n ≤ length buffer.new }
     ensures causes { HasAllCauses (I.failures input.old) (I.failures input.new) (O.failures output.old) (O.failures output.new)
         (D.disk.failures (device_of store.old)) (D.disk.failures (device_of store.new)) (serves store.old) (serves store.new) result }
 {
-    match serve_piece(alloc, routes, cutter, &buffer[..count], output, store) {
+    match connection.take_piece(alloc, &buffer[..count], output, store) {
         Ok(Told::Messages) => Ok(Step::Feed(0)),
         Ok(Told::Nothing) => match input.read(buffer) {
             Ok(0) => Ok(Step::Finish),
@@ -139,22 +192,5 @@ pub(crate) fn next_step<I: Input, O: Output, D: Device>(
         },
         Ok(Told::Ends(end)) => Ok(Step::End(end)),
         Err(fault) => Err(fault),
-    }
-}
-
-/// Ends the stream where the input has ended.
-pub(crate) fn finish<O: Output>(cutter: Cutter, output: &mut O) -> Result<End, ServeFault>
-    ensures outcome { (read : List ℕ) (ms : List MessageData) → IsCut read ms cutter → cutter.end ≡ None → MatchResult result
-        (Finishes O.took output.old output.new read ms) (FinishesInPart O.took output.old output.new read ms) }
-    ensures later { O.failures output.old ≤ O.failures output.new }
-    ensures cause { IsErrOf result ServeFault.Write → HasGrown (O.failures output.old) (O.failures output.new) }
-    ensures only { IfErr result (λ fault. fault ≡ ServeFault.Write) }
-{
-    match cutter.finish() {
-        Ok(()) => Ok(End::Clean),
-        Err(broken) => match write_fault(output, broken) {
-            Ok(()) => Ok(End::Broken(broken)),
-            Err(_) => Err(ServeFault::Write),
-        },
     }
 }

@@ -12,7 +12,7 @@ ghost use Rattle.api.specs.ReplyBytes.{refusal_of, response_of, allow_in, reply_
 use crate::bodies::fault_body;
 use apicore::Reply;
 use http::StatusCode;
-use httpmsg::{BrokenMessage, Message, MessageFault, Output, Response, StreamFault};
+use httpmsg::{BrokenMessage, Message, MessageFault, Output, Response, Sheet, StreamFault};
 use requests::Refusal;
 
 // The refusal of a message that has a fault.
@@ -69,6 +69,7 @@ fn allow_at(code: u16, allow: Option<&'static str>) -> Option<&'static str>
 // Writes a response, with the methods that it lists.
 fn write_response<O: Output>(
     output: &mut O,
+    sheet: &mut Sheet,
     response: Response,
     allow: Option<&str>,
 ) -> Result<(), StreamFault>
@@ -77,14 +78,15 @@ fn write_response<O: Output>(
     ensures cause { HasCause (O.failures output.old) (O.failures output.new) result }
 {
     match allow {
-        Some(methods) => response.allowing(methods).write(output),
-        None => response.write(output),
+        Some(methods) => response.allowing(methods).write_at_once(output, sheet),
+        None => response.write_at_once(output, sheet),
     }
 }
 
 // Writes the reply to a message; after an error a beginning of it is written. It takes no memory.
 fn write_reply<O: Output>(
     output: &mut O,
+    sheet: &mut Sheet,
     message: &Message,
     reply: &Reply,
     allow: Option<&str>,
@@ -97,12 +99,13 @@ fn write_reply<O: Output>(
         .warning(reply.warnings())
         .closing(message.closes())
         .leaving_body_out(message.method().is_head());
-    write_response(output, response, allow)
+    write_response(output, sheet, response, allow)
 }
 
 // Writes a refusal whose body is at hand.
 fn write_refusal<O: Output>(
     output: &mut O,
+    sheet: &mut Sheet,
     refusal: Refusal,
     body: &str,
     without_body: bool,
@@ -115,11 +118,15 @@ fn write_refusal<O: Output>(
     Response::new(status_of(refusal.code()), body.as_bytes())
         .closing(closes)
         .leaving_body_out(without_body)
-        .write(output)
+        .write_at_once(output, sheet)
 }
 
 // Writes that memory was refused to a message.
-fn write_out_of_memory<O: Output>(output: &mut O, message: &Message) -> Result<(), StreamFault>
+fn write_out_of_memory<O: Output>(
+    output: &mut O,
+    sheet: &mut Sheet,
+    message: &Message,
+) -> Result<(), StreamFault>
     ensures writes { Writes O.took output.old output.new (reply_bytes message.now (status refusal.OutOfMemory)) result }
     ensures cause { HasCause (O.failures output.old) (O.failures output.new) result }
 {
@@ -127,6 +134,7 @@ fn write_out_of_memory<O: Output>(output: &mut O, message: &Message) -> Result<(
     let body = Reply::out_of_memory_body();
     write_refusal(
         output,
+        sheet,
         Refusal::OutOfMemory,
         body,
         without_body,
@@ -137,6 +145,7 @@ fn write_out_of_memory<O: Output>(output: &mut O, message: &Message) -> Result<(
 /// Writes the answer to a message. It takes no memory.
 pub(crate) fn write_found<O: Output>(
     output: &mut O,
+    sheet: &mut Sheet,
     message: &Message,
     answer: &Answer,
 ) -> Result<(), StreamFault>
@@ -146,32 +155,36 @@ pub(crate) fn write_found<O: Output>(
     ensures cause { HasCause (O.failures output.old) (O.failures output.new) result }
 {
     match &answer.reply {
-        Some(reply) => write_reply(output, message, reply, answer.allow),
-        None => write_out_of_memory(output, message),
+        Some(reply) => write_reply(output, sheet, message, reply, answer.allow),
+        None => write_out_of_memory(output, sheet, message),
     }
 }
 
 /// Writes that memory was refused to further bytes, after which the connection ends.
-pub(crate) fn write_no_more<O: Output>(output: &mut O) -> Result<(), StreamFault>
+pub(crate) fn write_no_more<O: Output>(output: &mut O, sheet: &mut Sheet) -> Result<(), StreamFault>
     ensures writes { Writes O.took output.old output.new (closing_bytes false refusal.OutOfMemory) result }
     ensures cause { HasCause (O.failures output.old) (O.failures output.new) result }
 {
     let body = Reply::out_of_memory_body();
-    write_refusal(output, Refusal::OutOfMemory, body, false, true)
+    write_refusal(output, sheet, Refusal::OutOfMemory, body, false, true)
 }
 
 /// Writes that the storage failed, after which the connection ends.
-pub(crate) fn write_storage_failed<O: Output>(output: &mut O) -> Result<(), StreamFault>
+pub(crate) fn write_storage_failed<O: Output>(
+    output: &mut O,
+    sheet: &mut Sheet,
+) -> Result<(), StreamFault>
     ensures writes { Writes O.took output.old output.new (closing_bytes false refusal.StorageFailed) result }
     ensures cause { HasCause (O.failures output.old) (O.failures output.new) result }
 {
     let body = Reply::storage_failed_body();
-    write_refusal(output, Refusal::StorageFailed, body, false, true)
+    write_refusal(output, sheet, Refusal::StorageFailed, body, false, true)
 }
 
 /// Writes the reply to a message with a fault, after which the connection ends.
 pub(crate) fn write_fault<O: Output>(
     output: &mut O,
+    sheet: &mut Sheet,
     broken: BrokenMessage,
 ) -> Result<(), StreamFault>
     ensures writes { Writes O.took output.old output.new (end_bytes (Broken broken)) result }
@@ -180,6 +193,7 @@ pub(crate) fn write_fault<O: Output>(
     let refusal = refusal_of(broken.fault);
     write_refusal(
         output,
+        sheet,
         refusal,
         fault_body(broken.fault),
         broken.is_head,

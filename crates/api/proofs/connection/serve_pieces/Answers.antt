@@ -14,7 +14,7 @@ loop-init g c = (
       let Now : Progress → Type 0 =
       λ now. SoFar gave took c.args.input.now c.args.input.now c.args.output.now c.args.output.now c.args.store.now c.args.store.now v now []
       in
-      subst Now (sym c.requires.cutter)
+      subst Now (sym c.requires.fresh)
       (so_far_none gave took g.O.Output.failures c.args.input.now c.args.output.now c.args.store.now v (g.met.I.Input.gave_none c.args.input.now)
       (g.met.O.Output.took_none c.args.output.now) (λ keeps content since. g.met.D.Device.only_now _ content keeps since) shows),
   omega arith,
@@ -32,16 +32,16 @@ returns-in-Ok-Finish-clause-outcome g c v shows =
     let so_far = c.loop.invariant.0 v shows in
     let Stepped : Step → Type 0 =
     λ step. Steps gave took g.O.Output.failures c.loop.input c.next_step.new.input c.loop.output c.next_step.new.output c.loop.store c.next_step.new.store
-    (seen v so_far.answers.answered) so_far.read so_far.ms c.loop.cutter (take c.loop.count c.loop.buffer) c.next_step.new.cutter
+    (seen v so_far.answers.answered) so_far.read so_far.ms c.loop.connection.cutter (take c.loop.count c.loop.buffer) c.next_step.new.connection.cutter
     c.next_step.new.buffer (g.I.Input.has_ended c.next_step.new.input) step
     in
     let step = subst Stepped c.in-Ok-Finish.field-0-is (c.in-Ok-Finish.ensures.outcome _ so_far.read so_far.ms so_far.answers.store.shows so_far.cut) in
     let later =
     so_far_told gave took g.O.Output.failures g.met.O.Output.took_then c.args.input.now c.loop.input c.args.output.now c.loop.output c.next_step.new.output c.args.store.now
-    c.loop.store c.next_step.new.store v c.loop.cutter c.next_step.new.cutter (take c.loop.count c.loop.buffer) so_far step.0
+    c.loop.store c.next_step.new.store v c.loop.connection.cutter c.next_step.new.connection.cutter (take c.loop.count c.loop.buffer) so_far step.0
     in
     finished_at gave took g.O.Output.failures g.met.O.Output.took_then c.args.input.now c.loop.input c.next_step.new.input c.args.output.now c.next_step.new.output
-    c.finish.new.output c.args.store.now c.next_step.new.store v c.next_step.new.cutter (g.I.Input.has_ended c.next_step.new.input) c.finish.result
+    c.finish.new.output c.args.store.now c.next_step.new.store v c.next_step.new.connection.cutter (g.I.Input.has_ended c.next_step.new.input) c.finish.result
     g.met.I.Input.gave_then later step.2 step.3 (c.finish.ensures.outcome later.read later.ms later.cut step.1)
 
 pub returns-in-Ok-End-clause-outcome : goal.returns-in-Ok-End-clause-outcome
@@ -51,11 +51,11 @@ returns-in-Ok-End-clause-outcome g c v shows =
     let so_far = c.loop.invariant.0 v shows in
     let Stepped : Step → Type 0 =
     λ step. Steps gave took g.O.Output.failures c.loop.input c.next_step.new.input c.loop.output c.next_step.new.output c.loop.store c.next_step.new.store
-    (seen v so_far.answers.answered) so_far.read so_far.ms c.loop.cutter (take c.loop.count c.loop.buffer) c.next_step.new.cutter
+    (seen v so_far.answers.answered) so_far.read so_far.ms c.loop.connection.cutter (take c.loop.count c.loop.buffer) c.next_step.new.connection.cutter
     c.next_step.new.buffer (g.I.Input.has_ended c.next_step.new.input) step
     in
     ended_at gave took g.O.Output.failures g.met.O.Output.took_then c.args.input.now c.loop.input c.next_step.new.input c.args.output.now c.loop.output c.next_step.new.output
-    c.args.store.now c.loop.store c.next_step.new.store v c.loop.cutter c.next_step.new.cutter (take c.loop.count c.loop.buffer)
+    c.args.store.now c.loop.store c.next_step.new.store v c.loop.connection.cutter c.next_step.new.connection.cutter (take c.loop.count c.loop.buffer)
     (g.I.Input.has_ended c.next_step.new.input) c.in-Ok-End.end g.met.I.Input.gave_then so_far
     (subst Stepped c.in-Ok-End.field-0-is (c.in-Ok-End.ensures.outcome _ so_far.read so_far.ms so_far.answers.store.shows so_far.cut))
 
@@ -63,7 +63,7 @@ pub returns-in-Err-clause-outcome : goal.returns-in-Err-clause-outcome
 returns-in-Err-clause-outcome g c v shows =
     let so_far = c.loop.invariant.0 v shows in
     wrong_at g.I.Input.gave g.O.Output.took g.O.Output.failures g.met.O.Output.took_then c.args.input.now c.loop.input c.next_step.new.input c.args.output.now c.loop.output
-    c.next_step.new.output c.loop.invariant.4 c.args.store.now c.loop.store c.next_step.new.store v c.loop.cutter c.next_step.new.cutter
+    c.next_step.new.output c.loop.invariant.4 c.args.store.now c.loop.store c.next_step.new.store v c.loop.connection.cutter c.next_step.new.connection.cutter
     (take c.loop.count c.loop.buffer) c.in-Err.fault g.met.I.Input.gave_then so_far
     (c.in-Err.ensures.outcome _ so_far.read so_far.ms so_far.answers.store.shows so_far.cut)
 
@@ -79,14 +79,14 @@ loop-preserved g c = (
       let so_far = c.loop.invariant.0 v shows in
       let Stepped : Step → Type 0 =
       λ step. Steps gave took g.O.Output.failures c.loop.input c.next_step.new.input c.loop.output c.next_step.new.output c.loop.store c.next_step.new.store
-      (seen v so_far.answers.answered) so_far.read so_far.ms c.loop.cutter (take c.loop.count c.loop.buffer) c.next_step.new.cutter
+      (seen v so_far.answers.answered) so_far.read so_far.ms c.loop.connection.cutter (take c.loop.count c.loop.buffer) c.next_step.new.connection.cutter
       c.next_step.new.buffer (g.I.Input.has_ended c.next_step.new.input) step
       in
       let step = subst Stepped c.in-Ok-Feed.field-0-is (c.in-Ok-Feed.ensures.outcome _ so_far.read so_far.ms so_far.answers.store.shows so_far.cut) in
       so_far_read gave took g.O.Output.failures c.args.input.now c.loop.input c.next_step.new.input c.args.output.now c.next_step.new.output c.args.store.now
-      c.next_step.new.store v c.next_step.new.cutter (take c.in-Ok-Feed.more c.next_step.new.buffer) g.met.I.Input.gave_then
+      c.next_step.new.store v c.next_step.new.connection.cutter (take c.in-Ok-Feed.more c.next_step.new.buffer) g.met.I.Input.gave_then
       (so_far_told gave took g.O.Output.failures g.met.O.Output.took_then c.args.input.now c.loop.input c.args.output.now c.loop.output c.next_step.new.output
-      c.args.store.now c.loop.store c.next_step.new.store v c.loop.cutter c.next_step.new.cutter (take c.loop.count c.loop.buffer) so_far step.0)
+      c.args.store.now c.loop.store c.next_step.new.store v c.loop.connection.cutter c.next_step.new.connection.cutter (take c.loop.count c.loop.buffer) so_far step.0)
       step.1,
   c.in-Ok-Feed.ensures.fits c.in-Ok-Feed.more (ap Ok c.in-Ok-Feed.field-0-is),
   omega (arith, c.loop.invariant.2, c.next_step.auto.buffer),
@@ -99,11 +99,11 @@ loop-preserved g c = (
 pub returns-in-Ok-clause-outcome : goal.returns-in-Ok-clause-outcome
 returns-in-Ok-clause-outcome g c v shows =
     no_more g.I.Input.gave g.O.Output.took g.O.Output.failures g.met.O.Output.took_then c.args.input.now c.loop.input c.args.output.now c.loop.output
-    c.write_no_more.new.output c.args.store.now c.loop.store v c.loop.cutter (take c.loop.count c.loop.buffer) (c.loop.invariant.0 v shows)
+    c.write_no_more.new.output c.args.store.now c.loop.store v c.loop.connection.cutter (take c.loop.count c.loop.buffer) (c.loop.invariant.0 v shows)
     c.in-Ok.ensures.writes
 
 pub returns-clause-outcome : goal.returns-clause-outcome
 returns-clause-outcome g c v shows =
     no_more_in_part g.I.Input.gave g.O.Output.took g.O.Output.failures g.met.O.Output.took_then c.args.input.now c.loop.input c.args.output.now c.loop.output
-    c.write_no_more.new.output c.args.store.now c.loop.store v c.loop.cutter (take c.loop.count c.loop.buffer) (c.loop.invariant.0 v shows)
+    c.write_no_more.new.output c.args.store.now c.loop.store v c.loop.connection.cutter (take c.loop.count c.loop.buffer) (c.loop.invariant.0 v shows)
     c.in-Err-write_no_more.ensures.writes

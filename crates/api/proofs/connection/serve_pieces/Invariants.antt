@@ -7,7 +7,7 @@ use Rattle.api.proofs.connection.serve_pieces.Given as goal
 abbrev pub invariant-loop : goal.invariant-loop
 invariant-loop g l =
     ((v : View) → shown l.fn.store ≡ v
-    → SoFar g.I.Input.gave g.O.Output.took l.fn.input l.input l.fn.output l.output l.fn.store l.store v l.cutter (take l.count l.buffer))
+    → SoFar g.I.Input.gave g.O.Output.took l.fn.input l.input l.fn.output l.output l.fn.store l.store v l.connection.cutter (take l.count l.buffer))
     × (l.count ≤ length l.buffer)
     × (0 < length l.buffer)
     × (g.I.Input.failures l.fn.input ≤ g.I.Input.failures l.input)

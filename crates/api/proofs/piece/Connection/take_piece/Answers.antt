@@ -2,7 +2,7 @@ use Rattle.std.proofs.Common.{[], ◌∙◌, ap, sym, subst, List, Err}
 use Rattle.httpmsg.specs.Stream.{Message}
 use Rattle.api.specs.Answers.{Answers, Stops}
 use Rattle.api.proofs.Tellings.{tells_by, breaks_by, unfed}
-use Rattle.api.proofs.piece.serve_piece.Goals as goal
+use Rattle.api.proofs.piece.Connection.take_piece.Goals as goal
 
 pub returns-in-Ok-answer_all-clause-outcome : goal.returns-in-Ok-answer_all-clause-outcome
 returns-in-Ok-answer_all-clause-outcome g c v read ms shows cut =
@@ -11,7 +11,7 @@ returns-in-Ok-answer_all-clause-outcome g c v read ms shows cut =
     let Answered : List Message → Type 0 =
     λ xs. Answers took c.args.output.now c.answer_all.new.output c.args.store.now c.answer_all.new.store v xs []
     in
-    tells_by took g.O.Output.failures c.args.output.now c.answer_all.new.output c.args.store.now c.answer_all.new.store v read ms c.args.cutter.now c.args.piece.now
+    tells_by took g.O.Output.failures c.args.output.now c.answer_all.new.output c.args.store.now c.answer_all.new.store v read ms c.args.self.now.cutter c.args.piece.now
     c.feed.new.self c.told_by.result
     (record {
       more = more;
@@ -28,12 +28,12 @@ returns-in-Ok-clause-outcome g c v read ms shows cut =
     λ xs. Stops took g.O.Output.failures c.args.output.now c.answer_all.new.output c.args.store.now c.answer_all.new.store v xs c.in-Err-answer_all.fault
     in
     breaks_by took g.O.Output.failures c.args.output.now c.answer_all.new.output c.args.store.now c.answer_all.new.store v read ms c.in-Ok.messages.items
-    c.args.cutter.now c.args.piece.now c.feed.new.self c.in-Err-answer_all.fault (c.in-Ok.ensures.ok read ms cut)
+    c.args.self.now.cutter c.args.piece.now c.feed.new.self c.in-Err-answer_all.fault (c.in-Ok.ensures.ok read ms cut)
     (subst Stopped c.deref.ensures.value (c.in-Err-answer_all.ensures.outcome v shows))
 
 pub returns-clause-outcome : goal.returns-clause-outcome
 returns-clause-outcome g c v read ms shows cut =
-    unfed g.O.Output.took g.O.Output.failures c.args.output.now c.answer_fault.new.output c.args.store.now v read ms c.args.cutter.now c.args.piece.now
+    unfed g.O.Output.took g.O.Output.failures c.args.output.now c.answer_fault.new.output c.args.store.now v read ms c.args.self.now.cutter c.args.piece.now
     c.feed.new.self c.in-Err.fault c.answer_fault.result
     (λ b is. c.in-Err.ensures.broken read ms cut b (ap Err is)) (λ is. c.in-Err.ensures.memory (ap Err is))
     c.answer_fault.ensures.broken c.answer_fault.ensures.memory
