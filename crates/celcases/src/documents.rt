@@ -1,7 +1,7 @@
 //! The documents that `object` stands for.
 
 use crate::notation::repeated;
-use crate::wrong::Wrong;
+use cases::Wrong;
 use jsondoc::Doc;
 use std::alloc::{AllocError, Global};
 

@@ -1,7 +1,7 @@
 //! Runs rows of the Common Expression Language (CEL): files of lines `TEXT => RESULT`.
 //!
 //! ```text
-//! celcases                         each file of the current folder
+//! celcases                         each file of the current folder but those that end in .md
 //! celcases arithmetic.values ..    these files
 //! ```
 //!
@@ -10,33 +10,25 @@
 //! something passed.
 #![tactic(auto)]
 
+mod bench;
 mod bytes;
 mod codes;
 mod documents;
-mod files;
 mod notation;
 mod outcomes;
-mod questions;
-mod report;
 mod scope;
-mod settings;
 mod texts;
 mod tokens;
 mod trees;
 mod types;
 mod values;
-mod wrong;
 
-use crate::files::run_files;
-use crate::report::Report;
-use crate::tokens::laws;
+use crate::bench::Bench;
+use cases::run_files;
+use celtokens::one_reading;
 use std::process::ExitCode;
 
 fn main(rt: HostRuntime) -> ExitCode {
-    laws();
-    match run_files(&rt, rt.alloc()) {
-        Ok(Report { passed, failed: 0 }) if passed > 0 => ExitCode::SUCCESS,
-        Ok(_) => ExitCode::FAILURE,
-        Err(_) => ExitCode::from(2),
-    }
+    one_reading();
+    run_files::<Bench, _>(&rt, rt.alloc())
 }

@@ -1,12 +1,12 @@
 //! How rows write their texts.
 
-use crate::wrong::Wrong;
+use cases::Wrong;
 use jsondoc::Doc;
 use std::alloc::Global;
 use std::fmt::Write;
 
 /// How the texts of rows are written.
-#[derive(Clone, Copy, Debug, PartialEq, Eq, Drop)]
+#[derive(Clone, Copy)]
 pub(crate) enum Notation {
     /// As they are.
     Plain,

@@ -2,20 +2,20 @@
 
 ghost use Rattle.std.specs.Prelude.{◌≡◌, ◌≤◌, length, IfSome};
 
+use crate::codes::compiled_among;
 use crate::scope::dyn_variable;
 use crate::values::shown_outcome;
-use crate::wrong::Wrong;
+use cases::Wrong;
 use celmean::{Outcome, Value};
 use celplain::{Binding, Environment, evaluate};
 use celread::read;
-use celtypes::{Env, check};
+use celtypes::Env;
 use celvalues::document_value;
 use instructions::Name;
 use jsondoc::Doc;
-use plan::compile;
 use plancode::{Verified, decode, encode};
 use planrun::{Bindings, run};
-use std::alloc::{AllocError, Global};
+use std::alloc::Global;
 
 const REQUEST: &[u8] = b"{\"operation\":\"CREATE\",\"dryRun\":false}";
 
@@ -31,14 +31,7 @@ fn meant(alloc: Global, text: &str, environment: &Environment<'_>) -> Option<Out
 fn encoded(alloc: Global, text: &str, env: &Env<'_>) -> Option<Vec<u8>>
     requires { length env.now.variables.now ≤ 65535 }
 {
-    let tree = read(alloc, text).ok()?;
-    match check(alloc, &tree, env) {
-        Ok(_) => {
-            let plan = compile(alloc, &tree, env).ok()?;
-            encode(alloc, &plan).ok()
-        }
-        Err(_) => None,
-    }
+    encode(alloc, &compiled_among(alloc, text, env)?).ok()
 }
 
 fn compiled(alloc: Global, text: &str, env: &Env<'_>) -> Option<Verified>
@@ -109,10 +102,10 @@ fn document(alloc: Global, text: &[u8]) -> Result<Doc, Wrong> {
     }
 }
 
-/// What the expression means, as a row has it.
-///
-/// `oldObject` is null, `variables.fine` is 7, `variables.broken` is the error, and `variables.last` is true.
-pub(crate) fn meaning_text(alloc: Global, text: &str, object: &Doc) -> Result<String, Wrong> {
+// What the expression means, as a row has it.
+//
+// `oldObject` is null, `variables.fine` is 7, `variables.broken` is the error, and `variables.last` is true.
+fn meaning_text(alloc: Global, text: &str, object: &Doc) -> Result<String, Wrong> {
     let object = document_value(alloc, object)?;
     let request = document_value(alloc, &document(alloc, REQUEST)?)?;
     let params = document_value(alloc, &document(alloc, PARAMS)?)?;
@@ -151,12 +144,18 @@ pub(crate) fn plan_text(alloc: Global, text: &str, object: &Doc) -> Result<Strin
     Ok(shown_outcome(alloc, &planned(alloc, text, &env, &bindings)))
 }
 
+/// What the expression gives both by its meaning and by its plan, or each where they differ.
+pub(crate) fn value_text(alloc: Global, text: &str, object: &Doc) -> Result<String, Wrong> {
+    let meant = meaning_text(alloc, text, object)?;
+    let planned = plan_text(alloc, text, object)?;
+    if meant.as_str() == planned.as_str() {
+        return Ok(meant);
+    }
+    Ok(format!(in alloc; "{meant} by its meaning, {planned} by its plan")?)
+}
+
 /// What the expression means beside one object, which `variables.fine` stands for too; `variables.broken` is the error.
-pub(crate) fn lone_meaning_text(
-    alloc: Global,
-    text: &str,
-    object: &Doc,
-) -> Result<String, AllocError> {
+pub(crate) fn lone_meaning_text(alloc: Global, text: &str, object: &Doc) -> Result<String, Wrong> {
     let object = document_value(alloc, object)?;
     let names = [Binding {
         name: "object",

@@ -1,14 +1,10 @@
 //! Tokens and names as rows have them.
 
 use crate::texts::put;
-use celtokens::{Number, Sign, Token, characters, is_identifier, one_reading, tokens};
-use std::alloc::{AllocError, Global};
+use cases::Wrong;
+use celtokens::{Number, Sign, Token, characters, is_identifier, tokens};
+use std::alloc::Global;
 use std::fmt::Write;
-
-/// The law that a text has at most one token sequence.
-pub(crate) fn laws() {
-    one_reading();
-}
 
 fn sign_name(sign: Sign) -> &'static str {
     match sign {
@@ -81,7 +77,7 @@ fn put_token(out: &mut String, token: &Token<'_>) {
 }
 
 /// The tokens of a text with blanks between them, or `none` if it has no token sequence.
-pub(crate) fn tokens_text(alloc: Global, text: &str) -> Result<String, AllocError> {
+pub(crate) fn tokens_text(alloc: Global, text: &str) -> Result<String, Wrong> {
     let characters = characters(alloc, text)?;
     let mut out = String::new(alloc);
     match tokens(alloc, &characters)? {
@@ -99,10 +95,13 @@ pub(crate) fn tokens_text(alloc: Global, text: &str) -> Result<String, AllocErro
 }
 
 /// Whether a text is one name: `identifier` or `no`.
-pub(crate) fn word_text(alloc: Global, text: &str) -> Result<String, AllocError> {
-    if is_identifier(text) {
-        String::from_str(alloc, "identifier")
-    } else {
-        String::from_str(alloc, "no")
-    }
+pub(crate) fn word_text(alloc: Global, text: &str) -> Result<String, Wrong> {
+    cases::text(
+        alloc,
+        if is_identifier(text) {
+            "identifier"
+        } else {
+            "no"
+        },
+    )
 }

@@ -2,6 +2,7 @@
 
 use crate::scope::{Scope, dyn_variable, variable};
 use crate::texts::{put, put_copy};
+use cases::Wrong;
 use celread::read;
 use celtypes::{CelType, Env, TypeFault, Variable, check};
 use std::alloc::{AllocError, Global};
@@ -48,7 +49,7 @@ fn variables(alloc: Global) -> Result<Vec<Variable>, AllocError> {
 }
 
 /// The type of an expression as it is written in a row, or `none`.
-pub(crate) fn type_text(alloc: Global, text: &str, scope: Scope) -> Result<String, AllocError> {
+pub(crate) fn type_text(alloc: Global, text: &str, scope: Scope) -> Result<String, Wrong> {
     match scope {
         Scope::Full => {
             let variables = variables(alloc)?;

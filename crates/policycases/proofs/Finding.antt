@@ -1,5 +1,5 @@
 -- Objects that are found, and what they stand for.
-use Rattle.std.proofs.Common.{◌≡◌, List, [], ◌∷◌, ◌++◌, Option, option_map, map, refl, ap, Ordering, Less, Equal, Greater}
+use Rattle.std.proofs.Common.{◌≡◌, List, [], ◌∷◌, ◌++◌, Option, option_map, map, refl, ap, Less, Equal, Greater}
 use Rattle.std.specs.FinMap.Entries.{by_order}
 use Rattle.names.specs.Key.{Key, key_cmp}
 use Rattle.names.specs.declared.resource.Resource.{Resource}

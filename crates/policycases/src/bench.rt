@@ -4,15 +4,15 @@ use crate::bytes::{long_field_answer, plans_answer, short_field_answer};
 use crate::forms::{
     binding_answer, expressions_answer, policy_answer, specification_answer, stored_answer,
 };
-use crate::line::{Given, Question, first_word};
+use crate::line::{Frames, split_line};
 use crate::shelf::Shelf;
 use crate::verdicts::{
-    evaluation_answer, failure_answer, put, put_spec, refusal_answer, request_answer,
+    evaluation_answer, failure_answer, lookup_wrong, put, put_spec, refusal_answer, request_answer,
 };
 use crate::writes::{
     Write, document, guarded_answer, key, match_answer, resource, rules, selector_answer,
 };
-use crate::wrong::{Wrong, wanted};
+use cases::{Wrong, compare, first_word, text, wanted};
 use jsondoc::Doc;
 use matching::MatchRules;
 use names::Resource;
@@ -22,6 +22,7 @@ use verdict::{Verdict, admit};
 /// What a case has put down.
 #[derive(Drop)]
 pub struct Bench {
+    frames: Frames,
     shelf: Shelf,
     write: Option<Write>,
     param: Option<Doc>,
@@ -38,14 +39,11 @@ fn write(write: &Option<Write>) -> Result<&Write, Wrong> {
     }
 }
 
-fn verdict(alloc: Global, shelf: &mut Shelf, write: &Write) -> Result<Verdict, Wrong> {
-    Ok(admit(alloc, shelf, &write.attempt())?)
-}
-
-impl Bench {
-    /// Nothing is put down, and a policy is bound for all writes.
-    pub fn new(alloc: Global) -> Bench {
-        Bench {
+impl cases::Bench for Bench {
+    // Nothing is put down, and a policy is bound for all writes.
+    fn new(alloc: Global, _file: &str) -> Result<Bench, Wrong> {
+        Ok(Bench {
+            frames: Frames::new(alloc),
             shelf: Shelf::new(alloc),
             write: None,
             param: None,
@@ -56,27 +54,46 @@ impl Bench {
             },
             warnings: Vec::new(alloc),
             seen: 0,
+        })
+    }
+
+    // A warning `~ TEXT`, a question with its answer behind an arrow, or what is put down.
+    fn line(&mut self, alloc: Global, line: &str) -> Result<u64, Wrong> {
+        if let Some(warning) = line.strip_prefix("~ ") {
+            compare(alloc, self.next_warning()?, warning)?;
+            return Ok(1);
+        }
+        self.settle()?;
+        match line.split_once(" => ") {
+            Some((question, wanted)) => {
+                let found = self.question(alloc, question)?;
+                compare(alloc, found.as_str(), wanted)?;
+                Ok(1)
+            }
+            None => {
+                self.give(alloc, line)?;
+                Ok(0)
+            }
         }
     }
 
-    /// Asks that each warning of the last verdict was compared.
-    ///
-    /// # Errors
-    ///
-    /// Where one was not.
-    pub fn settle(&self) -> Result<(), Wrong> {
+    fn end(&mut self, _alloc: Global) -> Result<u64, Wrong> {
+        self.settle()?;
+        Ok(0)
+    }
+}
+
+impl Bench {
+    // Asks that each warning of the last verdict was compared.
+    fn settle(&self) -> Result<(), Wrong> {
         wanted(
             self.seen >= self.warnings.len(),
             "the verdict before has a warning that nothing compares",
         )
     }
 
-    /// The next warning of the last verdict.
-    ///
-    /// # Errors
-    ///
-    /// Where there are no more.
-    pub fn next_warning(&mut self) -> Result<&str, Wrong> {
+    // The next warning of the last verdict.
+    fn next_warning(&mut self) -> Result<&str, Wrong> {
         let at = self.seen;
         self.seen = at.saturating_add(1);
         match self.warnings.get(at) {
@@ -109,44 +126,48 @@ impl Bench {
         put(alloc, &mut self.shelf, key, text)
     }
 
-    /// Puts down what a line gives.
-    ///
-    /// # Errors
-    ///
-    /// Where the line gives nothing.
-    pub fn give(
+    // Puts down what a line gives.
+    fn give(&mut self, alloc: Global, line: &str) -> Result<(), Wrong> {
+        let (word, rest) = first_word(line);
+        if word == "frame" {
+            return self.frames.put(alloc, rest);
+        }
+        let (words, text) = split_line(word, rest)?;
+        let text = self.frames.framed(alloc, word, text)?;
+        self.give_text(alloc, word, words, &text)
+    }
+
+    // Puts down what a text spells.
+    fn give_text(
         &mut self,
         alloc: Global,
-        given: Given,
+        word: &str,
         words: &str,
         text: &str,
     ) -> Result<(), Wrong> {
         let policies = Resource::ValidatingAdmissionPolicy;
         let bindings = Resource::ValidatingAdmissionPolicyBinding;
-        match given {
-            Given::Policy => put_spec(alloc, &mut self.shelf, policies, words, text),
-            Given::Binding => put_spec(alloc, &mut self.shelf, bindings, words, text),
-            Given::Object => self.put_object(alloc, words, text),
-            Given::Write => self.put_write(alloc, words, text),
-            Given::Before => self.put_before(alloc, text),
-            Given::Param => {
-                self.param = Some(document(alloc, text)?);
-                Ok(())
-            }
-            Given::Bound => {
-                self.bound = rules(alloc, text)?;
-                Ok(())
-            }
+        match word {
+            "policy" => return put_spec(alloc, &mut self.shelf, policies, words, text),
+            "binding" => return put_spec(alloc, &mut self.shelf, bindings, words, text),
+            "object" => return self.put_object(alloc, words, text),
+            "write" => return self.put_write(alloc, words, text),
+            "before" => return self.put_before(alloc, text),
+            "param" => self.param = Some(document(alloc, text)?),
+            "bound" => self.bound = rules(alloc, text)?,
+            _ => return Err(Wrong::Told("no such line")),
         }
+        Ok(())
     }
 
     // The verdict on the write, whose warnings are still to be compared.
     fn admission_answer(&mut self, alloc: Global) -> Result<String, Wrong> {
-        match verdict(alloc, &mut self.shelf, write(&self.write)?)? {
+        let attempt = write(&self.write)?.attempt();
+        match admit(alloc, &mut self.shelf, &attempt).map_err(lookup_wrong)? {
             Verdict::Admitted(warnings) => {
                 self.warnings = warnings;
                 self.seen = 0;
-                Ok(String::from_str(alloc, "admitted")?)
+                text(alloc, "admitted")
             }
             Verdict::Denied {
                 policy,
@@ -157,54 +178,39 @@ impl Bench {
         }
     }
 
-    // The answer to a question of the write.
-    fn write_answer(
-        &mut self,
-        alloc: Global,
-        question: Question,
-        words: &str,
-        text: &str,
-    ) -> Result<String, Wrong> {
-        let write = write(&self.write)?;
-        match question {
-            Question::Evaluate => {
+    // The answer to a question.
+    fn question(&mut self, alloc: Global, question: &str) -> Result<String, Wrong> {
+        let (word, rest) = first_word(question);
+        let (words, text) = split_line(word, rest)?;
+        let text = self.frames.framed(alloc, word, text)?;
+        match word {
+            "admit" => self.admission_answer(alloc),
+            "evaluate" => {
+                let write = write(&self.write)?;
                 evaluation_answer(alloc, &mut self.shelf, words, write, &self.param)
             }
-            Question::Request => request_answer(alloc, write),
-            Question::Matches => match_answer(alloc, text, &self.bound, write),
-            Question::Selects => selector_answer(alloc, text, write),
-            _ => Err(Wrong::Told("no question of the write")),
+            "request" => request_answer(alloc, write(&self.write)?),
+            "matches" => match_answer(alloc, &text, &self.bound, write(&self.write)?),
+            "selects" => selector_answer(alloc, &text, write(&self.write)?),
+            _ => text_answer(alloc, word, words, &text),
         }
     }
+}
 
-    /// The answer to a question.
-    ///
-    /// # Errors
-    ///
-    /// Where it is none, as the line or the bench is.
-    pub fn answer(
-        &mut self,
-        alloc: Global,
-        question: Question,
-        words: &str,
-        text: &str,
-    ) -> Result<String, Wrong> {
-        match question {
-            Question::Admit => self.admission_answer(alloc),
-            Question::Failure => failure_answer(alloc, words, text),
-            Question::Denial => refusal_answer(alloc, words, text),
-            Question::ReadsPolicy => policy_answer(alloc, text),
-            Question::ReadsBinding => binding_answer(alloc, text),
-            Question::Expressions => expressions_answer(alloc, text),
-            Question::Specification => specification_answer(alloc, words, text),
-            Question::StoredPlans => stored_answer(alloc, words, text),
-            Question::Plans => plans_answer(alloc, words),
-            Question::Guarded => guarded_answer(alloc, words),
-            Question::ShortField => short_field_answer(alloc, words),
-            Question::LongField => long_field_answer(alloc, words),
-            Question::Evaluate | Question::Request | Question::Matches | Question::Selects => {
-                self.write_answer(alloc, question, words, text)
-            }
-        }
+// The answer to a question that nothing that was put down changes.
+fn text_answer(alloc: Global, word: &str, words: &str, text: &str) -> Result<String, Wrong> {
+    match word {
+        "failure" => failure_answer(alloc, words, text),
+        "denial" => refusal_answer(alloc, words, text),
+        "reads-policy" => policy_answer(alloc, text),
+        "reads-binding" => binding_answer(alloc, text),
+        "expressions" => expressions_answer(alloc, text),
+        "specification" => specification_answer(alloc, words, text),
+        "stored-plans" => stored_answer(alloc, words, text),
+        "plans" => plans_answer(alloc, words),
+        "guarded" => guarded_answer(alloc, words),
+        "short-field" => short_field_answer(alloc, words),
+        "long-field" => long_field_answer(alloc, words),
+        _ => Err(Wrong::Told("no such question")),
     }
 }

@@ -1,7 +1,6 @@
 //! Bytes as lines have them, and what they spell.
 
-use crate::line::first_word;
-use crate::wrong::Wrong;
+use cases::{Wrong, first_word};
 use fields::{long_field, short_field};
 use plancode::Verified;
 use planlist::{ReadPlansFault, read_plans, write_plans};
@@ -148,7 +147,7 @@ pub fn plans_answer(alloc: Global, words: &str) -> Result<String, Wrong> {
     let bytes = read_bytes(alloc, bytes)?;
     match read_plans(alloc, &places, &bytes) {
         Ok(plans) => written_again(alloc, &plans),
-        Err(ReadPlansFault::Damaged) => Ok(String::from_str(alloc, "damaged")?),
+        Err(ReadPlansFault::Damaged) => cases::text(alloc, "damaged"),
         Err(ReadPlansFault::Memory) => Err(Wrong::Memory),
     }
 }

@@ -1,6 +1,6 @@
 //! Policies whose expressions are compiled.
 
-use crate::wrong::Wrong;
+use cases::Wrong;
 use expressions::TypedPolicy;
 use plancode::Verified;
 use std::alloc::Global;

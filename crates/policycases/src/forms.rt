@@ -2,9 +2,8 @@
 
 use crate::bytes::{put_bytes, put_places, read_bytes};
 use crate::expressed::plans_of;
-use crate::line::first_word;
 use crate::writes::{document, resource};
-use crate::wrong::Wrong;
+use cases::{Wrong, first_word};
 use expressions::{PolicyFault, TypedPolicy};
 use names::Resource;
 use plancode::Verified;
@@ -23,7 +22,7 @@ const REFUSED: &str = "refused";
 pub fn policy_answer(alloc: Global, text: &str) -> Result<String, Wrong> {
     match Policy::of(alloc, document(alloc, text)?.value())? {
         Some(policy) => Ok(format!(in alloc; "{policy:?}")?),
-        None => Ok(String::from_str(alloc, REFUSED)?),
+        None => cases::text(alloc, REFUSED),
     }
 }
 
@@ -35,7 +34,7 @@ pub fn policy_answer(alloc: Global, text: &str) -> Result<String, Wrong> {
 pub fn binding_answer(alloc: Global, text: &str) -> Result<String, Wrong> {
     match Binding::of(alloc, document(alloc, text)?.value())? {
         Some(binding) => Ok(format!(in alloc; "{binding:?}")?),
-        None => Ok(String::from_str(alloc, REFUSED)?),
+        None => cases::text(alloc, REFUSED),
     }
 }
 
@@ -74,7 +73,7 @@ pub fn specification_answer(alloc: Global, plural: &str, text: &str) -> Result<S
     let resource = resource(plural)?;
     match specification_of(alloc, resource, &document(alloc, text)?)? {
         Specification::Sound(plans) => bytes_answer(alloc, resource, &plans),
-        Specification::BadSpec => Ok(String::from_str(alloc, "bad spec")?),
+        Specification::BadSpec => cases::text(alloc, "bad spec"),
         Specification::BadExpression(text) => Ok(format!(in alloc; "bad expression: {text}")?),
     }
 }
@@ -93,7 +92,7 @@ pub fn stored_answer(alloc: Global, words: &str, text: &str) -> Result<String, W
             let count = plans.len();
             Ok(format!(in alloc; "{count} plans")?)
         }
-        Err(ReadPlansFault::Damaged) => Ok(String::from_str(alloc, "damaged")?),
+        Err(ReadPlansFault::Damaged) => cases::text(alloc, "damaged"),
         Err(ReadPlansFault::Memory) => Err(Wrong::Memory),
     }
 }

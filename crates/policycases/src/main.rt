@@ -1,7 +1,7 @@
 //! Runs the cases of policies: text files of documents, writes and what is wanted of them.
 //!
 //! ```text
-//! policycases                      the files *.case of the current folder
+//! policycases                      the files of the current folder but those that end in .md
 //! policycases verdicts.case ..     these files
 //! ```
 //!
@@ -13,15 +13,13 @@ mod bench;
 mod bytes;
 mod expressed;
 mod forms;
-mod frames;
 mod line;
-mod report;
 mod shelf;
 mod verdicts;
 mod writes;
-mod wrong;
 
-use crate::report::{Report, run_files};
+use crate::bench::Bench;
+use cases::run_files;
 use planlist::one_list;
 use specification::{expressions_fit_the_text, one_stored_list};
 use std::process::ExitCode;
@@ -30,9 +28,5 @@ fn main(rt: HostRuntime) -> ExitCode {
     one_list();
     one_stored_list();
     expressions_fit_the_text();
-    match run_files(&rt, rt.alloc()) {
-        Ok(Report { passed, failed: 0 }) if passed > 0 => ExitCode::SUCCESS,
-        Ok(_) => ExitCode::FAILURE,
-        Err(_) => ExitCode::from(2),
-    }
+    run_files::<Bench, _>(&rt, rt.alloc())
 }

@@ -1,26 +1,28 @@
 //! What policies say of writes.
 
 use crate::expressed::plans_of;
-use crate::line::first_word;
 use crate::shelf::Shelf;
 use crate::writes::{Write, document, key, value_of};
-use crate::wrong::Wrong;
+use cases::{Wrong, first_word, shown};
 use documents::Document;
 use evaluation::{Conditions, Denial, conditions, evaluate, failure, request_document};
-use expressions::TypedPolicy;
+use expressions::{PolicyFault, TypedPolicy};
 use jsondoc::Doc;
 use names::{Key, Resource};
 use plancode::Verified;
 use policy::{FailurePolicy, Policy};
 use std::alloc::Global;
-use verdict::{Found, Lookup, denial_text};
+use verdict::{Found, Lookup, LookupFault, denial_text};
 
 // The plans of a document's expressions, if it is a policy.
 fn plans_in(alloc: Global, resource: Resource, document: &Doc) -> Result<Vec<Verified>, Wrong> {
     match resource {
         Resource::ValidatingAdmissionPolicy => {
-            let policy = TypedPolicy::read(alloc, document.value())?;
-            plans_of(alloc, &policy)
+            match TypedPolicy::read(alloc, document.value()) {
+                Ok(policy) => plans_of(alloc, &policy),
+                Err(PolicyFault::Memory) => Err(Wrong::Memory),
+                Err(fault) => Err(Wrong::Found(shown(alloc, &fault)?)),
+            }
         }
         _ => Ok(Vec::new(alloc)),
     }
@@ -64,7 +66,7 @@ pub fn put_spec(
 fn denial_answer(alloc: Global, denial: Option<Denial>) -> Result<String, Wrong> {
     match denial {
         Some(Denial { reason, message }) => Ok(format!(in alloc; "denies {reason:?} {message}")?),
-        None => Ok(String::from_str(alloc, "passes")?),
+        None => cases::text(alloc, "passes"),
     }
 }
 
@@ -84,9 +86,14 @@ fn policy_answer(
             let denial = evaluate(alloc, policy, plans, &attempt, &request, param)?;
             denial_answer(alloc, denial)
         }
-        Conditions::Unmet => Ok(String::from_str(alloc, "unmet")?),
+        Conditions::Unmet => cases::text(alloc, "unmet"),
         Conditions::Neither(name) => Ok(format!(in alloc; "neither {name}")?),
     }
+}
+
+/// Why a line fails where an object is not looked up.
+pub fn lookup_wrong(_: LookupFault) -> Wrong {
+    Wrong::Told("an object is not looked up")
 }
 
 /// What the policy of this name says of the write by itself.
@@ -102,7 +109,7 @@ pub fn evaluation_answer(
     param: &Option<Doc>,
 ) -> Result<String, Wrong> {
     let key = key(alloc, Resource::ValidatingAdmissionPolicy, name)?;
-    let Some(found) = shelf.get(alloc, &key)? else {
+    let Some(found) = shelf.get(alloc, &key).map_err(lookup_wrong)? else {
         return Err(Wrong::Told("no such policy"));
     };
     match Policy::of(alloc, found.document.json().value())? {
@@ -118,7 +125,7 @@ pub fn evaluation_answer(
 /// Where no memory is left.
 pub fn request_answer(alloc: Global, write: &Write) -> Result<String, Wrong> {
     let request = request_document(alloc, &write.attempt())?;
-    Ok(request.to_string(alloc)?)
+    shown(alloc, &request)
 }
 
 /// What a policy that has this failure policy says where it cannot be evaluated.

@@ -1,9 +1,9 @@
 //! The write that is asked about, and which rules match it.
 
-use crate::wrong::Wrong;
+use cases::{Wrong, yes_or_no};
 use jsondoc::{Doc, ReadFault};
 use matching::{Attempt, MatchRules, Operation, is_guarded, matches, selects};
-use names::{Key, Resource, ResourceTable};
+use names::{Key, KeyFault, Resource, ResourceTable};
 use policy::Binding;
 use serde_json::Value;
 use std::alloc::Global;
@@ -53,6 +53,13 @@ pub fn resource(plural: &str) -> Result<Resource, Wrong> {
     Err(Wrong::Told("no such resource"))
 }
 
+fn key_wrong(fault: KeyFault) -> Wrong {
+    match fault {
+        KeyFault::NoKey => Wrong::Told("no key of an object"),
+        KeyFault::Memory => Wrong::Memory,
+    }
+}
+
 /// The key of `NAMESPACE/NAME`, or of `NAME` alone where objects stand in no namespace.
 ///
 /// # Errors
@@ -63,7 +70,7 @@ pub fn key(alloc: Global, resource: Resource, text: &str) -> Result<Key, Wrong> 
         Some(parts) => parts,
         None => ("", text),
     };
-    Ok(Key::new(alloc, resource, namespace, name)?)
+    Key::new(alloc, resource, namespace, name).map_err(key_wrong)
 }
 
 fn operation(word: &str) -> Result<Operation, Wrong> {
@@ -130,10 +137,6 @@ pub fn rules(alloc: Global, text: &str) -> Result<MatchRules, Wrong> {
         Some(binding) => Ok(binding.resources),
         None => Err(Wrong::Told("no rules")),
     }
-}
-
-fn yes_or_no(alloc: Global, holds: bool) -> Result<String, Wrong> {
-    Ok(String::from_str(alloc, if holds { "yes" } else { "no" })?)
 }
 
 /// Whether a policy for the rules, bound for others, is asked for the write.
