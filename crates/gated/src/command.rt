@@ -1,5 +1,6 @@
 //! The command line.
 
+use clap::builder::ValueParser;
 use clap::error::ErrorKind;
 use clap::{Arg, ArgAction, ArgMatches, Command, Error};
 use std::alloc::{AllocError, Global};
@@ -9,31 +10,84 @@ use std::convert::AsStr;
 #[derive(Clone, Copy)]
 pub enum Verb<'a> {
     /// Make a store in a new file.
-    Create { file: &'a str },
+    Create {
+        file: &'a str,
+    },
     /// Answer the requests on standard input.
-    Replay { file: &'a str },
+    Replay {
+        file: &'a str,
+    },
+    /// Serve so many connections to an address, each of which is closed where it sends nothing for so many seconds, or never (0).
+    Serve {
+        file: &'a str,
+        address: &'a str,
+        connections: u16,
+        idle_seconds: u32,
+    },
 }
 
 // A subcommand that takes a file.
 fn over_file<'a>(alloc: Global, name: &'a str, about: &'a str) -> Result<Command<'a>, AllocError> {
     let file = Arg::new(alloc, "file")
         .value_name("FILE")
+        .help("The file of the store")
         .required(true)
         .action(ArgAction::Set);
     Command::new(alloc, name).about(about).arg(file)
+}
+
+// An option of `serve` that takes a value.
+fn option<'a>(alloc: Global, name: &'a str, value: &'a str, help: &'a str) -> Arg<'a> {
+    Arg::new(alloc, name)
+        .long(name)
+        .value_name(value)
+        .help(help)
+        .action(ArgAction::Set)
+}
+
+fn serve_line<'a>(alloc: Global) -> Result<Command<'a>, AllocError> {
+    over_file(
+        alloc,
+        "serve",
+        "Serves connections, one after the other, and then ends",
+    )?
+    .arg(option(
+        alloc,
+        "listen",
+        "IP:PORT",
+        "The address that is listened on",
+    )
+    .required(true))?
+    .arg(
+        option(alloc, "conns", "N", "How many connections are served")
+            .required(true)
+            .value_parser(ValueParser::unsigned(1, 65535)),
+    )?
+    .arg(
+        option(
+            alloc,
+            "idle",
+            "SECONDS",
+            "How long a connection may send nothing until it is closed; 0: for ever",
+        )
+        .default_value("60")
+        .value_parser(ValueParser::unsigned(0, 86400)),
+    )
 }
 
 // The line that the program understands.
 fn line<'a>(alloc: Global) -> Result<Command<'a>, AllocError> {
     Command::new(alloc, "gated")
         .about("A small Kubernetes-style API server over one crash-safe file")
+        .version("0.1.0")
         .subcommand_required(true)
         .subcommand(over_file(alloc, "create", "Makes a store in a new file")?)?
         .subcommand(over_file(
             alloc,
             "replay",
             "Answers the HTTP requests on standard input",
-        )?)
+        )?)?
+        .subcommand(serve_line(alloc)?)
 }
 
 // The verb of a subcommand.
@@ -42,6 +96,12 @@ fn verb_of<'a>(name: &str, matches: &ArgMatches<'a>) -> Option<Verb<'a>> {
     match name {
         "create" => Some(Verb::Create { file }),
         "replay" => Some(Verb::Replay { file }),
+        "serve" => Some(Verb::Serve {
+            file,
+            address: matches.get_str("listen")?,
+            connections: matches.get_one::<u16>("conns")?,
+            idle_seconds: matches.get_one::<u32>("idle")?,
+        }),
         _ => None,
     }
 }

@@ -3,6 +3,7 @@
 //! ```text
 //! gated create store.db
 //! gated replay store.db < requests.http
+//! gated serve store.db --listen 127.0.0.1:8080 --conns 65535
 //! ```
 //!
 //! It ends with status 0 on success, 2 for a command line that it does not know, and for help; 3 where there is no store, or a
@@ -10,6 +11,7 @@
 #![tactic(auto)]
 
 mod command;
+mod listening;
 mod problem;
 mod program;
 mod status;

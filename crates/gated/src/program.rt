@@ -3,6 +3,7 @@
 ghost use Rattle.std.specs.Prelude.{◌≡◌};
 
 use crate::command::{Verb, command};
+use crate::listening::serve_connections;
 use crate::problem::{Problem, tell};
 use crate::status::Status;
 use api::serve;
@@ -14,7 +15,9 @@ use httpmsg::{Input, Output, write_all};
 use std::alloc::Global;
 use std::convert::AsStr;
 use std::fs::File;
+use std::net::{Net, SocketAddr, TcpListener, TcpStream};
 use std::rt::Files;
+use std::time::Duration;
 
 // Makes a store in a new file.
 fn create_store<R: Files<File = File>>(
@@ -27,6 +30,19 @@ fn create_store<R: Files<File = File>>(
     Ok(())
 }
 
+// The store in a file.
+fn open_store<R: Files<File = File>>(
+    files: &R,
+    alloc: Global,
+    file: &str,
+) -> Result<Store<FileDevice>, Problem> {
+    let device = FileDevice::open(files, file)?;
+    match Store::open(alloc, device) {
+        Ok(store) => Ok(store),
+        Err((fault, _)) => Err(Problem::from(fault)),
+    }
+}
+
 // Answers the requests of an input against the store in a file.
 fn replay<R: Files<File = File>, I: Input, O: Output>(
     files: &R,
@@ -35,13 +51,42 @@ fn replay<R: Files<File = File>, I: Input, O: Output>(
     input: &mut I,
     output: &mut O,
 ) -> Result<(), Problem> {
-    let device = FileDevice::open(files, file)?;
-    let mut store = match Store::open(alloc, device) {
-        Ok(store) => store,
-        Err((fault, _)) => return Err(Problem::from(fault)),
-    };
+    let mut store = open_store(files, alloc, file)?;
     serve(alloc, input, output, &mut store)?;
     Ok(())
+}
+
+// Listens on an address, which is an IP address and a port.
+fn listen<R: Net<Stream = TcpStream, Listener = TcpListener>>(
+    net: &R,
+    address: &str,
+) -> Result<TcpListener, Problem> {
+    match address.parse::<SocketAddr>() {
+        Ok(address) => TcpListener::bind(net, address).map_err(|_| Problem::StreamFailed),
+        Err(_) => Err(Problem::StreamFailed),
+    }
+}
+
+// Listens, says so, and serves so many connections against the store in a file.
+fn serve_file<R: Files<File = File> + Net<Stream = TcpStream, Listener = TcpListener>, O: Output>(
+    runtime: &R,
+    alloc: Global,
+    file: &str,
+    address: &str,
+    connections: u16,
+    idle_seconds: u32,
+    output: &mut O,
+) -> Result<(), Problem> {
+    let mut store = open_store(runtime, alloc, file)?;
+    let listener = listen(runtime, address)?;
+    if write_all(output, b"ready\n").is_err() {
+        return Err(Problem::StreamFailed);
+    }
+    let idle = match idle_seconds {
+        0 => None,
+        seconds => Some(Duration::from_secs(u64::from(seconds))),
+    };
+    serve_connections(alloc, &listener, connections, idle, &mut store)
 }
 
 // Tells what is wrong with the command line.
@@ -60,8 +105,14 @@ fn refuse<E: Output>(alloc: Global, error: &Error, errors: &mut E) -> Status {
 }
 
 /// Does what the words ask for, of which the first is the program's name, and says how the program ends.
-pub fn program<R: Files<File = File>, S: AsStr, I: Input, O: Output, E: Output>(
-    files: &R,
+pub fn program<
+    R: Files<File = File> + Net<Stream = TcpStream, Listener = TcpListener>,
+    S: AsStr,
+    I: Input,
+    O: Output,
+    E: Output,
+>(
+    runtime: &R,
     alloc: Global,
     words: &[S],
     input: &mut I,
@@ -69,8 +120,24 @@ pub fn program<R: Files<File = File>, S: AsStr, I: Input, O: Output, E: Output>(
     errors: &mut E,
 ) -> Status {
     let done = match command(alloc, words) {
-        Ok(Verb::Create { file }) => create_store(files, alloc, file),
-        Ok(Verb::Replay { file }) => replay(files, alloc, file, input, output),
+        Ok(Verb::Create { file }) => create_store(runtime, alloc, file),
+        Ok(Verb::Replay { file }) => replay(runtime, alloc, file, input, output),
+        Ok(
+            Verb::Serve {
+                file,
+                address,
+                connections,
+                idle_seconds,
+            },
+        ) => serve_file(
+            runtime,
+            alloc,
+            file,
+            address,
+            connections,
+            idle_seconds,
+            output,
+        ),
         Err(error) => return refuse(alloc, &error, errors),
     };
     match done {
