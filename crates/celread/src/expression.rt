@@ -45,12 +45,7 @@ fn indexed(alloc: Global, of: Tree, index: Tree) -> Result<Tree, AllocError>
     Ok(Tree::Index(of, index))
 }
 
-fn joined(
-    alloc: Global,
-    operator: Operator,
-    left: Tree,
-    right: Tree,
-) -> Result<Tree, AllocError>
+fn joined(alloc: Global, operator: Operator, left: Tree, right: Tree) -> Result<Tree, AllocError>
     ensures { IfOk result (λ t. view t ≡ Infix operator (view left) (view right)) }
 {
     let left = Box::new(alloc, left)?;

@@ -1,7 +1,10 @@
 //! Questions on names, keys, resources and formats.
 
 use crate::texts::{or_dash, or_empty, quoted};
-use cases::{TextBuilder, WordReader, Wrong, bytes, first_word, number, shown, spelled, text, wanted, yes_or_no};
+use cases::{
+    TextBuilder, WordReader, Wrong, bytes, first_word, number, shown, spelled, text, wanted,
+    yes_or_no,
+};
 use names::{Format, Key, KeyFault, Resource, ResourceTable, Scope, check_name, check_namespace};
 use std::alloc::Global;
 

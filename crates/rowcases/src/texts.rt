@@ -5,7 +5,10 @@ use std::alloc::Global;
 
 /// A text between quotes, in which `\0` is the character 0; with ` xN` behind it, N times.
 pub fn quoted(alloc: Global, text: &str) -> Result<String, Wrong> {
-    let Some((inner, behind)) = text.strip_prefix('\'').and_then(|rest| rest.rsplit_once('\'')) else {
+    let Some((inner, behind)) = text
+        .strip_prefix('\'')
+        .and_then(|rest| rest.rsplit_once('\''))
+    else {
         return Err(Wrong::Told("a text stands between quotes"));
     };
     let times = number(behind.strip_prefix(" x").unwrap_or("1"))?;
