@@ -24,6 +24,13 @@ impl<F: RawFile> SectorFile<F> {
     {
         SectorFile { file }
     }
+
+    /// The file.
+    pub fn into_file(self) -> F
+        ensures { result ≡ self.file }
+    {
+        self.file
+    }
 }
 
 impl<F: RawFile> Device for SectorFile<F> {
