@@ -4,16 +4,17 @@ use Rattle.std.specs.Option.{option_map_or}
 use Rattle.http.specs.StatusCode.{IsStatusCode}
 use Rattle.names.specs.declared.format.Rules.{Rules}
 use Rattle.names.specs.Key.{Key}
-use Rattle.documents.specs.declared.stored.Stored.{Stored}
+use Rattle.history.specs.declared.state.Stored.{Stored}
 use Rattle.requests.specs.declared.refusal.Refusal.{Refusal}
 use Rattle.requests.specs.declared.refusal.Refusal.TheVariants.{MalformedRequest, UnservedVersion, TooManyFields, UnservedTransferCoding, BadHost, BadContentLength, BodyTooLarge, UnservedExpectation, BadTarget, NoSuchPath, MethodNotAllowed, BadQuery, BadNameInPath, UnexpectedBody, BadVersion, Expired, BodyIsNotJson, NumberOutsideRange, WrongKind, BadMetadata, WrongName, VersionOnCreate, BadDeleteOptions, AlreadyExists, NotFound, VersionNotCurrent, ObjectTooLarge, TooManyObjects, RevisionExhausted, OutOfMemory, StorageFailed}
 use Rattle.requests.specs.Manifest.{Body, sound}
 use Rattle.requests.specs.Refusal.{answer}
 use Rattle.requests.specs.Request.{Request, get, list, watch, create, replace, delete, refused}
-use Rattle.apicore.specs.Listing.{watching}
-use Rattle.apicore.specs.Reply.{Reply, status, showing}
+use Rattle.history.specs.Listing.{watching}
+use Rattle.history.specs.Reply.{Reply, status, showing}
 use Rattle.apicore.specs.Step.{refusal, reply}
-use Rattle.apicore.specs.View.{View, stored_at, document_at}
+use Rattle.history.specs.View.{stored_at, document_at}
+use Rattle.apicore.specs.Standing.{View}
 use Rattle.durable.specs.Rules.{first_rules}
 use Rattle.httpmsg.specs.Stream.{Message}
 use Rattle.routes.specs.Asked.{asked}
@@ -52,7 +53,7 @@ refusal_code RevisionExhausted = (omega arith, omega arith)
 refusal_code OutOfMemory = (omega arith, omega arith)
 refusal_code StorageFailed = (omega arith, omega arith)
 
-shown_code : (o : Option Stored) → IsStatusCode (option_map_or (λ (s : Stored). showing 200 s.document s.revision) o (status NotFound)).code
+shown_code : (o : Option (Stored (Unit {0}))) → IsStatusCode (option_map_or (λ (s : Stored (Unit {0})). showing 200 s.document s.revision) o (status NotFound)).code
 shown_code None = (omega arith, omega arith)
 shown_code (Some s) = (omega arith, omega arith)
 

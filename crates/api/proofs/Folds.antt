@@ -4,9 +4,9 @@ use Rattle.std.proofs.lemmas.List.{append-nil, map-append}
 use Rattle.device.specs.declared.device.Device.{Ghosts}
 use Rattle.device.proofs.Moments.{followed_by}
 use Rattle.requests.specs.declared.refusal.Refusal.TheVariants.{StorageFailed}
-use Rattle.apicore.specs.History.{Write, History}
-use Rattle.apicore.specs.View.{View, view, after_all}
-use Rattle.apicore.proofs.ViewLemmas.{after_all-append}
+use Rattle.apicore.specs.Standing.{Write, History, View}
+use Rattle.history.specs.View.{view, after_all}
+use Rattle.history.proofs.ViewLemmas.{after_all-append}
 use Rattle.durable.specs.declared.store.Store.{Store}
 use Rattle.durable.specs.Rules.{first_rules}
 use Rattle.durable.specs.Stands.{StandsFor}

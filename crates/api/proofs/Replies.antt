@@ -4,10 +4,10 @@ use Rattle.std.proofs.lemmas.List.{append-nil}
 use Rattle.device.specs.declared.device.Device.{Ghosts}
 use Rattle.requests.specs.declared.refusal.Refusal.TheVariants.{StorageFailed}
 use Rattle.requests.specs.Request.{Request}
-use Rattle.apicore.specs.History.{Write, History}
-use Rattle.apicore.specs.Reply.{Reply}
+use Rattle.apicore.specs.Standing.{Write, History, View}
+use Rattle.history.specs.Reply.{Reply}
 use Rattle.apicore.specs.Step.{writes, reply}
-use Rattle.apicore.specs.View.{View, view, after_all}
+use Rattle.history.specs.View.{view, after_all}
 use Rattle.durable.specs.declared.store.Store.{Store}
 use Rattle.durable.specs.declared.fault.Fault.{Fault}
 use Rattle.durable.specs.declared.fault.Fault.TheVariants as fault

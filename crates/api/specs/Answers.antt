@@ -2,10 +2,10 @@
 use Rattle.std.specs.Prelude.{◌≡◌, ◌≢◌, ℕ, ◌<◌, ◌≤◌, ◌-◌, ◌^◌, ◌⊎◌, List, [], ◌∷◌, ◌++◌, map, Bool, true, false, if◌then◌else◌, Option, is_some, unwrap_or, Result, Err, IsErrOf, OnOk}
 use Rattle.device.specs.declared.device.Device.{Ghosts}
 use Rattle.requests.specs.declared.refusal.Refusal.TheVariants.{OutOfMemory, StorageFailed}
-use Rattle.apicore.specs.History.{Write, History}
-use Rattle.apicore.specs.Reply.{Reply, status}
+use Rattle.apicore.specs.Standing.{Write, History, View}
+use Rattle.history.specs.Reply.{Reply, status}
 use Rattle.apicore.specs.Step.{writes, reply}
-use Rattle.apicore.specs.View.{View, view, after_all}
+use Rattle.history.specs.View.{view, after_all}
 use Rattle.durable.specs.declared.store.Store.{Store}
 use Rattle.durable.specs.Rules.{first_rules}
 use Rattle.durable.specs.Settled.{serves, shown, IsSettledAt, IsLeftAt, LeavesSome}

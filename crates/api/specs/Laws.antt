@@ -1,9 +1,9 @@
 -- The answers to messages are a run of their requests.
 use Rattle.std.specs.Prelude.{◌≡◌, ℕ, List, [], ◌∷◌, ◌++◌, map}
-use Rattle.apicore.specs.History.{History}
-use Rattle.apicore.specs.Reply.{Reply}
+use Rattle.apicore.specs.Standing.{History}
+use Rattle.history.specs.Reply.{Reply}
 use Rattle.apicore.specs.Step.{runs}
-use Rattle.apicore.specs.View.{view}
+use Rattle.history.specs.View.{view}
 use Rattle.durable.specs.Rules.{first_rules}
 use Rattle.httpmsg.specs.Stream.{Message}
 use Rattle.routes.specs.Asked.{asked}

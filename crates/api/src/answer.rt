@@ -3,8 +3,8 @@
 ghost use Rattle.std.specs.Prelude.{◌≡◌, ◌≢◌, ◌≤◌, ◌++◌, [], ◌∷◌, List, false, true, IfOk, OnOk, OnErr, IfErr, IsErrOf, MatchResult, option_map, unwrap_or};
 ghost use Rattle.requests.specs.declared.refusal.Refusal.TheVariants.{OutOfMemory};
 ghost use Rattle.requests.specs.RequestOf.{request_of};
-ghost use Rattle.apicore.specs.View.{View};
-ghost use Rattle.apicore.specs.Reply.{status};
+ghost use Rattle.apicore.specs.Standing.{View};
+ghost use Rattle.history.specs.Reply.{status};
 ghost use Rattle.device.specs.Disk.{HasFailed};
 ghost use Rattle.durable.specs.Settled.{device_of, serves, shown};
 ghost use Rattle.routes.specs.Asked.{asked};
@@ -13,9 +13,9 @@ ghost use Rattle.api.specs.Answers.{HasReplied, HasFailedAt, Answers, Stops, Has
 
 use crate::fault::ServeFault;
 use crate::reply::{Answer, allow_in, write_found, write_storage_failed};
-use apicore::Reply;
 use device::Device;
 use durable::{Fault, Store};
+use history::Reply;
 use httpmsg::{Message, Output, Sheet};
 use requests::Request;
 use routes::{Routes, route};

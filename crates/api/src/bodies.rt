@@ -2,7 +2,7 @@
 
 ghost use Rattle.std.specs.Prelude.{◌≡◌};
 ghost use Rattle.requests.specs.declared.refusal.Refusal.TheVariants as refusal;
-ghost use Rattle.apicore.specs.Reply.{status};
+ghost use Rattle.history.specs.Reply.{status};
 ghost use Rattle.api.specs.ReplyBytes.{refusal_of};
 
 use httpmsg::MessageFault;

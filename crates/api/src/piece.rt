@@ -2,7 +2,7 @@
 
 ghost use Rattle.std.specs.Prelude.{◌≡◌, ◌≢◌, ◌<◌, ◌≤◌, ◌⊎◌, ℕ, List, [], length, take, false, Some, None, IfOk, IfErr, IsErrOf, MatchResult};
 ghost use Rattle.requests.specs.declared.refusal.Refusal.TheVariants as refusal;
-ghost use Rattle.apicore.specs.View.{View};
+ghost use Rattle.apicore.specs.Standing.{View};
 ghost use Rattle.durable.specs.Settled.{device_of, serves, shown};
 ghost use Rattle.httpmsg.specs.declared.head.BrokenMessage.{BrokenMessage as BrokenData};
 ghost use Rattle.httpmsg.specs.Flow.{TookSome};

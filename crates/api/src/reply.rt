@@ -3,14 +3,14 @@
 ghost use Rattle.std.specs.Prelude.{◌≡◌, ◌==◌, false, if◌then◌else◌, None, option_map, unwrap_or};
 ghost use Rattle.http.specs.StatusCode.{IsStatusCode};
 ghost use Rattle.requests.specs.declared.refusal.Refusal.TheVariants as refusal;
-ghost use Rattle.apicore.specs.Reply.{status};
+ghost use Rattle.history.specs.Reply.{status};
 ghost use Rattle.httpmsg.specs.Flow.{HasCause, Writes};
 ghost use Rattle.httpmsg.specs.declared.head.End.TheVariants.{Broken};
 ghost use Rattle.httpmsg.specs.Response.{response_bytes};
 ghost use Rattle.api.specs.ReplyBytes.{refusal_of, response_of, allow_in, reply_bytes, closing_bytes, end_bytes};
 
 use crate::bodies::fault_body;
-use apicore::Reply;
+use history::Reply;
 use http::StatusCode;
 use httpmsg::{BrokenMessage, Message, MessageFault, Output, Response, Sheet, StreamFault};
 use requests::Refusal;

@@ -1,4 +1,1 @@
-pub mod ViewLemmas
 pub mod StepLemmas
-pub mod Ready
-pub mod Listings

@@ -8,11 +8,12 @@ use Rattle.requests.specs.declared.refusal.Refusal.TheVariants.{AlreadyExists, N
 use Rattle.requests.specs.Manifest.{Body, sound, HasForm, BodyHasForm}
 use Rattle.requests.specs.Refusal.{first_of}
 use Rattle.requests.specs.Request.{Request, get, list, watch, create, replace, delete, refused, RequestHasForm}
-use Rattle.apicore.specs.History as write
-use Rattle.apicore.specs.History.{Write, put, History}
+use Rattle.history.specs.History as write
+use Rattle.history.specs.History.{put}
+use Rattle.history.specs.View.{exists, is_too_large, is_full, is_exhausted, after_all, empty, view, AllMayFollow}
+use Rattle.history.proofs.ViewLemmas.{after_all-append, AllMayFollow-append}
+use Rattle.apicore.specs.Standing.{Write, History, View, IsHistory}
 use Rattle.apicore.specs.Step.{put_of, update_conflicts, deletion_conflicts, refusal, writes, reply, accepted, replies, step, runs}
-use Rattle.apicore.specs.View.{View, exists, is_too_large, is_full, is_exhausted, after_all, empty, view, AllMayFollow, IsHistory}
-use Rattle.apicore.proofs.ViewLemmas.{after_all-append, AllMayFollow-append}
 
 not_below : (m n : ℕ) → nat_lt m n ≡ false → n ≤ m
 not_below m n e = Prim.grind arith
@@ -24,7 +25,7 @@ below m n e = Prim.grind arith
 put_follows : (rules : Rules) (v : View) (k : Key) (d : Document) → HasForm k d → (there large full last : Bool) → is_too_large rules d ≡ large → is_full rules v ≡ full
     → is_exhausted rules v ≡ last
     → AllMayFollow rules v
-    (cond (is_some (first_of ((AlreadyExists, there) ∷ (ObjectTooLarge, large) ∷ (TooManyObjects, full) ∷ (RevisionExhausted, last) ∷ []))) [] (put k d ∷ []))
+    (cond (is_some (first_of ((AlreadyExists, there) ∷ (ObjectTooLarge, large) ∷ (TooManyObjects, full) ∷ (RevisionExhausted, last) ∷ []))) [] (put k d tt ∷ []))
 put_follows rules v k d form true large full last a b c = tt
 put_follows rules v k d form false true full last a b c = tt
 put_follows rules v k d form false false true last a b c = tt
@@ -48,7 +49,7 @@ create_follows rules v k (sound d) asked form =
 replaced_follows : (rules : Rules) (v : View) (k : Key) (d : Document) → HasForm k d → (there stale large last : Bool) → exists v k ≡ there → is_too_large rules d ≡ large
     → is_exhausted rules v ≡ last
     → AllMayFollow rules v
-    (cond (is_some (first_of ((NotFound, not there) ∷ (VersionNotCurrent, stale) ∷ (ObjectTooLarge, large) ∷ (RevisionExhausted, last) ∷ []))) [] (put k d ∷ []))
+    (cond (is_some (first_of ((NotFound, not there) ∷ (VersionNotCurrent, stale) ∷ (ObjectTooLarge, large) ∷ (RevisionExhausted, last) ∷ []))) [] (put k d tt ∷ []))
 replaced_follows rules v k d form false stale large last a b c = tt
 replaced_follows rules v k d form true true large last a b c = tt
 replaced_follows rules v k d form true false true last a b c = tt
@@ -120,7 +121,7 @@ written_if true w ws is = absurd (let never : w ∷ [] ≡ [] = is in cc)
 written_if false w ws is = is
 
 no_deletion : (k l : Key) (b : Body) → write.delete k ∷ [] ≡ put_of l b → ⊥
-no_deletion k l (sound d) is = let never : write.delete k ∷ [] ≡ put l d ∷ [] = is in cc
+no_deletion k l (sound d) is = let never : write.delete k ∷ [] ≡ put l d tt ∷ [] = is in cc
 
 -- the key that a request deletes is well-formed
 pub is_key-deleted : (rules : Rules) (v : View) (r : Request) (k : Key) → RequestHasForm r → write.delete k ∷ [] ≡ writes rules v r → IsTrue (is_key k)

@@ -1,14 +1,15 @@
 -- Laws of histories and steps.
-use Rattle.std.specs.Prelude.{◌≡◌, ◌+◌, List, [], ◌∷◌, length}
+use Rattle.std.specs.Prelude.{◌≡◌, ◌+◌, List, ◌∷◌, length, IsTrue}
+use Rattle.std.specs.FinMap.{is_sorted}
 use Rattle.circular_buffer.specs.Buffer.{keep_last}
 use Rattle.names.specs.declared.format.Rules.{Rules}
-use Rattle.names.specs.Key.{Key}
-use Rattle.window.specs.declared.event.Event.{Event}
-use Rattle.documents.specs.Document.{Document}
+use Rattle.names.specs.Key.{Key, key_cmp}
 use Rattle.requests.specs.Request.{Request, RequestHasForm}
-use Rattle.apicore.specs.History.{Write, History, object_at}
+use Rattle.history.specs.History.{object_at}
+use Rattle.history.specs.Laws.{events_from}
+use Rattle.history.specs.View.{stored_at, view, empty}
+use Rattle.apicore.specs.Standing.{History, IsHistory}
 use Rattle.apicore.specs.Step.{step, runs}
-use Rattle.apicore.specs.View.{View, stored_at, event_of, after, view, empty, IsHistory}
 
 -- The revision is one more than the number of writes.
 abbrev pub RevisionCounts : Type 0
@@ -18,15 +19,14 @@ RevisionCounts = (rules : Rules) (h : History) → (view rules h).revision ≡ 1
 abbrev pub KeyHasLastWrite : Type 0
 KeyHasLastWrite = (rules : Rules) (h : History) (k : Key) → stored_at (view rules h) k ≡ object_at h k
 
--- the events of writes that follow a view, all of them
-abbrev pub events_from : Rules → View → List Write → List (Event Document)
-events_from rules v [] = []
-events_from rules v (w ∷ ws) = event_of v w ∷ events_from rules (after rules v w) ws
-
 -- The events of a view are those of the last writes, as many as the format's window has.
 abbrev pub EventsAreLast : Type 0
 EventsAreLast =
     (rules : Rules) (h : History) → (view rules h).events ≡ keep_last rules.window_events (events_from rules empty h)
+
+-- The keys of a view's objects ascend.
+abbrev pub ObjectsAscend : Type 0
+ObjectsAscend = (rules : Rules) (h : History) → IsTrue (is_sorted key_cmp (view rules h).objects)
 
 -- What a request writes may follow, so that a step makes a history of a history.
 abbrev pub WritesFollow : Type 0

@@ -1,9 +1,4 @@
-pub mod History
-pub mod View
-pub mod Reply
-pub mod Listing
+pub mod Standing
 pub mod Step
-pub mod Put
-pub mod State
 pub mod Prepared
 pub mod Laws

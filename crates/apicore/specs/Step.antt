@@ -9,11 +9,12 @@ use Rattle.requests.specs.declared.refusal.Refusal.TheVariants.{AlreadyExists, N
 use Rattle.requests.specs.Manifest.{Body, sound}
 use Rattle.requests.specs.Refusal.{Condition, first_of}
 use Rattle.requests.specs.Request.{Request, get, list, watch, create, replace, delete, refused}
-use Rattle.apicore.specs.History as write
-use Rattle.apicore.specs.History.{Write, put, History}
-use Rattle.apicore.specs.Listing.{watch_conditions, listing, watching}
-use Rattle.apicore.specs.Reply.{Reply, status, showing}
-use Rattle.apicore.specs.View.{View, stored_at, exists, document_at, is_too_large, is_full, is_exhausted, after_all, view}
+use Rattle.history.specs.History as write
+use Rattle.history.specs.History.{put}
+use Rattle.history.specs.Listing.{watch_conditions, listing, watching}
+use Rattle.history.specs.Reply.{Reply, status, showing}
+use Rattle.history.specs.View.{stored_at, exists, document_at, is_too_large, is_full, is_exhausted, after_all, view}
+use Rattle.apicore.specs.Standing.{Write, History, View}
 
 -- ---- refusals
 
@@ -71,7 +72,7 @@ refusal rules v r = first_of (conditions rules v r)
 -- ---- writes
 
 abbrev pub put_of : Key → Body → List Write
-put_of k (sound d) = put k d ∷ []
+put_of k (sound d) = put k d tt ∷ []
 
 -- the write of a request that nothing refuses
 abbrev write_of : Request → List Write

@@ -1,5 +1,5 @@
 // The laws of the definitions, each the contract of a function.
-ghost use Rattle.apicore.specs.Laws.{RevisionCounts, KeyHasLastWrite, EventsAreLast, WritesFollow, RunsAreSteps, ViewDecides};
+ghost use Rattle.apicore.specs.Laws.{RevisionCounts, KeyHasLastWrite, EventsAreLast, ObjectsAscend, WritesFollow, RunsAreSteps, ViewDecides};
 
 /// The revision is one more than the number of writes.
 pub fn revision_counts()
@@ -14,6 +14,11 @@ pub fn key_has_last_write()
 /// The events of a view are those of the last writes.
 pub fn events_are_last()
     ensures { EventsAreLast }
+{}
+
+/// The keys of a view's objects ascend.
+pub fn objects_ascend()
+    ensures { ObjectsAscend }
 {}
 
 /// What a request writes may follow, so that a step makes a history of a history.

@@ -1,197 +1,137 @@
-// What a write asks of the objects that are stored: its refusal, or its reply and its write with all their memory.
-ghost use Rattle.std.specs.Prelude.{◌≡◌, ◌<◌, ℕ, List, Option, IsTrue, IfOk, option_map, option_copied, string_bytes};
-ghost use Rattle.requests.specs.Manifest.{BodyHasForm};
-ghost use Rattle.requests.specs.Request.{create, replace, delete};
-ghost use Rattle.apicore.specs.Prepared.{HasRoom, IsStepOf};
-ghost use Rattle.apicore.specs.Step.{refusal, is_current, update_conflicts, deletion_conflicts};
-ghost use Rattle.apicore.specs.View.{exists};
+// The step of a request, with all its memory.
+ghost use Rattle.std.specs.Prelude.{◌≡◌, ◌<◌, ◌+◌, [], ◌∷◌, IsTrue, IfOk, option_map, string_bytes};
 ghost use Rattle.names.specs.Key.{is_key};
+ghost use Rattle.requests.specs.Codes.{document_in};
+ghost use Rattle.requests.specs.Manifest.{BodyHasForm};
+ghost use Rattle.requests.specs.Request.{get, create, replace, delete, RequestHasForm};
+ghost use Rattle.requests.specs.RequestOf.{request_of};
+ghost use Rattle.history.specs.History.{put};
+ghost use Rattle.history.specs.Prepared.{AreReady, writes_of};
+ghost use Rattle.history.specs.Reply.{showing};
+ghost use Rattle.apicore.specs.Prepared.{IsStepOf};
+ghost use Rattle.apicore.specs.Step.{reply};
 
-use crate::prepared::{Prepared, PreparedWrite};
-use crate::reply::Reply;
-use crate::state::Core;
+use crate::prepared::{Core, Prepared};
+use crate::refusing::{create_refusal, delete_refusal, replace_refusal};
+use history::{PreparedWrite, Reply};
 use names::Key;
-use requests::{Manifest, Refusal};
+use requests::{Manifest, Refusal, Request};
 use std::alloc::{AllocError, Global};
 
-impl Core {
-    /// Prepares the creation of an object.
-    pub(crate) fn prepare_create(
-        &mut self,
-        alloc: Global,
-        manifest: &Manifest,
-    ) -> Result<Prepared, AllocError>
-        ensures rules { self.new.rules ≡ self.old.rules }
-        ensures view { self.new.view ≡ self.old.view }
-        ensures step { IfOk result (IsStepOf self.old.rules self.old.view (create manifest.now)) }
-        ensures room { IfOk result (λ p. HasRoom self.new p.write) }
-        ensures form { BodyHasForm manifest.now.key manifest.now.body }
-    {
-        if let Some(refusal) = self.create_refusal(manifest) {
-            return Prepared::refused(alloc, refusal);
-        }
-        let put = self.prepare_put(alloc, manifest)?;
-        let reply = Reply::showing(alloc, 201, put.document(), put.revision())?;
-        Ok(Prepared {
-            reply,
-            write: Some(PreparedWrite::Put(put)),
-        })
-    }
+/// Prepares the step of a request: takes all its memory, and leaves what is seen as it was, also where there is none.
+pub fn prepare(core: &mut Core, alloc: Global, request: &Request) -> Result<Prepared, AllocError>
+    ensures rules { core.new.rules ≡ core.old.rules }
+    ensures view { core.new.view ≡ core.old.view }
+    ensures step { IfOk result (IsStepOf core.old.rules core.old.view (request_of request.now)) }
+    ensures ready { IfOk result (λ p. AreReady core.new p.write) }
 
-    /// Prepares the replacement of an object.
-    pub(crate) fn prepare_replace(
-        &mut self,
-        alloc: Global,
-        manifest: &Manifest,
-    ) -> Result<Prepared, AllocError>
-        ensures rules { self.new.rules ≡ self.old.rules }
-        ensures view { self.new.view ≡ self.old.view }
-        ensures step { IfOk result (IsStepOf self.old.rules self.old.view (replace manifest.now)) }
-        ensures room { IfOk result (λ p. HasRoom self.new p.write) }
-        ensures form { BodyHasForm manifest.now.key manifest.now.body }
-    {
-        if let Some(refusal) = self.replace_refusal(alloc, manifest)? {
-            return Prepared::refused(alloc, refusal);
+    // So that what it writes may follow.
+    ensures form { RequestHasForm (request_of request.now) }
+{
+    match request {
+        Request::Get(key) => Ok(Prepared::replying(shown(core, alloc, key)?)),
+        Request::List(collection, selector) => {
+            Ok(Prepared::replying(core.listed(alloc, collection, selector)?))
         }
-        let put = self.prepare_put(alloc, manifest)?;
-        let reply = Reply::showing(alloc, 200, put.document(), put.revision())?;
-        Ok(Prepared {
-            reply,
-            write: Some(PreparedWrite::Put(put)),
-        })
+        Request::Watch(collection, revision) => {
+            Ok(Prepared::replying(core.told(alloc, collection, *revision)?))
+        }
+        Request::Create(manifest) => prepare_create(core, alloc, manifest),
+        Request::Replace(manifest) => prepare_replace(core, alloc, manifest),
+        Request::Delete(key, version) => prepare_delete(core, alloc, key, version),
+        Request::Refused(refusal) => Ok(Prepared::replying(Reply::status(alloc, *refusal)?)),
     }
+}
 
-    /// Prepares the deletion of an object.
-    pub(crate) fn prepare_delete(
-        &self,
-        alloc: Global,
-        key: &Key,
-        version: &Option<String>,
-    ) -> Result<Prepared, AllocError>
-        ensures step { IfOk result
-            (IsStepOf self.now.rules self.now.view (delete key.now (option_map string_bytes version.now))) }
-        ensures room { IfOk result (λ p. HasRoom self.now p.write) }
-        ensures form { IsTrue (is_key key.now) }
-    {
-        if let Some(refusal) = self.delete_refusal(alloc, key, version)? {
-            return Prepared::refused(alloc, refusal);
-        }
-        Ok(Prepared {
-            reply: self.deleted(alloc, key)?,
-            write: Some(PreparedWrite::Delete(key.clone()?)),
-        })
+// The reply to a GET.
+fn shown(core: &Core, alloc: Global, key: &Key) -> Result<Reply, AllocError>
+    ensures { IfOk result (λ r. r ≡ reply core.now.rules core.now.view (get key.now)) }
+{
+    match core.stored(key) {
+        Some(stored) => Reply::showing(alloc, 200, &stored.document, stored.revision),
+        None => Reply::status(alloc, Refusal::NotFound),
     }
+}
 
-    // The first refusal of a new object.
-    fn create_refusal(&self, manifest: &Manifest) -> Option<Refusal>
-        ensures refusal { result ≡ refusal self.now.rules self.now.view (create manifest.now) }
-        ensures form { BodyHasForm manifest.now.key manifest.now.body }
-    {
-        // The document, of which the text and the form speak.
-        let _document = manifest.document();
-        if self.holds(manifest.key()) {
-            return Some(Refusal::AlreadyExists);
-        }
-        if self.is_too_large(manifest) {
-            return Some(Refusal::ObjectTooLarge);
-        }
-        if self.is_full() {
-            return Some(Refusal::TooManyObjects);
-        }
-        if self.is_exhausted() {
-            return Some(Refusal::RevisionExhausted);
-        }
-        None
+// The creation of an object.
+fn prepare_create(
+    core: &mut Core,
+    alloc: Global,
+    manifest: &Manifest,
+) -> Result<Prepared, AllocError>
+    ensures rules { core.new.rules ≡ core.old.rules }
+    ensures view { core.new.view ≡ core.old.view }
+    ensures step { IfOk result (IsStepOf core.old.rules core.old.view (create manifest.now)) }
+    ensures ready { IfOk result (λ p. AreReady core.new p.write) }
+    ensures form { BodyHasForm manifest.now.key manifest.now.body }
+{
+    if let Some(refusal) = create_refusal(core, manifest) {
+        return Ok(Prepared::replying(Reply::status(alloc, refusal)?));
     }
+    prepare_put(core, alloc, manifest, 201)
+}
 
-    // The first refusal of an update.
-    fn replace_refusal(
-        &self,
-        alloc: Global,
-        manifest: &Manifest,
-    ) -> Result<Option<Refusal>, AllocError>
-        ensures refusal { IfOk result (λ r. r ≡ refusal self.now.rules self.now.view (replace manifest.now)) }
-        ensures form { BodyHasForm manifest.now.key manifest.now.body }
-    {
-        // The document, of which the text and the form speak.
-        let _document = manifest.document();
-        if !self.holds(manifest.key()) {
-            return Ok(Some(Refusal::NotFound));
-        }
-        if self.update_conflicts(alloc, manifest)? {
-            return Ok(Some(Refusal::VersionNotCurrent));
-        }
-        if self.is_too_large(manifest) {
-            return Ok(Some(Refusal::ObjectTooLarge));
-        }
-        if self.is_exhausted() {
-            return Ok(Some(Refusal::RevisionExhausted));
-        }
-        Ok(None)
+// The replacement of an object.
+fn prepare_replace(
+    core: &mut Core,
+    alloc: Global,
+    manifest: &Manifest,
+) -> Result<Prepared, AllocError>
+    ensures rules { core.new.rules ≡ core.old.rules }
+    ensures view { core.new.view ≡ core.old.view }
+    ensures step { IfOk result (IsStepOf core.old.rules core.old.view (replace manifest.now)) }
+    ensures ready { IfOk result (λ p. AreReady core.new p.write) }
+    ensures form { BodyHasForm manifest.now.key manifest.now.body }
+{
+    if let Some(refusal) = replace_refusal(core, alloc, manifest)? {
+        return Ok(Prepared::replying(Reply::status(alloc, refusal)?));
     }
+    prepare_put(core, alloc, manifest, 200)
+}
 
-    // The first refusal of a deletion.
-    fn delete_refusal(
-        &self,
-        alloc: Global,
-        key: &Key,
-        version: &Option<String>,
-    ) -> Result<Option<Refusal>, AllocError>
-        ensures refusal { IfOk result
-            (λ r. r ≡ refusal self.now.rules self.now.view (delete key.now (option_map string_bytes version.now))) }
-        ensures form { IsTrue (is_key key.now) }
-    {
-        // A name of the key, which is well-formed.
-        let _name = key.name();
-        if !self.holds(key) {
-            return Ok(Some(Refusal::NotFound));
-        }
-        if self.deletion_conflicts(alloc, key, version)? {
-            return Ok(Some(Refusal::VersionNotCurrent));
-        }
-        if self.is_exhausted() {
-            return Ok(Some(Refusal::RevisionExhausted));
-        }
-        Ok(None)
-    }
+// The put of a document that nothing refuses, which is shown with the next revision.
+fn prepare_put(
+    core: &mut Core,
+    alloc: Global,
+    manifest: &Manifest,
+    code: u16,
+) -> Result<Prepared, AllocError>
+    requires { core.old.view.revision < core.old.rules.greatest_revision }
+    ensures rules { core.new.rules ≡ core.old.rules }
+    ensures view { core.new.view ≡ core.old.view }
+    ensures reply { IfOk result (λ p. p.reply ≡ showing code (document_in manifest.now.body) (core.old.view.revision + 1)) }
+    ensures writes { IfOk result (λ p. writes_of p.write ≡ put manifest.now.key (document_in manifest.now.body) tt ∷ []) }
+    ensures ready { IfOk result (λ p. AreReady core.new p.write) }
+{
+    let put = core.prepare_put(alloc, manifest, ())?;
+    let reply = Reply::showing(alloc, code, put.document(), put.revision())?;
+    Ok(Prepared {
+        reply,
+        write: Some(PreparedWrite::Put(put)),
+    })
+}
 
-    // Whether the manifest asks for another revision than the object's.
-    fn update_conflicts(&self, alloc: Global, manifest: &Manifest) -> Result<bool, AllocError>
-        ensures { IfOk result (λ b. b ≡ update_conflicts self.now.view manifest.now.key manifest.now.version) }
-    {
-        match manifest.version() {
-            Some(text) if text.is_empty() => Ok(false),
-            Some(text) => Ok(!self.is_current(alloc, manifest.key(), text)?),
-            None => Ok(false),
-        }
+// The deletion of an object, which shows the object that it removes with the revision that it makes.
+fn prepare_delete(
+    core: &Core,
+    alloc: Global,
+    key: &Key,
+    version: &Option<String>,
+) -> Result<Prepared, AllocError>
+    ensures step { IfOk result
+        (IsStepOf core.now.rules core.now.view (delete key.now (option_map string_bytes version.now))) }
+    ensures ready { IfOk result (λ p. AreReady core.now p.write) }
+    ensures form { IsTrue (is_key key.now) }
+{
+    if let Some(refusal) = delete_refusal(core, alloc, key, version)? {
+        return Ok(Prepared::replying(Reply::status(alloc, refusal)?));
     }
-
-    // Whether another revision than the object's is asked for.
-    fn deletion_conflicts(
-        &self,
-        alloc: Global,
-        key: &Key,
-        version: &Option<String>,
-    ) -> Result<bool, AllocError>
-        ensures { IfOk result (λ b. b ≡ deletion_conflicts self.now.view key.now (option_map string_bytes version.now)) }
-    {
-        match version {
-            Some(text) => Ok(!self.is_current(alloc, key, text.as_str())?),
-            None => Ok(false),
-        }
-    }
-
-    // Whether the text is that of the revision of the object at the key. Texts are compared: a number has more than one.
-    fn is_current(&self, alloc: Global, key: &Key, text: &str) -> Result<bool, AllocError>
-        ensures { IfOk result (λ b. b ≡ is_current self.now.view key.now text.now) }
-    {
-        match self.stored(key) {
-            Some(stored) => {
-                let revision = stored.revision;
-                let current = format!(in alloc; "{revision}")?;
-                Ok(text == current.as_str())
-            }
-            None => Ok(false),
-        }
-    }
+    // The revision is below the greatest one, so that the next one fits.
+    let _greatest = core.rules().greatest_revision;
+    let document = core.removed(key)?;
+    let reply = Reply::showing(alloc, 200, &document, core.revision() + 1)?;
+    Ok(Prepared {
+        reply,
+        write: Some(PreparedWrite::Delete(key.clone()?, document)),
+    })
 }

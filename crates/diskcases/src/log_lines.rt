@@ -107,7 +107,7 @@ impl LogLines {
         device: &mut MemDevice,
         line: &str,
     ) -> Result<Result<(), LogFault>, Wrong> {
-        match put_payload(alloc, &settings(alloc)?, line) {
+        match put_payload(alloc, &settings(alloc)?, line, &[]) {
             Ok(body) => Ok(self.add(device, body)),
             Err(fault) => Ok(Err(fault)),
         }

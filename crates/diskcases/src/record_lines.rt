@@ -2,8 +2,9 @@
 
 use crate::log_lines::settings;
 use crate::payloads::{payload, payloads};
-use apicore::{Core, Reply};
-use cases::{TextBuilder, Wrong, first_word, number, shown, text, wanted};
+use apicore::{Core, prepare};
+use cases::{TextBuilder, Wrong, first_word, number, shown, spelled, text, wanted};
+use history::Reply;
 use names::{Format, Key, Rules};
 use records::{RecordFault, StoredWrite, read_write};
 use recovery::{RecoveryFault, replayed};
@@ -21,7 +22,7 @@ pub fn reads(alloc: Global, line: &str) -> Result<String, Wrong> {
     let bytes = payload(alloc, line)?;
     let mut write = TextBuilder::new(alloc);
     match read_write(alloc, bytes.as_slice()) {
-        Ok(StoredWrite::Put(manifest)) => {
+        Ok(StoredWrite::Put(manifest, plans)) => {
             write.word("put");
             key_text(&mut write, manifest.key());
             wanted(
@@ -29,6 +30,9 @@ pub fn reads(alloc: Global, line: &str) -> Result<String, Wrong> {
                 "a stored document has a version",
             )?;
             write.word(manifest.text());
+            if !plans.is_empty() {
+                write.word(spelled(alloc, plans)?.as_str());
+            }
         }
         Ok(StoredWrite::Delete(key)) => {
             write.word("delete");
@@ -83,8 +87,8 @@ fn reply_text(alloc: Global, reply: &Reply) -> Result<String, Wrong> {
 }
 
 fn reply_to(alloc: Global, core: &mut Core, request: &Request) -> Result<String, Wrong> {
-    match core.prepare(alloc, request) {
-        Ok(prepared) => reply_text(alloc, &core.take(prepared)),
+    match prepare(core, alloc, request) {
+        Ok(prepared) => reply_text(alloc, &prepared.reply),
         Err(_) => Err(Wrong::Memory),
     }
 }

@@ -16,4 +16,4 @@ mod stored;
 
 pub use metadata::{has_kind, has_metadata, metadata_copy, metadata_text};
 pub use shown::shown_document;
-pub use stored::{Document, Stored};
+pub use stored::Document;

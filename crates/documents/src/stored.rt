@@ -45,10 +45,3 @@ impl Clone for Document {
         Ok(Document { json })
     }
 }
-
-/// A stored document, and the revision of its last write.
-#[derive(Drop)]
-pub struct Stored {
-    pub document: Document,
-    pub revision: u64,
-}

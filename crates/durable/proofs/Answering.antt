@@ -8,15 +8,17 @@ use Rattle.gatelog.specs.Payload.{payload_of}
 use Rattle.names.specs.declared.format.Rules.{Rules}
 use Rattle.requests.specs.Request.{Request, RequestHasForm}
 use Rattle.apicore.specs.declared.prepared.Prepared.{Prepared}
-use Rattle.apicore.specs.History.{Write, put, delete, History}
-use Rattle.apicore.specs.Prepared.{IsStepOf, writes_of}
-use Rattle.apicore.specs.declared.prepared.PreparedWrite.{PreparedWrite}
-use Rattle.apicore.specs.declared.prepared.PreparedWrite.TheVariants.{Put, Delete}
+use Rattle.history.specs.History.{put, delete}
+use Rattle.apicore.specs.Standing.{Write, History, View}
+use Rattle.history.specs.Prepared.{writes_of}
+use Rattle.apicore.specs.Prepared.{IsStepOf}
+use Rattle.history.specs.declared.prepared.PreparedWrite.{PreparedWrite}
+use Rattle.history.specs.declared.prepared.PreparedWrite.TheVariants.{Put, Delete}
 use Rattle.apicore.specs.Step.{writes}
-use Rattle.apicore.specs.View.{View, view, empty, after_all, MayFollow, AllMayFollow}
+use Rattle.history.specs.View.{view, empty, after_all, MayFollow, AllMayFollow}
 use Rattle.apicore.proofs.StepLemmas.{AllMayFollow-writes, is_key-deleted}
-use Rattle.apicore.proofs.ViewLemmas.{after_all-append}
-use Rattle.records.specs.Payload.{payload, IsStorable}
+use Rattle.history.proofs.ViewLemmas.{after_all-append}
+use Rattle.recovery.specs.Written.{payload, IsStorable}
 use Rattle.durable.specs.declared.store.Store.{Store}
 use Rattle.durable.specs.Ready.{HoldsHistory}
 use Rattle.durable.specs.RecordOf.{IsRecordOf}
@@ -53,15 +55,14 @@ pub step_writes : (rules : Rules) (v : View) (h : History) (r : Request) (p : Pr
 step_writes rules v h r p same_rules same_view step =
     step.writes ∙ ap (λ x. writes x v r) same_rules ∙ ap (λ x. writes first_rules x r) same_view
 
-no_record : (asked : Option PreparedWrite) → IsRecordOf asked None → writes_of asked ≡ []
+no_record : (asked : Option (PreparedWrite (Unit {0}))) → IsRecordOf asked None → writes_of asked ≡ []
 no_record None is = refl
 no_record (Some p) is = absurd is
 
 -- A request that writes nothing leaves the store settled.
 pub nothing_written : {D : Type 0} {g : Ghosts D} (old new : Store D g) (h : History) (r : Request) (p : Prepared) → IsSettledAt first_rules old h
     → old.core.rules ≡ first_rules → IsStepOf old.core.rules (shown old) r p → IsRecordOf p.write None → device_of old ≡ device_of new → serves old ≡ serves new
-    → shown new ≡ after_all first_rules (shown old) (writes_of p.write)
-    → IsSettledAt first_rules new (h ++ writes first_rules (view first_rules h) r)
+    → shown new ≡ shown old → IsSettledAt first_rules new (h ++ writes first_rules (view first_rules h) r)
 nothing_written {D} {g} old new h r p settled same_rules step without device working shows =
     let none : writes_of p.write ≡ [] = no_record p.write without in
     let ws : List Write = writes first_rules (view first_rules h) r in
@@ -69,10 +70,10 @@ nothing_written {D} {g} old new h r p settled same_rules step without device wor
     let unchanged : h ≡ h ++ ws = sym (append-nil h) ∙ ap (λ (w : List Write). h ++ w) (sym none ∙ are) in
     let Held : D → Type 0 = λ d. HoldsHistory first_rules g.disk d h in
     let At : History → Type 0 = λ x. IsSettledAt first_rules new x in
-    subst At unchanged (settled_from new h (sym working ∙ settled.working) (shows ∙ ap (after_all first_rules (shown old)) none ∙ settled.shows) (subst Held device (held old h settled)))
+    subst At unchanged (settled_from new h (sym working ∙ settled.working) (shows ∙ settled.shows) (subst Held device (held old h settled)))
 
 -- The one write of a request that writes.
-pub record OneWrite (h : History) (r : Request) (asked : Option PreparedWrite) (body : Body) : Type 0 where
+pub record OneWrite (h : History) (r : Request) (asked : Option (PreparedWrite (Unit {0}))) (body : Body) : Type 0 where
   pub write : Write
   pub asked_is : writes_of asked ≡ write ∷ []
   pub writes_are : writes first_rules (view first_rules h) r ≡ write ∷ []
@@ -89,20 +90,20 @@ pub one_write : (rules : Rules) (v : View) (h : History) (r : Request) (p : Prep
 one_write rules v h r p body same_rules same_view step form is =
     go p.write (step_writes rules v h r p same_rules same_view step) is
   where
-    go : (asked : Option PreparedWrite) → writes_of asked ≡ writes first_rules (view first_rules h) r → IsRecordOf asked (Some body) → OneWrite h r asked body
+    go : (asked : Option (PreparedWrite (Unit {0}))) → writes_of asked ≡ writes first_rules (view first_rules h) r → IsRecordOf asked (Some body) → OneWrite h r asked body
     go None are is = absurd is
     go (Some (Put q)) are is =
         let All : List Write → Type 0 = λ ws. AllMayFollow first_rules (view first_rules h) ws in
         let follow = subst All (sym are) (AllMayFollow-writes first_rules (view first_rules h) r form) in
         record {
-          write = put q.key q.document;
+          write = put q.key q.document tt;
           asked_is = refl;
           writes_are = sym are;
           follows = follow.0;
-          storable = (follow.0.form, omega (arith, small, follow.0.size));
+          storable = (follow.0.form, omega (arith, small, follow.0.size), omega arith);
           payload_is = is;
         }
-    go (Some (Delete k)) are is =
+    go (Some (Delete k gone)) are is =
         let All : List Write → Type 0 = λ ws. AllMayFollow first_rules (view first_rules h) ws in
         let follow = subst All (sym are) (AllMayFollow-writes first_rules (view first_rules h) r form) in
         record {
@@ -115,7 +116,7 @@ one_write rules v h r p body same_rules same_view step form is =
         }
 
 -- What the append of the write leaves of the device, for the writes of the request.
-module _ {D : Type 0} {g : Ghosts D} (old new : Store D g) (h : History) (r : Request) (asked : Option PreparedWrite) (body : Body) (one : OneWrite h r asked body) where
+module _ {D : Type 0} {g : Ghosts D} (old new : Store D g) (h : History) (r : Request) (asked : Option (PreparedWrite (Unit {0}))) (body : Body) (one : OneWrite h r asked body) where
   pub leaves_written : Stands g.disk (device_of old) (device_of new) (IsFound first_rules h [] (one.write ∷ [])) (IsFound first_rules h [] (one.write ∷ []))
       → LeavesSome first_rules old new h (writes first_rules (view first_rules h) r)
   leaves_written stands =

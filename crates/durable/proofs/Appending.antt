@@ -14,11 +14,10 @@ use Rattle.gatelog.proofs.Parts.{agree-take, reaches-take}
 use Rattle.gatelog.proofs.Logs.{inside, HoldsLog-stays}
 use Rattle.checkpoint.specs.Root.{log_start}
 use Rattle.names.specs.declared.format.Rules.{Rules}
-use Rattle.apicore.specs.History.{Write, History}
-use Rattle.apicore.specs.View.{view, empty, MayFollow}
-use Rattle.apicore.proofs.ViewLemmas.{AllMayFollow-append}
-use Rattle.records.specs.Payload.{payload, IsStorable}
-use Rattle.recovery.specs.Written.{AllStorable}
+use Rattle.apicore.specs.Standing.{Write, History}
+use Rattle.history.specs.View.{view, empty, MayFollow}
+use Rattle.history.proofs.ViewLemmas.{AllMayFollow-append}
+use Rattle.recovery.specs.Written.{payload, IsStorable, AllStorable}
 use Rattle.durable.specs.Ready.{IsReady, HoldsHistory}
 use Rattle.durable.specs.Stands.{StandsFor}
 use Rattle.durable.specs.Settled.{IsFound}

@@ -12,8 +12,8 @@ use Rattle.checkpoint.specs.declared.root.Root.{Root}
 use Rattle.checkpoint.specs.Root.{log_start, HoldsRoot}
 use Rattle.checkpoint.proofs.Counting.{one_counts}
 use Rattle.names.specs.declared.format.Rules.{Rules}
-use Rattle.apicore.specs.History.{History}
-use Rattle.records.specs.Payload.{payload}
+use Rattle.apicore.specs.Standing.{History}
+use Rattle.recovery.specs.Written.{payload}
 use Rattle.durable.specs.Ready.{IsReady}
 use Rattle.durable.specs.Stands.{StandsFor}
 

@@ -4,10 +4,10 @@ use Rattle.device.specs.Disk.{Disk, Only}
 use Rattle.gatelog.specs.declared.gate_log.Log.{Log}
 use Rattle.gatelog.specs.Log.{HoldsLog}
 use Rattle.names.specs.declared.format.Rules.{Rules}
-use Rattle.apicore.specs.History.{History}
-use Rattle.apicore.specs.State.{State}
+use Rattle.apicore.specs.Standing.{History}
+use Rattle.history.specs.State.{State}
 use Rattle.checkpoint.specs.Root.{HoldsRoot}
-use Rattle.records.specs.Payload.{payload}
+use Rattle.recovery.specs.Written.{payload}
 use Rattle.durable.specs.declared.fault.Damage.{Damage}
 use Rattle.durable.specs.declared.fault.Fault.{Fault}
 use Rattle.durable.specs.declared.fault.Fault.TheVariants as fault
@@ -15,7 +15,7 @@ use Rattle.durable.specs.Opened.{IsStoreOf}
 use Rattle.durable.specs.Ready.{IsReady, HoldsHistory}
 use Rattle.durable.specs.Stands.{StandsFor}
 
-module _ {D : Type 0} (disk : Disk D) (rules : Rules) (old new : D) (core : State) (log : Log) (same : disk.content new ≡ disk.content old)
+module _ {D : Type 0} (disk : Disk D) (rules : Rules) (old new : D) (core : State (Unit {0})) (log : Log) (same : disk.content new ≡ disk.content old)
     (synced : Only (disk.content new) (disk.left new)) (h : History) (found : IsStoreOf rules (disk.content old) core log h) where
   -- what is read is what a crash leaves
   pub opened_ready : log.failed ≡ false → IsReady disk new log

@@ -7,11 +7,10 @@ use Rattle.checkpoint.specs.declared.root.Root.{Root}
 use Rattle.checkpoint.specs.Root.{log_start, HoldsRoot}
 use Rattle.checkpoint.proofs.Counting.{one_counts}
 use Rattle.names.specs.declared.format.Rules.{Rules}
-use Rattle.apicore.specs.History.{History}
-use Rattle.apicore.specs.State.{State}
-use Rattle.apicore.specs.View.{view, IsHistory}
-use Rattle.records.specs.Payload.{payload}
-use Rattle.recovery.specs.Written.{IsWritten}
+use Rattle.apicore.specs.Standing.{History, IsHistory}
+use Rattle.history.specs.State.{State}
+use Rattle.history.specs.View.{view}
+use Rattle.recovery.specs.Written.{payload, IsWritten}
 use Rattle.recovery.proofs.Histories.{one_history as payloads_one}
 use Rattle.durable.specs.Laws.{AtMostOneView}
 use Rattle.durable.specs.Opened.{IsStoreOf}
@@ -39,7 +38,7 @@ module _ (rules : Rules) (content : List ℕ) (h : History) (stands : StandsFor 
       }
 
 -- the history of the payloads behind a root without pages
-pub stands_read : (rules : Rules) (content : List ℕ) (root : Root) (log : Log) (payloads : List (List ℕ)) (core : State) → HoldsRoot content root
+pub stands_read : (rules : Rules) (content : List ℕ) (root : Root) (log : Log) (payloads : List (List ℕ)) (core : State (Unit {0})) → HoldsRoot content root
     → root.pages ≡ 0 → root.revision ≡ 1 → log.start ≡ log_start root → HoldsLog (log_start root) payloads log.last content
     → (found : (h : History) × IsWritten rules h payloads × (core.view ≡ view rules h)) → (h : History) × IsStoreOf rules content core log h
 stands_read rules content root log payloads core counts pages revision start holds found =

@@ -6,11 +6,11 @@ use Rattle.device.specs.declared.device.Device.{Ghosts}
 use Rattle.device.proofs.Moments.{followed_by}
 use Rattle.names.specs.declared.format.Rules.{Rules}
 use Rattle.requests.specs.Request.{Request}
-use Rattle.apicore.specs.History.{Write, History}
-use Rattle.apicore.specs.Reply.{Reply}
+use Rattle.apicore.specs.Standing.{Write, History, View}
+use Rattle.history.specs.Reply.{Reply}
 use Rattle.apicore.specs.Step.{writes, reply, accepted, replies}
-use Rattle.apicore.specs.View.{View, view, empty, after_all}
-use Rattle.apicore.proofs.ViewLemmas.{after_all-append}
+use Rattle.history.specs.View.{view, empty, after_all}
+use Rattle.history.proofs.ViewLemmas.{after_all-append}
 use Rattle.durable.specs.declared.store.Store.{Store}
 use Rattle.durable.specs.Stands.{StandsFor}
 use Rattle.durable.specs.Settled.{added, ServesAt, IsFound, IsSettledAt, IsLeftAt, LeavesSome, HasAnswered, HasServed, HasStopped, device_of}

@@ -1,8 +1,8 @@
 -- A law of contents.
 use Rattle.std.specs.Prelude.{◌≡◌, ℕ, List}
 use Rattle.names.specs.declared.format.Rules.{Rules}
-use Rattle.apicore.specs.History.{History}
-use Rattle.apicore.specs.View.{view}
+use Rattle.apicore.specs.Standing.{History}
+use Rattle.history.specs.View.{view}
 use Rattle.durable.specs.Stands.{StandsFor}
 
 -- The histories that a content stands for have one view.

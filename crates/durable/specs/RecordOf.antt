@@ -2,12 +2,12 @@
 use Rattle.std.specs.Prelude.{◌≡◌, Option, Some, None}
 use Rattle.gatelog.specs.declared.record.Body.{Body}
 use Rattle.gatelog.specs.Payload.{payload_of}
-use Rattle.apicore.specs.declared.prepared.PreparedWrite.{PreparedWrite}
-use Rattle.apicore.specs.Prepared.{write_of}
-use Rattle.records.specs.Payload.{payload}
+use Rattle.history.specs.declared.prepared.PreparedWrite.{PreparedWrite}
+use Rattle.history.specs.Prepared.{write_of}
+use Rattle.recovery.specs.Written.{payload}
 
 -- A record is gathered where there is a write to take, and has its payload.
-abbrev pub IsRecordOf : Option PreparedWrite → Option Body → Type 0
+abbrev pub IsRecordOf : Option (PreparedWrite (Unit {0})) → Option Body → Type 0
 IsRecordOf None None = Unit {0}
 IsRecordOf None (Some body) = ⊥
 IsRecordOf (Some w) None = ⊥

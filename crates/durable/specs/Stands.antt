@@ -4,10 +4,8 @@ use Rattle.names.specs.declared.format.Rules.{Rules}
 use Rattle.gatelog.specs.Log.{HoldsLog}
 use Rattle.checkpoint.specs.declared.root.Root.{Root}
 use Rattle.checkpoint.specs.Root.{log_start, HoldsRoot}
-use Rattle.apicore.specs.History.{Write, History}
-use Rattle.apicore.specs.View.{IsHistory}
-use Rattle.records.specs.Payload.{payload}
-use Rattle.recovery.specs.Written.{AllStorable}
+use Rattle.apicore.specs.Standing.{Write, History, IsHistory}
+use Rattle.recovery.specs.Written.{payload, AllStorable}
 
 -- The pages of a root hold what the writes of this history left. A root without pages holds the empty history, and there are no others yet.
 pub record HoldsBase (root : Root) (base : History) : Type 0 where

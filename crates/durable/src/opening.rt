@@ -6,7 +6,7 @@ ghost use Rattle.device.specs.Step.{Same};
 ghost use Rattle.device.specs.Run.{Ran};
 ghost use Rattle.gatelog.specs.Log.{HoldsLog};
 ghost use Rattle.checkpoint.specs.Root.{HoldsRoot};
-ghost use Rattle.apicore.specs.History.{History};
+ghost use Rattle.apicore.specs.Standing.{History};
 ghost use Rattle.durable.specs.declared.fault.Damage.{Damage};
 ghost use Rattle.durable.specs.declared.fault.Fault.TheVariants as Fault;
 ghost use Rattle.durable.specs.Opened.{IsStoreOf};

@@ -2,19 +2,22 @@
 
 ghost use Rattle.std.specs.Prelude.{◌≡◌, IfOk, OnErr};
 ghost use Rattle.gatelog.specs.Payload.{payload_of};
-ghost use Rattle.apicore.specs.Prepared.{write_of};
-ghost use Rattle.records.specs.Payload.{payload};
+ghost use Rattle.history.specs.Prepared.{write_of};
+ghost use Rattle.recovery.specs.Written.{payload};
 ghost use Rattle.durable.specs.declared.fault.Fault.TheVariants as Fault;
 ghost use Rattle.durable.specs.RecordOf.{IsRecordOf};
 
 use crate::Fault;
-use apicore::PreparedWrite;
 use gatelog::{Body, LogFault};
+use history::PreparedWrite;
 use records::{delete_payload, put_payload};
 use std::alloc::Global;
 
 /// The body of the record of a write, if there is one.
-pub(crate) fn record_of(alloc: Global, write: &Option<PreparedWrite>) -> Result<Option<Body>, Fault>
+pub(crate) fn record_of(
+    alloc: Global,
+    write: &Option<PreparedWrite<()>>,
+) -> Result<Option<Body>, Fault>
     ensures record { IfOk result (λ body. IsRecordOf write.now body) }
     ensures refusal { OnErr result (result ≡ Err Fault.Memory) }
 {
@@ -29,11 +32,11 @@ pub(crate) fn record_of(alloc: Global, write: &Option<PreparedWrite>) -> Result<
 }
 
 // The body that holds the payload of a write.
-fn body_of(alloc: Global, write: &PreparedWrite) -> Result<Body, LogFault>
+fn body_of(alloc: Global, write: &PreparedWrite<()>) -> Result<Body, LogFault>
     ensures { IfOk result (λ body. payload_of body ≡ payload (write_of write.now)) }
 {
     match write {
-        PreparedWrite::Put(put) => put_payload(alloc, put.key(), put.text()),
-        PreparedWrite::Delete(key) => delete_payload(alloc, key),
+        PreparedWrite::Put(put) => put_payload(alloc, put.key(), put.text(), &[]),
+        PreparedWrite::Delete(key, _) => delete_payload(alloc, key),
     }
 }

@@ -5,9 +5,10 @@ ghost use Rattle.durable.specs.Ready.{IsReady};
 use crate::Fault;
 use crate::opening::synced_store;
 use crate::record::record_of;
-use apicore::{Core, Prepared, Reply};
+use apicore::{Core, Prepared, prepare};
 use device::Device;
 use gatelog::{Body, Log};
+use history::Reply;
 use requests::Request;
 use std::alloc::Global;
 
@@ -28,13 +29,13 @@ impl<D: Device> Store<D> {
     ghost use Rattle.device.specs.Run.{Stands};
     ghost use Rattle.gatelog.specs.Payload.{payload_of};
     ghost use Rattle.requests.specs.RequestOf.{request_of};
-    ghost use Rattle.records.specs.Payload.{payload, IsStorable};
-    ghost use Rattle.apicore.specs.Prepared.{IsReady as CoreIsReady, writes_of};
+    ghost use Rattle.recovery.specs.Written.{payload, IsStorable};
+    ghost use Rattle.history.specs.Prepared.{AreReady, writes_of};
     ghost use Rattle.durable.specs.Ready.{HoldsHistory};
     ghost use Rattle.durable.specs.declared.fault.Fault.TheVariants as Fault;
-    ghost use Rattle.apicore.specs.History.{Write, History};
+    ghost use Rattle.apicore.specs.Standing.{Write, History, View};
     ghost use Rattle.apicore.specs.Step.{reply, writes, accepted, replies};
-    ghost use Rattle.apicore.specs.View.{View, view, after_all, MayFollow};
+    ghost use Rattle.history.specs.View.{view, after_all, MayFollow};
     ghost use Rattle.durable.specs.Stands.{StandsFor};
     ghost use Rattle.durable.specs.Settled.{device_of, serves, shown, ServesAt, IsFound, IsSettledAt, IsLeftAt, LeavesSome, HasAnswered, HasServed, HasStopped};
 
@@ -125,9 +126,9 @@ impl<D: Device> Store<D> {
         if !self.serves {
             return Err(Fault::Failed);
         }
-        let prepared = self.core.prepare(alloc, request)?;
+        let prepared = prepare(&mut self.core, alloc, request)?;
         match record_of(alloc, &prepared.write)? {
-            None => Ok(self.core.take(prepared)),
+            None => Ok(prepared.reply),
             Some(body) => self.commit(prepared, body),
         }
     }
@@ -135,7 +136,7 @@ impl<D: Device> Store<D> {
     // Takes a prepared write, and appends its record.
     fn commit(&mut self, prepared: Prepared, body: Body) -> Result<Reply, Fault>
         requires serves { serves self.old ≡ true }
-        requires ready { CoreIsReady self.old.core prepared }
+        requires ready { AreReady self.old.core prepared.write }
         ensures reply { IfOk result (λ r. r ≡ prepared.reply) }
         ensures shows { (shown self.new) ≡ after_all self.old.core.rules (shown self.old) (writes_of prepared.write) }
         ensures stands { (h : History) (w : Write) → HoldsHistory first_rules D.disk (device_of self.old) h → MayFollow first_rules (view first_rules h) w → IsStorable w
@@ -146,7 +147,8 @@ impl<D: Device> Store<D> {
         ensures refusal { OnErr result (result ≡ Err Fault.Device) }
         ensures cause { HasCause D.disk (device_of self.old) (device_of self.new) result }
     {
-        let reply = self.core.take(prepared);
+        let Prepared { reply, write } = prepared;
+        self.core.take(write);
         self.append(body)?;
         Ok(reply)
     }

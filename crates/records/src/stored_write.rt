@@ -1,10 +1,11 @@
-ghost use Rattle.std.specs.Prelude.{◌≡◌, ◌≢◌, IsTrue, IfOk, IsErrOf};
+ghost use Rattle.std.specs.Prelude.{◌≡◌, ◌≢◌, ◌<◌, ◌^◌, ℕ, List, length, IsTrue, IfOk, IsErrOf};
 ghost use Rattle.jsondoc.specs.Document.{text};
+ghost use Rattle.fields.specs.Field.{field};
 ghost use Rattle.names.specs.Key.{Key as KeyData, is_key};
 ghost use Rattle.documents.specs.Document.{Document};
 ghost use Rattle.requests.specs.Codes.{document_in};
 ghost use Rattle.requests.specs.Manifest.{HasForm};
-ghost use Rattle.apicore.specs.History.{Write, put, delete};
+ghost use Rattle.history.specs.History.{Write, put, delete};
 ghost use Rattle.records.specs.declared.fault.RecordFault.TheVariants as RecordFault;
 ghost use Rattle.records.specs.Payload.{fields, payload, IsStorable};
 ghost use Rattle.records.specs.WriteOf.{write_of};
@@ -17,46 +18,58 @@ use names::Key;
 use requests::Manifest;
 use std::alloc::Global;
 
-// The field of no plans.
-const NO_PLANS: [u8; 4] = [0; 4];
-
 /// A write, as it is read from its payload.
 #[derive(Drop)]
-pub enum StoredWrite {
-    /// The manifest's document was put at its key.
-    Put(Manifest),
+pub enum StoredWrite<'a> {
+    /// The manifest's document was put at its key, and its plans have these bytes.
+    Put(Manifest, &'a [u8]),
     /// The object at the key was deleted.
     Delete(Key),
 }
 
 /// Reads a payload. `Damaged` where no well-formed write has it.
-pub fn read_write(alloc: Global, bytes: &[u8]) -> Result<StoredWrite, RecordFault>
+pub fn read_write(alloc: Global, bytes: &[u8]) -> Result<StoredWrite<'_>, RecordFault>
     ensures write { IfOk result (λ w. payload (write_of w) ≡ bytes.now) }
     ensures form { IfOk result (λ w. IsStorable (write_of w)) }
-    ensures damaged { IsErrOf result RecordFault.Damaged → (w : Write) → IsStorable w → payload w ≢ bytes.now }
+    ensures damaged { IsErrOf result RecordFault.Damaged → (w : Write (List ℕ)) → IsStorable w → payload w ≢ bytes.now }
 {
     let (kind, fields) = split_kind(bytes).ok_or(RecordFault::Damaged)?;
     match kind {
-        PUT => Ok(StoredWrite::Put(read_put(alloc, fields)?)),
+        PUT => {
+            let (manifest, plans) = read_put(alloc, fields)?;
+            Ok(StoredWrite::Put(manifest, plans))
+        }
         DELETE => Ok(StoredWrite::Delete(read_delete(alloc, fields)?)),
         _ => Err(RecordFault::Damaged),
     }
 }
 
 // Reads the fields of a put.
-fn read_put(alloc: Global, bytes: &[u8]) -> Result<Manifest, RecordFault>
-    ensures write { IfOk result (λ m. fields (put m.key (document_in m.body)) ≡ bytes.now) }
-    ensures form { IfOk result (λ m. IsStorable (put m.key (document_in m.body))) }
+fn read_put(alloc: Global, bytes: &[u8]) -> Result<(Manifest, &[u8]), RecordFault>
+    ensures write { IfOk result (λ r. fields (put r.0.key (document_in r.0.body) r.1.now) ≡ bytes.now) }
+    ensures form { IfOk result (λ r. IsStorable (put r.0.key (document_in r.0.body) r.1.now)) }
     ensures damaged { IsErrOf result RecordFault.Damaged
-        → (k : KeyData) (d : Document) → IsStorable (put k d) → fields (put k d) ≢ bytes.now }
+        → (k : KeyData) (d : Document) (plans : List ℕ) → IsStorable (put k d plans) → fields (put k d plans) ≢ bytes.now }
 {
     let (key, rest) = short_field(bytes).ok_or(RecordFault::Damaged)?;
-    let (document, plans) = long_field(rest).ok_or(RecordFault::Damaged)?;
-    if plans != NO_PLANS.as_slice() {
+    let (document, rest) = long_field(rest).ok_or(RecordFault::Damaged)?;
+    let plans = last_field(rest)?;
+    let key = Key::read(alloc, key)?;
+    let manifest = read_document(alloc, &key, document)?;
+    Ok((manifest, plans))
+}
+
+// The one field of these bytes.
+fn last_field(bytes: &[u8]) -> Result<&[u8], RecordFault>
+    ensures field { IfOk result (λ inside. (field 4 inside.now ≡ bytes.now) × (length inside.now < 2 ^ 32)) }
+    ensures damaged { IsErrOf result RecordFault.Damaged → (inside : List ℕ) → length inside < 2 ^ 32 → field 4 inside ≢ bytes.now }
+    ensures memory { IsErrOf result RecordFault.Memory → ⊥ }
+{
+    let (inside, rest) = long_field(bytes).ok_or(RecordFault::Damaged)?;
+    if !rest.is_empty() {
         return Err(RecordFault::Damaged);
     }
-    let key = Key::read(alloc, key)?;
-    read_document(alloc, &key, document)
+    Ok(inside)
 }
 
 // Reads the text of a document that is stored at a key.
@@ -87,8 +100,8 @@ fn read_delete(alloc: Global, bytes: &[u8]) -> Result<Key, RecordFault>
     ensures damaged { IsErrOf result RecordFault.Damaged
         → (k : KeyData) → IsTrue (is_key k) → fields (delete k) ≢ bytes.now }
 {
-    let (key, rest) = short_field(bytes).ok_or(RecordFault::Damaged)?;
-    if !rest.is_empty() {
+    let (key, more) = short_field(bytes).ok_or(RecordFault::Damaged)?;
+    if !more.is_empty() {
         return Err(RecordFault::Damaged);
     }
     Ok(Key::read(alloc, key)?)

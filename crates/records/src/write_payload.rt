@@ -5,7 +5,7 @@ ghost use Rattle.gatelog.specs.Payload.{payload_of};
 ghost use Rattle.jsondoc.specs.Document.{text};
 ghost use Rattle.names.specs.Key.{key_bytes};
 ghost use Rattle.documents.specs.Document.{Document};
-ghost use Rattle.apicore.specs.History.{put, delete};
+ghost use Rattle.history.specs.History.{put, delete};
 ghost use Rattle.fields.specs.Field.{field};
 ghost use Rattle.records.specs.Payload.{payload};
 
@@ -47,34 +47,39 @@ fn add_key(body: &mut Body, alloc: Global, key: &Key) -> Result<(), LogFault>
     body.extend(&bytes)
 }
 
-// Adds a text, with its length in front in four bytes.
-fn add_text(body: &mut Body, text: &[u8]) -> Result<(), LogFault>
-    ensures added { OnOk result (payload_of body.new ≡ payload_of body.old ++ field 4 text.now) }
+// Adds bytes, with their number in front in four bytes.
+fn add_long_field(body: &mut Body, bytes: &[u8]) -> Result<(), LogFault>
+    ensures added { OnOk result (payload_of body.new ≡ payload_of body.old ++ field 4 bytes.now) }
     ensures long { IsErrOf result LogFault.TooLong
-        → 67108864 < length (payload_of body.old) + length (field 4 text.now) }
+        → 67108864 < length (payload_of body.old) + length (field 4 bytes.now) }
     ensures refusal { IsErrOf result LogFault.Device → ⊥ }
 {
-    if text.len() > u32::MAX as usize {
+    if bytes.len() > u32::MAX as usize {
         return Err(LogFault::TooLong);
     }
     let mut size = [0; 4];
-    BigEndian::write_u32(&mut size, text.len() as u32);
+    BigEndian::write_u32(&mut size, bytes.len() as u32);
     body.extend(&size)?;
-    body.extend(text)
+    body.extend(bytes)
 }
 
-/// The body of the record of a put: the payload of the document of this text at this key. `TooLong` is answered where the
-/// payload would be longer than 67108864 bytes.
-pub fn put_payload(alloc: Global, key: &Key, document_text: &str) -> Result<Body, LogFault>
-    ensures bytes { (d : Document) → document_text.now ≡ text d.json → IfOk result (λ body. payload_of body ≡ payload (put key.now d)) }
+/// The body of the record of a put: the payload of the document of this text at this key, with these plans. `TooLong` is answered
+/// where the payload would be longer than 67108864 bytes.
+pub fn put_payload(
+    alloc: Global,
+    key: &Key,
+    document_text: &str,
+    plans: &[u8],
+) -> Result<Body, LogFault>
+    ensures bytes { (d : Document) → document_text.now ≡ text d.json → IfOk result (λ body. payload_of body ≡ payload (put key.now d plans.now)) }
     ensures long { (d : Document) → document_text.now ≡ text d.json → IsErrOf result LogFault.TooLong
-        → 67108864 < length (payload (put key.now d)) }
+        → 67108864 < length (payload (put key.now d plans.now)) }
     ensures refusal { IsErrOf result LogFault.Device → ⊥ }
 {
     let mut body = begin(alloc, PUT)?;
     add_key(&mut body, alloc, key)?;
-    add_text(&mut body, document_text.as_bytes())?;
-    add_text(&mut body, b"")?;
+    add_long_field(&mut body, document_text.as_bytes())?;
+    add_long_field(&mut body, plans)?;
     Ok(body)
 }
 

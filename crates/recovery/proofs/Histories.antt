@@ -1,15 +1,32 @@
 -- Histories and the payloads that they have.
-use Rattle.std.proofs.Common.{◌≡◌, ℕ, ◌+◌, ◌^◌, ◌<◌, List, [], ◌∷◌, ◌++◌, length, map, get_or, take, drop, refl, sym, ap, subst, ◌∙◌, arith}
+use Rattle.std.proofs.Common.{◌≡◌, ◌==◌, true, ℕ, ◌+◌, ◌^◌, ◌<◌, List, [], ◌∷◌, ◌++◌, length, map, get_or, take, drop, refl, sym, ap, subst, ◌∙◌, arith, Result, Ok, Err, OnOk}
 use Rattle.std.proofs.lemmas.List.{map-append, map_push, drop_more, take-append-drop}
 use Rattle.names.specs.declared.format.Rules.{Rules}
 use Rattle.names.specs.Key.{Key}
 use Rattle.documents.specs.Document.{Document}
-use Rattle.apicore.specs.History.{Write, put, History}
-use Rattle.apicore.specs.View.{View, view, empty, after, after_all, MayPut, MayFollow, AllMayFollow}
-use Rattle.apicore.proofs.ViewLemmas.{after_all-append, AllMayFollow-append}
-use Rattle.records.specs.Payload.{payload, IsStorable}
-use Rattle.records.proofs.Writes.{one_write}
-use Rattle.recovery.specs.Written.{AllStorable, IsWritten}
+use Rattle.history.specs.History as plain
+use Rattle.history.specs.History.{put, delete}
+use Rattle.history.specs.View.{view, empty, after, after_all, MayPut, MayFollow, AllMayFollow}
+use Rattle.history.proofs.ViewLemmas.{after_all-append, AllMayFollow-append}
+use Rattle.records.proofs.Writes as bytes
+use Rattle.records.specs.Payload as bytes_form
+use Rattle.apicore.specs.Standing.{Write, History, View, recorded}
+use Rattle.recovery.specs.Written.{payload, IsStorable, AllStorable, IsWritten}
+
+-- a write is recorded as no other is
+one_recorded : (v w : Write) → recorded v ≡ recorded w → v ≡ w
+one_recorded (put k d x) (put l e y) same =
+    let key : k ≡ l = cc in
+    let document : d ≡ e = cc in
+    λ i. put (key i) (document i) tt
+one_recorded (put k d x) (delete l) same = cc
+one_recorded (delete k) (put l e y) same = cc
+one_recorded (delete k) (delete l) same =
+    let key : k ≡ l = cc in λ i. delete (key i)
+
+-- a write has its payload alone
+pub one_write : (v w : Write) → IsStorable v → IsStorable w → payload v ≡ payload w → v ≡ w
+one_write v w a b same = one_recorded v w (bytes.one_write (recorded v) (recorded w) a b same)
 
 AllStorable-append : (g h : List Write) → AllStorable g → AllStorable h → AllStorable (g ++ h)
 AllStorable-append [] h first more = more
@@ -35,10 +52,6 @@ IsWritten-push rules h payloads w written follows storable = record {
 
 pub view-push : (rules : Rules) (h : History) (w : Write) → view rules (h ++ w ∷ []) ≡ after rules (view rules h) w
 view-push rules h w = after_all-append rules empty h (w ∷ [])
-
--- a put that may follow can be held by a record, where the text's limit fits four bytes
-pub IsStorable-put : (rules : Rules) (v : View) (k : Key) (d : Document) → MayPut rules v k d → rules.text_limit_bytes < 2 ^ 32 → IsStorable (put k d)
-IsStorable-put rules v k d may limit = (may.form, omega (arith, may.size))
 
 -- ---- at most one history
 
@@ -124,3 +137,35 @@ pub map-at : {X Y : Type 0} (f : X → Y) (xs : List X) (i : ℕ) (x : X) → i 
 map-at f xs i x inside is =
     ap (map f) (sym (take-append-drop i xs) ∙ ap (λ rest. take i xs ++ rest) (drop_more xs i x inside ∙ ap (λ y. y ∷ drop (i + 1) xs) (sym is)))
     ∙ map-append f (take i xs) (x ∷ drop (i + 1) xs)
+
+-- ---- a put with no plans
+
+pub zero_if : (n : ℕ) → (n == 0) ≡ true → n ≡ 0
+zero_if n is = Prim.grind arith
+
+pub put_of_recorded : (rules : Rules) (v : View) (w : Write) (k : Key) (d : Document) (plans : List ℕ) → recorded w ≡ put k d plans → MayFollow rules v w → MayPut rules v k d
+put_of_recorded rules v (put l e x) k d plans is may =
+    let key : l ≡ k = cc in
+    let document : e ≡ d = cc in
+    let May : Key → Document → Type 0 = λ y z. MayPut rules v y z in
+    subst (May k) document (subst (λ y. May y e) key may)
+put_of_recorded rules v (delete l) k d plans is may = cc
+
+-- what was read is the write that was recorded
+pub recorded_is : (w : Write) (raw : plain.Write (List ℕ)) (payload_bytes : List ℕ) → IsStorable w → bytes_form.IsStorable raw → payload w ≡ payload_bytes → bytes_form.payload raw ≡ payload_bytes → recorded w ≡ raw
+recorded_is w raw payload_bytes storable fits is are = bytes.one_write (recorded w) raw storable fits (is ∙ sym are)
+
+pub storable_as : (w : Write) (raw : plain.Write (List ℕ)) → recorded w ≡ raw → bytes_form.IsStorable raw → IsStorable w
+storable_as w raw is fits = let P : plain.Write (List ℕ) → Type 0 = λ x. bytes_form.IsStorable x in subst P (sym is) fits
+
+-- a put that may follow can be held by a record, where the text's limit fits four bytes
+pub IsStorable-put : (rules : Rules) (v : View) (k : Key) (d : Document) → MayPut rules v k d → rules.text_limit_bytes < 2 ^ 32 → IsStorable (put k d tt)
+IsStorable-put rules v k d may limit = (may.form, omega (arith, may.size), omega arith)
+
+pub recorded_delete : (w : Write) (k : Key) → recorded w ≡ delete k → w ≡ delete k
+recorded_delete (put l e x) k is = cc
+recorded_delete (delete l) k is = let key : l ≡ k = cc in λ i. delete (key i)
+
+pub on_ok_to : {T E : Type 0} (r : Result T E) (P Q : Type 0) → (P → Q) → OnOk r P → OnOk r Q
+on_ok_to (Ok x) P Q to holds = to holds
+on_ok_to (Err e) P Q to holds = holds

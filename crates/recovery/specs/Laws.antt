@@ -1,7 +1,7 @@
 -- A law of logs.
 use Rattle.std.specs.Prelude.{◌≡◌, ℕ, List}
 use Rattle.names.specs.declared.format.Rules.{Rules}
-use Rattle.apicore.specs.History.{History}
+use Rattle.apicore.specs.Standing.{History}
 use Rattle.recovery.specs.Written.{IsWritten}
 
 -- At most one history has these payloads.

@@ -2,9 +2,16 @@
 use Rattle.std.specs.Prelude.{◌≡◌, ℕ, List, map}
 use Rattle.std.specs.List.{AllByRecursion}
 use Rattle.names.specs.declared.format.Rules.{Rules}
-use Rattle.apicore.specs.History.{Write, History}
-use Rattle.apicore.specs.View.{IsHistory}
-use Rattle.records.specs.Payload.{payload, IsStorable}
+use Rattle.records.specs.Payload as bytes
+use Rattle.apicore.specs.Standing.{Write, History, IsHistory, recorded}
+
+-- the payload of its record
+abbrev pub payload : Write → List ℕ
+payload w = bytes.payload (recorded w)
+
+-- A record can hold the write.
+abbrev pub IsStorable : Write → Type 0
+IsStorable w = bytes.IsStorable (recorded w)
 
 -- A record can hold each of the writes.
 abbrev pub AllStorable : List Write → Type 0

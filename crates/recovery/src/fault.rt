@@ -1,6 +1,6 @@
 ghost use Rattle.std.specs.Prelude.{◌≡◌};
 
-use apicore::ReplayFault;
+use history::ReplayFault;
 use records::RecordFault;
 use std::alloc::AllocError;
 use std::fmt;

@@ -1,14 +1,16 @@
-ghost use Rattle.std.specs.Prelude.{◌≡◌, map, IfOk, OnOk, IsErrOf};
-ghost use Rattle.apicore.specs.History.{Write, History};
-ghost use Rattle.apicore.specs.View.{view, after, MayFollow};
-ghost use Rattle.records.specs.Payload.{payload, IsStorable};
+ghost use Rattle.std.specs.Prelude.{◌≡◌, List, map, IfOk, OnOk, IsErrOf};
+ghost use Rattle.requests.specs.Codes.{document_in};
+ghost use Rattle.history.specs.History.{put, delete};
+ghost use Rattle.history.specs.View.{view, after, MayFollow};
+ghost use Rattle.apicore.specs.Standing.{Write, History, recorded};
 ghost use Rattle.recovery.specs.declared.fault.RecoveryFault.TheVariants as RecoveryFault;
-ghost use Rattle.recovery.specs.Written.{IsWritten};
+ghost use Rattle.recovery.specs.Written.{payload, IsStorable, IsWritten};
 
 use crate::RecoveryFault;
 use apicore::Core;
-use names::Rules;
+use names::{Key, Rules};
 use records::{StoredWrite, read_write};
+use requests::Manifest;
 use std::alloc::Global;
 
 /// The store that took the writes of a log with these payloads. `Damaged` where no history has them.
@@ -35,8 +37,38 @@ fn replay(alloc: Global, core: &mut Core, bytes: &[u8]) -> Result<(), RecoveryFa
         → (w : Write) → IsStorable w → payload w ≡ bytes.now → MayFollow core.old.rules core.old.view w → ⊥ }
 {
     match read_write(alloc, bytes)? {
-        StoredWrite::Put(manifest) => core.replay_put(alloc, manifest)?,
-        StoredWrite::Delete(key) => core.replay_delete(alloc, &key)?,
+        StoredWrite::Put(manifest, plans) => replay_put(alloc, core, manifest, plans),
+        StoredWrite::Delete(key) => replay_delete(alloc, core, &key),
     }
+}
+
+// Takes a put. No document has plans yet.
+fn replay_put(
+    alloc: Global,
+    core: &mut Core,
+    manifest: Manifest,
+    plans: &[u8],
+) -> Result<(), RecoveryFault>
+    ensures rules { core.new.rules ≡ core.old.rules }
+    ensures taken { OnOk result ((w : Write) × (recorded w ≡ put manifest.key (document_in manifest.body) plans.now)
+        × MayFollow core.old.rules core.old.view w × (core.new.view ≡ after core.old.rules core.old.view w)) }
+    ensures damaged { IsErrOf result RecoveryFault.Damaged
+        → (w : Write) → recorded w ≡ put manifest.key (document_in manifest.body) plans.now → MayFollow core.old.rules core.old.view w → ⊥ }
+{
+    if !plans.is_empty() {
+        return Err(RecoveryFault::Damaged);
+    }
+    core.replay_put(alloc, manifest, ())?;
+    Ok(())
+}
+
+// Takes a deletion.
+fn replay_delete(alloc: Global, core: &mut Core, key: &Key) -> Result<(), RecoveryFault>
+    ensures rules { core.new.rules ≡ core.old.rules }
+    ensures taken { OnOk result (MayFollow core.old.rules core.old.view (delete key.now)
+        × (core.new.view ≡ after core.old.rules core.old.view (delete key.now))) }
+    ensures damaged { IsErrOf result RecoveryFault.Damaged → MayFollow core.old.rules core.old.view (delete key.now) → ⊥ }
+{
+    core.replay_delete(alloc, key)?;
     Ok(())
 }

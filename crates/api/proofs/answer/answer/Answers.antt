@@ -1,6 +1,6 @@
 use Rattle.std.proofs.Common.{sym, subst}
 use Rattle.http.specs.StatusCode.{IsStatusCode}
-use Rattle.apicore.specs.Reply.{Reply}
+use Rattle.history.specs.Reply.{Reply}
 use Rattle.httpmsg.specs.Flow.{TookSome}
 use Rattle.api.specs.Answers.{answered_by}
 use Rattle.api.specs.ReplyBytes.{reply_bytes}

@@ -1,5 +1,5 @@
 use Rattle.std.proofs.Common.{◌≡◌, ◌≤◌, [], take}
-use Rattle.apicore.specs.View.{View}
+use Rattle.apicore.specs.Standing.{View}
 use Rattle.durable.specs.Settled.{device_of, serves, shown}
 use Rattle.api.specs.Answers.{Answers}
 use Rattle.api.proofs.answer.answer_all.Given as goal

@@ -1,5 +1,5 @@
 use Rattle.std.proofs.Common.{◌≡◌, ◌≤◌, ◌<◌, length, take}
-use Rattle.apicore.specs.View.{View}
+use Rattle.apicore.specs.Standing.{View}
 use Rattle.durable.specs.Settled.{device_of, serves, shown}
 use Rattle.api.proofs.Runs.{SoFar}
 use Rattle.api.proofs.connection.serve_pieces.Given as goal

@@ -1,7 +1,7 @@
 use Rattle.std.proofs.Common.{◌≡◌, List, [], ◌∷◌, ◌++◌, map, refl, ap, sym, ◌∙◌, append_assoc}
-use Rattle.apicore.specs.History.{Write}
+use Rattle.apicore.specs.Standing.{Write, View}
 use Rattle.apicore.specs.Step.{writes, reply}
-use Rattle.apicore.specs.View.{View, view, after_all}
+use Rattle.history.specs.View.{view, after_all}
 use Rattle.apicore.proofs.StepLemmas.{runs_are_steps}
 use Rattle.durable.proofs.Answering.{view-after}
 use Rattle.durable.specs.Rules.{first_rules}

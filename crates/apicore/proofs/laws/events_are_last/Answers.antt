@@ -1,6 +1,6 @@
 use Rattle.std.proofs.Common.{arith}
-use Rattle.apicore.specs.View.{empty}
-use Rattle.apicore.proofs.ViewLemmas.{events-after_all}
+use Rattle.history.specs.View.{empty}
+use Rattle.history.proofs.ViewLemmas.{events-after_all}
 use Rattle.apicore.proofs.laws.events_are_last.Goals as goal
 
 pub returns : goal.returns

@@ -1,5 +1,5 @@
-use Rattle.apicore.specs.View.{empty}
-use Rattle.apicore.proofs.ViewLemmas.{stored_at-after_all}
+use Rattle.history.specs.View.{empty}
+use Rattle.history.proofs.ViewLemmas.{stored_at-after_all}
 use Rattle.apicore.proofs.laws.key_has_last_write.Goals as goal
 
 pub returns : goal.returns

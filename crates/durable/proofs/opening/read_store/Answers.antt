@@ -2,8 +2,8 @@ use Rattle.std.proofs.Common.{◌≡◌, ◌∙◌, sym, ap, subst, List, ℕ, m
 use Rattle.gatelog.specs.Log.{HoldsLog}
 use Rattle.checkpoint.specs.Root.{log_start}
 use Rattle.names.specs.declared.format.Rules.{Rules}
-use Rattle.apicore.specs.History.{History}
-use Rattle.apicore.specs.View.{view}
+use Rattle.apicore.specs.Standing.{History}
+use Rattle.history.specs.View.{view}
 use Rattle.recovery.specs.Written.{IsWritten}
 use Rattle.durable.specs.declared.fault.Fault.TheVariants as Fault
 use Rattle.durable.specs.Rules.{first_rules}

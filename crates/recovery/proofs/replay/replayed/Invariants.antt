@@ -1,6 +1,6 @@
 use Rattle.std.proofs.Common.{◌≡◌, map, take}
-use Rattle.apicore.specs.History.{History}
-use Rattle.apicore.specs.View.{view}
+use Rattle.history.specs.View.{view}
+use Rattle.apicore.specs.Standing.{History}
 use Rattle.recovery.specs.Written.{IsWritten}
 use Rattle.recovery.proofs.replay.replayed.Given as goal
 

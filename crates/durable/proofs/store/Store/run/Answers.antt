@@ -2,7 +2,7 @@ use Rattle.std.proofs.Common.{arith, ◌≡◌, ◌∙◌, sym, ap, subst, ◌+�
 use Rattle.std.proofs.lemmas.List.{length-append, length-map, take_all}
 use Rattle.requests.specs.Request.{Request}
 use Rattle.requests.specs.RequestOf.{request_of}
-use Rattle.apicore.specs.Reply.{Reply}
+use Rattle.history.specs.Reply.{Reply}
 use Rattle.apicore.specs.Step.{accepted, replies}
 use Rattle.durable.specs.declared.fault.Fault.{Fault}
 use Rattle.durable.specs.Rules.{first_rules}

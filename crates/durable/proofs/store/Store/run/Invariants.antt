@@ -1,10 +1,9 @@
 use Rattle.std.proofs.Common.{◌≡◌, ◌≤◌, [], length, take, map, true}
 use Rattle.std.specs.Vec.{vec_capacity}
 use Rattle.requests.specs.RequestOf.{request_of}
-use Rattle.apicore.specs.History.{History}
+use Rattle.apicore.specs.Standing.{History, View}
 use Rattle.durable.specs.Rules.{first_rules}
 use Rattle.apicore.specs.Step.{accepted}
-use Rattle.apicore.specs.View.{View}
 use Rattle.durable.specs.Settled.{device_of, serves, ServesAt, IsSettledAt, HasAnswered, HasServed}
 use Rattle.durable.proofs.store.Store.run.Given as goal
 

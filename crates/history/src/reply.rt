@@ -1,0 +1,125 @@
+ghost use Rattle.std.specs.Prelude.{◌≡◌, [], map, string_bytes, IfOk};
+ghost use Rattle.history.specs.Listing.{served};
+ghost use Rattle.history.specs.Reply.{status, showing};
+
+use documents::{Document, shown_document};
+use jsondoc::Doc;
+use requests::Refusal;
+use std::alloc::{AllocError, Global};
+use std::marker::Model;
+
+/// A reply to a request: a status code, warnings and a body.
+#[derive(Drop)]
+pub struct Reply {
+    code: u16,
+    warnings: Vec<String>,
+    body: String,
+}
+
+impl Model for Reply {
+    ghost use Rattle.history.specs.Reply.{Reply as ReplyData};
+
+    ghost Value = { ReplyData };
+
+    ghost use Rattle.std.specs.Prelude.{map, string_bytes};
+
+    ghost view = { λ r. record { code = r.code; warnings = map string_bytes r.warnings.items; body = string_bytes r.body } };
+}
+
+impl Reply {
+    /// The reply that refuses a request: a `Status`.
+    pub fn status(alloc: Global, refusal: Refusal) -> Result<Reply, AllocError>
+        ensures { IfOk result (λ r. r ≡ status refusal) }
+    {
+        let mut document = Doc::empty_object(alloc);
+        document.put(
+            alloc,
+            "status",
+            Doc::from(String::from_str(alloc, "Failure")?),
+        )?;
+        document.put(
+            alloc,
+            "reason",
+            Doc::from(String::from_str(alloc, refusal.reason())?),
+        )?;
+        document.put(
+            alloc,
+            "message",
+            Doc::from(String::from_str(alloc, refusal.message())?),
+        )?;
+        document.put(alloc, "kind", Doc::from(String::from_str(alloc, "Status")?))?;
+        document.put(alloc, "code", Doc::from(refusal.code() as i64))?;
+        document.put(
+            alloc,
+            "apiVersion",
+            Doc::from(String::from_str(alloc, "v1")?),
+        )?;
+        Ok(Reply {
+            code: refusal.code(),
+            warnings: Vec::new(alloc),
+            body: document.text(alloc)?,
+        })
+    }
+
+    /// The body of the reply where memory is wanting. Takes no memory.
+    pub fn out_of_memory_body() -> &'static str
+        ensures { result.now ≡ (status Refusal.OutOfMemory).body }
+    {
+        "{\"apiVersion\":\"v1\",\"code\":503,\"kind\":\"Status\",\"message\":\"out of memory\",\"reason\":\"ServiceUnavailable\",\"status\":\"Failure\"}"
+    }
+
+    /// The body of the reply where the storage failed. Takes no memory.
+    pub fn storage_failed_body() -> &'static str
+        ensures { result.now ≡ (status Refusal.StorageFailed).body }
+    {
+        "{\"apiVersion\":\"v1\",\"code\":500,\"kind\":\"Status\",\"message\":\"storage failed\",\"reason\":\"InternalError\",\"status\":\"Failure\"}"
+    }
+
+    /// The reply that shows an object with the revision of its last write.
+    pub fn showing(
+        alloc: Global,
+        code: u16,
+        document: &Document,
+        revision: u64,
+    ) -> Result<Reply, AllocError>
+        ensures { IfOk result (λ r. r ≡ showing code document.now revision) }
+    {
+        Ok(Reply {
+            code,
+            warnings: Vec::new(alloc),
+            body: shown_document(alloc, document, revision)?.text(alloc)?,
+        })
+    }
+
+    /// The reply with this body to a request that is served.
+    pub fn served(alloc: Global, body: String) -> Reply
+        ensures { result ≡ served (string_bytes body) }
+    {
+        Reply {
+            code: 200,
+            warnings: Vec::new(alloc),
+            body,
+        }
+    }
+
+    /// The status code (RFC 9110 section 15).
+    pub fn code(&self) -> u16
+        ensures { result ≡ self.now.code }
+    {
+        self.code
+    }
+
+    /// The texts of the warnings.
+    pub fn warnings(&self) -> &[String]
+        ensures { map string_bytes result.now ≡ self.now.warnings }
+    {
+        &self.warnings
+    }
+
+    /// The body.
+    pub fn body(&self) -> &str
+        ensures { result.now ≡ self.now.body }
+    {
+        &self.body
+    }
+}
