@@ -2,6 +2,7 @@
 
 use crate::device_lines::{call, counts, crash, firsts, sector, tries};
 use crate::log_lines::LogLines;
+use crate::other_devices::{file_after_crash, remembered};
 use crate::record_lines::{answered, cuts, damage_word, reads, replay};
 use crate::root_lines::{log_start, new_store, root, write_sector};
 use cases::{Wrong, compare, first_word, number, shown, text};
@@ -118,6 +119,8 @@ fn of_records(alloc: Global, word: &str, rest: &str) -> Result<String, Wrong> {
         "replay" => replay(alloc, rest),
         "answered" => answered(alloc, rest),
         "told" => damage_word(alloc, rest),
+        "file-after-crash" => file_after_crash(alloc, rest),
+        "remembered" => remembered(alloc, rest),
         _ => Err(Wrong::Told("no such line")),
     }
 }

@@ -12,6 +12,7 @@ mod bench;
 mod device_lines;
 mod file_devices;
 mod log_lines;
+mod other_devices;
 mod payloads;
 mod record_lines;
 mod root_lines;
