@@ -1,297 +1,186 @@
-//! What a case stands on, and what was sent to it and answered by it.
+//! What a case stands on, what was sent to it, and the lines by their words.
 
-use crate::answer::Answer;
-use crate::asks::asked;
-use crate::connections::serve_bytes;
-use crate::messages::{cut_text, pieces};
-use crate::parse::{first_word, number, rules, two_numbers};
-use crate::place::{Place, created, open_on};
-use crate::requested::message_text;
+use crate::device_lines::{crash, of_the_device};
+use crate::place::Place;
+use crate::refusals::{at_hand, fault, status};
+use crate::replies::{message, short, spelled_out};
 use crate::stops::stops;
 use crate::streams::{cuts, readers, writers};
 use crate::view::View;
-use crate::wrong::{Wrong, wanted};
-use names::{Format, Rules};
+use cases::{TextBuilder, Wrong, compare, first_word, number, shown, text, wanted};
 use std::alloc::Global;
 
 const ROOM_SECTORS: u64 = 64;
 
-/// What a case stands on, and what was sent to it and answered by it.
+/// What a case stands on, and what was sent to it.
 #[derive(Drop)]
 pub struct Bench {
-    // none only where a line failed in mid-air
-    pub(crate) place: Option<Place>,
-    // what was sent since the last answer
-    sent: Vec<u8>,
-    answer: Answer,
+    place: Place,
+    // what was sent and is not answered yet
+    sent: String,
+    // what of the last answer is not compared yet
+    rest: String,
     // what was sent since the case began, and of that the connections that ask for a write
-    all_sent: Vec<u8>,
-    writes: Vec<Vec<u8>>,
+    all_sent: String,
+    writes: Vec<String>,
 }
 
-fn is_method(word: &str) -> bool {
-    matches!(
-        word,
-        "GET" | "HEAD" | "POST" | "PUT" | "DELETE" | "PATCH" | "OPTIONS" | "get"
-    )
-}
-
-impl Bench {
-    /// A new store, opened.
-    pub fn new(alloc: Global) -> Result<Bench, Wrong> {
-        let (place, word) = open_on(alloc, created(alloc, ROOM_SECTORS)?);
-        wanted(word == "ok", "a new store cannot be opened")?;
+impl cases::Bench for Bench {
+    // A new store, opened.
+    fn new(alloc: Global, _file: &str) -> Result<Bench, Wrong> {
         Ok(Bench {
-            place: Some(place),
-            sent: Vec::new(alloc),
-            answer: Answer::none(alloc),
-            all_sent: Vec::new(alloc),
+            place: Place::new(alloc, ROOM_SECTORS)?,
+            sent: String::new(alloc),
+            rest: String::new(alloc),
+            all_sent: String::new(alloc),
             writes: Vec::new(alloc),
         })
     }
 
-    /// What was written last, for a report.
-    pub fn written(&self) -> &[u8] {
-        self.answer.written()
-    }
-
-    fn send(&mut self, bytes: &[u8]) -> Result<(), Wrong> {
-        self.answer.settle()?;
-        self.sent.extend_from_slice(bytes)?;
-        self.all_sent.extend_from_slice(bytes)?;
-        Ok(())
-    }
-
-    fn send_times(&mut self, alloc: Global, text: &str, line_end: &str) -> Result<(), Wrong> {
-        let (count, text) = first_word(text);
-        let line = format!(in alloc; "{text}{line_end}")?;
-        for _ in 0..number(count)? {
-            self.send(line.as_bytes())?;
-        }
-        Ok(())
-    }
-
-    /// Answers what was sent and not answered yet.
-    pub fn serve(&mut self, alloc: Global) -> Result<(), Wrong> {
-        if self.sent.is_empty() {
-            return Ok(());
-        }
-        let (end, written) = match &mut self.place {
-            Some(Place::Open(store)) => serve_bytes(alloc, store, &self.sent)?,
-            Some(Place::View(view)) => view.serve(alloc, &self.sent)?,
-            _ => return Err(Wrong::Told("the store is not open")),
-        };
-        if !self.sent.starts_with(b"GET ") {
-            self.writes.push(Vec::from_slice(alloc, &self.sent)?)?;
-        }
-        self.sent.clear();
-        self.answer = Answer::new(written, end);
-        Ok(())
-    }
-
-    /// Answers what was sent, and asks that each answer was compared.
-    pub fn settle(&mut self, alloc: Global) -> Result<(), Wrong> {
-        self.serve(alloc)?;
-        self.answer.settle()
-    }
-
-    fn request(&mut self, alloc: Global, method: &str, rest: &str) -> Result<(), Wrong> {
-        let (target, body) = first_word(rest);
-        self.settle(alloc)?;
-        let message = message_text(alloc, method, target, body)?;
-        self.send(message.as_bytes())?;
-        self.serve(alloc)
-    }
-
-    // So many connections, each with this message, in which `%` stands for its number.
-    fn times(&mut self, alloc: Global, rest: &str) -> Result<(), Wrong> {
-        let (count, message) = first_word(rest);
-        for number in 1..=number(count)? {
-            let number = format!(in alloc; "{number}")?;
-            let message = message.replace(alloc, "%", number.as_str())?;
-            let (method, rest) = first_word(&message);
-            self.request(alloc, method, rest)?;
-            wanted(self.answer.is_taken(), "one of them was refused")?;
-            self.answer.pass();
-        }
-        Ok(())
-    }
-
-    fn stand_on_view(&mut self, alloc: Global, rules: Rules) -> Result<(), Wrong> {
-        self.settle(alloc)?;
-        self.place = Some(Place::View(View::new(alloc, rules)?));
-        Ok(())
-    }
-
-    fn view(&mut self, alloc: Global) -> Result<&mut View, Wrong> {
-        self.settle(alloc)?;
-        match &mut self.place {
-            Some(Place::View(view)) => Ok(view),
-            _ => Err(Wrong::Told("the case stands on no view")),
+    // A part of an exchange, or `QUESTION => ANSWER`, where no answer wants `ok`.
+    fn line(&mut self, alloc: Global, line: &str) -> Result<u64, Wrong> {
+        let (word, rest) = first_word(line);
+        match word {
+            ">" => self.send(rest, "\r\n"),
+            ">|" => self.send(rest, ""),
+            ">>" => self.send(message(alloc, rest)?.as_str(), ""),
+            "<" => self.next(alloc, rest, "\r\n"),
+            "<|" => self.next(alloc, rest, ""),
+            "<n" => self.next(alloc, "", "\n"),
+            "ends" => self.next(alloc, line, ""),
+            _ => self.row(alloc, line),
         }
     }
 
-    fn prepare(&mut self, alloc: Global, rest: &str) -> Result<(), Wrong> {
-        let (method, rest) = first_word(rest);
-        let (target, body) = first_word(rest);
-        let text = self.view(alloc)?.prepare(alloc, method, target, body)?;
-        self.answer = Answer::of(alloc, text.as_str())?;
-        Ok(())
+    fn end(&mut self, _alloc: Global) -> Result<u64, Wrong> {
+        self.settle()?;
+        Ok(0)
     }
+}
 
-    fn replay(&mut self, alloc: Global, rest: &str) -> Result<(), Wrong> {
-        let (method, rest) = first_word(rest);
-        let (target, body) = first_word(rest);
-        let word = self.view(alloc)?.replay(alloc, method, target, body)?;
-        self.answer = Answer::of(alloc, word)?;
-        Ok(())
-    }
-
-    fn counts(&mut self, alloc: Global, rest: &str) -> Result<(), Wrong> {
-        let numbers = two_numbers(rest)?;
-        let found = self.view(alloc)?.counts();
+impl Bench {
+    // Asks that all that was sent is answered, and all of the answer compared.
+    fn settle(&self) -> Result<(), Wrong> {
+        wanted(self.sent.is_empty(), "what was sent is not answered")?;
         wanted(
-            found == numbers,
-            "the view has another revision or number of objects",
+            self.rest.is_empty(),
+            "more was written than the lines before tell",
         )
     }
 
-    fn rules(&mut self, alloc: Global) -> Result<(), Wrong> {
-        let text = self.view(alloc)?.rules(alloc)?;
-        self.answer = Answer::of(alloc, text.as_str())?;
-        Ok(())
+    fn send(&mut self, text: &str, line_end: &str) -> Result<u64, Wrong> {
+        wanted(
+            self.rest.is_empty(),
+            "more was written than the lines before tell",
+        )?;
+        self.sent.push_str(text)?;
+        self.sent.push_str(line_end)?;
+        Ok(0)
     }
 
-    fn ask(&mut self, alloc: Global, word: &str, rest: &str) -> Result<(), Wrong> {
-        self.settle(alloc)?;
-        self.answer = asked(alloc, word, rest)?;
-        Ok(())
+    // Serves a connection: what is written, and how it ends.
+    fn serve(&mut self, alloc: Global, sent: &str) -> Result<String, Wrong> {
+        self.all_sent.push_str(sent)?;
+        if !sent.starts_with("GET ") {
+            self.writes.push(text(alloc, sent)?)?;
+        }
+        self.place.serve(alloc, sent)
     }
 
-    // The messages of what was sent since the last answer.
-    fn cut(&mut self, alloc: Global) -> Result<(), Wrong> {
-        self.answer.settle()?;
-        let text = cut_text(alloc, &[self.sent.as_slice()])?;
-        self.sent.clear();
-        self.answer = Answer::of(alloc, text.as_str())?;
-        Ok(())
-    }
-
-    fn pieces(&mut self, alloc: Global) -> Result<(), Wrong> {
-        self.settle(alloc)?;
-        pieces(alloc, &self.all_sent)
-    }
-
-    fn readers(&mut self, alloc: Global, rest: &str) -> Result<(), Wrong> {
-        let (first, last) = two_numbers(rest)?;
-        self.settle(alloc)?;
-        let (end, written) = readers(alloc, &self.all_sent, first, last)?;
-        self.answer = Answer::new(written, end);
-        Ok(())
-    }
-
-    fn writers(&mut self, alloc: Global) -> Result<(), Wrong> {
-        self.settle(alloc)?;
-        writers(alloc, &self.all_sent, self.answer.written())
-    }
-
-    fn stops(&mut self, alloc: Global, rest: &str) -> Result<(), Wrong> {
-        let (first, last) = two_numbers(rest)?;
-        self.settle(alloc)?;
-        stops(alloc, &self.writes, first, last)
-    }
-
-    fn length(&mut self, rest: &str) -> Result<(), Wrong> {
-        let found = self.sent.len() as u64;
-        wanted(found == number(rest)?, "another number of bytes was sent")
-    }
-
-    // Lines that send bytes.
-    fn send_line(&mut self, alloc: Global, word: &str, rest: &str) -> Result<(), Wrong> {
-        match word {
-            ">" => {
-                self.send(rest.as_bytes())?;
-                self.send(b"\r\n")
+    // Compares what was written next.
+    fn next(&mut self, alloc: Global, text: &str, line_end: &str) -> Result<u64, Wrong> {
+        if !self.sent.is_empty() {
+            let sent = std::mem::replace(&mut self.sent, String::new(alloc));
+            self.rest = self.serve(alloc, sent.as_str())?;
+        }
+        let behind = match self.rest.strip_prefix(text) {
+            Some(rest) => rest.strip_prefix(line_end),
+            None => None,
+        };
+        match behind {
+            Some(behind) => {
+                self.rest = cases::text(alloc, behind)?;
+                Ok(1)
             }
-            ">|" => self.send(rest.as_bytes()),
-            ">*" => self.send_times(alloc, rest, "\r\n"),
-            ">|*" => self.send_times(alloc, rest, ""),
-            "sent" => self.length(rest),
+            None => Err(Wrong::Found(self.rest.clone()?)),
+        }
+    }
+
+    fn row(&mut self, alloc: Global, line: &str) -> Result<u64, Wrong> {
+        self.settle()?;
+        let (question, wanted) = line.split_once(" => ").unwrap_or((line, "ok"));
+        let found = self.answer(alloc, question)?;
+        let wanted = spelled_out(alloc, wanted)?;
+        compare(alloc, found.as_str(), wanted.as_str())?;
+        Ok(1)
+    }
+
+    // Sends one message, and gives its reply.
+    fn request(&mut self, alloc: Global, question: &str) -> Result<String, Wrong> {
+        let sent = message(alloc, question)?;
+        let answer = self.serve(alloc, sent.as_str())?;
+        short(alloc, answer.as_str())
+    }
+
+    // `times N METHOD ..`: so many connections, each with this message, in which `%` stands for its number; the last reply.
+    fn times(&mut self, alloc: Global, rest: &str) -> Result<String, Wrong> {
+        let (count, question) = first_word(rest);
+        let mut reply = String::new(alloc);
+        for number in 1..=number(count)? {
+            let question = question.replace(alloc, "%", shown(alloc, &number)?.as_str())?;
+            reply = self.request(alloc, question.as_str())?;
+            wanted(reply.starts_with("20"), "one of them is refused")?;
+        }
+        Ok(reply)
+    }
+
+    // `lines METHOD ..`: the code of the reply, and the number of line feeds in its body.
+    fn lines(&mut self, alloc: Global, question: &str) -> Result<String, Wrong> {
+        let reply = self.request(alloc, question)?;
+        let mut line = TextBuilder::new(alloc);
+        line.push(first_word(reply.as_str()).0);
+        line.word("");
+        line.show(&reply.matches("\n").count());
+        line.end()
+    }
+
+    fn answer(&mut self, alloc: Global, question: &str) -> Result<String, Wrong> {
+        let (word, rest) = first_word(question);
+        match word {
+            "GET" | "POST" | "PUT" | "DELETE" | "PATCH" => self.request(alloc, question),
             "times" => self.times(alloc, rest),
-            "cut" => self.cut(alloc),
-            _ if is_method(word) => self.request(alloc, word, rest),
-            _ => self.device_line(alloc, word, rest),
+            "lines" => self.lines(alloc, rest),
+            "sent" => shown(alloc, &self.all_sent.len()),
+            "cuts" => cuts(alloc, self.all_sent.as_str()),
+            "writers" => writers(alloc, self.all_sent.as_str()),
+            _ => self.of_the_streams(alloc, word, rest),
         }
     }
 
-    fn next_times(&mut self, text: &str) -> Result<(), Wrong> {
-        let (count, text) = first_word(text);
-        for _ in 0..number(count)? {
-            self.answer.next(text, "")?;
-        }
-        Ok(())
-    }
-
-    // Lines that compare an answer.
-    fn compare_line(&mut self, alloc: Global, word: &str, rest: &str) -> Result<(), Wrong> {
-        self.serve(alloc)?;
-        let (first, second) = first_word(rest);
+    fn of_the_streams(&mut self, alloc: Global, word: &str, rest: &str) -> Result<String, Wrong> {
         match word {
-            "=" => self.answer.reply(alloc, first, second),
-            "empty" => self.answer.empty(alloc, first),
-            "~" => self.answer.part(alloc, first, second),
-            "!" => self.answer.lacks(rest),
-            "lines" => self.answer.lines(alloc, number(rest)?),
-            "refused" => self.answer.refused(alloc, rest),
-            "<" => self.answer.next(rest, "\r\n"),
-            "<|" => self.answer.next(rest, ""),
-            "<|*" => self.next_times(rest),
-            "<n" => self.answer.next("\n", ""),
-            "is" => self.answer.is(rest),
-            "size" => self.answer.size(number(rest)?),
-            _ => self.answer.ends(rest),
-        }
-    }
-
-    /// Lines that ask a view, a stream or a crate.
-    pub fn ask_line(&mut self, alloc: Global, word: &str, rest: &str) -> Result<(), Wrong> {
-        match word {
-            "view" => self.stand_on_view(alloc, Format::First.rules()),
-            "limits" => self.stand_on_view(alloc, rules(rest)?),
-            "prepare" => self.prepare(alloc, rest),
-            "replay" => self.replay(alloc, rest),
-            "counts" => self.counts(alloc, rest),
-            "rules" => self.rules(alloc),
-            "pieces" => self.pieces(alloc),
-            "readers" => self.readers(alloc, rest),
-            "writers" => self.writers(alloc),
-            "stops" => self.stops(alloc, rest),
-            "cuts" => {
-                self.settle(alloc)?;
-                cuts(alloc, &self.all_sent)
+            "readers" => readers(alloc, self.all_sent.as_str(), rest),
+            "stops" => stops(alloc, self.writes.as_slice(), rest),
+            "status" => status(alloc, rest),
+            "at-hand" => at_hand(alloc, rest),
+            "fault" => fault(alloc, rest),
+            "view" => {
+                self.place = Place::View(View::new(alloc, rest)?);
+                text(alloc, "ok")
             }
-            _ => self.ask(alloc, word, rest),
+            _ => of_the_place(alloc, &mut self.place, word, rest),
         }
     }
+}
 
-    /// Does what a line says, or says why it fails.
-    pub fn step(&mut self, alloc: Global, line: &str) -> Result<(), Wrong> {
-        let (word, rest) = first_word(line);
-        match word {
-            "="
-            | "empty"
-            | "~"
-            | "!"
-            | "lines"
-            | "refused"
-            | "<"
-            | "<|"
-            | "<|*"
-            | "<n"
-            | "is"
-            | "size"
-            | "ends" => self.compare_line(alloc, word, rest),
-            _ => self.send_line(alloc, word, rest),
-        }
+fn of_the_place(alloc: Global, place: &mut Place, word: &str, rest: &str) -> Result<String, Wrong> {
+    match word {
+        "open" => place.open(alloc),
+        "settled" => place.settled(alloc),
+        "crash" => crash(alloc, place, rest),
+        _ => match place {
+            Place::View(view) => view.answer(alloc, word, rest),
+            _ => of_the_device(alloc, place.device()?, word, rest),
+        },
     }
 }

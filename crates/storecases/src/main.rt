@@ -1,43 +1,42 @@
-//! Runs the cases of the store and the server: text files of what is asked and the answers that are wanted, of failures, crashes and
-//! openings.
+//! Runs the cases of the store and the server: requests and the replies that are wanted, failures, crashes and openings, in the
+//! files of its folder `data`, whose `README.md` tells their lines.
 //!
 //! ```text
-//! storecases                    the files *.case of the current folder
-//! storecases serving.case ..    these files
+//! storecases FILE ..      with no FILE, every file of the current folder but those that end in .md
 //! ```
 //!
-//! Each case that fails is told by its file, line and reason; `data/README.md` tells what the lines say. The status is 0 where each
-//! case passed and there was one.
+//! Each line whose answer is another is told by its file and line. The status is 0 where each answer is as wanted and there was one.
 #![tactic(auto)]
 
-mod answer;
-mod asks;
 mod bench;
-mod connections;
-mod device_steps;
-mod fault_names;
-mod laws;
-mod messages;
-mod parse;
+mod device_lines;
 mod place;
+mod refusals;
 mod replies;
-mod report;
-mod requested;
-mod responses;
 mod stops;
 mod streams;
 mod view;
-mod wrong;
 
-use crate::laws::laws;
-use crate::report::{Report, run_files};
+use crate::bench::Bench;
+use api::answers_are_runs;
+use apicore::{
+    events_are_last, key_has_last_write, objects_ascend, revision_counts, runs_are_steps,
+    view_decides, writes_follow,
+};
+use cases::run_files;
 use std::process::ExitCode;
 
 fn main(rt: HostRuntime) -> ExitCode {
-    laws();
-    match run_files(&rt, rt.alloc()) {
-        Ok(Report { passed, failed: 0 }) if passed > 0 => ExitCode::SUCCESS,
-        Ok(_) => ExitCode::FAILURE,
-        Err(_) => ExitCode::from(2),
-    }
+    revision_counts();
+    key_has_last_write();
+    events_are_last();
+    objects_ascend();
+    writes_follow();
+    runs_are_steps();
+    view_decides();
+    durable::one_view();
+    recovery::one_history();
+    records::payload_has_one_write();
+    answers_are_runs();
+    run_files::<Bench, _>(&rt, rt.alloc())
 }

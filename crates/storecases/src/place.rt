@@ -1,14 +1,14 @@
-//! What a case stands on: a store on a device in memory, its device alone, or a view without one.
+//! What a case stands on: a store on a device in memory, its device alone, or a view without one. The calls of a store stand here.
 
-use crate::parse::byte;
+use crate::replies::with_end;
 use crate::view::View;
-use crate::wrong::Wrong;
-use device::{Device, DeviceFault, MemDevice};
-use durable::{CreateFault, Damage, Fault, Store, create};
-use gatelog::{Body, Log, LogFault};
+use api::{ServeFault, serve};
+use cases::{Wrong, shown, text, wanted, yes_or_no};
+use device::{MemDevice, Pick};
+use durable::{CreateFault, Store, create};
+use httpmsg::{End, Input, Output, Std};
+use requests::Request;
 use std::alloc::Global;
-
-const LOG_START: u64 = 8;
 
 /// What a case stands on.
 #[derive(Drop)]
@@ -19,116 +19,127 @@ pub enum Place {
     Shut(MemDevice),
     /// A view without a device.
     View(View),
+    /// Nothing, where a line failed.
+    Nothing,
 }
 
-/// The word of what a store's content is not.
-fn word_of_damage(damage: Damage) -> &'static str {
-    match damage {
-        Damage::Header => "header",
-        Damage::Root => "root",
-        Damage::Log => "log",
-    }
-}
-
-fn word_of_fault(fault: Fault) -> &'static str {
-    match fault {
-        Fault::Device => "device",
-        Fault::Memory => "memory",
-        Fault::Damaged(damage) => word_of_damage(damage),
-        Fault::Failed => "failed",
-    }
-}
-
-/// Opens the store on a device, and says how that went.
-pub fn open_on(alloc: Global, device: MemDevice) -> (Place, &'static str) {
-    match Store::open(alloc, device) {
-        Ok(store) => (Place::Open(store), "ok"),
-        Err((fault, device)) => (Place::Shut(device), word_of_fault(fault)),
-    }
-}
-
-/// Makes a store on a device, and says how that went.
-pub fn create_on(alloc: Global, device: &mut MemDevice) -> &'static str {
-    match create(alloc, device) {
-        Ok(()) => "ok",
-        Err(CreateFault::Device) => "device",
-        Err(CreateFault::Memory) => "memory",
-        Err(CreateFault::NotEmpty) => "not empty",
-    }
+/// Makes a store on a device.
+pub fn create_on(alloc: Global, device: &mut MemDevice) -> Result<(), CreateFault> {
+    create(alloc, device)
 }
 
 /// A device with a new store.
 pub fn created(alloc: Global, room_sectors: u64) -> Result<MemDevice, Wrong> {
     let mut device = MemDevice::new(alloc, room_sectors)?;
-    match create_on(alloc, &mut device) {
-        "ok" => Ok(device),
-        _ => Err(Wrong::Told("no store can be made")),
+    let done = create_on(alloc, &mut device);
+    wanted(done.is_ok(), "no store can be made")?;
+    Ok(device)
+}
+
+/// The store of a device, or the device.
+pub fn opened(alloc: Global, device: MemDevice) -> Place {
+    match Store::open(alloc, device) {
+        Ok(store) => Place::Open(store),
+        Err((_, device)) => Place::Shut(device),
     }
 }
 
-/// A new store, opened.
-pub fn new_store(alloc: Global, room_sectors: u64) -> Result<Store<MemDevice>, Wrong> {
-    match open_on(alloc, created(alloc, room_sectors)?) {
-        (Place::Open(store), _) => Ok(store),
-        _ => Err(Wrong::Told("a new store cannot be opened")),
+/// Serves a connection, and gives how it ended.
+pub fn serve_on<I: Input, O: Output>(
+    alloc: Global,
+    store: &mut Store<MemDevice>,
+    input: &mut I,
+    output: &mut O,
+) -> Result<End, ServeFault> {
+    serve(alloc, input, output, store)
+}
+
+/// Serves a connection, and gives what was written, with its end behind it.
+pub fn served<I: Input>(
+    alloc: Global,
+    store: &mut Store<MemDevice>,
+    input: &mut I,
+) -> Result<String, Wrong> {
+    let mut output = Std::new(Vec::new(alloc));
+    let end = serve_on(alloc, store, input, &mut output);
+    with_end(alloc, &output.into_inner(), end)
+}
+
+/// Runs requests, of which each that is answered is taken: how many are.
+pub fn run(
+    alloc: Global,
+    store: &mut Store<MemDevice>,
+    requests: &[Request],
+) -> Result<usize, Wrong> {
+    let (replies, _) = store.run(alloc, requests);
+    for reply in replies.iter() {
+        wanted(reply.code() < 202, "a write is refused")?;
     }
+    Ok(replies.len())
 }
 
-/// Overwrites a sector with a byte throughout, if it is there.
-pub fn put(device: &mut MemDevice, at: u64, with: u8) -> Result<(), DeviceFault> {
-    if at >= device.len()? {
-        return Err(DeviceFault);
+impl Place {
+    /// A new store, opened.
+    pub fn new(alloc: Global, room_sectors: u64) -> Result<Place, Wrong> {
+        Ok(opened(alloc, created(alloc, room_sectors)?))
     }
-    device.write(at, &[with; 512])
-}
 
-/// Writes a byte throughout the first nine sectors, by one call.
-pub fn noise(device: &mut MemDevice, with: u8) -> Result<(), DeviceFault> {
-    device.write(0, &[with; 4608])
-}
-
-/// A sector, if it is there.
-pub fn sector(device: &mut MemDevice, at: u64) -> Result<[u8; 512], DeviceFault> {
-    let mut buffer = [0; 512];
-    if at >= device.len()? {
-        return Err(DeviceFault);
-    }
-    device.read(at, &mut buffer)?;
-    Ok(buffer)
-}
-
-/// Whether a sector has these first bytes, and zeros behind them.
-pub fn has_bytes(sector: &[u8; 512], hex: &str) -> Result<bool, Wrong> {
-    let mut seen = 0;
-    for word in hex.split_whitespace() {
-        match sector.get(seen) {
-            Some(found) if *found == byte(word)? => seen += 1,
-            _ => return Ok(false),
+    /// The store that is open.
+    pub fn store(&mut self) -> Result<&mut Store<MemDevice>, Wrong> {
+        match self {
+            Place::Open(store) => Ok(store),
+            _ => Err(Wrong::Told("the store is not open")),
         }
     }
-    match sector.get(seen..) {
-        Some(rest) => Ok(is_filled(rest, 0)),
-        None => Ok(false),
-    }
-}
 
-/// Whether bytes are this one throughout.
-pub fn is_filled(bytes: &[u8], with: u8) -> bool {
-    for byte in bytes {
-        if *byte != with {
-            return false;
+    /// Serves a connection, and gives what was written, with its end behind it.
+    pub fn serve(&mut self, alloc: Global, sent: &str) -> Result<String, Wrong> {
+        match self {
+            Place::View(view) => view.serve(alloc, sent),
+            _ => served(alloc, self.store()?, &mut Std::new(sent.as_bytes())),
         }
     }
-    true
-}
 
-/// Appends a record with this payload to the log of a store.
-pub fn append(alloc: Global, device: &mut MemDevice, payload: &[u8]) -> Result<(), LogFault> {
-    let mut body = Body::new(alloc)?;
-    body.extend(payload)?;
-    let mut log = Log::open(device, LOG_START)?;
-    if log.last_gate() >= device.len()? {
-        return Err(LogFault::Damaged);
+    // The device, which is taken away.
+    fn taken(&mut self) -> Result<MemDevice, Wrong> {
+        match std::mem::replace(self, Place::Nothing) {
+            Place::Open(store) => Ok(store.into_device()),
+            Place::Shut(device) => Ok(device),
+            _ => Err(Wrong::Told("there is no device")),
+        }
     }
-    log.append(device, body)
+
+    /// The device, with the store shut.
+    pub fn device(&mut self) -> Result<&mut MemDevice, Wrong> {
+        *self = Place::Shut(self.taken()?);
+        match self {
+            Place::Shut(device) => Ok(device),
+            _ => Err(Wrong::Told("there is no device")),
+        }
+    }
+
+    /// The machine stops: the device that is left by these picks, with this length.
+    pub fn crash(&mut self, picks: &[Pick], length: u64) -> Result<(), Wrong> {
+        *self = Place::Shut(self.taken()?.crash(picks, length));
+        Ok(())
+    }
+
+    /// `open`: opens the store of the device.
+    pub fn open(&mut self, alloc: Global) -> Result<String, Wrong> {
+        match Store::open(alloc, self.taken()?) {
+            Ok(store) => {
+                *self = Place::Open(store);
+                text(alloc, "ok")
+            }
+            Err((fault, device)) => {
+                *self = Place::Shut(device);
+                shown(alloc, &fault)
+            }
+        }
+    }
+
+    /// `settled`: whether the open store serves on, and all that it acknowledged stands on the device.
+    pub fn settled(&mut self, alloc: Global) -> Result<String, Wrong> {
+        yes_or_no(alloc, self.store()?.settled())
+    }
 }

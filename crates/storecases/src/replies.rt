@@ -1,79 +1,106 @@
-//! Messages answered by a view, as a connection answers them.
+//! Messages and replies, as lines have them.
 
-use crate::messages::broken_text;
-use crate::responses::{Parts, write_response};
-use crate::wrong::{Wrong, wanted};
-use apicore::{Core, Reply};
-use http::StatusCode;
-use httpmsg::{CutFault, Cutter, Message, Std};
-use requests::Request;
-use routes::{Routes, route};
+use crate::refusals::fault_word;
+use api::ServeFault;
+use cases::{TextBuilder, WordReader, Wrong, text};
+use httpmsg::End;
 use std::alloc::Global;
 
-// The reply to a request, which is taken.
-fn reply(alloc: Global, core: &mut Core, request: &Request) -> Result<Reply, Wrong> {
-    let prepared = core.prepare(alloc, request)?;
-    Ok(core.take(prepared))
-}
-
-fn texts(alloc: Global, texts: &[String]) -> Result<Vec<String>, Wrong> {
-    let mut copies = Vec::new(alloc);
-    for text in texts {
-        copies.push(String::from_str(alloc, text.as_str())?)?;
+/// The bytes of `METHOD TARGET [BODY]`, with one `Host`, and with the length of the body where there is one.
+pub fn message(alloc: Global, text: &str) -> Result<String, Wrong> {
+    let mut words = WordReader::new(text);
+    let mut line = TextBuilder::new(alloc);
+    line.word(words.word());
+    line.word(words.word());
+    line.push(" HTTP/1.1\r\nHost: x\r\n");
+    let body = words.rest();
+    if !body.is_empty() {
+        line.push("Content-Length: ");
+        line.show(&body.len());
+        line.push("\r\n");
     }
-    Ok(copies)
+    line.push("\r\n");
+    line.push(body);
+    line.end()
 }
 
-// What the reply to a message is built from.
-fn parts_of(
+fn serving_word(fault: ServeFault) -> &'static str {
+    match fault {
+        ServeFault::Read => "read",
+        ServeFault::Write => "write",
+        ServeFault::Device => "device",
+        ServeFault::Memory => "memory",
+        ServeFault::Damaged(_) => "damaged",
+        ServeFault::Failed => "failed",
+    }
+}
+
+/// What was written, with its end behind it: `ends WORD`.
+pub fn with_end(
     alloc: Global,
-    message: &Message,
-    reply: &Reply,
-    allow: Option<&str>,
-) -> Result<Parts, Wrong> {
-    let Ok(status) = StatusCode::from_u16(reply.code()) else {
-        return Err(Wrong::Told("no status has this code"));
-    };
-    Ok(Parts {
-        status,
-        body: String::from_str(alloc, reply.body())?,
-        allow: match allow {
-            Some(methods) => Some(String::from_str(alloc, methods)?),
-            None => None,
-        },
-        warnings: texts(alloc, reply.warnings())?,
-        closes: message.closes(),
-        without_body: message.method().is_head(),
-    })
+    written: &[u8],
+    end: Result<End, ServeFault>,
+) -> Result<String, Wrong> {
+    let mut line = TextBuilder::new(alloc);
+    line.push(str::from_utf8(written).unwrap_or("no text"));
+    line.push("ends ");
+    match end {
+        Ok(End::Clean) => line.push("clean"),
+        Ok(End::Closed) => line.push("closed"),
+        Ok(End::Broken(broken)) => {
+            line.push("broken ");
+            line.push(fault_word(broken.fault));
+            line.push(if broken.is_head { " head" } else { "" });
+        }
+        Err(fault) => line.push(serving_word(fault)),
+    }
+    line.end()
 }
 
-/// Answers messages, one after another.
-pub fn serve_messages(
-    alloc: Global,
-    routes: &Routes,
-    messages: &[Message],
-    core: &mut Core,
-    output: &mut Std<Vec<u8>>,
-) -> Result<(), Wrong> {
-    for message in messages {
-        let routed = route(alloc, routes, message)?;
-        let reply = reply(alloc, core, &routed.request)?;
-        let parts = parts_of(alloc, message, &reply, routed.allow)?;
-        let done = write_response(&parts, output);
-        wanted(done.is_ok(), "a reply could not be written")?;
+/// One reply, whose head tells the length of its body, as `CODE BODY`, with its end behind it where that is not `clean`. Anything
+/// else as it is.
+pub fn short(alloc: Global, answer: &str) -> Result<String, Wrong> {
+    let (written, end) = answer.rsplit_once("ends ").unwrap_or((answer, ""));
+    let (head, body) = written.split_once("\r\n\r\n").unwrap_or(("", ""));
+    let mut field = TextBuilder::new(alloc);
+    field.push("\r\nContent-Length: ");
+    field.show(&body.len());
+    field.push("\r\n");
+    let field = field.end()?;
+    if !head.starts_with("HTTP/1.1 ") || !written.contains(field.as_str()) {
+        return text(alloc, answer);
     }
-    Ok(())
+    let mut words = WordReader::new(head);
+    words.word();
+    let mut line = TextBuilder::new(alloc);
+    line.push(words.word());
+    line.word(body);
+    if end != "clean" {
+        line.word("ends");
+        line.word(end);
+    }
+    line.end()
 }
 
-/// How a stream ends that was fed to a cutter.
-pub fn end_of_stream(alloc: Global, mut cutter: Cutter) -> Result<String, Wrong> {
-    if let Err(CutFault::Memory) = cutter.feed(alloc, b"") {
-        return Err(Wrong::Memory);
+/// What a line wants: `refused CODE REASON MESSAGE` stands for the reply whose body is the `Status` of these.
+pub fn spelled_out(alloc: Global, wanted: &str) -> Result<String, Wrong> {
+    let mut words = WordReader::new(wanted);
+    if words.word() != "refused" {
+        return text(alloc, wanted);
     }
-    let closed = cutter.has_closed();
-    match cutter.finish() {
-        Ok(()) if closed => Ok(String::from_str(alloc, "closed")?),
-        Ok(()) => Ok(String::from_str(alloc, "clean")?),
-        Err(broken) => broken_text(alloc, broken),
+    let (code, reason) = (words.word(), words.word());
+    let mut line = TextBuilder::new(alloc);
+    for piece in [
+        code,
+        " {\"apiVersion\":\"v1\",\"code\":",
+        code,
+        ",\"kind\":\"Status\",\"message\":\"",
+        words.rest(),
+        "\",\"reason\":\"",
+        reason,
+        "\",\"status\":\"Failure\"}",
+    ] {
+        line.push(piece);
     }
+    line.end()
 }

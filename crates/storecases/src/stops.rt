@@ -1,17 +1,17 @@
 //! Writes that are stopped at a call of the device, and the crash that follows.
 
-use crate::connections::serve_bytes;
-use crate::place::{Place, created, open_on};
-use crate::requested::first_request;
-use crate::wrong::{Wrong, wanted};
+use crate::place::{Place, created, opened, run, served};
+use crate::view::first_request;
+use cases::{WordReader, Wrong, shown, wanted};
 use device::{MemDevice, Pick};
 use durable::Store;
-use requests::Request;
+use httpmsg::Std;
+use routes::Routes;
 use std::alloc::Global;
 
 const ROOM_SECTORS: u64 = 24;
 
-const LIST: &[u8] = b"GET /api/v1/configmaps HTTP/1.1\r\nHost: x\r\n\r\n";
+const LIST: &str = "GET /api/v1/configmaps HTTP/1.1\r\nHost: x\r\n\r\n";
 
 // What the two sectors that one sync leaves open become: both alike, or one of them as it was.
 const PICKS: [[Pick; 2]; 10] = [
@@ -27,130 +27,112 @@ const PICKS: [[Pick; 2]; 10] = [
     [Pick::Old, Pick::Fill(0)],
 ];
 
-fn is_taken(written: &[u8]) -> bool {
-    written.starts_with(b"HTTP/1.1 20")
-}
-
-// The list of all objects, with their contents and revisions, as it is shown.
-fn listed(alloc: Global, store: &mut Store<MemDevice>) -> Result<Vec<u8>, Wrong> {
-    let (_, written) = serve_bytes(alloc, store, LIST)?;
-    wanted(is_taken(&written), "the list is refused")?;
-    Ok(written)
-}
-
-fn requests_of(alloc: Global, writes: &[Vec<u8>]) -> Result<Vec<Request>, Wrong> {
-    let mut requests = Vec::new(alloc);
-    for write in writes {
-        let request = first_request(alloc, write)?.request;
-        requests.push(request)?;
-    }
-    Ok(requests)
-}
-
-// Runs requests, of which each that is answered is taken: how many are.
-fn run(alloc: Global, store: &mut Store<MemDevice>, requests: &[Request]) -> Result<usize, Wrong> {
-    let (replies, _) = store.run(alloc, requests);
-    for reply in replies.iter() {
-        let code = reply.code();
-        wanted(code == 200 || code == 201, "a write is refused")?;
-    }
-    Ok(replies.len())
+fn is_taken(written: &str) -> bool {
+    written.starts_with("HTTP/1.1 20")
 }
 
 // Makes the writes as far as they are taken, the first in a connection and the others in one run: how many are.
-fn told(alloc: Global, store: &mut Store<MemDevice>, writes: &[Vec<u8>]) -> Result<usize, Wrong> {
+fn told(alloc: Global, store: &mut Store<MemDevice>, writes: &[String]) -> Result<usize, Wrong> {
     let Some((first, others)) = writes.split_first() else {
         return Ok(0);
     };
-    let (_, written) = serve_bytes(alloc, store, first)?;
-    if !is_taken(&written) {
+    let written = served(alloc, store, &mut Std::new(first.as_bytes()))?;
+    if !is_taken(written.as_str()) {
         return Ok(0);
     }
-    let count = run(alloc, store, &requests_of(alloc, others)?)?;
-    Ok(count.saturating_add(1))
+    let routes = Routes::new(alloc)?;
+    let mut requests = Vec::new(alloc);
+    for write in others {
+        let request = first_request(alloc, &routes, write.as_str())?;
+        requests.push(request)?;
+    }
+    Ok(run(alloc, store, &requests)?.saturating_add(1))
+}
+
+// The list of all objects, with their contents and revisions, as it is shown.
+fn listed(alloc: Global, place: &mut Place) -> Result<String, Wrong> {
+    let list = place.serve(alloc, LIST)?;
+    wanted(is_taken(list.as_str()), "the list is refused")?;
+    Ok(list)
 }
 
 // The lists that are shown before the first write and behind each, where nothing fails.
-fn shown_lists(alloc: Global, writes: &[Vec<u8>]) -> Result<Vec<Vec<u8>>, Wrong> {
+fn shown_lists(alloc: Global, writes: &[String]) -> Result<Vec<String>, Wrong> {
+    let mut place = Place::new(alloc, ROOM_SECTORS)?;
     let mut lists = Vec::new(alloc);
-    match open_on(alloc, created(alloc, ROOM_SECTORS)?) {
-        (Place::Open(mut store), _) => {
-            lists.push(listed(alloc, &mut store)?)?;
-            for write in writes {
-                let (_, written) = serve_bytes(alloc, &mut store, write)?;
-                wanted(is_taken(&written), "a write is refused")?;
-                lists.push(listed(alloc, &mut store)?)?;
-            }
-            Ok(lists)
-        }
-        _ => Err(Wrong::Told("a new store cannot be opened")),
+    lists.push(listed(alloc, &mut place)?)?;
+    for write in writes {
+        let written = place.serve(alloc, write.as_str())?;
+        wanted(is_taken(written.as_str()), "a write is refused")?;
+        lists.push(listed(alloc, &mut place)?)?;
     }
+    Ok(lists)
 }
 
-// The list that is found on a device, and the device.
-fn found_on(alloc: Global, device: MemDevice) -> Result<(Vec<u8>, MemDevice), Wrong> {
-    match open_on(alloc, device) {
-        (Place::Open(mut store), _) => {
-            let list = listed(alloc, &mut store)?;
-            Ok((list, store.into_device()))
-        }
-        _ => Err(Wrong::Told("no store is found after the crash")),
-    }
-}
-
-// Opens a new store on a device that stops at a call, and makes the writes: how many are taken, and the device.
-fn life(alloc: Global, writes: &[Vec<u8>], call: u64) -> Result<(usize, MemDevice), Wrong> {
-    let mut device = created(alloc, ROOM_SECTORS)?;
-    device.stop_on(call);
-    match open_on(alloc, device) {
-        (Place::Open(mut store), _) => {
-            let count = told(alloc, &mut store, writes)?;
-            Ok((count, store.into_device()))
-        }
-        (Place::Shut(device), _) => Ok((0, device)),
-        _ => Err(Wrong::Told("there is no device")),
-    }
-}
-
-fn is_list(lists: &[Vec<u8>], at: usize, found: &[u8]) -> bool {
+fn is_list(lists: &[String], at: usize, found: &str) -> bool {
     match lists.get(at) {
-        Some(list) => list.as_slice() == found,
+        Some(list) => list.as_str() == found,
         None => false,
     }
+}
+
+// The list that is found behind a crash.
+fn found_behind(
+    alloc: Global,
+    place: &mut Place,
+    picks: &[Pick],
+    length: u64,
+) -> Result<String, Wrong> {
+    place.crash(picks, length)?;
+    place.open(alloc)?;
+    listed(alloc, place)
 }
 
 // One stop and one crash: what is found is what was told or one write more, and the same after a second crash.
 fn stopped(
     alloc: Global,
-    writes: &[Vec<u8>],
-    lists: &[Vec<u8>],
+    writes: &[String],
+    lists: &[String],
     call: u64,
     picks: &[Pick],
-    len: u64,
+    length: u64,
 ) -> Result<(), Wrong> {
-    let (count, device) = life(alloc, writes, call)?;
-    let (first, device) = found_on(alloc, device.crash(picks, len))?;
+    let mut device = created(alloc, ROOM_SECTORS)?;
+    device.stop_on(call);
+    let mut place = opened(alloc, device);
+    let count = match &mut place {
+        Place::Open(store) => told(alloc, store, writes)?,
+        _ => 0,
+    };
+    let first = found_behind(alloc, &mut place, picks, length)?;
     wanted(
-        is_list(lists, count, &first) || is_list(lists, count.saturating_add(1), &first),
+        is_list(lists, count, first.as_str())
+            || is_list(lists, count.saturating_add(1), first.as_str()),
         "a stop leaves neither what was told nor one write more",
     )?;
-    let (second, _) = found_on(alloc, device.crash(&[Pick::Fill(0xA5)], u64::MAX))?;
+    let second = found_behind(alloc, &mut place, &[Pick::Fill(0xA5)], u64::MAX)?;
     wanted(
-        first.as_slice() == second.as_slice(),
+        first.as_str() == second.as_str(),
         "a second crash leaves something else",
     )
 }
 
-/// Stops the writes, on a new store each time, at each call from the first to the last of these, an opening's first being 1, and
-/// crashes, with each pair of picks and with the least and the greatest length: what is found is what was told, or one write more.
-pub fn stops(alloc: Global, writes: &[Vec<u8>], first: u64, last: u64) -> Result<(), Wrong> {
+/// `stops A B`: stops the writes, on a new store each time, at each call from the A-th to the B-th, an opening's first being 1, and
+/// crashes, with each pair of picks and with the least and the greatest length: how often what is found is what was told, or one
+/// write more, which must be always.
+pub fn stops(alloc: Global, writes: &[String], line: &str) -> Result<String, Wrong> {
+    let mut words = WordReader::new(line);
+    let (first, last) = (words.number(), words.number());
+    words.end()?;
     let lists = shown_lists(alloc, writes)?;
+    let mut held = 0_u64;
     for call in first..=last {
         for picks in PICKS {
-            for len in [0, u64::MAX] {
-                stopped(alloc, writes, &lists, call, &picks, len)?;
+            for length in [0, u64::MAX] {
+                stopped(alloc, writes, &lists, call, &picks, length)?;
+                held = held.saturating_add(1);
             }
         }
     }
-    Ok(())
+    shown(alloc, &held)
 }

@@ -1,8 +1,8 @@
-//! Streams that are read in parts, and readers and writers that fail.
+//! Streams that are read in parts, and readers and writers that fail, each on a new store.
 
-use crate::connections::serve_stream;
-use crate::place::new_store;
-use crate::wrong::{Wrong, wanted};
+use crate::place::{Place, serve_on, served};
+use crate::replies::{short, with_end};
+use cases::{TextBuilder, WordReader, Wrong, compare, text};
 use httpmsg::Std;
 use std::alloc::Global;
 use std::io;
@@ -11,51 +11,30 @@ use std::io::{Read, Write};
 // Room for a store of which there are many.
 const ROOM_SECTORS: u64 = 24;
 
-// Gives so many bytes at first, and then the rest; 0 asks for no cut.
+// Gives at most so many bytes at its first call, and so many at each later one, and fails at a call; 0 asks for none.
 #[derive(Drop)]
 struct Parted<'a> {
     rest: &'a [u8],
     first: usize,
-}
-
-impl<'a> Read for Parted<'a> {
-    fn read(&mut self, buffer: &mut [u8]) -> io::Result<usize> {
-        let most = if self.first == 0 {
-            self.rest.len()
-        } else {
-            self.first
-        };
-        let count = most.min(self.rest.len()).min(buffer.len());
-        buffer[..count].copy_from_slice(&self.rest[..count]);
-        self.rest = &self.rest[count..];
-        self.first = 0;
-        Ok(count)
-    }
-}
-
-// Gives one byte a call, and fails at a call; 0 asks for none.
-#[derive(Drop)]
-struct Halting<'a> {
-    rest: &'a [u8],
+    later: usize,
     calls_left: u64,
 }
 
-impl<'a> Read for Halting<'a> {
+impl<'a> Read for Parted<'a> {
     fn read(&mut self, buffer: &mut [u8]) -> io::Result<usize> {
         if self.calls_left == 1 {
             return Err(io::ErrorKind::Other.into());
         }
         self.calls_left = self.calls_left.saturating_sub(1);
-        if self.rest.is_empty() || buffer.is_empty() {
-            return Ok(0);
-        }
-        buffer[0] = self.rest[0];
-        self.rest = &self.rest[1..];
-        Ok(1)
+        let count = self.first.min(self.rest.len()).min(buffer.len());
+        buffer[..count].copy_from_slice(&self.rest[..count]);
+        self.rest = &self.rest[count..];
+        self.first = self.later;
+        Ok(count)
     }
 }
 
-// Takes one byte a call, and fails at a call; 0 asks for none.
+// Takes one byte a call, and fails at a call.
 #[derive(Drop)]
 struct Narrow {
     taken: Vec<u8>,
@@ -64,18 +43,13 @@ struct Narrow {
 
 impl Write for Narrow {
     fn write(&mut self, bytes: &[u8]) -> io::Result<usize> {
-        if self.calls_left == 1 {
+        self.calls_left = self.calls_left.saturating_sub(1);
+        if self.calls_left == 0 {
             return Err(io::ErrorKind::Other.into());
         }
-        self.calls_left = self.calls_left.saturating_sub(1);
         match bytes.first() {
-            Some(byte) => {
-                if self.taken.push(*byte).is_err() {
-                    return Err(io::ErrorKind::OutOfMemory.into());
-                }
-                Ok(1)
-            }
-            None => Ok(0),
+            Some(byte) if self.taken.push(*byte).is_ok() => Ok(1),
+            _ => Ok(0),
         }
     }
 
@@ -84,102 +58,82 @@ impl Write for Narrow {
     }
 }
 
-// What a reader gets on a new store: how the connection ends, and what is written.
-fn read_by<R: Read + Drop>(alloc: Global, reader: R) -> Result<(String, Vec<u8>), Wrong> {
-    let mut store = new_store(alloc, ROOM_SECTORS)?;
-    let mut output = Std::new(Vec::new(alloc));
-    let mut input = Std::new(reader);
-    let end = serve_stream(alloc, &mut input, &mut output, &mut store)?;
-    Ok((end, output.into_inner()))
+// What a reader gets on a new store.
+fn read_by(alloc: Global, reader: Parted<'_>) -> Result<String, Wrong> {
+    let mut place = Place::new(alloc, ROOM_SECTORS)?;
+    served(alloc, place.store()?, &mut Std::new(reader))
 }
 
-// What a writer takes on a new store, if it fails at a call: how the connection ends, and the bytes.
-fn written_to(alloc: Global, sent: &[u8], call: u64) -> Result<(String, Vec<u8>), Wrong> {
-    let mut store = new_store(alloc, ROOM_SECTORS)?;
+// What a writer takes on a new store, if it fails at a call.
+fn written_to(alloc: Global, sent: &str, call: u64) -> Result<String, Wrong> {
+    let mut place = Place::new(alloc, ROOM_SECTORS)?;
     let mut output = Std::new(Narrow {
         taken: Vec::new(alloc),
         calls_left: call,
     });
-    let end = serve_stream(alloc, &mut Std::new(sent), &mut output, &mut store)?;
-    Ok((end, output.into_inner().taken))
+    let mut input = Std::new(sent.as_bytes());
+    let end = serve_on(alloc, place.store()?, &mut input, &mut output);
+    with_end(alloc, &output.into_inner().taken, end)
 }
 
-fn assert_same(
-    one: &(String, Vec<u8>),
-    other: &(String, Vec<u8>),
-    otherwise: &'static str,
-) -> Result<(), Wrong> {
-    let has_same_end = one.0.as_str() == other.0.as_str();
-    wanted(
-        has_same_end && one.1.as_slice() == other.1.as_slice(),
-        otherwise,
-    )
+fn reader_of(sent: &str, first: usize, later: usize, calls_left: u64) -> Parted<'_> {
+    Parted {
+        rest: sent.as_bytes(),
+        first,
+        later,
+        calls_left,
+    }
 }
 
-/// Whether a stream that is cut behind each of its bytes in turn, or that is read byte by byte, has the replies and the end of
-/// the whole.
-pub fn cuts(alloc: Global, sent: &[u8]) -> Result<(), Wrong> {
-    let whole = read_by(
-        alloc,
-        Parted {
-            rest: sent,
-            first: 0,
-        },
-    )?;
+// Asks that a reader gets this.
+fn is_read(alloc: Global, reader: Parted<'_>, wanted: &str) -> Result<(), Wrong> {
+    let found = read_by(alloc, reader)?;
+    compare(alloc, found.as_str(), wanted)
+}
+
+/// `cuts`: whether a stream that is cut behind each of its bytes in turn, or that is read byte by byte, has the replies and the end
+/// of the whole.
+pub fn cuts(alloc: Global, sent: &str) -> Result<String, Wrong> {
+    let whole = read_by(alloc, reader_of(sent, usize::MAX, usize::MAX, 0))?;
+    is_read(alloc, reader_of(sent, 1, 1, 0), whole.as_str())?;
     for first in 1..sent.len() {
-        let parted = read_by(alloc, Parted { rest: sent, first })?;
-        assert_same(&parted, &whole, "a cut changes the replies")?;
+        is_read(alloc, reader_of(sent, first, usize::MAX, 0), whole.as_str())?;
     }
-    let single = read_by(
-        alloc,
-        Halting {
-            rest: sent,
-            calls_left: 0,
-        },
-    )?;
-    assert_same(&single, &whole, "single bytes change the replies")
+    text(alloc, "ok")
 }
 
-/// What is written on a new store where a reader that gives a byte a call fails at each call from the first to the last of these,
-/// which is the same for all of them.
-pub fn readers(
-    alloc: Global,
-    sent: &[u8],
-    first: u64,
-    last: u64,
-) -> Result<(String, Vec<u8>), Wrong> {
-    let rest = sent;
-    let found = read_by(
-        alloc,
-        Halting {
-            rest,
-            calls_left: first,
-        },
-    )?;
-    for calls_left in first..=last {
-        let again = read_by(alloc, Halting { rest, calls_left })?;
-        assert_same(&again, &found, "these readers are not answered alike")?;
+/// `readers A B`: what is written where a reader that gives a byte a call fails at each call from the A-th to the B-th, which is the
+/// same for all of them.
+pub fn readers(alloc: Global, sent: &str, line: &str) -> Result<String, Wrong> {
+    let mut words = WordReader::new(line);
+    let (first, last) = (words.number(), words.number());
+    words.end()?;
+    let answer = read_by(alloc, reader_of(sent, 1, 1, first))?;
+    for call in first..=last {
+        is_read(alloc, reader_of(sent, 1, 1, call), answer.as_str())?;
     }
-    Ok(found)
+    short(alloc, answer.as_str())
 }
 
-/// Whether a writer that takes a byte a call, and fails at any of the calls that the replies need, takes all that is before the
-/// call, and the connection ends so.
-pub fn writers(alloc: Global, sent: &[u8], replies: &[u8]) -> Result<(), Wrong> {
-    for call in 1..=replies.len() {
-        let (end, taken) = written_to(alloc, sent, call as u64)?;
-        wanted(
-            end.as_str() == "write",
-            "the connection does not end by the writer",
-        )?;
-        wanted(
-            taken.len() == call.saturating_sub(1),
-            "the writer took another number of bytes",
-        )?;
-        wanted(
-            replies.starts_with(&taken),
-            "the writer took no beginning of the replies",
-        )?;
+// The first so many bytes of the replies, as they end where the writer fails.
+fn front_of(alloc: Global, replies: &str, count: usize) -> Result<String, Wrong> {
+    let mut front = TextBuilder::new(alloc);
+    front.push(replies.get(..count).unwrap_or("no text"));
+    front.push("ends write");
+    front.end()
+}
+
+/// `writers`: whether a writer that takes a byte a call, and fails at any of the calls that the replies need, takes all that is
+/// before the call, and the connection ends so.
+pub fn writers(alloc: Global, sent: &str) -> Result<String, Wrong> {
+    let answer = read_by(alloc, reader_of(sent, usize::MAX, usize::MAX, 0))?;
+    let Some(replies) = answer.strip_suffix("ends clean") else {
+        return Err(Wrong::Told("the connection does not end clean"));
+    };
+    for count in 0..replies.len() {
+        let front = front_of(alloc, replies, count)?;
+        let found = written_to(alloc, sent, (count as u64).saturating_add(1))?;
+        compare(alloc, found.as_str(), front.as_str())?;
     }
-    Ok(())
+    text(alloc, "ok")
 }

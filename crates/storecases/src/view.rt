@@ -1,13 +1,14 @@
-//! A view without a device: what is stored in memory alone, with limits of its own.
+//! A view without a device: what is stored in memory alone, with limits of its own. The calls of a view stand here.
 
-use crate::replies::{end_of_stream, serve_messages};
-use crate::requested::{message_request, write_text};
-use crate::wrong::Wrong;
-use apicore::{Core, Prepared, ReplayFault};
-use httpmsg::{CutFault, Cutter, Std};
-use names::Rules;
+use crate::replies::message;
+use apicore::{Core, Prepared, prepare};
+use cases::{TextBuilder, WordReader, Wrong, text, wanted};
+use history::{PreparedWrite, ReplayFault};
+use http::StatusCode;
+use httpmsg::{Cutter, Message, Response, Std};
+use names::{Format, Key, Rules};
 use requests::Request;
-use routes::Routes;
+use routes::{Routes, route};
 use std::alloc::Global;
 
 /// A view without a device, and the paths that it serves.
@@ -17,85 +18,170 @@ pub struct View {
     routes: Routes,
 }
 
-fn replay(
-    alloc: Global,
-    core: &mut Core,
-    request: Request,
-) -> Result<Result<(), ReplayFault>, Wrong> {
-    match request {
-        Request::Replace(manifest) => Ok(core.replay_put(alloc, manifest)),
-        Request::Delete(key, None) => Ok(core.replay_delete(alloc, &key)),
-        _ => Err(Wrong::Told("a put or a deletion is taken again")),
+// The limits of a line: the events of the window, the bytes of a text and of a body, the objects, and the greatest revision.
+fn rules_of(line: &str) -> Result<Rules, Wrong> {
+    if line.is_empty() {
+        return Ok(Format::First.rules());
+    }
+    let mut words = WordReader::new(line);
+    let rules = Rules {
+        window_events: words.number() as usize,
+        text_limit_bytes: words.number() as usize,
+        body_limit_bytes: words.number() as usize,
+        object_limit: words.number() as usize,
+        greatest_revision: words.number(),
+    };
+    words.end()?;
+    Ok(rules)
+}
+
+/// The messages of a stream that ends between two of them.
+pub fn messages(alloc: Global, sent: &str) -> Result<Vec<Message>, Wrong> {
+    let mut cutter = Cutter::new(alloc)?;
+    match cutter.feed(alloc, sent.as_bytes()) {
+        Ok(messages) if cutter.finish().is_ok() => Ok(messages),
+        _ => Err(Wrong::Told("the stream has a fault")),
     }
 }
 
+/// What the first message of a stream asks for.
+pub fn first_request(alloc: Global, routes: &Routes, sent: &str) -> Result<Request, Wrong> {
+    match messages(alloc, sent)?.first() {
+        Some(message) => Ok(route(alloc, routes, message)?.request),
+        None => Err(Wrong::Told("there is no message")),
+    }
+}
+
+fn push_key(line: &mut TextBuilder, key: &Key) {
+    line.word(key.resource().kind());
+    line.word(key.namespace());
+    line.push("/");
+    line.push(key.name());
+}
+
 impl View {
-    /// An empty view with these limits.
-    pub fn new(alloc: Global, rules: Rules) -> Result<View, Wrong> {
+    /// An empty view: `view [EVENTS TEXT BODY OBJECTS REVISION]`.
+    pub fn new(alloc: Global, line: &str) -> Result<View, Wrong> {
         Ok(View {
-            core: Core::new(alloc, rules)?,
+            core: Core::new(alloc, rules_of(line)?)?,
             routes: Routes::new(alloc)?,
         })
     }
 
-    /// Answers a connection, and says how it ended.
-    pub fn serve(&mut self, alloc: Global, sent: &[u8]) -> Result<(String, Vec<u8>), Wrong> {
-        let mut cutter = Cutter::new(alloc)?;
-        let mut output = Std::new(Vec::new(alloc));
-        let messages = match cutter.feed(alloc, sent) {
-            Ok(messages) => messages,
-            Err(CutFault::Broken(_)) => Vec::new(alloc),
-            Err(CutFault::Memory) => return Err(Wrong::Memory),
+    // What a message asks for.
+    fn request(&self, alloc: Global, line: &str) -> Result<Request, Wrong> {
+        let sent = message(alloc, line)?;
+        first_request(alloc, &self.routes, sent.as_str())
+    }
+
+    fn prepared(&mut self, alloc: Global, request: &Request) -> Result<Prepared, Wrong> {
+        Ok(prepare(&mut self.core, alloc, request)?)
+    }
+
+    // Writes the reply to a message, which is taken.
+    fn reply(
+        &mut self,
+        alloc: Global,
+        message: &Message,
+        output: &mut Std<Vec<u8>>,
+    ) -> Result<(), Wrong> {
+        let request = route(alloc, &self.routes, message)?.request;
+        let prepared = self.prepared(alloc, &request)?;
+        let reply = prepared.reply;
+        self.core.take(prepared.write);
+        let Ok(status) = StatusCode::from_u16(reply.code()) else {
+            return Err(Wrong::Told("no status has this code"));
         };
-        serve_messages(alloc, &self.routes, &messages, &mut self.core, &mut output)?;
-        let end = end_of_stream(alloc, cutter)?;
-        Ok((end, output.into_inner()))
+        let response = Response::new(status, reply.body().as_bytes()).warning(reply.warnings());
+        wanted(
+            response.write(output).is_ok(),
+            "a reply could not be written",
+        )
     }
 
-    /// The write that a request prepares, which is not taken.
-    pub fn prepare(
-        &mut self,
-        alloc: Global,
-        method: &str,
-        target: &str,
-        body: &str,
-    ) -> Result<String, Wrong> {
-        let request = message_request(alloc, method, target, body)?.request;
-        let prepared: Prepared = self.core.prepare(alloc, &request)?;
-        write_text(alloc, &prepared.write)
+    /// Answers a connection, and gives what is written, with its end behind it.
+    pub fn serve(&mut self, alloc: Global, sent: &str) -> Result<String, Wrong> {
+        let mut output = Std::new(Vec::new(alloc));
+        for message in messages(alloc, sent)?.iter() {
+            self.reply(alloc, message, &mut output)?;
+        }
+        let mut line = TextBuilder::new(alloc);
+        line.push(str::from_utf8(&output.into_inner()).unwrap_or("no text"));
+        line.push("ends clean");
+        line.end()
     }
 
-    /// Takes the write of a request again, as one that was stored, and says how that went.
-    pub fn replay(
-        &mut self,
-        alloc: Global,
-        method: &str,
-        target: &str,
-        body: &str,
-    ) -> Result<&'static str, Wrong> {
-        let request = message_request(alloc, method, target, body)?.request;
-        match replay(alloc, &mut self.core, request)? {
-            Ok(()) => Ok("ok"),
-            Err(ReplayFault::NotAllowed) => Ok("not allowed"),
+    /// Answers a question on the view.
+    pub fn answer(&mut self, alloc: Global, word: &str, rest: &str) -> Result<String, Wrong> {
+        match word {
+            "prepare" => self.prepare(alloc, rest),
+            "replay" => self.replay(alloc, rest),
+            "counts" => self.counts(alloc),
+            "rules" => self.rules(alloc),
+            _ => Err(Wrong::Told("no such line on a view")),
+        }
+    }
+
+    // `prepare METHOD TARGET [BODY]`: the write that the message prepares, which is not taken.
+    fn prepare(&mut self, alloc: Global, line: &str) -> Result<String, Wrong> {
+        let request = self.request(alloc, line)?;
+        let prepared = self.prepared(alloc, &request)?;
+        let mut line = TextBuilder::new(alloc);
+        match &prepared.write {
+            Some(PreparedWrite::Put(put)) => {
+                line.push("put");
+                push_key(&mut line, put.key());
+                line.word(put.text());
+                let own = put.document().json().text(alloc)?;
+                wanted(own.as_str() == put.text(), "its text is another document's")?;
+            }
+            Some(PreparedWrite::Delete(key, _)) => {
+                line.push("delete");
+                push_key(&mut line, key);
+            }
+            None => line.push("no write"),
+        }
+        line.end()
+    }
+
+    // `replay METHOD TARGET [BODY]`: takes a PUT or a DELETE again, as one that was stored, and says how that went.
+    fn replay(&mut self, alloc: Global, line: &str) -> Result<String, Wrong> {
+        let request = self.request(alloc, line)?;
+        let done = match request {
+            Request::Replace(manifest) => self.core.replay_put(alloc, manifest, ()),
+            Request::Delete(key, None) => self.core.replay_delete(alloc, &key),
+            _ => return Err(Wrong::Told("a put or a deletion is taken again")),
+        };
+        match done {
+            Ok(()) => text(alloc, "ok"),
+            Err(ReplayFault::NotAllowed) => text(alloc, "not allowed"),
             Err(ReplayFault::Memory) => Err(Wrong::Memory),
         }
     }
 
-    /// The revision and the number of objects.
-    pub fn counts(&self) -> (u64, u64) {
-        (self.core.revision(), self.core.object_count() as u64)
+    // `counts`: the revision and the number of objects.
+    fn counts(&self, alloc: Global) -> Result<String, Wrong> {
+        let mut line = TextBuilder::new(alloc);
+        line.show(&self.core.revision());
+        line.word("");
+        line.show(&self.core.object_count());
+        line.end()
     }
 
-    /// The limits, in the order of a line.
-    pub fn rules(&self, alloc: Global) -> Result<String, Wrong> {
+    // `rules`: the limits, in the order of `view`.
+    fn rules(&self, alloc: Global) -> Result<String, Wrong> {
         let rules = self.core.rules();
-        Ok(format!(in alloc;
-            "{} {} {} {} {}",
+        let mut line = TextBuilder::new(alloc);
+        for limit in [
             rules.window_events,
             rules.text_limit_bytes,
             rules.body_limit_bytes,
             rules.object_limit,
-            rules.greatest_revision
-        )?)
+        ] {
+            line.show(&limit);
+            line.push(" ");
+        }
+        line.show(&rules.greatest_revision);
+        line.end()
     }
 }

@@ -1,0 +1,156 @@
+//! Lines on the device of a store that is shut.
+
+use crate::place::{Place, create_on};
+use cases::{
+    TextBuilder, WordReader, Wrong, bytes, first_word, number, shown, spelled, text, wanted,
+};
+use device::{Device, DeviceFault, MemDevice, Pick};
+use gatelog::{Body, Log, LogFault};
+use std::alloc::Global;
+use std::fmt::Display;
+
+const LOG_START: u64 = 8;
+
+// `ok`, or what a fault tells.
+fn ended<E: Display + Drop>(alloc: Global, done: Result<(), E>) -> Result<String, Wrong> {
+    match done {
+        Ok(()) => text(alloc, "ok"),
+        Err(fault) => shown(alloc, &fault),
+    }
+}
+
+// The byte of two hex digits.
+fn byte(word: &str) -> Result<u8, Wrong> {
+    match u8::from_str_radix(word, 16) {
+        Ok(byte) => Ok(byte),
+        Err(_) => Err(Wrong::Told("a byte is two hex digits")),
+    }
+}
+
+// Overwrites a sector with a byte throughout, if it is there.
+fn put(device: &mut MemDevice, at: u64, with: u8) -> Result<(), DeviceFault> {
+    if at >= device.len()? {
+        return Err(DeviceFault);
+    }
+    device.write(at, &[with; 512])
+}
+
+// Appends a record with this payload to the log of a store.
+fn append(alloc: Global, device: &mut MemDevice, payload: &[u8]) -> Result<(), LogFault> {
+    let mut body = Body::new(alloc)?;
+    body.extend(payload)?;
+    let mut log = Log::open(device, LOG_START)?;
+    if log.last_gate() >= device.len()? {
+        return Err(LogFault::Damaged);
+    }
+    log.append(device, body)
+}
+
+// A sector, if it is there.
+fn read_sector(device: &mut MemDevice, at: u64) -> Result<[u8; 512], DeviceFault> {
+    let mut buffer = [0; 512];
+    if at >= device.len()? {
+        return Err(DeviceFault);
+    }
+    device.read(at, &mut buffer)?;
+    Ok(buffer)
+}
+
+// The bytes of a sector up to its last that is not zero, or `BYTE throughout`.
+fn sector(alloc: Global, device: &mut MemDevice, at: u64) -> Result<String, Wrong> {
+    let Ok(found) = read_sector(device, at) else {
+        return Err(Wrong::Told("there is no such sector"));
+    };
+    let mut end = 1;
+    let mut is_filled = true;
+    for (place, byte) in found.iter().enumerate() {
+        is_filled = is_filled && *byte == found[0];
+        if *byte != 0 {
+            end = place + 1;
+        }
+    }
+    if is_filled {
+        let mut line = TextBuilder::new(alloc);
+        line.push(spelled(alloc, &[found[0]])?.as_str());
+        line.push(" throughout");
+        return line.end();
+    }
+    spelled(alloc, found.get(..end).unwrap_or(&[]))
+}
+
+// How many reads, writes, cuts and syncs the device was asked for.
+fn calls(alloc: Global, device: &MemDevice) -> Result<String, Wrong> {
+    let counts = device.counts();
+    let mut line = TextBuilder::new(alloc);
+    for count in [counts.reads, counts.writes, counts.cuts, counts.syncs] {
+        line.word("");
+        line.show(&count);
+    }
+    line.end()
+}
+
+fn pick(word: &str) -> Result<Pick, Wrong> {
+    match word {
+        "old" => Ok(Pick::Old),
+        "new" => Ok(Pick::New),
+        _ => Ok(Pick::Fill(byte(word)?)),
+    }
+}
+
+/// `crash LENGTH PICK ..`: the machine stops. The length is a number or `all`, a pick `old`, `new` or a byte.
+pub fn crash(alloc: Global, place: &mut Place, line: &str) -> Result<String, Wrong> {
+    let (length, words) = first_word(line);
+    let length = match length {
+        "all" => u64::MAX,
+        _ => number(length)?,
+    };
+    let mut picks = Vec::new(alloc);
+    for word in words.split_whitespace() {
+        let pick = pick(word)?;
+        picks.push(pick)?;
+    }
+    place.crash(&picks, length)?;
+    text(alloc, "ok")
+}
+
+// `ok`, behind what took these numbers.
+fn taken(alloc: Global, words: &WordReader) -> Result<String, Wrong> {
+    words.end()?;
+    text(alloc, "ok")
+}
+
+/// Answers a line on the device.
+pub fn of_the_device(
+    alloc: Global,
+    device: &mut MemDevice,
+    word: &str,
+    rest: &str,
+) -> Result<String, Wrong> {
+    let mut words = WordReader::new(rest);
+    match word {
+        "device" => {
+            *device = MemDevice::new(alloc, words.number())?;
+            taken(alloc, &words)
+        }
+        "create" => ended(alloc, create_on(alloc, device)),
+        "fail" => {
+            device.fail_on(words.number());
+            taken(alloc, &words)
+        }
+        "stop" => {
+            device.stop_on(words.number());
+            taken(alloc, &words)
+        }
+        "put" => {
+            let (at, with) = (words.number(), byte(words.rest())?);
+            words.end()?;
+            ended(alloc, put(device, at, with))
+        }
+        "noise" => ended(alloc, device.write(0, &[byte(rest)?; 4608])),
+        "append" => ended(alloc, append(alloc, device, &bytes(alloc, rest)?)),
+        "sectors" => shown(alloc, &device.len().unwrap_or(0)),
+        "sector" => sector(alloc, device, number(rest)?),
+        "calls" => calls(alloc, device),
+        _ => Err(Wrong::Told("no such line")),
+    }
+}

@@ -1,0 +1,125 @@
+//! The replies that refuse, and what is told of faults.
+
+use api::{ServeFault, fault_body};
+use cases::{TextBuilder, Wrong, shown, text};
+use durable::{CreateFault, Damage, Fault};
+use history::Reply;
+use httpmsg::MessageFault;
+use requests::Refusal;
+use std::alloc::Global;
+
+const REFUSALS: [(&str, Refusal); 31] = [
+    ("MalformedRequest", Refusal::MalformedRequest),
+    ("UnservedVersion", Refusal::UnservedVersion),
+    ("TooManyFields", Refusal::TooManyFields),
+    ("UnservedTransferCoding", Refusal::UnservedTransferCoding),
+    ("BadHost", Refusal::BadHost),
+    ("BadContentLength", Refusal::BadContentLength),
+    ("BodyTooLarge", Refusal::BodyTooLarge),
+    ("UnservedExpectation", Refusal::UnservedExpectation),
+    ("BadTarget", Refusal::BadTarget),
+    ("NoSuchPath", Refusal::NoSuchPath),
+    ("MethodNotAllowed", Refusal::MethodNotAllowed),
+    ("BadQuery", Refusal::BadQuery),
+    ("BadNameInPath", Refusal::BadNameInPath),
+    ("UnexpectedBody", Refusal::UnexpectedBody),
+    ("BadVersion", Refusal::BadVersion),
+    ("Expired", Refusal::Expired),
+    ("BodyIsNotJson", Refusal::BodyIsNotJson),
+    ("NumberOutsideRange", Refusal::NumberOutsideRange),
+    ("WrongKind", Refusal::WrongKind),
+    ("BadMetadata", Refusal::BadMetadata),
+    ("WrongName", Refusal::WrongName),
+    ("VersionOnCreate", Refusal::VersionOnCreate),
+    ("BadDeleteOptions", Refusal::BadDeleteOptions),
+    ("AlreadyExists", Refusal::AlreadyExists),
+    ("NotFound", Refusal::NotFound),
+    ("VersionNotCurrent", Refusal::VersionNotCurrent),
+    ("ObjectTooLarge", Refusal::ObjectTooLarge),
+    ("TooManyObjects", Refusal::TooManyObjects),
+    ("RevisionExhausted", Refusal::RevisionExhausted),
+    ("OutOfMemory", Refusal::OutOfMemory),
+    ("StorageFailed", Refusal::StorageFailed),
+];
+
+const FAULTS: [MessageFault; 9] = [
+    MessageFault::Malformed,
+    MessageFault::Version,
+    MessageFault::TooManyFields,
+    MessageFault::TransferCoding,
+    MessageFault::Host,
+    MessageFault::ContentLength,
+    MessageFault::BodyTooLarge,
+    MessageFault::Expectation,
+    MessageFault::Target,
+];
+
+/// The word of a message's fault.
+pub fn fault_word(fault: MessageFault) -> &'static str {
+    match fault {
+        MessageFault::Malformed => "malformed",
+        MessageFault::Version => "version",
+        MessageFault::TooManyFields => "fields",
+        MessageFault::TransferCoding => "coding",
+        MessageFault::Host => "host",
+        MessageFault::ContentLength => "length",
+        MessageFault::BodyTooLarge => "body",
+        MessageFault::Expectation => "expectation",
+        MessageFault::Target => "target",
+    }
+}
+
+/// `status REFUSAL`: the code, the body and the warnings of the reply that refuses so.
+pub fn status(alloc: Global, word: &str) -> Result<String, Wrong> {
+    for (name, refusal) in REFUSALS {
+        if name == word {
+            let reply = Reply::status(alloc, refusal)?;
+            let mut line = TextBuilder::new(alloc);
+            line.show(&reply.code());
+            line.word(reply.body());
+            for warning in reply.warnings() {
+                line.word(warning.as_str());
+            }
+            return line.end();
+        }
+    }
+    Err(Wrong::Told("no such refusal"))
+}
+
+/// `at-hand WORD`: the body that takes no memory, of `memory`, of `storage` or of a message's fault.
+pub fn at_hand(alloc: Global, word: &str) -> Result<String, Wrong> {
+    if word == "memory" {
+        return text(alloc, Reply::out_of_memory_body());
+    }
+    if word == "storage" {
+        return text(alloc, Reply::storage_failed_body());
+    }
+    for fault in FAULTS {
+        if fault_word(fault) == word {
+            return text(alloc, fault_body(fault));
+        }
+    }
+    Err(Wrong::Told("no such fault of a message"))
+}
+
+/// `fault opening WORD`, `fault create WORD`, `fault connection WORD`: what people are told of it.
+pub fn fault(alloc: Global, words: &str) -> Result<String, Wrong> {
+    match words {
+        "opening device" => shown(alloc, &Fault::Device),
+        "opening memory" => shown(alloc, &Fault::Memory),
+        "opening header" => shown(alloc, &Fault::Damaged(Damage::Header)),
+        "opening root" => shown(alloc, &Fault::Damaged(Damage::Root)),
+        "opening log" => shown(alloc, &Fault::Damaged(Damage::Log)),
+        "opening failed" => shown(alloc, &Fault::Failed),
+        "create device" => shown(alloc, &CreateFault::Device),
+        "create memory" => shown(alloc, &CreateFault::Memory),
+        "create not empty" => shown(alloc, &CreateFault::NotEmpty),
+        "connection read" => shown(alloc, &ServeFault::Read),
+        "connection write" => shown(alloc, &ServeFault::Write),
+        "connection device" => shown(alloc, &ServeFault::Device),
+        "connection memory" => shown(alloc, &ServeFault::Memory),
+        "connection log" => shown(alloc, &ServeFault::Damaged(Damage::Log)),
+        "connection failed" => shown(alloc, &ServeFault::Failed),
+        _ => Err(Wrong::Told("no such fault")),
+    }
+}
