@@ -5,7 +5,7 @@ use crate::forms::{
     binding_answer, expressions_answer, policy_answer, specification_answer, stored_answer,
 };
 use crate::line::{Frames, split_line};
-use crate::shelf::Shelf;
+use crate::shelf::{Shelf, Sight};
 use crate::verdicts::{
     evaluation_answer, failure_answer, lookup_wrong, put, put_spec, refusal_answer, request_answer,
 };
@@ -163,7 +163,8 @@ impl Bench {
     // The verdict on the write, whose warnings are still to be compared.
     fn admission_answer(&mut self, alloc: Global) -> Result<String, Wrong> {
         let attempt = write(&self.write)?.attempt();
-        match admit(alloc, &mut self.shelf, &attempt).map_err(lookup_wrong)? {
+        let mut sight = Sight::of(&self.shelf);
+        match admit(alloc, &mut sight, &attempt).map_err(lookup_wrong)? {
             Verdict::Admitted(warnings) => {
                 self.warnings = warnings;
                 self.seen = 0;
@@ -187,7 +188,7 @@ impl Bench {
             "admit" => self.admission_answer(alloc),
             "evaluate" => {
                 let write = write(&self.write)?;
-                evaluation_answer(alloc, &mut self.shelf, words, write, &self.param)
+                evaluation_answer(alloc, &self.shelf, words, write, &self.param)
             }
             "request" => request_answer(alloc, write(&self.write)?),
             "matches" => match_answer(alloc, &text, &self.bound, write(&self.write)?),

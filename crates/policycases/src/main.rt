@@ -23,10 +23,12 @@ use cases::run_files;
 use planlist::one_list;
 use specification::{expressions_fit_the_text, one_stored_list};
 use std::process::ExitCode;
+use verdict::bindings_ascend;
 
 fn main(rt: HostRuntime) -> ExitCode {
     one_list();
     one_stored_list();
     expressions_fit_the_text();
+    bindings_ascend();
     run_files::<Bench, _>(&rt, rt.alloc())
 }

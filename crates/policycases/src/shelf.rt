@@ -1,24 +1,60 @@
 //! Objects in memory, among which policies are looked up.
 
-ghost use Rattle.std.specs.Prelude.{◌≡◌, List, [], ◌∷◌, ◌++◌, map, IfOk, OnOk, OnErr};
-ghost use Rattle.names.specs.Key.{Key as KeyData};
-ghost use Rattle.objects.specs.Objects.{with_value};
-ghost use Rattle.verdict.specs.Objects.{Held};
-ghost use Rattle.verdict.specs.Seen.{held_by, found_seen};
-ghost use Rattle.policycases.specs.Shelf.{on_shelf};
+ghost use Rattle.std.specs.Prelude.{◌≡◌, map, IfOk, IsTrue};
+ghost use Rattle.std.specs.FinMap.{is_sorted};
+ghost use Rattle.names.specs.Key.{key_cmp};
+ghost use Rattle.verdict.specs.Seen.{listed_seen};
+ghost use Rattle.policycases.specs.Stored.{entry_held};
 
+use documents::Document;
+use jsondoc::Doc;
 use names::{Key, Resource};
 use objects::{Entry, Objects};
+use plancode::Verified;
+use policy::Wanted;
 use std::alloc::{AllocError, Global};
-use verdict::{Found, Lookup, LookupFault};
+use verdict::{Found, Listed, Lookup, LookupFault, wanted_among};
 
-/// Objects in memory.
+/// An object in memory.
+#[derive(Drop)]
+pub struct Stored {
+    /// What is stored.
+    pub document: Document,
+    /// If it is a policy, the plans of its expressions, in order.
+    pub plans: Vec<Verified>,
+    /// The revision of its last write.
+    pub revision: u64,
+}
+
+impl Stored {
+    ghost use Rattle.verdict.specs.Seen.{held_by};
+    ghost use Rattle.policycases.specs.Stored.{held};
+
+    fn lent(&self) -> Found<'_>
+        ensures { held_by result ≡ held self.now }
+    {
+        Found {
+            document: &self.document,
+            plans: &self.plans,
+            revision: self.revision,
+        }
+    }
+}
+
+/// Objects in memory, by key.
 #[derive(Drop)]
 pub struct Shelf {
-    objects: Objects<Found>,
+    objects: Objects<Stored>,
+    ghost sorted: { IsTrue (is_sorted key_cmp objects.entries) },
 }
 
 impl Shelf {
+    ghost use Rattle.std.specs.Prelude.{[], OnOk, OnErr};
+    ghost use Rattle.std.specs.Option.{option_copied};
+    ghost use Rattle.objects.specs.Objects.{value_at, with_value};
+    ghost use Rattle.policycases.specs.Shelf.{on_shelf};
+    ghost use Rattle.policycases.specs.Stored.{held};
+
     /// No objects. Takes no memory.
     pub fn new(alloc: Global) -> Shelf
         ensures { on_shelf result ≡ [] }
@@ -34,63 +70,94 @@ impl Shelf {
     ///
     /// Where no memory is left.
     #[tactic(auto, using(crate::proofs::Finding::stored_found))]
-    pub fn put(&mut self, alloc: Global, key: Key, found: Found) -> Result<(), AllocError>
-        ensures stored { OnOk result (on_shelf self.new ≡ with_value key (held_by found) (on_shelf self.old)) }
+    pub fn put(&mut self, alloc: Global, key: Key, stored: Stored) -> Result<(), AllocError>
+        ensures stored { OnOk result (on_shelf self.new ≡ with_value key (held stored) (on_shelf self.old)) }
         ensures unchanged { OnErr result (on_shelf self.new ≡ on_shelf self.old) }
     {
         self.objects.reserve(1)?;
-        let entry = Entry::new(alloc, key, found)?;
+        let entry = Entry::new(alloc, key, stored)?;
         drop(self.objects.put(entry));
         Ok(())
     }
+
+    /// The object under a key.
+    pub fn get(&self, key: &Key) -> Option<&Stored>
+        ensures { option_copied result ≡ value_at key.now self.now.objects.entries }
+    {
+        self.objects.get(key)
+    }
 }
 
-impl Lookup for Shelf {
-    ghost objects = { on_shelf };
+/// A shelf, as objects are looked up on it.
+#[derive(Drop)]
+pub struct Sight<'a> {
+    shelf: &'a Shelf,
+}
+
+impl<'a> Sight<'a> {
+    /// What is looked up here stands on this shelf.
+    pub fn of(shelf: &'a Shelf) -> Sight<'a>
+        ensures { result.shelf.now ≡ shelf.now }
+    {
+        Sight { shelf }
+    }
+}
+
+impl<'a> Lookup<'a> for Sight<'a> {
+    ghost use Rattle.std.specs.Prelude.{◌≡◌, refl};
+    ghost use Rattle.std.proofs.Common.{◌∙◌};
+    ghost use Rattle.policycases.specs.Shelf.{Shows, ascends};
+
+    ghost shows = { Shows };
 
     ghost failures = { λ _. 0 };
 
-    ghost is_sound = { λ _. Unit {0} };
+    ghost goes_to = { λ before after. after.shelf.now ≡ before.shelf.now };
+
+    ghost ascending = { ascends };
+
+    ghost stays = { λ _. refl };
+
+    ghost goes_on = { λ _ _ _ first second. second ∙ first };
 
     #[tactic(auto, using(crate::proofs::Finding::value_found))]
-    fn get(&mut self, _alloc: Global, key: &Key) -> Result<Option<Found>, LookupFault> {
-        match self.objects.get(key) {
-            Some(found) => Ok(Some(found.clone()?)),
+    fn policy(&mut self, _alloc: Global, key: &Key) -> Result<Option<Found<'a>>, LookupFault> {
+        match self.shelf.objects.get(key) {
+            Some(stored) => Ok(Some(stored.lent())),
             None => Ok(None),
         }
     }
 
     #[tactic(auto, using(crate::proofs::Finding::listed_found))]
-    fn list(
+    fn bindings(&mut self, alloc: Global) -> Result<Vec<Listed<'a>>, LookupFault> {
+        let bindings = Resource::ValidatingAdmissionPolicyBinding;
+        let entries = self.shelf.objects.list(alloc, bindings, None)?;
+        Ok(all_lent(alloc, &entries)?)
+    }
+
+    fn parameters(
         &mut self,
         alloc: Global,
         resource: Resource,
-        namespace: Option<&str>,
-    ) -> Result<Vec<(Key, Found)>, LookupFault> {
-        let entries = self.objects.list(alloc, resource, namespace)?;
-        Ok(copies(alloc, &entries)?)
+        namespace: &str,
+        wanted: &Wanted,
+    ) -> Result<Vec<Doc>, LookupFault> {
+        let entries = self.shelf.objects.list(alloc, resource, Some(namespace))?;
+        let listed = all_lent(alloc, &entries)?;
+        Ok(wanted_among(alloc, wanted, &listed)?)
     }
 }
 
-// Adds a copy of the entry.
-#[tactic(auto, using(crate::proofs::Finding::copied_more))]
-fn add_copy(found: &mut Vec<(Key, Found)>, entry: &Entry<Found>) -> Result<(), AllocError>
-    ensures { (rest : List (KeyData × Held)) → OnOk result
-        (map found_seen found.new.items ++ rest ≡ map found_seen found.old.items ++ (found_seen entry.now ∷ rest)) }
+// The entries, lent.
+fn all_lent<'a>(alloc: Global, entries: &[&'a Entry<Stored>]) -> Result<Vec<Listed<'a>>, AllocError>
+    ensures { IfOk result (λ v. map listed_seen v.items ≡ map entry_held (map (λ entry. entry.now) entries.now)) }
 {
-    let key = entry.key().clone()?;
-    let value = entry.value().clone()?;
-    found.push((key, value))?;
-    Ok(())
-}
-
-// The entries, copied.
-fn copies(alloc: Global, entries: &[&Entry<Found>]) -> Result<Vec<(Key, Found)>, AllocError>
-    ensures { IfOk result (λ v. map found_seen v.items ≡ map found_seen (map (λ entry. entry.now) entries.now)) }
-{
-    let mut found = Vec::new(alloc);
+    let mut listed = Vec::new(alloc);
     for entry in entries {
-        add_copy(&mut found, entry)?;
+        listed.push(Listed {
+            key: entry.key(),
+            found: entry.value().lent(),
+        })?;
     }
-    Ok(found)
+    Ok(listed)
 }

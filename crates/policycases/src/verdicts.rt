@@ -1,7 +1,7 @@
 //! What policies say of writes.
 
 use crate::expressed::plans_of;
-use crate::shelf::Shelf;
+use crate::shelf::{Shelf, Stored};
 use crate::writes::{Write, document, key, value_of};
 use cases::{Wrong, first_word, shown};
 use documents::Document;
@@ -12,7 +12,7 @@ use names::{Key, Resource};
 use plancode::Verified;
 use policy::{FailurePolicy, Policy};
 use std::alloc::Global;
-use verdict::{Found, Lookup, LookupFault, denial_text};
+use verdict::{LookupFault, denial_text};
 
 // The plans of a document's expressions, if it is a policy.
 fn plans_in(alloc: Global, resource: Resource, document: &Doc) -> Result<Vec<Verified>, Wrong> {
@@ -35,12 +35,12 @@ fn plans_in(alloc: Global, resource: Resource, document: &Doc) -> Result<Vec<Ver
 /// Where it spells no document, or a policy with a fault, or no memory is left.
 pub fn put(alloc: Global, shelf: &mut Shelf, key: Key, text: &str) -> Result<(), Wrong> {
     let document = document(alloc, text)?;
-    let found = Found {
+    let stored = Stored {
         plans: plans_in(alloc, key.resource(), &document)?,
         document: Document::new(document),
         revision: 2,
     };
-    Ok(shelf.put(alloc, key, found)?)
+    Ok(shelf.put(alloc, key, stored)?)
 }
 
 /// Stores the object of a resource with this name and this spec.
@@ -103,17 +103,17 @@ pub fn lookup_wrong(_: LookupFault) -> Wrong {
 /// Where there is no such policy, or no memory is left.
 pub fn evaluation_answer(
     alloc: Global,
-    shelf: &mut Shelf,
+    shelf: &Shelf,
     name: &str,
     write: &Write,
     param: &Option<Doc>,
 ) -> Result<String, Wrong> {
     let key = key(alloc, Resource::ValidatingAdmissionPolicy, name)?;
-    let Some(found) = shelf.get(alloc, &key).map_err(lookup_wrong)? else {
+    let Some(stored) = shelf.get(&key) else {
         return Err(Wrong::Told("no such policy"));
     };
-    match Policy::of(alloc, found.document.json().value())? {
-        Some(policy) => policy_answer(alloc, &policy, &found.plans, write, param),
+    match Policy::of(alloc, stored.document.json().value())? {
+        Some(policy) => policy_answer(alloc, &policy, &stored.plans, write, param),
         None => Err(Wrong::Told("no policy")),
     }
 }

@@ -2,3 +2,4 @@ pub mod Standing
 pub mod Bindings
 pub mod Turns
 pub mod Lists
+pub mod Ascending

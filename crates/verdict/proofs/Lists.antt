@@ -1,7 +1,7 @@
 -- Parts of texts and lists.
 use Rattle.std.proofs.Common.{◌≡◌, ℕ, zero, suc, ◌≤◌, List, [], ◌∷◌, ◌++◌, length, take, map, refl, ap, ◌∙◌, append_assoc}
 use Rattle.std.proofs.lemmas.List.{take_all}
-use Rattle.std.specs.List.{flat_map, AllZip}
+use Rattle.std.specs.List.{flat_map}
 
 pub all_taken : {A : Type 0} (n : ℕ) (xs : List A) → length xs ≤ n → take n xs ≡ xs
 all_taken n xs h = take_all n xs h
@@ -20,10 +20,3 @@ pub joined : (front a policy b binding c t0 t1 t2 t3 t4 t5 : List ℕ)
 joined front a policy b binding c t0 t1 t2 t3 t4 t5 e0 e1 e2 e3 e4 e5 =
     let all : ((((front ++ a) ++ policy) ++ b) ++ binding) ++ c ≡ front ++ (a ++ (policy ++ (b ++ (binding ++ c)))) = simp append_assoc in
     e5 ∙ ap (λ t. t ++ c) (e4 ∙ ap (λ t. t ++ binding) (e3 ∙ ap (λ t. t ++ b) (e2 ∙ ap (λ t. t ++ policy) (e1 ∙ ap (λ t. t ++ a) e0)))) ∙ all
-
--- a list that is copied one by one is the same
-pub copied : {A : Type 0} (xs copies : List A) → AllZip (λ x copy. copy ≡ x) xs copies → copies ≡ xs
-copied [] [] h = refl
-copied [] (c ∷ cs) h = absurd h
-copied (x ∷ xs) [] h = absurd h
-copied (x ∷ xs) (c ∷ cs) h = rw (h.0, copied xs cs h.1) refl

@@ -39,6 +39,10 @@ plans_in d trees = option_map_or (λ p. plans_of p trees) (policy_of d.json) []
 abbrev pub held : Object → Held
 held o = record { document = o.document; plans = plans_in o.document o.trees; revision = o.revision }
 
+-- the objects as they are held
+abbrev pub all_held : Objects → List (Key × Held)
+all_held objects = map (λ o. (o.0, held o.1)) objects
+
 -- the trees of a policy are those that its expressions spell
 abbrev pub HasTrees : Resource → Object → Type 0
 HasTrees ValidatingAdmissionPolicy o = (p : Policy) → policy_of o.document.json ≡ Some p → AreTyped p [] (sources p) o.trees
@@ -49,7 +53,6 @@ HasTrees Service o = Unit {0}
 HasTrees Deployment o = Unit {0}
 HasTrees ValidatingAdmissionPolicyBinding o = Unit {0}
 
--- what is held stands for the objects
-pub record StandFor (hs : List (Key × Held)) (objects : Objects) : Type 0 where
-  pub held : hs ≡ map (λ o. (o.0, held o.1)) objects
-  pub trees : AllByRecursion (λ o. HasTrees o.0.resource o.1) objects
+-- each has the trees of its expressions
+abbrev pub HaveTrees : Objects → Type 0
+HaveTrees objects = AllByRecursion (λ o. HasTrees o.0.resource o.1) objects

@@ -41,14 +41,17 @@ abbrev pub is_wanted : Wanted → Key × Data → Bool
 is_wanted (by_name name) o = bytes_eq o.0.name name
 is_wanted (by_selector requirements) o = selects requirements o.1
 
+-- those that are wanted
+abbrev pub wanted_of : Wanted → Shown → List Data
+wanted_of wanted objects = map (λ o. o.1) (filter (is_wanted wanted) objects)
+
 abbrev pub found_or_not : List (Option Data) → Parameters
 found_or_not [] = not_found
 found_or_not (d ∷ ds) = found (d ∷ ds)
 
 abbrev pub looked_up : Shown → Resource → Wanted → (namespace : Option Text) → Parameters
 looked_up objects r wanted None = misconfigured
-looked_up objects r wanted (Some namespace) =
-    found_or_not (map (λ o. Some o.1) (filter (is_wanted wanted) (listed r (Some namespace) objects)))
+looked_up objects r wanted (Some namespace) = found_or_not (map Some (wanted_of wanted (listed r (Some namespace) objects)))
 
 -- without a kind of parameters, or where the binding asks for none, there is one evaluation without a parameter
 abbrev pub parameters : Shown → (kind : Option Resource) → Option ParamRef → Attempt → Parameters

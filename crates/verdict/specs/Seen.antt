@@ -4,6 +4,7 @@ use Rattle.serde_json.specs.Data.{Data}
 use Rattle.names.specs.Key.{Key}
 use Rattle.documents.specs.Document.{shown}
 use Rattle.verdict.specs.declared.lookup.Found as code_found
+use Rattle.verdict.specs.declared.lookup.Listed as code_listed
 use Rattle.verdict.specs.declared.parameters.Parameters as code_parameters
 use Rattle.verdict.specs.declared.parameters.Parameters.TheVariants as parameters
 use Rattle.verdict.specs.declared.admission.Verdict as code_verdict
@@ -13,11 +14,11 @@ use Rattle.verdict.specs.Parameters.{Parameters}
 use Rattle.verdict.specs.Verdict.{Verdict}
 
 abbrev pub held_by : code_found.Found → Held
-held_by f = record { document = f.document; plans = f.plans.items; revision = f.revision }
+held_by f = record { document = f.document.now; plans = f.plans.now.items; revision = f.revision }
 
--- what was found under a key
-abbrev pub found_seen : Key × code_found.Found → Key × Held
-found_seen o = (o.0, held_by o.1)
+-- what was listed
+abbrev pub listed_seen : code_listed.Listed → Key × Held
+listed_seen l = (l.key.now, held_by l.found)
 
 -- an object as it is held, as it is shown
 abbrev pub shown_held : Key × Held → Key × Data

@@ -1,6 +1,6 @@
 //! The verdict on a write.
 
-ghost use Rattle.std.specs.Prelude.{◌≡◌, ◌<◌, ◌≤◌, List, map, option_map, Some, None, IfOk, IsErrOf, string_bytes};
+ghost use Rattle.std.specs.Prelude.{◌≡◌, ◌≤◌, List, map, option_map, Some, None, IfOk, IsErrOf, string_bytes};
 ghost use Rattle.std.specs.List.{filter_map};
 ghost use Rattle.std.specs.Option.{option_map_or};
 ghost use Rattle.serde_json.specs.View.{view};
@@ -8,15 +8,16 @@ ghost use Rattle.matching.specs.Rules.{attempt_seen};
 ghost use Rattle.evaluation.specs.Environment.{request_of};
 ghost use Rattle.evaluation.specs.Seen.{denial_seen};
 ghost use Rattle.verdict.specs.Admission.{policy_key, bindings, denial_by, finding, verdict};
-ghost use Rattle.verdict.specs.Objects.{Object, Objects, StandFor, HasTrees, held};
+ghost use Rattle.verdict.specs.Objects.{Object, Objects, HasTrees, HaveTrees, held};
 ghost use Rattle.verdict.specs.Verdict as model;
-ghost use Rattle.verdict.specs.Seen.{found_seen, held_by, verdict_seen};
+ghost use Rattle.verdict.specs.Seen.{held_by, listed_seen, verdict_seen};
 ghost use Rattle.verdict.specs.Turns.{after_warnings, held_binding, denial_by_policy};
 ghost use Rattle.names.specs.declared.key.KeyFault.TheVariants as KeyFault;
 ghost use Rattle.names.specs.declared.resource.Resource.TheVariants.{ValidatingAdmissionPolicy};
+ghost use Rattle.verdict.specs.Causes.{HasGrown};
 ghost use Rattle.verdict.specs.declared.lookup.LookupFault.TheVariants as LookupFault;
 
-use crate::lookup::{Found, Lookup, LookupFault};
+use crate::lookup::{Found, Listed, Lookup, LookupFault};
 use crate::one_binding::denial;
 use crate::parameters::add;
 use crate::texts::warning;
@@ -68,24 +69,24 @@ impl Model for Bound {
 }
 
 // The binding that an object is, if it has the form of one.
-fn binding_of(alloc: Global, key: &Key, found: &Found) -> Result<Option<Bound>, AllocError>
-    ensures { IfOk result (λ o. o ≡ held_binding (found_seen (key.now, found.now))) }
+fn binding_of(alloc: Global, listed: &Listed<'_>) -> Result<Option<Bound>, AllocError>
+    ensures { IfOk result (λ o. o ≡ held_binding (listed_seen listed.now)) }
 {
-    match Binding::of(alloc, found.document.json().value())? {
+    match Binding::of(alloc, listed.found.document.json().value())? {
         Some(binding) => {
-            let name = String::from_str(alloc, key.name())?;
+            let name = String::from_str(alloc, listed.key.name())?;
             Ok(Some(Bound { name, binding }))
         }
         None => Ok(None),
     }
 }
 
-fn bindings_among(alloc: Global, found: &[(Key, Found)]) -> Result<Vec<Bound>, AllocError>
-    ensures { IfOk result (λ v. v.items ≡ filter_map held_binding (map found_seen found.now)) }
+fn bindings_among(alloc: Global, listed: &[Listed<'_>]) -> Result<Vec<Bound>, AllocError>
+    ensures { IfOk result (λ v. v.items ≡ filter_map held_binding (map listed_seen listed.now)) }
 {
     let mut bindings = Vec::new(alloc);
-    for entry in found {
-        let binding = binding_of(alloc, &entry.0, &entry.1)?;
+    for entry in listed {
+        let binding = binding_of(alloc, entry)?;
         add(&mut bindings, binding)?;
     }
     Ok(bindings)
@@ -93,43 +94,43 @@ fn bindings_among(alloc: Global, found: &[(Key, Found)]) -> Result<Vec<Bound>, A
 
 // The bindings, ascending by name.
 #[tactic(auto, using(crate::proofs::Standing::bindings_held))]
-fn bindings<L: Lookup>(alloc: Global, lookup: &mut L) -> Result<Vec<Bound>, LookupFault>
-    ensures found { (objects : Objects) → StandFor (L.objects lookup.old) objects → IfOk result (λ v. v.items ≡ bindings objects) }
-    ensures kept { L.objects lookup.new ≡ L.objects lookup.old }
-    ensures sound { L.is_sound lookup.old → L.is_sound lookup.new }
+fn bindings<'a, L: Lookup<'a>>(alloc: Global, lookup: &mut L) -> Result<Vec<Bound>, LookupFault>
+    ensures found { (objects : Objects) → L.shows lookup.old objects → IfOk result (λ v. v.items ≡ bindings objects) }
+    ensures kept { (objects : Objects) → L.shows lookup.old objects → L.shows lookup.new objects }
+    ensures goes { L.goes_to lookup.old lookup.new }
     ensures counts { L.failures lookup.old ≤ L.failures lookup.new }
-    ensures device { IsErrOf result LookupFault.Device → L.failures lookup.old < L.failures lookup.new }
-    ensures damaged { IsErrOf result LookupFault.Damaged → L.is_sound lookup.old → ⊥ }
+    ensures device { IsErrOf result LookupFault.Device → HasGrown (L.failures lookup.old) (L.failures lookup.new) }
+    ensures damaged { IsErrOf result LookupFault.Damaged → (objects : Objects) → L.shows lookup.old objects → ⊥ }
 {
-    let found = lookup.list(alloc, Resource::ValidatingAdmissionPolicyBinding, None)?;
-    let bindings = bindings_among(alloc, &found)?;
+    let listed = lookup.bindings(alloc)?;
+    let bindings = bindings_among(alloc, &listed)?;
     Ok(bindings)
 }
 
 // The denial of the write by a policy that was found, if it has the form of one and gives one.
-fn denial_of<L: Lookup>(
+fn denial_of<'a, L: Lookup<'a>>(
     alloc: Global,
     lookup: &mut L,
-    found: &Found,
+    found: &Found<'_>,
     bound: &Bound,
     attempt: &Attempt<'_>,
     request: &Json,
 ) -> Result<Option<Denial>, LookupFault>
     requires told { view request.now ≡ request_of (attempt_seen attempt.now) }
-    ensures found { (objects : Objects) (object : Object) → StandFor (L.objects lookup.old) objects → HasTrees ValidatingAdmissionPolicy object → held_by found.now ≡ held object
+    ensures found { (objects : Objects) (object : Object) → L.shows lookup.old objects → HasTrees ValidatingAdmissionPolicy object → held_by found.now ≡ held object
         → IfOk result (λ o. option_map denial_seen o ≡ denial_by_policy objects (attempt_seen attempt.now) bound.now.1 object) }
-    ensures kept { L.objects lookup.new ≡ L.objects lookup.old }
-    ensures sound { L.is_sound lookup.old → L.is_sound lookup.new }
+    ensures kept { (objects : Objects) → L.shows lookup.old objects → L.shows lookup.new objects }
+    ensures goes { L.goes_to lookup.old lookup.new }
     ensures counts { L.failures lookup.old ≤ L.failures lookup.new }
-    ensures device { IsErrOf result LookupFault.Device → L.failures lookup.old < L.failures lookup.new }
-    ensures damaged { IsErrOf result LookupFault.Damaged → L.is_sound lookup.old → ⊥ }
+    ensures device { IsErrOf result LookupFault.Device → HasGrown (L.failures lookup.old) (L.failures lookup.new) }
+    ensures damaged { IsErrOf result LookupFault.Damaged → (objects : Objects) → L.shows lookup.old objects → ⊥ }
 {
     match Policy::of(alloc, found.document.json().value())? {
         Some(policy) => denial(
             alloc,
             lookup,
             &policy,
-            &found.plans,
+            found.plans,
             &bound.binding,
             attempt,
             request,
@@ -152,7 +153,7 @@ fn policy_key(alloc: Global, bound: &Bound) -> Result<Key, KeyFault>
 }
 
 // The denial of the write by a binding: none where its policy is not there.
-fn denial_by<L: Lookup>(
+fn denial_by<'a, L: Lookup<'a>>(
     alloc: Global,
     lookup: &mut L,
     bound: &Bound,
@@ -160,20 +161,20 @@ fn denial_by<L: Lookup>(
     request: &Json,
 ) -> Result<Option<Denial>, LookupFault>
     requires told { view request.now ≡ request_of (attempt_seen attempt.now) }
-    ensures found { (objects : Objects) → StandFor (L.objects lookup.old) objects
+    ensures found { (objects : Objects) → L.shows lookup.old objects → HaveTrees objects
         → IfOk result (λ o. option_map denial_seen o ≡ denial_by objects (attempt_seen attempt.now) bound.now.1) }
-    ensures kept { L.objects lookup.new ≡ L.objects lookup.old }
-    ensures sound { L.is_sound lookup.old → L.is_sound lookup.new }
+    ensures kept { (objects : Objects) → L.shows lookup.old objects → L.shows lookup.new objects }
+    ensures goes { L.goes_to lookup.old lookup.new }
     ensures counts { L.failures lookup.old ≤ L.failures lookup.new }
-    ensures device { IsErrOf result LookupFault.Device → L.failures lookup.old < L.failures lookup.new }
-    ensures damaged { IsErrOf result LookupFault.Damaged → L.is_sound lookup.old → ⊥ }
+    ensures device { IsErrOf result LookupFault.Device → HasGrown (L.failures lookup.old) (L.failures lookup.new) }
+    ensures damaged { IsErrOf result LookupFault.Damaged → (objects : Objects) → L.shows lookup.old objects → ⊥ }
 {
     let key = match policy_key(alloc, bound) {
         Ok(key) => key,
         Err(KeyFault::NoKey) => unreachable!("a bound policy has a well-formed name"),
         Err(KeyFault::Memory) => return Err(LookupFault::Memory),
     };
-    let found = match lookup.get(alloc, &key)? {
+    let found = match lookup.policy(alloc, &key)? {
         Some(found) => found,
         None => return Ok(None),
     };
@@ -209,7 +210,7 @@ fn decide(
 }
 
 // The verdict of the bindings, one after another.
-fn verdict_of<L: Lookup>(
+fn verdict_of<'a, L: Lookup<'a>>(
     alloc: Global,
     lookup: &mut L,
     bindings: &[Bound],
@@ -217,13 +218,13 @@ fn verdict_of<L: Lookup>(
     request: &Json,
 ) -> Result<Verdict, LookupFault>
     requires told { view request.now ≡ request_of (attempt_seen attempt.now) }
-    ensures found { (objects : Objects) → StandFor (L.objects lookup.old) objects
+    ensures found { (objects : Objects) → L.shows lookup.old objects → HaveTrees objects
         → IfOk result (λ v. verdict_seen v ≡ model.verdict_of (map (finding objects (attempt_seen attempt.now)) bindings.now)) }
-    ensures kept { L.objects lookup.new ≡ L.objects lookup.old }
-    ensures sound { L.is_sound lookup.old → L.is_sound lookup.new }
+    ensures kept { (objects : Objects) → L.shows lookup.old objects → L.shows lookup.new objects }
+    ensures goes { L.goes_to lookup.old lookup.new }
     ensures counts { L.failures lookup.old ≤ L.failures lookup.new }
-    ensures device { IsErrOf result LookupFault.Device → L.failures lookup.old < L.failures lookup.new }
-    ensures damaged { IsErrOf result LookupFault.Damaged → L.is_sound lookup.old → ⊥ }
+    ensures device { IsErrOf result LookupFault.Device → HasGrown (L.failures lookup.old) (L.failures lookup.new) }
+    ensures damaged { IsErrOf result LookupFault.Damaged → (objects : Objects) → L.shows lookup.old objects → ⊥ }
 {
     let mut warnings = Vec::new(alloc);
     for bound in bindings {
@@ -244,18 +245,18 @@ fn verdict_of<L: Lookup>(
 /// # Errors
 ///
 /// Those of the lookup, and `Memory` where no memory is left.
-pub fn admit<L: Lookup>(
+pub fn admit<'a, L: Lookup<'a>>(
     alloc: Global,
     lookup: &mut L,
     attempt: &Attempt<'_>,
 ) -> Result<Verdict, LookupFault>
-    ensures verdict { (objects : Objects) → StandFor (L.objects lookup.old) objects
+    ensures verdict { (objects : Objects) → L.shows lookup.old objects → HaveTrees objects
         → IfOk result (λ v. verdict_seen v ≡ verdict objects (attempt_seen attempt.now)) }
-    ensures kept { L.objects lookup.new ≡ L.objects lookup.old }
-    ensures sound { L.is_sound lookup.old → L.is_sound lookup.new }
+    ensures kept { (objects : Objects) → L.shows lookup.old objects → L.shows lookup.new objects }
+    ensures goes { L.goes_to lookup.old lookup.new }
     ensures counts { L.failures lookup.old ≤ L.failures lookup.new }
-    ensures device { IsErrOf result LookupFault.Device → L.failures lookup.old < L.failures lookup.new }
-    ensures damaged { IsErrOf result LookupFault.Damaged → L.is_sound lookup.old → ⊥ }
+    ensures device { IsErrOf result LookupFault.Device → HasGrown (L.failures lookup.old) (L.failures lookup.new) }
+    ensures damaged { IsErrOf result LookupFault.Damaged → (objects : Objects) → L.shows lookup.old objects → ⊥ }
 {
     let request = request_document(alloc, attempt)?;
     let bindings = bindings(alloc, lookup)?;

@@ -1,41 +1,43 @@
 //! Where objects are looked up.
 
-ghost use Rattle.std.specs.Prelude.{◌≡◌, ◌<◌, ◌≤◌, ℕ, List, map, option_map, IfOk, IsErrOf};
-ghost use Rattle.names.specs.Key.{Key as KeyData};
+ghost use Rattle.std.specs.Prelude.{◌≡◌, ◌≤◌, ℕ, List, map, option_map, Some, None, IfOk, IsErrOf, IsTrue};
+ghost use Rattle.std.specs.FinMap.{is_sorted};
+ghost use Rattle.names.specs.Key.{key_cmp};
+ghost use Rattle.names.specs.declared.resource.Resource.TheVariants.{ValidatingAdmissionPolicy, ValidatingAdmissionPolicyBinding};
 ghost use Rattle.objects.specs.Objects.{value_at};
-ghost use Rattle.verdict.specs.Objects.{Held};
-ghost use Rattle.verdict.specs.Parameters.{listed};
-ghost use Rattle.verdict.specs.Seen.{held_by, found_seen};
+ghost use Rattle.policy.specs.Spec.{wanted_seen};
+ghost use Rattle.verdict.specs.Causes.{HasGrown};
+ghost use Rattle.verdict.specs.Objects.{Objects, all_held, shown_objects};
+ghost use Rattle.verdict.specs.Parameters.{listed, wanted_of};
+ghost use Rattle.verdict.specs.Seen.{held_by, listed_seen};
 ghost use Rattle.verdict.specs.declared.lookup.LookupFault.TheVariants as LookupFault;
 
 use documents::Document;
+use jsondoc::Doc;
 use names::{Key, Resource};
 use plancode::Verified;
+use policy::Wanted;
 use std::alloc::{AllocError, AllocFailed, Global};
 use thiserror::Error;
 
-/// An object that a lookup finds.
-#[derive(Drop)]
-pub struct Found {
+/// An object that a lookup finds, lent.
+#[derive(Clone, Copy)]
+pub struct Found<'a> {
     /// What is stored.
-    pub document: Document,
+    pub document: &'a Document,
     /// If it is a policy, the plans of its expressions, in order.
-    pub plans: Vec<Verified>,
+    pub plans: &'a Vec<Verified>,
     /// The revision of its last write.
     pub revision: u64,
 }
 
-impl Clone for Found {
-    ghost is_clone = { λ found copy. held_by copy ≡ held_by found };
-
-    #[tactic(auto, using(crate::proofs::Lists::copied))]
-    fn clone(&self) -> Result<Found, AllocError> {
-        Ok(Found {
-            document: self.document.clone()?,
-            plans: self.plans.clone()?,
-            revision: self.revision,
-        })
-    }
+/// An object among those that a lookup lists, lent.
+#[derive(Clone, Copy)]
+pub struct Listed<'a> {
+    /// What it stands under.
+    pub key: &'a Key,
+    /// What stands there.
+    pub found: Found<'a>,
 }
 
 /// Why a lookup gives no answer.
@@ -68,46 +70,74 @@ impl<T: Drop> From<AllocFailed<T>> for LookupFault {
     }
 }
 
-/// Where objects are looked up. A lookup changes no object.
-pub trait Lookup {
-    /// The objects, in key order.
-    ghost objects: { Self → List (KeyData × Held) };
+/// Where objects are looked up, before a write.
+///
+/// Policies and bindings are lent, for `'a`, and parameters are made, as they are shown. A look may read a device, and change what
+/// the lookup is made on: what it shows stays, and `goes_to` says what else its maker may know of it afterwards.
+pub trait Lookup<'a> {
+    /// It shows these objects. Nothing has to be known of their trees.
+    ghost shows: { Self → Objects → Type 0 };
 
     /// How often the device below has failed.
     ghost failures: { Self → ℕ };
 
-    /// What lies below stands for the objects, so that nothing is damaged.
-    ghost is_sound: { Self → Type 0 };
+    /// What looks may make of it.
+    ghost goes_to: { Self → Self → Type 0 };
 
-    /// The object under a key.
+    /// The policy under a key.
     ///
     /// # Errors
     ///
-    /// `Memory` where no memory is left, `Device` where the device failed, `Damaged` where what lies below is not sound.
-    fn get(&mut self, alloc: Global, key: &Key) -> Result<Option<Found>, LookupFault>
-        ensures found { IfOk result (λ o. option_map held_by o ≡ value_at key.now (objects self.old)) }
-        ensures kept { objects self.new ≡ objects self.old }
-        ensures sound { is_sound self.old → is_sound self.new }
+    /// `Memory` where no memory is left, `Device` where the device failed, `Damaged` where what lies below shows nothing.
+    fn policy(&mut self, alloc: Global, key: &Key) -> Result<Option<Found<'a>>, LookupFault>
+        requires { key.now.resource ≡ ValidatingAdmissionPolicy }
+        ensures found { (objects : Objects) → shows self.old objects → IfOk result (λ o. option_map held_by o ≡ value_at key.now (all_held objects)) }
+        ensures kept { (objects : Objects) → shows self.old objects → shows self.new objects }
+        ensures goes { goes_to self.old self.new }
         ensures counts { failures self.old ≤ failures self.new }
-        ensures device { IsErrOf result LookupFault.Device → failures self.old < failures self.new }
-        ensures damaged { IsErrOf result LookupFault.Damaged → is_sound self.old → ⊥ };
+        ensures device { IsErrOf result LookupFault.Device → HasGrown (failures self.old) (failures self.new) }
+        ensures damaged { IsErrOf result LookupFault.Damaged → (objects : Objects) → shows self.old objects → ⊥ };
 
-    /// The objects of a resource, in a namespace if one is given, in key order.
+    /// All bindings, in key order.
     ///
     /// # Errors
     ///
-    /// As those of `get`.
-    fn list(
+    /// As those of `policy`.
+    fn bindings(&mut self, alloc: Global) -> Result<Vec<Listed<'a>>, LookupFault>
+        ensures found { (objects : Objects) → shows self.old objects
+            → IfOk result (λ v. map listed_seen v.items ≡ listed ValidatingAdmissionPolicyBinding None (all_held objects)) }
+        ensures kept { (objects : Objects) → shows self.old objects → shows self.new objects }
+        ensures goes { goes_to self.old self.new }
+        ensures counts { failures self.old ≤ failures self.new }
+        ensures device { IsErrOf result LookupFault.Device → HasGrown (failures self.old) (failures self.new) }
+        ensures damaged { IsErrOf result LookupFault.Damaged → (objects : Objects) → shows self.old objects → ⊥ };
+
+    /// The objects of a resource in a namespace that are wanted, in key order, as they are shown.
+    ///
+    /// # Errors
+    ///
+    /// As those of `policy`.
+    fn parameters(
         &mut self,
         alloc: Global,
         resource: Resource,
-        namespace: Option<&str>,
-    ) -> Result<Vec<(Key, Found)>, LookupFault>
-        ensures found { let text = option_map (λ text. text.now) namespace.entry in
-            IfOk result (λ v. map found_seen v.items ≡ listed resource text (objects self.old)) }
-        ensures kept { objects self.new ≡ objects self.old }
-        ensures sound { is_sound self.old → is_sound self.new }
+        namespace: &str,
+        wanted: &Wanted,
+    ) -> Result<Vec<Doc>, LookupFault>
+        ensures found { (objects : Objects) → shows self.old objects
+            → IfOk result (λ v. v.items ≡ wanted_of (wanted_seen wanted.now) (listed resource (Some namespace.now) (shown_objects objects))) }
+        ensures kept { (objects : Objects) → shows self.old objects → shows self.new objects }
+        ensures goes { goes_to self.old self.new }
         ensures counts { failures self.old ≤ failures self.new }
-        ensures device { IsErrOf result LookupFault.Device → failures self.old < failures self.new }
-        ensures damaged { IsErrOf result LookupFault.Damaged → is_sound self.old → ⊥ };
+        ensures device { IsErrOf result LookupFault.Device → HasGrown (failures self.old) (failures self.new) }
+        ensures damaged { IsErrOf result LookupFault.Damaged → (objects : Objects) → shows self.old objects → ⊥ };
+
+    /// The keys of what it shows ascend.
+    ghost ascending: { (lookup : Self) (objects : Objects) → shows lookup objects → IsTrue (is_sorted key_cmp objects) };
+
+    /// No look may leave it as it is.
+    ghost stays: { (lookup : Self) → goes_to lookup lookup };
+
+    /// Looks may come one after another.
+    ghost goes_on: { (before between after : Self) → goes_to before between → goes_to between after → goes_to before after };
 }

@@ -1,6 +1,6 @@
 //! What one binding of a policy says of a write.
 
-ghost use Rattle.std.specs.Prelude.{◌≡◌, ◌<◌, ◌≤◌, ◌++◌, List, map, option_map, Some, None, IfOk, IsErrOf, string_bytes};
+ghost use Rattle.std.specs.Prelude.{◌≡◌, ◌≤◌, ◌++◌, List, map, option_map, Some, None, IfOk, IsErrOf, string_bytes};
 ghost use Rattle.serde_json.specs.View.{view};
 ghost use Rattle.celtree.specs.Tree.{Expr};
 ghost use Rattle.matching.specs.Rules.{attempt_seen};
@@ -9,9 +9,10 @@ ghost use Rattle.evaluation.specs.Environment.{request_of, seen};
 ghost use Rattle.evaluation.specs.Denials.{first_denial, evaluate, failure};
 ghost use Rattle.evaluation.specs.Ready.{AreReady};
 ghost use Rattle.evaluation.specs.Seen.{conditions_seen, denial_seen};
-ghost use Rattle.verdict.specs.Objects.{Objects, StandFor, shown_objects};
+ghost use Rattle.verdict.specs.Objects.{Objects, shown_objects};
 ghost use Rattle.verdict.specs.Verdict.{on_not_found, on_parameters, on_conditions, denial};
 ghost use Rattle.verdict.specs.Seen.{parameters_seen};
+ghost use Rattle.verdict.specs.Causes.{HasGrown};
 ghost use Rattle.verdict.specs.declared.lookup.LookupFault.TheVariants as LookupFault;
 
 use crate::lookup::{Lookup, LookupFault};
@@ -109,7 +110,7 @@ fn on_parameters(
 }
 
 // What is said of a write whose match conditions say this.
-fn on_conditions<L: Lookup>(
+fn on_conditions<'a, L: Lookup<'a>>(
     alloc: Global,
     lookup: &mut L,
     policy: &Policy,
@@ -120,13 +121,13 @@ fn on_conditions<L: Lookup>(
     conditions: Conditions<'_>,
 ) -> Result<Option<Denial>, LookupFault>
     requires told { view request.now ≡ request_of (attempt_seen attempt.now) }
-    ensures found { (objects : Objects) (trees : List Expr) → StandFor (L.objects lookup.old) objects → AreReady (policy_seen policy.now) trees plans.now
+    ensures found { (objects : Objects) (trees : List Expr) → L.shows lookup.old objects → AreReady (policy_seen policy.now) trees plans.now
         → IfOk result (λ o. option_map denial_seen o ≡ on_conditions (shown_objects objects) (policy_seen policy.now) trees (binding_seen binding.now) (attempt_seen attempt.now) (conditions_seen conditions.entry)) }
-    ensures kept { L.objects lookup.new ≡ L.objects lookup.old }
-    ensures sound { L.is_sound lookup.old → L.is_sound lookup.new }
+    ensures kept { (objects : Objects) → L.shows lookup.old objects → L.shows lookup.new objects }
+    ensures goes { L.goes_to lookup.old lookup.new }
     ensures counts { L.failures lookup.old ≤ L.failures lookup.new }
-    ensures device { IsErrOf result LookupFault.Device → L.failures lookup.old < L.failures lookup.new }
-    ensures damaged { IsErrOf result LookupFault.Damaged → L.is_sound lookup.old → ⊥ }
+    ensures device { IsErrOf result LookupFault.Device → HasGrown (L.failures lookup.old) (L.failures lookup.new) }
+    ensures damaged { IsErrOf result LookupFault.Damaged → (objects : Objects) → L.shows lookup.old objects → ⊥ }
 {
     match conditions {
         Conditions::Met => {
@@ -156,7 +157,7 @@ fn on_conditions<L: Lookup>(
 /// # Errors
 ///
 /// Those of the lookup, and `Memory`.
-pub(crate) fn denial<L: Lookup>(
+pub(crate) fn denial<'a, L: Lookup<'a>>(
     alloc: Global,
     lookup: &mut L,
     policy: &Policy,
@@ -166,13 +167,13 @@ pub(crate) fn denial<L: Lookup>(
     request: &Json,
 ) -> Result<Option<Denial>, LookupFault>
     requires told { view request.now ≡ request_of (attempt_seen attempt.now) }
-    ensures found { (objects : Objects) (trees : List Expr) → StandFor (L.objects lookup.old) objects → AreReady (policy_seen policy.now) trees plans.now
+    ensures found { (objects : Objects) (trees : List Expr) → L.shows lookup.old objects → AreReady (policy_seen policy.now) trees plans.now
         → IfOk result (λ o. option_map denial_seen o ≡ denial (shown_objects objects) (policy_seen policy.now) trees (binding_seen binding.now) (attempt_seen attempt.now)) }
-    ensures kept { L.objects lookup.new ≡ L.objects lookup.old }
-    ensures sound { L.is_sound lookup.old → L.is_sound lookup.new }
+    ensures kept { (objects : Objects) → L.shows lookup.old objects → L.shows lookup.new objects }
+    ensures goes { L.goes_to lookup.old lookup.new }
     ensures counts { L.failures lookup.old ≤ L.failures lookup.new }
-    ensures device { IsErrOf result LookupFault.Device → L.failures lookup.old < L.failures lookup.new }
-    ensures damaged { IsErrOf result LookupFault.Damaged → L.is_sound lookup.old → ⊥ }
+    ensures device { IsErrOf result LookupFault.Device → HasGrown (L.failures lookup.old) (L.failures lookup.new) }
+    ensures damaged { IsErrOf result LookupFault.Damaged → (objects : Objects) → L.shows lookup.old objects → ⊥ }
 {
     if !matches(&policy.constraints, &binding.resources, attempt) {
         return Ok(None);

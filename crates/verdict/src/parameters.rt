@@ -1,22 +1,23 @@
 //! The parameters of a policy, as a binding asks for them.
 
-ghost use Rattle.std.specs.Prelude.{◌≡◌, ◌<◌, ◌≤◌, ◌++◌, List, map, option_map, Some, None, IfOk, OnOk, IsErrOf, if◌then◌else◌};
+ghost use Rattle.std.specs.Prelude.{◌≡◌, ◌≤◌, ◌++◌, List, map, option_map, Some, None, IfOk, OnOk, IsErrOf, if◌then◌else◌};
 ghost use Rattle.std.specs.List.{cons_option, filter_map};
 ghost use Rattle.names.specs.Resource.{row};
 ghost use Rattle.documents.specs.Document.{shown};
 ghost use Rattle.matching.specs.Rules.{attempt_seen};
 ghost use Rattle.policy.specs.Spec.{binding_seen, param_ref_seen, wanted_seen};
-ghost use Rattle.verdict.specs.Objects.{Objects, StandFor, shown_objects};
-ghost use Rattle.verdict.specs.Parameters.{found_or_not, namespace_of, looked_up, parameters};
-ghost use Rattle.verdict.specs.Seen.{found_seen, parameters_seen};
+ghost use Rattle.verdict.specs.Objects.{Objects, shown_objects};
+ghost use Rattle.verdict.specs.Parameters.{found_or_not, namespace_of, looked_up, parameters, wanted_of};
+ghost use Rattle.verdict.specs.Seen.{listed_seen, parameters_seen, shown_held};
 ghost use Rattle.verdict.specs.Turns.{if_wanted};
+ghost use Rattle.verdict.specs.Causes.{HasGrown};
 ghost use Rattle.verdict.specs.declared.lookup.LookupFault.TheVariants as LookupFault;
 
-use crate::lookup::{Found, Lookup, LookupFault};
+use crate::lookup::{Listed, Lookup, LookupFault};
 use documents::shown_document;
 use jsondoc::Doc;
 use matching::{Attempt, selects};
-use names::{Key, Resource, Scope};
+use names::{Resource, Scope};
 use policy::{Binding, ParamRef, Wanted};
 use std::alloc::{AllocError, Global};
 
@@ -44,24 +45,20 @@ pub(crate) fn add<T: Drop>(items: &mut Vec<T>, item: Option<T>) -> Result<(), Al
 }
 
 // The object as it is shown, if it is wanted.
-fn if_wanted(
-    alloc: Global,
-    wanted: &Wanted,
-    key: &Key,
-    found: &Found,
-) -> Result<Option<Doc>, AllocError>
-    ensures { IfOk result (λ o. o ≡ if_wanted (wanted_seen wanted.now) (found_seen (key.now, found.now))) }
+fn if_wanted(alloc: Global, wanted: &Wanted, listed: &Listed<'_>) -> Result<Option<Doc>, AllocError>
+    ensures { IfOk result (λ o. o ≡ if_wanted (wanted_seen wanted.now) (listed_seen listed.now)) }
 {
+    let found = &listed.found;
     match wanted {
         Wanted::ByName(name) => {
-            if key.name() == name.as_str() {
-                Ok(Some(shown_document(alloc, &found.document, found.revision)?))
+            if listed.key.name() == name.as_str() {
+                Ok(Some(shown_document(alloc, found.document, found.revision)?))
             } else {
                 Ok(None)
             }
         }
         Wanted::BySelector(requirements) => {
-            let document = shown_document(alloc, &found.document, found.revision)?;
+            let document = shown_document(alloc, found.document, found.revision)?;
             if selects(requirements, document.value()) {
                 Ok(Some(document))
             } else {
@@ -71,17 +68,22 @@ fn if_wanted(
     }
 }
 
-// The objects that are wanted, as they are shown.
-fn wanted_among(
+/// The objects that are wanted among those listed, as they are shown: what a lookup that has all objects at hand answers for
+/// parameters.
+///
+/// # Errors
+///
+/// Where no memory is left.
+pub fn wanted_among(
     alloc: Global,
     wanted: &Wanted,
-    found: &[(Key, Found)],
+    listed: &[Listed<'_>],
 ) -> Result<Vec<Doc>, AllocError>
-    ensures { IfOk result (λ v. v.items ≡ filter_map (if_wanted (wanted_seen wanted.now)) (map found_seen found.now)) }
+    ensures { IfOk result (λ v. v.items ≡ wanted_of (wanted_seen wanted.now) (map shown_held (map listed_seen listed.now))) }
 {
     let mut documents = Vec::new(alloc);
-    for entry in found {
-        let document = if_wanted(alloc, wanted, &entry.0, &entry.1)?;
+    for entry in listed {
+        let document = if_wanted(alloc, wanted, entry)?;
         add(&mut documents, document)?;
     }
     Ok(documents)
@@ -119,23 +121,22 @@ fn found_or_not(documents: Vec<Doc>) -> Parameters
 }
 
 // The parameters in a namespace.
-fn looked_up<L: Lookup>(
+fn looked_up<'a, L: Lookup<'a>>(
     alloc: Global,
     lookup: &mut L,
     resource: Resource,
     wanted: &Wanted,
     namespace: &str,
 ) -> Result<Parameters, LookupFault>
-    ensures found { (objects : Objects) → StandFor (L.objects lookup.old) objects
+    ensures found { (objects : Objects) → L.shows lookup.old objects
         → IfOk result (λ p. parameters_seen p ≡ looked_up (shown_objects objects) resource (wanted_seen wanted.now) (Some namespace.now)) }
-    ensures kept { L.objects lookup.new ≡ L.objects lookup.old }
-    ensures sound { L.is_sound lookup.old → L.is_sound lookup.new }
+    ensures kept { (objects : Objects) → L.shows lookup.old objects → L.shows lookup.new objects }
+    ensures goes { L.goes_to lookup.old lookup.new }
     ensures counts { L.failures lookup.old ≤ L.failures lookup.new }
-    ensures device { IsErrOf result LookupFault.Device → L.failures lookup.old < L.failures lookup.new }
-    ensures damaged { IsErrOf result LookupFault.Damaged → L.is_sound lookup.old → ⊥ }
+    ensures device { IsErrOf result LookupFault.Device → HasGrown (L.failures lookup.old) (L.failures lookup.new) }
+    ensures damaged { IsErrOf result LookupFault.Damaged → (objects : Objects) → L.shows lookup.old objects → ⊥ }
 {
-    let found = lookup.list(alloc, resource, Some(namespace))?;
-    let documents = wanted_among(alloc, wanted, &found)?;
+    let documents = lookup.parameters(alloc, resource, namespace, wanted)?;
     Ok(found_or_not(documents))
 }
 
@@ -144,20 +145,20 @@ fn looked_up<L: Lookup>(
 /// # Errors
 ///
 /// Those of the lookup, and `Memory`.
-pub(crate) fn parameters_of<L: Lookup>(
+pub(crate) fn parameters_of<'a, L: Lookup<'a>>(
     alloc: Global,
     lookup: &mut L,
     kind: Option<Resource>,
     binding: &Binding,
     attempt: &Attempt<'_>,
 ) -> Result<Parameters, LookupFault>
-    ensures found { (objects : Objects) → StandFor (L.objects lookup.old) objects
+    ensures found { (objects : Objects) → L.shows lookup.old objects
         → IfOk result (λ p. parameters_seen p ≡ parameters (shown_objects objects) kind (binding_seen binding.now).param_ref (attempt_seen attempt.now)) }
-    ensures kept { L.objects lookup.new ≡ L.objects lookup.old }
-    ensures sound { L.is_sound lookup.old → L.is_sound lookup.new }
+    ensures kept { (objects : Objects) → L.shows lookup.old objects → L.shows lookup.new objects }
+    ensures goes { L.goes_to lookup.old lookup.new }
     ensures counts { L.failures lookup.old ≤ L.failures lookup.new }
-    ensures device { IsErrOf result LookupFault.Device → L.failures lookup.old < L.failures lookup.new }
-    ensures damaged { IsErrOf result LookupFault.Damaged → L.is_sound lookup.old → ⊥ }
+    ensures device { IsErrOf result LookupFault.Device → HasGrown (L.failures lookup.old) (L.failures lookup.new) }
+    ensures damaged { IsErrOf result LookupFault.Damaged → (objects : Objects) → L.shows lookup.old objects → ⊥ }
 {
     let resource = match kind {
         Some(resource) => resource,

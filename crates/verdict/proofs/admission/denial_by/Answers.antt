@@ -1,4 +1,4 @@
-use Rattle.std.proofs.Common.{◌≡◌, List, Option, Some, None, option_map, sym, ap, ◌∙◌, subst, rules}
+use Rattle.std.proofs.Common.{◌≡◌, List, Option, Some, None, option_map, sym, ap, ◌∙◌, rules}
 use Rattle.std.specs.Prelude.{option_and_then}
 use Rattle.std.proofs.lemmas.Result.{IfOk-weaker}
 use Rattle.names.specs.Key.{Key}
@@ -6,32 +6,30 @@ use Rattle.objects.specs.Objects.{value_at}
 use Rattle.matching.specs.Rules.{attempt_seen}
 use Rattle.evaluation.specs.Seen.{denial_seen}
 use Rattle.verdict.specs.Admission.{policy_key, denial_by}
-use Rattle.verdict.specs.Objects.{Held, Object, StandFor}
+use Rattle.verdict.specs.Objects.{Object, all_held}
 use Rattle.verdict.specs.Seen.{held_by}
 use Rattle.verdict.specs.Turns.{denial_by_policy}
 use Rattle.verdict.proofs.Standing.{found_policy, no_policy}
 use Rattle.verdict.proofs.admission.denial_by.Goals as goal
 
 pub returns-clause-found : goal.returns-clause-found
-returns-clause-found g c = λ objects stand.
-    let hs = g.L.Lookup.objects c.args.lookup.now in
+returns-clause-found g c = λ objects shows trees.
     let b = c.args.bound.now.1 in
     let w = attempt_seen c.args.attempt.now in
-    let is : Some (held_by c.in-Some.found) ≡ value_at (policy_key b.policy) hs = search rules in
-    let found = found_policy hs objects b.policy (held_by c.in-Some.found) stand is in
-    let stand_still = subst (λ (l : List (Key × Held)). StandFor l objects) (sym c.get.ensures.kept) stand in
+    let told = c.policy.ensures.found objects shows in
+    let is : Some (held_by c.in-Some.found) ≡ value_at (policy_key b.policy) (all_held objects) = search rules in
+    let found = found_policy objects b.policy (held_by c.in-Some.found) trees is in
     IfOk-weaker c.denial_of.result
     (λ o. option_map denial_seen o ≡ denial_by_policy objects w b found.object)
     (λ o. option_map denial_seen o ≡ denial_by objects w b)
     (λ o given. given ∙ sym (ap (λ (x : Option Object). option_and_then (λ y. denial_by_policy objects w b y) x) found.stands))
-    (c.denial_of.ensures.found objects found.object stand_still found.trees found.same)
+    (c.denial_of.ensures.found objects found.object (c.policy.ensures.kept objects shows) found.trees found.same)
 
 pub returns-in-None-clause-found : goal.returns-in-None-clause-found
-returns-in-None-clause-found g c = λ objects stand.
-    let hs = g.L.Lookup.objects c.args.lookup.now in
+returns-in-None-clause-found g c = λ objects shows trees.
     let b = c.args.bound.now.1 in
     let w = attempt_seen c.args.attempt.now in
     let is : None ≡ option_map held_by c.in_ok-found.field-0 = search rules in
     let key : c.in-Ok.key ≡ policy_key b.policy = search rules in
-    let none = is ∙ c.in_ok-found.ensures.found ∙ ap (λ (k : Key). value_at k hs) key in
-    sym (ap (λ (x : Option Object). option_and_then (λ y. denial_by_policy objects w b y) x) (no_policy hs objects b.policy stand none))
+    let none = is ∙ c.in_ok-found.ensures.found objects shows ∙ ap (λ (k : Key). value_at k (all_held objects)) key in
+    sym (ap (λ (x : Option Object). option_and_then (λ y. denial_by_policy objects w b y) x) (no_policy objects b.policy none))

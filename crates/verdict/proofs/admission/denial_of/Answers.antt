@@ -14,11 +14,11 @@ use Rattle.verdict.specs.Turns.{denial_by_policy}
 use Rattle.verdict.proofs.admission.denial_of.Goals as goal
 
 pub returns-in-Some-clause-found : goal.returns-in-Some-clause-found
-returns-in-Some-clause-found g c = λ objects object stand trees same.
+returns-in-Some-clause-found g c = λ objects object shows trees same.
     let p = policy_seen c.in-Some.policy in
     let b = c.args.bound.now.1 in
     let w = attempt_seen c.args.attempt.now in
-    let read : policy_of c.args.found.now.document.json ≡ Some p = search rules in
+    let read : policy_of c.args.found.now.document.now.json ≡ Some p = search rules in
     let is : policy_of object.document.json ≡ Some p = ap (λ (h : Held). policy_of h.document.json) (sym same) ∙ read in
     let ready : AreReady p object.trees c.deref.result.now = record {
       typed = trees p is;
@@ -30,4 +30,4 @@ returns-in-Some-clause-found g c = λ objects object stand trees same.
     (λ o. option_map denial_seen o ≡ denial_by_policy objects w b object)
     (λ o given. given ∙ ap (λ (x : Binding). denial (shown_objects objects) p object.trees x w) bound
     ∙ sym (ap (λ (x : Option Policy). option_and_then (λ q. denial (shown_objects objects) q object.trees b w) x) is))
-    (c.denial.ensures.found objects object.trees stand ready)
+    (c.denial.ensures.found objects object.trees shows ready)

@@ -1,7 +1,7 @@
 use Rattle.std.proofs.Common.{◌≡◌, ◌≤◌, map, drop, string_bytes}
 use Rattle.matching.specs.Rules.{attempt_seen}
 use Rattle.verdict.specs.Admission.{finding}
-use Rattle.verdict.specs.Objects.{Objects, StandFor}
+use Rattle.verdict.specs.Objects.{Objects, HaveTrees}
 use Rattle.verdict.specs.Verdict.{verdict_of}
 use Rattle.verdict.specs.Turns.{after_warnings}
 use Rattle.verdict.proofs.admission.verdict_of.Given as goal
@@ -9,9 +9,9 @@ use Rattle.verdict.proofs.admission.verdict_of.Given as goal
 -- the warnings so far, and then the verdict of the bindings that are left
 abbrev pub invariant-loop-bound : goal.invariant-loop-bound
 invariant-loop-bound g l =
-    ((objects : Objects) → StandFor (g.L.Lookup.objects l.fn.lookup) objects
+    ((objects : Objects) → g.L.Lookup.shows l.fn.lookup objects → HaveTrees objects
     → verdict_of (map (finding objects (attempt_seen l.attempt)) l.bindings)
     ≡ after_warnings (map string_bytes l.warnings.items) (verdict_of (map (finding objects (attempt_seen l.attempt)) (drop l.bound-index l.bindings))))
-    × (g.L.Lookup.objects l.lookup ≡ g.L.Lookup.objects l.fn.lookup)
-    × (g.L.Lookup.is_sound l.fn.lookup → g.L.Lookup.is_sound l.lookup)
+    × ((objects : Objects) → g.L.Lookup.shows l.fn.lookup objects → g.L.Lookup.shows l.lookup objects)
+    × g.L.Lookup.goes_to l.fn.lookup l.lookup
     × (g.L.Lookup.failures l.fn.lookup ≤ g.L.Lookup.failures l.lookup)

@@ -9,7 +9,7 @@ use Rattle.verdict.proofs.Turns.{asked}
 use Rattle.verdict.proofs.one_binding.denial.Goals as goal
 
 pub returns-clause-found : goal.returns-clause-found
-returns-clause-found g c = λ objects trees stand ready.
+returns-clause-found g c = λ objects trees shows ready.
     let p = policy_seen c.args.policy.now in
     let b = binding_seen c.args.binding.now in
     let w = attempt_seen c.args.attempt.now in
@@ -17,4 +17,4 @@ returns-clause-found g c = λ objects trees stand ready.
     (λ o. option_map denial_seen o ≡ on_conditions (shown_objects objects) p trees b w (conditions_seen c.in_ok-found.found))
     (λ o. option_map denial_seen o ≡ denial (shown_objects objects) p trees b w)
     (λ o is. is ∙ asked (shown_objects objects) p trees b w (conditions_seen c.in_ok-found.found) (sym c.matches.ensures ∙ c.if-not-matches.false) (c.in_ok-found.ensures trees ready))
-    (c.on_conditions.ensures.found objects trees stand ready)
+    (c.on_conditions.ensures.found objects trees shows ready)
