@@ -1,2 +1,3 @@
 pub mod Root
 pub mod Front
+pub mod NewStore

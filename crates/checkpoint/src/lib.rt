@@ -4,7 +4,7 @@
 //! whose gates are open the one of greater generation counts. Opening answers it, or that the content holds none.
 //!
 //! ```text
-//! let first = start(alloc, &mut device)?;
+//! let first = start(&mut device)?;
 //! let root = counted_root(&mut device)?;
 //! let log = Log::open(&mut device, root.log_start())?;
 //! ```

@@ -1,17 +1,17 @@
 //! A new store.
 
-ghost use Rattle.std.specs.Prelude.{◌≡◌, ◌≤◌, ◌+◌, ◌*◌, ℕ, [], length, slice_index, IfOk, OnOk, IsErrOf};
+ghost use Rattle.std.specs.Prelude.{◌≡◌, ◌≤◌, ◌*◌, ℕ, [], length, slice_index, IfOk, OnOk, IsErrOf};
 ghost use Rattle.device.specs.Disk.{Only, HasFailed, HasCause};
 ghost use Rattle.device.specs.Step.{Same, Torn};
 ghost use Rattle.device.specs.Run.{Ran};
 ghost use Rattle.gatelog.specs.Log.{HoldsLog};
 ghost use Rattle.checkpoint.specs.Root.{HoldsRoot};
+ghost use Rattle.checkpoint.specs.NewStore.{new_content};
 
 use crate::root::{Root, Slot};
-use crate::sector::{header_bytes, root_bytes};
+use crate::sector::{header_bytes, put, root_bytes};
 use device::{Device, DeviceFault, write_through};
 use gatelog::{OPEN, SECTOR};
-use std::alloc::{AllocError, Global};
 
 /// Why no new store could be made.
 #[derive(Clone, Copy, Debug, PartialEq, Eq)]
@@ -20,7 +20,6 @@ pub enum StartFault {
     NotEmpty,
     /// The device failed in this call.
     Device,
-    Memory,
 }
 
 impl From<DeviceFault> for StartFault {
@@ -34,33 +33,15 @@ impl From<DeviceFault> for StartFault {
     }
 }
 
-impl From<AllocError> for StartFault {
-    ghost use Rattle.checkpoint.specs.declared.new_store.StartFault.TheVariants.{Memory};
-    ghost use Rattle.std.specs.Prelude.{◌≡◌};
-
-    ghost from_gives = { λ _ fault. fault ≡ Memory };
-
-    fn from(_: AllocError) -> StartFault {
-        StartFault::Memory
-    }
-}
-
 // The sectors of a new store: the header, the root in slot A and its open gate, and behind them closed gates and zeros.
-fn nine_sectors(alloc: Global, root: &Root) -> Result<Vec<u8>, AllocError>
-    requires slot { root.now.slot ≡ Slot.A }
-    requires first { root.now.first ≡ 8 }
-    requires no_pages { root.now.pages ≡ 0 }
-    ensures root { IfOk result (λ bytes. HoldsRoot bytes.items root.now) }
-    ensures log { IfOk result (λ bytes. HoldsLog 8 [] 8 bytes.items) }
-    ensures zeros { IfOk result (λ bytes. (k : ℕ) → 1025 ≤ k → slice_index bytes.items k ≡ 0) }
-    ensures size { IfOk result (λ bytes. length bytes.items ≡ 9 * 512) }
+fn nine_sectors() -> [u8; 4608]
+    ensures { result ≡ new_content }
 {
-    let mut bytes = Vec::with_capacity(alloc, 9 * SECTOR)?;
-    bytes.extend_from_slice(&header_bytes())?;
-    bytes.extend_from_slice(&root_bytes(root))?;
-    bytes.extend_from_slice(&[OPEN])?;
-    bytes.resize(9 * SECTOR, 0)?;
-    Ok(bytes)
+    let mut sectors = [0; 4608];
+    put(&mut sectors, 0, &header_bytes());
+    put(&mut sectors, SECTOR, &root_bytes(&first_root()));
+    put(&mut sectors, 2 * SECTOR, &[OPEN]);
+    sectors
 }
 
 // The first root of a store.
@@ -84,7 +65,6 @@ fn first_root() -> Root
 fn check_empty<D: Device>(device: &mut D) -> Result<(), StartFault>
     ensures empty { D.disk.keeps device.old → OnOk result (D.disk.content device.old ≡ []) }
     ensures not_empty { D.disk.keeps device.old → IsErrOf result StartFault.NotEmpty → D.disk.content device.old ≡ [] → ⊥ }
-    ensures refusal { IsErrOf result StartFault.Memory → ⊥ }
     ensures ran { Ran D.disk device.old device.new Same }
     ensures cause { IsErrOf result StartFault.Device → HasFailed D.disk device.old device.new }
 {
@@ -107,14 +87,12 @@ fn write_sectors<D: Device>(device: &mut D, sectors: &[u8]) -> Result<(), Device
 }
 
 /// Makes the store of an empty device: writes the nine sectors of a new store, and syncs. They are the header, the first root behind
-/// an open gate in slot A, and zeros, among them the closed gates of slot B and of the empty log at sector 8. All memory is taken
-/// before the first call of the device.
+/// an open gate in slot A, and zeros, among them the closed gates of slot B and of the empty log at sector 8. No memory is taken.
 ///
 /// # Errors
 ///
-/// `NotEmpty` where the device has sectors; they stay. `Memory` before the device was touched. `Device` where the device failed,
-/// which may leave any bytes in the nine sectors.
-pub fn start<D: Device>(alloc: Global, device: &mut D) -> Result<Root, StartFault>
+/// `NotEmpty` where the device has sectors; they stay. `Device` where the device failed, which may leave any bytes in the nine sectors.
+pub fn start<D: Device>(device: &mut D) -> Result<Root, StartFault>
     ensures empty { D.disk.keeps device.old → OnOk result (D.disk.content device.old ≡ []) }
     ensures slot { IfOk result (λ root. root.slot ≡ Slot.A) }
     ensures generation { IfOk result (λ root. root.generation ≡ 1) }
@@ -123,6 +101,7 @@ pub fn start<D: Device>(alloc: Global, device: &mut D) -> Result<Root, StartFaul
     ensures revision { IfOk result (λ root. root.revision ≡ 1) }
 
     // What the device then holds, also after a crash.
+    ensures content { D.disk.keeps device.old → OnOk result (D.disk.content device.new ≡ new_content) }
     ensures nine { D.disk.keeps device.old → OnOk result (length (D.disk.content device.new) ≡ 9 * 512) }
     ensures root { D.disk.keeps device.old → IfOk result (HoldsRoot (D.disk.content device.new)) }
     ensures log { D.disk.keeps device.old → OnOk result (HoldsLog 8 [] 8 (D.disk.content device.new)) }
@@ -135,12 +114,9 @@ pub fn start<D: Device>(alloc: Global, device: &mut D) -> Result<Root, StartFaul
     // A device with sectors is left as it was, at every moment.
     ensures untouched { IsErrOf result StartFault.NotEmpty → Ran D.disk device.old device.new Same }
 
-    ensures memory { IsErrOf result StartFault.Memory → device.new ≡ device.old }
     ensures cause { IsErrOf result StartFault.Device → HasFailed D.disk device.old device.new }
 {
-    let root = first_root();
-    let sectors = nine_sectors(alloc, &root)?;
     check_empty(device)?;
-    write_sectors(device, &sectors)?;
-    Ok(root)
+    write_sectors(device, &nine_sectors())?;
+    Ok(first_root())
 }

@@ -3,6 +3,7 @@
 ghost use Rattle.std.specs.Prelude.{◌≡◌, ◌<◌, ◌≤◌, ◌+◌, ◌^◌, ◌++◌, length, take, drop};
 ghost use Rattle.byteorder.specs.Endian.{big_bytes};
 ghost use Rattle.checkpoint.specs.Root.{IsHeader, IsRoot};
+ghost use Rattle.checkpoint.specs.NewStore.{new_header, root_fields};
 
 use crate::root::{HEADER_MARK, ROOT_MARK, Root};
 use byteorder::{BigEndian, ByteOrder};
@@ -11,8 +12,8 @@ use gatelog::SECTOR;
 // The format of the file that this crate writes.
 const FORMAT: u32 = 1;
 
-// Writes bytes over those at a place.
-fn put(sector: &mut [u8], at: usize, with: &[u8])
+/// Writes bytes over those at a place.
+pub(crate) fn put(sector: &mut [u8], at: usize, with: &[u8])
     requires { at + length with.now ≤ length sector.old }
     ensures { sector.new ≡ take at sector.old ++ with.now ++ drop (at + length with.now) sector.old }
 {
@@ -43,7 +44,8 @@ fn put_u64(sector: &mut [u8], at: usize, number: u64)
 
 /// The first sector of a store's file.
 pub(crate) fn header_bytes() -> [u8; 512]
-    ensures { IsHeader result }
+    ensures header { IsHeader result }
+    ensures bytes { result ≡ new_header }
 {
     let mut sector = [0; SECTOR];
     put(&mut sector, 0, HEADER_MARK);
@@ -55,7 +57,8 @@ pub(crate) fn header_bytes() -> [u8; 512]
 /// The sector that spells a root.
 pub(crate) fn root_bytes(root: &Root) -> [u8; 512]
     requires { 8 ≤ root.now.first }
-    ensures { IsRoot root.now result }
+    ensures root { IsRoot root.now result }
+    ensures bytes { result ≡ root_fields root.now.generation root.now.first root.now.pages root.now.revision }
 {
     let mut sector = [0; SECTOR];
     put(&mut sector, 0, ROOT_MARK);

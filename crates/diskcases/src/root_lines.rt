@@ -26,11 +26,10 @@ fn root_text(alloc: Global, root: &Root) -> Result<String, Wrong> {
 
 /// `new-store`: its root, or why there is none.
 pub fn new_store(alloc: Global, device: &mut MemDevice) -> Result<String, Wrong> {
-    match start(alloc, device) {
+    match start(device) {
         Ok(root) => root_text(alloc, &root),
         Err(StartFault::NotEmpty) => text(alloc, "not empty"),
         Err(StartFault::Device) => text(alloc, "device failed"),
-        Err(StartFault::Memory) => Err(Wrong::Memory),
     }
 }
 

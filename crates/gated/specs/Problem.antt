@@ -61,7 +61,6 @@ of_file_open file_open_fault.Memory = problem.OutOfMemory
 
 abbrev pub of_store_create : store_create.CreateFault → Problem
 of_store_create store_create_fault.Device = problem.DeviceFailed
-of_store_create store_create_fault.Memory = problem.OutOfMemory
 of_store_create store_create_fault.NotEmpty = problem.FileExists
 
 abbrev pub of_store : store.Fault → Problem

@@ -81,7 +81,6 @@ impl From<CreateFault> for Problem {
     fn from(fault: CreateFault) -> Problem {
         match fault {
             CreateFault::Device => Problem::DeviceFailed,
-            CreateFault::Memory => Problem::OutOfMemory,
             CreateFault::NotEmpty => Problem::FileExists,
         }
     }

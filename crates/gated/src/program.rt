@@ -19,14 +19,13 @@ use std::net::{Net, SocketAddr, TcpListener, TcpStream};
 use std::rt::Files;
 use std::time::Duration;
 
-// Makes a store in a new file.
+// Makes a store in a new file. No memory is taken, so none can be wanting once there is a file.
 fn create_store<R: Files<File = File>>(
     files: &R,
-    alloc: Global,
     file: &str,
 ) -> Result<(), Problem> {
     let mut device = FileDevice::create(files, file)?;
-    create(alloc, &mut device)?;
+    create(&mut device)?;
     Ok(())
 }
 
@@ -120,7 +119,7 @@ pub fn program<
     errors: &mut E,
 ) -> Status {
     let done = match command(alloc, words) {
-        Ok(Verb::Create { file }) => create_store(runtime, alloc, file),
+        Ok(Verb::Create { file }) => create_store(runtime, file),
         Ok(Verb::Replay { file }) => replay(runtime, alloc, file, input, output),
         Ok(
             Verb::Serve {

@@ -1,10 +1,11 @@
 //! Lines on the device of a store that is shut.
 
-use crate::place::{Place, create_on};
+use crate::place::Place;
 use cases::{
     TextBuilder, WordReader, Wrong, bytes, first_word, number, shown, spelled, text, wanted,
 };
 use device::{Device, DeviceFault, MemDevice, Pick};
+use durable::create;
 use gatelog::{Body, Log, LogFault};
 use std::alloc::Global;
 use std::fmt::Display;
@@ -132,7 +133,7 @@ pub fn of_the_device(
             *device = MemDevice::new(alloc, words.number())?;
             taken(alloc, &words)
         }
-        "create" => ended(alloc, create_on(alloc, device)),
+        "create" => ended(alloc, create(device)),
         "fail" => {
             device.fail_on(words.number());
             taken(alloc, &words)

@@ -5,7 +5,7 @@ use crate::view::View;
 use api::{ServeFault, serve};
 use cases::{Wrong, shown, text, wanted, yes_or_no};
 use device::{MemDevice, Pick};
-use durable::{CreateFault, Store, create};
+use durable::{Store, create};
 use httpmsg::{End, Input, Output, Std};
 use requests::Request;
 use std::alloc::Global;
@@ -23,16 +23,10 @@ pub enum Place {
     Nothing,
 }
 
-/// Makes a store on a device.
-pub fn create_on(alloc: Global, device: &mut MemDevice) -> Result<(), CreateFault> {
-    create(alloc, device)
-}
-
 /// A device with a new store.
 pub fn created(alloc: Global, room_sectors: u64) -> Result<MemDevice, Wrong> {
     let mut device = MemDevice::new(alloc, room_sectors)?;
-    let done = create_on(alloc, &mut device);
-    wanted(done.is_ok(), "no store can be made")?;
+    wanted(create(&mut device).is_ok(), "no store can be made")?;
     Ok(device)
 }
 

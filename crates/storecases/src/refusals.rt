@@ -112,7 +112,6 @@ pub fn fault(alloc: Global, words: &str) -> Result<String, Wrong> {
         "opening log" => shown(alloc, &Fault::Damaged(Damage::Log)),
         "opening failed" => shown(alloc, &Fault::Failed),
         "create device" => shown(alloc, &CreateFault::Device),
-        "create memory" => shown(alloc, &CreateFault::Memory),
         "create not empty" => shown(alloc, &CreateFault::NotEmpty),
         "connection read" => shown(alloc, &ServeFault::Read),
         "connection write" => shown(alloc, &ServeFault::Write),

@@ -1,17 +1,15 @@
-use Rattle.std.proofs.Common.{rules, arith, ap, ◌≡◌, ◌∙◌, ◌-◌, ◌++◌, ◌∷◌, [], replicate, take, length, length-append, ℕ, List}
-use Rattle.std.proofs.lemmas.List.{take_all}
-use Rattle.checkpoint.proofs.NewStore.{new_holds}
+use Rattle.std.proofs.Common.{refl, ◌≡◌, ◌∙◌}
+use Rattle.checkpoint.specs.NewStore.{root_fields, new_content}
+use Rattle.checkpoint.proofs.Laying.{laid-nine}
 use Rattle.checkpoint.proofs.new_store.nine_sectors.Goals as goal
 
-pub returns-clause-root : goal.returns-clause-root
-returns-clause-root c =
-    let front : List ℕ = (c.header_bytes.result ++ c.root_bytes.result) ++ 165 ∷ [] in
-    let pushed : c.extend_from_slice-3.new.self.items ≡ front = search rules in
-    let size : length front ≡ 1025 =
-    omega (arith, length-append (c.header_bytes.result ++ c.root_bytes.result) (165 ∷ []), length-append c.header_bytes.result c.root_bytes.result, c.header_bytes.ensures.whole, c.root_bytes.ensures.whole)
+pub returns : goal.returns
+unfolding new_content
+returns c =
+    let root = c.first_root.result in
+    let spelled : c.root_bytes.result ≡ root_fields 1 8 0 1 =
+    c.root_bytes.ensures.bytes ∙ rw (c.first_root.ensures.generation, c.first_root.ensures.first, c.first_root.ensures.pages, c.first_root.ensures.revision) refl
     in
-    let same_len : c.extend_from_slice-3.new.self.len ≡ 1025 = search rules in
-    new_holds c.header_bytes.result c.root_bytes.result c.resize.new.self.items (4608 - c.extend_from_slice-3.new.self.len) c.args.root.now c.header_bytes.ensures c.root_bytes.ensures
-    c.requires.slot c.requires.first c.requires.no_pages (omega (arith, same_len))
-    (c.in_ok-resize.ensures.items ∙ ap (λ (x : List ℕ). take 4608 x ++ replicate (4608 - c.extend_from_slice-3.new.self.len) 0) pushed
-    ∙ ap (λ (x : List ℕ). x ++ replicate (4608 - c.extend_from_slice-3.new.self.len) 0) (take_all 4608 front (omega (arith, size))))
+    laid-nine c.header_bytes.result c.root_bytes.result c.put.new.sector c.put-2.new.sector c.put-3.new.sector
+    c.header_bytes.ensures.header.whole c.root_bytes.ensures.root.whole c.put.ensures c.put-2.ensures c.put-3.ensures
+    ∙ rw (c.header_bytes.ensures.bytes, spelled) refl
