@@ -1,0 +1,12 @@
+use Rattle.std.proofs.Common.{refl}
+use Rattle.checkpoint.specs.declared.root.Root.{Root}
+use Rattle.checkpoint.specs.declared.root.Slot.TheVariants.{A}
+use Rattle.checkpoint.specs.NewStore.{new_content}
+use Rattle.checkpoint.proofs.NewStore.{new_content-root, new_content-log}
+use Rattle.durable.proofs.Beginning.{stands_new}
+use Rattle.durable.proofs.laws.new_store_is_empty.Goals as goal
+
+pub returns : goal.returns
+returns c rules =
+    let root : Root = record { slot = A; generation = 1; first = 8; pages = 0; revision = 1 } in
+    stands_new rules new_content root (new_content-root root refl refl refl refl refl) refl refl refl new_content-log
