@@ -1,5 +1,10 @@
 //! The command line.
 
+ghost use Rattle.std.specs.Prelude.{◌≡◌, false, [], map, Contains, IfOk, IfSome};
+ghost use Rattle.clap.specs.Words.{app_of, found_of, rows_of, rule_of};
+ghost use Rattle.clap.specs.declared.builder.command.Command.TheViews.{out-Command};
+ghost use Rattle.gated.specs.CommandLine.{AskFor, IsAsked, file_of, gated_line, option_rule, over_file, serve_shape};
+
 use clap::builder::ValueParser;
 use clap::error::ErrorKind;
 use clap::{Arg, ArgAction, ArgMatches, Command, Error};
@@ -27,7 +32,10 @@ pub enum Verb<'a> {
 }
 
 // A subcommand that takes a file.
-fn over_file<'a>(alloc: Global, name: &'a str, about: &'a str) -> Result<Command<'a>, AllocError> {
+fn over_file<'a>(alloc: Global, name: &'a str, about: &'a str) -> Result<Command<'a>, AllocError>
+    ensures app { IfOk result (λ c. app_of c ≡ record { top = over_file name.entry.now; subs = [] }) }
+    ensures local { IfOk result (λ c. (out-Command c).has_globals ≡ false) }
+{
     let file = Arg::new(alloc, "file")
         .value_name("FILE")
         .help("The file of the store")
@@ -37,7 +45,10 @@ fn over_file<'a>(alloc: Global, name: &'a str, about: &'a str) -> Result<Command
 }
 
 // An option of `serve` that takes a value.
-fn option<'a>(alloc: Global, name: &'a str, value: &'a str, help: &'a str) -> Arg<'a> {
+fn option<'a>(alloc: Global, name: &'a str, value: &'a str, help: &'a str) -> Arg<'a>
+    ensures rule { rule_of result ≡ option_rule name.entry.now }
+    ensures local { result.global ≡ false }
+{
     Arg::new(alloc, name)
         .long(name)
         .value_name(value)
@@ -45,7 +56,10 @@ fn option<'a>(alloc: Global, name: &'a str, value: &'a str, help: &'a str) -> Ar
         .action(ArgAction::Set)
 }
 
-fn serve_line<'a>(alloc: Global) -> Result<Command<'a>, AllocError> {
+fn serve_line<'a>(alloc: Global) -> Result<Command<'a>, AllocError>
+    ensures app { IfOk result (λ c. app_of c ≡ record { top = serve_shape; subs = [] }) }
+    ensures local { IfOk result (λ c. (out-Command c).has_globals ≡ false) }
+{
     over_file(
         alloc,
         "serve",
@@ -76,7 +90,9 @@ fn serve_line<'a>(alloc: Global) -> Result<Command<'a>, AllocError> {
 }
 
 // The line that the program understands.
-fn line<'a>(alloc: Global) -> Result<Command<'a>, AllocError> {
+fn line<'a>(alloc: Global) -> Result<Command<'a>, AllocError>
+    ensures { IfOk result (λ c. app_of c ≡ gated_line) }
+{
     Command::new(alloc, "gated")
         .about("A small Kubernetes-style API server over one crash-safe file")
         .version("0.1.0")
@@ -91,7 +107,9 @@ fn line<'a>(alloc: Global) -> Result<Command<'a>, AllocError> {
 }
 
 // The verb of a subcommand.
-fn verb_of<'a>(name: &str, matches: &ArgMatches<'a>) -> Option<Verb<'a>> {
+fn verb_of<'a>(name: &str, matches: &ArgMatches<'a>) -> Option<Verb<'a>>
+    ensures { IfSome result (IsAsked name.now (rows_of (found_of matches.now))) }
+{
     let file = matches.get_str("file")?;
     match name {
         "create" => Some(Verb::Create { file }),
@@ -111,7 +129,10 @@ fn verb_of<'a>(name: &str, matches: &ArgMatches<'a>) -> Option<Verb<'a>> {
 /// # Errors
 ///
 /// `clap`'s refusal, whose text tells of the usage; its kind is `OutOfMemory` where memory was wanting.
-pub fn command<'a, S: AsStr>(alloc: Global, words: &'a [S]) -> Result<Verb<'a>, Error> {
+pub fn command<'a, S: AsStr>(alloc: Global, words: &'a [S]) -> Result<Verb<'a>, Error>
+    ensures asked { IfOk result (AskFor (map S.text words.entry.now)) }
+    ensures file { IfOk result (λ verb. Contains (map S.text words.entry.now) (file_of verb)) }
+{
     let mut line = line(alloc)?;
     let matches = line.try_get_matches_from_mut(words)?;
     match matches.subcommand() {

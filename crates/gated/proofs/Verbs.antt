@@ -1,0 +1,37 @@
+-- What is read of a command's arguments.
+use Rattle.std.proofs.Common.{◌≡◌, ◌∙◌, sym, refl, ℕ, List, Option, Some, None}
+use Rattle.std.specs.Prelude.{option_map, Ok, Result, Box}
+use Rattle.std.specs.Box.{box_value}
+use Rattle.std.specs.Str.Parse.{ParsesUnsigned}
+use Rattle.clap.specs.Words.{Row, Text, ReadsOne, one_text, rows_of, subcommand_name_of, subcommand_rows, subcommand_rows_of}
+use Rattle.clap.specs.declared.parser.matches.ArgMatches.{ArgMatches}
+use Rattle.clap.specs.declared.parser.matches.ArgMatches.TheViews.{out-ArgMatches, out-SubCommand}
+use Rattle.clap.specs.declared.parser.matches.Found.{Found}
+use Rattle.clap.specs.declared.parser.matches.SubCommand.{SubCommand}
+use Rattle.clap.proofs.WalkLemmas.{one_text-rows}
+use Rattle.gated.specs.CommandLine.{HasNumber}
+
+-- a number that was read
+pub number_read : (E : Type 0) (G : Text → Result ℕ E → Type 0) (k : ℕ) (f : Found) (name : Text) (r : Option ℕ) (n : ℕ)
+    → (one_text f name ≡ None → r ≡ None) → ((t : Text) → one_text f name ≡ Some t → ReadsOne G t r)
+    → ((u : Text) (x : Result ℕ E) → G u x → ParsesUnsigned k 10 u x) → r ≡ Some n → HasNumber name (rows_of f) n
+number_read E G k f name r n none value only is = go (one_text f name) refl
+  where
+    go : (o : Option Text) → one_text f name ≡ o → HasNumber name (rows_of f) n
+    go None e =
+        let bad : Some n ≡ None = sym is ∙ none e in
+        cc
+    go (Some t) e =
+        let read : ReadsOne G t (Some n) = rw is at value t e in
+        (t, sym (one_text-rows f name) ∙ e, (only t (Ok n) read).1)
+
+-- the command that was entered, and its rows
+entered : {Z : Type 0} (o : Option (Box SubCommand Z)) (name : Text) (rows : List Row)
+    → Some name ≡ option_map (λ b. (out-SubCommand (box_value b)).name.now) o → Some rows ≡ option_map (λ p. p.1) (subcommand_rows o)
+    → subcommand_rows o ≡ Some (name, rows)
+entered None name rows is_name is_rows = cc
+entered (Some b) name rows is_name is_rows = cc
+
+pub entered_rows : (m : ArgMatches) (name : Text) (rows : List Row) → Some name ≡ subcommand_name_of m
+    → Some rows ≡ option_map (λ p. p.1) (subcommand_rows (out-ArgMatches m).subcommand) → subcommand_rows_of m ≡ Some (name, rows)
+entered_rows m name rows is_name is_rows = entered (out-ArgMatches m).subcommand name rows is_name is_rows

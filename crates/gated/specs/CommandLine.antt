@@ -1,0 +1,69 @@
+-- The command line, and what its words ask for.
+use Rattle.std.specs.Prelude.{◌≡◌, ℕ, true, false, List, [], ◌∷◌, Some, codes}
+use Rattle.std.specs.Str.Parse.{digits_value, without_leading_plus}
+use Rattle.clap.specs.Words.{App, Row, Rule, Shape, Text, first_of, new_rule, one_of, subcommand_of}
+use Rattle.clap.specs.Simple.{new_shape}
+use Rattle.clap.specs.declared.builder.action.ArgAction.TheVariants.{Set}
+use Rattle.clap.specs.declared.builder.value_parser.ValueParser.TheVariants as parser
+use Rattle.gated.specs.declared.command.Verb.{Verb}
+use Rattle.gated.specs.declared.command.Verb.TheVariants.{Create, Replay, Serve}
+
+-- ---- the line
+
+-- FILE, which is required
+abbrev pub file_rule : Rule
+file_rule = record (new_rule (codes "file")) { value_names = 1; action = Some Set; required = true }
+
+-- `--NAME VALUE`
+abbrev pub option_rule : Text → Rule
+option_rule name = record (new_rule name) { long = Some name; value_names = 1; action = Some Set }
+
+-- `--listen IP:PORT`, which is required
+abbrev pub listen_rule : Rule
+listen_rule = record (option_rule (codes "listen")) { required = true }
+
+-- `--conns N`, which is required: 1 to 65535
+abbrev pub conns_rule : Rule
+conns_rule = record (option_rule (codes "conns")) { required = true; parser = Some (parser.Unsigned 1 65535) }
+
+-- `--idle SECONDS`: 0 to 86400, and 60 where it is left out
+abbrev pub idle_rule : Rule
+idle_rule = record (option_rule (codes "idle")) { defaults = codes "60" ∷ []; parser = Some (parser.Unsigned 0 86400) }
+
+-- a command of this name over a file
+abbrev pub over_file : Text → Shape
+over_file name = record (new_shape name) { rules = file_rule ∷ [] }
+
+abbrev pub serve_shape : Shape
+serve_shape = record (new_shape (codes "serve")) { rules = file_rule ∷ listen_rule ∷ conns_rule ∷ idle_rule ∷ [] }
+
+-- `gated create FILE`, `gated replay FILE` and `gated serve FILE OPTION..`; `gated` alone is refused
+unfoldable pub gated_line : App
+gated_line = record {
+  top = record (new_shape (codes "gated")) { is_leaf = false; has_version = true; subcommand_required = true };
+  subs = over_file (codes "create") ∷ over_file (codes "replay") ∷ serve_shape ∷ [];
+}
+
+-- ---- what is asked
+
+-- the number that stands in an option's row
+abbrev pub HasNumber : Text → List Row → ℕ → Type 0
+HasNumber name rows n = (text : Text) × (one_of name rows ≡ Some text) × (n ≡ digits_value 10 (without_leading_plus text))
+
+-- The verb is that of a command of this name whose arguments have these rows.
+abbrev pub IsAsked : Text → List Row → Verb → Type 0
+IsAsked name rows (Create file) = (name ≡ codes "create") × (first_of (codes "file") rows ≡ Some file.now)
+IsAsked name rows (Replay file) = (name ≡ codes "replay") × (first_of (codes "file") rows ≡ Some file.now)
+IsAsked name rows (Serve file address connections idle_seconds) =
+    (name ≡ codes "serve") × (first_of (codes "file") rows ≡ Some file.now) × (first_of (codes "listen") rows ≡ Some address.now)
+    × HasNumber (codes "conns") rows connections × HasNumber (codes "idle") rows idle_seconds
+
+-- The words, of which the first is the program's name, name the verb's command, and its fields are what stands behind the name.
+abbrev pub AskFor : List Text → Verb → Type 0
+AskFor words verb = (name : Text) × (rows : List Row) × (subcommand_of gated_line words ≡ Some (name, rows)) × IsAsked name rows verb
+
+-- a verb's file
+abbrev pub file_of : Verb → Text
+file_of (Create file) = file.now
+file_of (Replay file) = file.now
+file_of (Serve file address connections idle_seconds) = file.now
