@@ -1,5 +1,6 @@
 -- What the definitions make of the program's lists, maps and texts.
 use Rattle.std.proofs.Common.{◌≡◌, ℕ, ℤ, Bool, true, List, [], ◌∷◌, String, Vec, Global, string_bytes, refl, rules}
+use Rattle.std.specs.declared.rc.Rc.{Rc}
 use Rattle.celmean.specs.Value as seen
 use Rattle.celmean.specs.Value.{sequence, items, mapping, entries}
 use Rattle.celmean.specs.Texts.{text_starts_with, text_contains}
@@ -10,10 +11,10 @@ use Rattle.celmean.specs.declared.value.Value as value
 pub value_of-Text : (s : String Global) → value_of (value.Text s) ≡ seen.Text (string_bytes s)
 value_of-Text s = search (rules, the_lemmas)
 
-pub value_of-List : (v : Vec Value Global) → value_of (value.List v) ≡ seen.Sequence (sequence (values_seen v.items))
+pub value_of-List : (v : Rc (Vec Value Global) Global) → value_of (value.List v) ≡ seen.Sequence (sequence (values_seen v.value.items))
 value_of-List v = search (rules, the_lemmas)
 
-pub value_of-Map : (v : Vec (Value × Value) Global) → value_of (value.Map v) ≡ seen.Mapping (mapping (entries_seen v.items))
+pub value_of-Map : (v : Rc (Vec (Value × Value) Global) Global) → value_of (value.Map v) ≡ seen.Mapping (mapping (entries_seen v.value.items))
 value_of-Map v = search (rules, the_lemmas)
 
 pub value_of-Bool : (b : Bool) → value_of (value.Bool b) ≡ seen.Truth b

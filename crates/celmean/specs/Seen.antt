@@ -14,8 +14,8 @@ value_step (Value-F.Bool b) = seen.Truth b
 value_step (Value-F.Int n) = seen.Int n
 value_step (Value-F.Uint n) = seen.Uint n
 value_step (Value-F.Text s) = seen.Text (string_bytes s)
-value_step (Value-F.List v) = seen.Sequence (sequence v.items)
-value_step (Value-F.Map v) = seen.Mapping (mapping v.items)
+value_step (Value-F.List v) = seen.Sequence (sequence v.value.items)
+value_step (Value-F.Map v) = seen.Mapping (mapping v.value.items)
 
 abbrev pub value_of : Value → seen.Value
 value_of = fold-Value seen.Value value_step

@@ -132,7 +132,7 @@ fn joined_lists(left: &Vec<Value>, right: &Vec<Value>) -> Result<Outcome, AllocE
     let mut joined = copy_items(left)?;
     let mut behind = copy_items(right)?;
     joined.append(&mut behind)?;
-    Ok(Outcome::Gives(Value::List(joined)))
+    Ok(Outcome::Gives(Value::list(*left.allocator(), joined)?))
 }
 
 /// `+`: of two numbers of one kind, two texts or two lists.

@@ -8,7 +8,7 @@ ghost use Rattle.celmean.specs.Seen.{value_of, values_seen, entries_seen, outcom
 
 use crate::equality::same;
 use crate::order::{key_before, key_rank};
-use crate::value::{Outcome, Value, copy};
+use crate::value::{Outcome, Value};
 use std::alloc::{AllocError, Global};
 
 // The value of an equal key.
@@ -27,7 +27,7 @@ fn copy_or_error(found: Option<&Value>) -> Result<Outcome, AllocError>
     ensures { IfOk result (λ o. outcome_of o ≡ or_error (option_map (λ v. value_of v.now) found.entry)) }
 {
     match found {
-        Some(value) => Ok(Outcome::Gives(copy(value)?)),
+        Some(value) => Ok(Outcome::Gives(value.clone()?)),
         None => Ok(Outcome::Error),
     }
 }
@@ -121,7 +121,7 @@ fn values_of(alloc: Global, outcomes: &Vec<Outcome>) -> Result<Option<Vec<Value>
     let mut values = Vec::new(alloc);
     for outcome in outcomes {
         match outcome {
-            Outcome::Gives(value) => values.push(copy(value)?)?,
+            Outcome::Gives(value) => values.push(value.clone()?)?,
             Outcome::Error => return Ok(None),
         }
     }
@@ -137,7 +137,7 @@ pub fn list_of(alloc: Global, outcomes: &Vec<Outcome>) -> Result<Outcome, AllocE
     ensures { IfOk result (λ o. outcome_of o ≡ list_of (outcomes_seen outcomes.now.items)) }
 {
     match values_of(alloc, outcomes)? {
-        Some(values) => Ok(Outcome::Gives(Value::List(values))),
+        Some(values) => Ok(Outcome::Gives(Value::list(alloc, values)?)),
         None => Ok(Outcome::Error),
     }
 }
@@ -180,8 +180,8 @@ fn with_entry(
     ensures { IfOk result (λ o. or_error (option_map (λ v. Mapping (mapping (entries_seen v.items))) o) ≡ with_entry (value_of key.now) (value_of value.now) (entries_seen entries.items)) }
 {
     if key_rank(key).is_some() && lookup(key, &entries).is_none() {
-        let key = copy(key)?;
-        let value = copy(value)?;
+        let key = key.clone()?;
+        let value = value.clone()?;
         let entries = inserted(key, value, entries)?;
         Ok(Some(entries))
     } else {
@@ -223,7 +223,7 @@ pub fn map_of(alloc: Global, outcomes: &Vec<(Outcome, Outcome)>) -> Result<Outco
             None => return Ok(Outcome::Error),
         }
     }
-    Ok(Outcome::Gives(Value::Map(entries)))
+    Ok(Outcome::Gives(Value::map(alloc, entries)?))
 }
 
 /// The value of the key of a map, if the outcome is one.

@@ -11,7 +11,7 @@ use crate::texts::{
     contains, ends_with, signed_of_text, signed_text, starts_with, text_size, unsigned_of_text,
     unsigned_text,
 };
-use crate::value::{Outcome, Value, copy};
+use crate::value::{Outcome, Value};
 use std::alloc::{AllocError, Global};
 
 fn count(length: usize) -> Outcome
@@ -99,7 +99,7 @@ fn function(alloc: Global, name: &str, argument: &Value) -> Result<Outcome, Allo
     } else if name == "string" {
         to_string(alloc, argument)
     } else if name == "dyn" {
-        Ok(Outcome::Gives(copy(argument)?))
+        Ok(Outcome::Gives(argument.clone()?))
     } else {
         Ok(Outcome::Error)
     }

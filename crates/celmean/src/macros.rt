@@ -6,7 +6,7 @@ ghost use Rattle.celmean.specs.Value.{mapping};
 ghost use Rattle.celmean.specs.Seen.{value_of, values_seen, entries_seen, outcome_of, outcomes_seen};
 
 use crate::collections::list_of;
-use crate::value::{Outcome, Value, copy, copy_items};
+use crate::value::{Outcome, Value, copy_items};
 use celtree::Macro;
 use std::alloc::{AllocError, Global};
 
@@ -183,7 +183,7 @@ fn keep_if(kept: &mut Vec<Value>, item: &Value, outcome: &Outcome) -> Result<(),
     ensures { OnOk result (values_seen kept.new.items ≡ values_seen kept.old.items ++ (if is_true (outcome_of outcome.now) then value_of item.now ∷ [] else [])) }
 {
     if is_true(outcome) {
-        kept.push(copy(item)?)?;
+        kept.push(item.clone()?)?;
     }
     Ok(())
 }
@@ -213,7 +213,7 @@ fn filtered(
 {
     if all_truths(outcomes) {
         let kept = kept(alloc, items, outcomes)?;
-        Ok(Outcome::Gives(Value::List(kept)))
+        Ok(Outcome::Gives(Value::list(alloc, kept)?))
     } else {
         Ok(Outcome::Error)
     }
@@ -246,7 +246,7 @@ fn keys(alloc: Global, entries: &Vec<(Value, Value)>) -> Result<Vec<Value>, Allo
 {
     let mut keys = Vec::new(alloc);
     for (key, _) in entries {
-        keys.push(copy(key)?)?;
+        keys.push(key.clone()?)?;
     }
     Ok(keys)
 }

@@ -36,8 +36,8 @@ pub fn value_of(alloc: Global, json: &Json) -> Result<Value, AllocError>
         Json::Bool(truth) => Ok(Value::Bool(*truth)),
         Json::Number(number) => Ok(number_value(number)),
         Json::String(text) => Ok(Value::Text(text.clone()?)),
-        Json::Array(items) => Ok(Value::List(values_of_items(alloc, items)?)),
-        Json::Object(members) => Ok(Value::Map(values_of_members(alloc, members)?)),
+        Json::Array(items) => Value::list(alloc, values_of_items(alloc, items)?),
+        Json::Object(members) => Value::map(alloc, values_of_members(alloc, members)?),
     }
 }
 

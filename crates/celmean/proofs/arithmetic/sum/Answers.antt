@@ -7,4 +7,4 @@ pub returns-in-List-right-2 : goal.returns-in-List-right-2
 returns-in-List-right-2 c =
     let xs = c.in-List.first in
     let ys = c.in-List-right-2.second in
-    rw (c.in-List.is, c.in-List-right-2.is, value_of-List xs, value_of-List ys, items-sequence (values_seen xs.items), items-sequence (values_seen ys.items)) c.joined_lists.ensures
+    rw (c.in-List.is, c.in-List-right-2.is, value_of-List xs, value_of-List ys, items-sequence (values_seen xs.value.items), items-sequence (values_seen ys.value.items), ← c.deref.ensures, ← c.deref-in-List-right-2.ensures) c.joined_lists.ensures

@@ -6,4 +6,4 @@ use Rattle.celmean.proofs.collections.has_member.Goals as goal
 
 pub returns-in_ok-key-in-Map : goal.returns-in_ok-key-in-Map
 returns-in_ok-key-in-Map c =
-    rw (value_of-Bool c.is_some.result, c.in-Map.is, value_of-Map c.in-Map.entries, entries-mapping (entries_seen c.in-Map.entries.items), ← c.in_ok-key-in-Map.ensures, ← c.lookup.ensures, is_some-option_map, c.is_some.ensures) refl
+    rw (value_of-Bool c.is_some.result, c.in-Map.is, value_of-Map c.in-Map.entries, entries-mapping (entries_seen c.in-Map.entries.value.items), ← c.in_ok-key-in-Map.ensures, ← c.deref.ensures, ← c.lookup.ensures, is_some-option_map, c.is_some.ensures) refl

@@ -10,8 +10,8 @@ pub returns-in-Int : goal.returns-in-Int
 returns-in-Int c =
     let fits : SFits w64 c.in-Int.place = search rules in
     let found = simp to_z-of_z at c.item_at.ensures in
-    rw (c.in-List.is, c.in-Int.is, value_of-List c.in-List.items, value_of-Int c.in-Int.place, items-sequence (values_seen c.in-List.items.items), ← found) c.copy_or_error.ensures
+    rw (c.in-List.is, c.in-Int.is, value_of-List c.in-List.items, value_of-Int c.in-Int.place, items-sequence (values_seen c.in-List.items.value.items), ← c.deref.ensures, ← found) c.copy_or_error.ensures
 
 pub returns-in-Map : goal.returns-in-Map
 returns-in-Map c =
-    rw (c.in-Map.is, value_of-Map c.in-Map.entries, entries-mapping (entries_seen c.in-Map.entries.items), ← c.lookup.ensures) c.copy_or_error-in-Map.ensures
+    rw (c.in-Map.is, value_of-Map c.in-Map.entries, entries-mapping (entries_seen c.in-Map.entries.value.items), ← c.deref-in-Map.ensures, ← c.lookup.ensures) c.copy_or_error-in-Map.ensures
