@@ -47,6 +47,15 @@ status_of problem.DeviceFailed = status.Failed
 status_of problem.StreamFailed = status.Failed
 status_of problem.OutOfMemory = status.OutOfMemory
 
+-- What is told of errors where the program ends so: nothing on success, some text where the words were not understood, and else the line
+-- of a problem that ends so.
+abbrev pub Tells : {E : Type 0} (took : E → E → List ℕ → Type 0) (failures : E → ℕ) (old new : E) → Status → Type 0
+Tells took failures old new status.Success = new ≡ old
+Tells took failures old new status.Usage = (text : List ℕ) × TookSome took old new text
+Tells took failures old new status.NoStore = (p : Problem) × (status_of p ≡ status.NoStore) × TellsAll took failures old new (line_of p)
+Tells took failures old new status.Failed = (p : Problem) × (status_of p ≡ status.Failed) × TellsAll took failures old new (line_of p)
+Tells took failures old new status.OutOfMemory = (p : Problem) × (status_of p ≡ status.OutOfMemory) × TellsAll took failures old new (line_of p)
+
 -- ---- the problem that a fault is
 
 abbrev pub of_file_create : file_create.CreateFault → Problem

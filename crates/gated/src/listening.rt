@@ -1,5 +1,7 @@
 //! Connections to an address, served one after the other.
 
+ghost use Rattle.std.specs.Prelude.{IsErrOf};
+
 use crate::problem::Problem;
 use api::{ServeFault, serve};
 use device::Device;
@@ -39,7 +41,9 @@ fn serve_one<D: Device>(
     stream: &TcpStream,
     idle: Option<Duration>,
     store: &mut Store<D>,
-) -> Result<(), Problem> {
+) -> Result<(), Problem>
+    ensures { IsErrOf result Problem.StreamFailed → ⊥ }
+{
     // A socket that refuses one of these is served all the same.
     let _ = stream.set_nodelay(true);
     let _ = stream.set_read_timeout(idle);

@@ -1,6 +1,9 @@
 //! What the program does.
 
-ghost use Rattle.std.specs.Prelude.{◌≡◌};
+ghost use Rattle.std.specs.Prelude.{◌≡◌, ◌≢◌, IsErrOf};
+ghost use Rattle.clap.specs.Words.{kind_of};
+ghost use Rattle.durable.specs.declared.fault.Damage.{Damage};
+ghost use Rattle.gated.specs.Problem.{Tells};
 
 use crate::command::{Verb, command};
 use crate::listening::serve_connections;
@@ -20,10 +23,11 @@ use std::rt::Files;
 use std::time::Duration;
 
 // Makes a store in a new file. No memory is taken, so none can be wanting once there is a file.
-fn create_store<R: Files<File = File>>(
-    files: &R,
-    file: &str,
-) -> Result<(), Problem> {
+fn create_store<R: Files<File = File>>(files: &R, file: &str) -> Result<(), Problem>
+    ensures no_such_store { IsErrOf result Problem.NoStore → ⊥ }
+    ensures no_stream { IsErrOf result Problem.StreamFailed → ⊥ }
+    ensures no_damage { (damage : Damage) → IsErrOf result (Problem.Damaged damage) → ⊥ }
+{
     let mut device = FileDevice::create(files, file)?;
     create(&mut device)?;
     Ok(())
@@ -34,7 +38,10 @@ fn open_store<R: Files<File = File>>(
     files: &R,
     alloc: Global,
     file: &str,
-) -> Result<Store<FileDevice>, Problem> {
+) -> Result<Store<FileDevice>, Problem>
+    ensures no_file_made { IsErrOf result Problem.FileExists → ⊥ }
+    ensures no_stream { IsErrOf result Problem.StreamFailed → ⊥ }
+{
     let device = FileDevice::open(files, file)?;
     match Store::open(alloc, device) {
         Ok(store) => Ok(store),
@@ -49,7 +56,9 @@ fn replay<R: Files<File = File>, I: Input, O: Output>(
     file: &str,
     input: &mut I,
     output: &mut O,
-) -> Result<(), Problem> {
+) -> Result<(), Problem>
+    ensures no_file_made { IsErrOf result Problem.FileExists → ⊥ }
+{
     let mut store = open_store(files, alloc, file)?;
     serve(alloc, input, output, &mut store)?;
     Ok(())
@@ -89,7 +98,11 @@ fn serve_file<R: Files<File = File> + Net<Stream = TcpStream, Listener = TcpList
 }
 
 // Tells what is wrong with the command line.
-fn refuse<E: Output>(alloc: Global, error: &Error, errors: &mut E) -> Status {
+fn refuse<E: Output>(alloc: Global, error: &Error, errors: &mut E) -> Status
+    ensures told { Tells E.took E.failures errors.old errors.new result }
+    ensures memory { kind_of error.now ≡ ErrorKind.OutOfMemory → result ≡ Status.OutOfMemory }
+    ensures refused { result ≢ Status.Success }
+{
     if error.kind() == ErrorKind::OutOfMemory {
         return tell(Problem::OutOfMemory, errors);
     }
@@ -103,21 +116,17 @@ fn refuse<E: Output>(alloc: Global, error: &Error, errors: &mut E) -> Status {
     }
 }
 
-/// Does what the words ask for, of which the first is the program's name, and says how the program ends.
+/// Does what the words ask for, of which the first is the program's name, and says how the program ends. Each end but success is told of
+/// on `errors`.
 pub fn program<
     R: Files<File = File> + Net<Stream = TcpStream, Listener = TcpListener>,
     S: AsStr,
     I: Input,
     O: Output,
     E: Output,
->(
-    runtime: &R,
-    alloc: Global,
-    words: &[S],
-    input: &mut I,
-    output: &mut O,
-    errors: &mut E,
-) -> Status {
+>(runtime: &R, alloc: Global, words: &[S], input: &mut I, output: &mut O, errors: &mut E) -> Status
+    ensures { Tells E.took E.failures errors.old errors.new result }
+{
     let done = match command(alloc, words) {
         Ok(Verb::Create { file }) => create_store(runtime, file),
         Ok(Verb::Replay { file }) => replay(runtime, alloc, file, input, output),
