@@ -1,9 +1,12 @@
 //! A view without a device: what is stored in memory alone, with limits of its own. The calls of a view stand here.
 
+ghost use Rattle.std.specs.Prelude.{IfOk};
+ghost use Rattle.history.specs.Prepared.{AreReady};
+
 use crate::replies::message;
 use apicore::{Core, Prepared, prepare};
 use cases::{TextBuilder, WordReader, Wrong, text, wanted};
-use history::{PreparedWrite, ReplayFault};
+use history::{PreparedWrite, Put, ReplayFault};
 use http::StatusCode;
 use httpmsg::{Cutter, Message, Response, Std};
 use names::{Format, Key, Rules};
@@ -59,6 +62,28 @@ fn push_key(line: &mut TextBuilder, key: &Key) {
     line.push(key.name());
 }
 
+// A put: its key and its text, which is that of its document.
+fn push_put(alloc: Global, line: &mut TextBuilder, put: &Put<()>) -> Result<(), Wrong> {
+    line.push("put");
+    push_key(line, put.key());
+    line.word(put.text());
+    let own = put.document().json().text(alloc)?;
+    wanted(own.as_str() == put.text(), "its text is another document's")
+}
+
+// Takes the write of a request again, as one that was stored.
+fn taken_again(
+    alloc: Global,
+    core: &mut Core,
+    request: Request,
+) -> Result<Result<(), ReplayFault>, Wrong> {
+    match request {
+        Request::Replace(manifest) => Ok(core.replay_put(alloc, manifest, ())),
+        Request::Delete(key, None) => Ok(core.replay_delete(alloc, &key)),
+        _ => Err(Wrong::Told("a put or a deletion is taken again")),
+    }
+}
+
 impl View {
     /// An empty view: `view [EVENTS TEXT BODY OBJECTS REVISION]`.
     pub fn new(alloc: Global, line: &str) -> Result<View, Wrong> {
@@ -74,7 +99,9 @@ impl View {
         first_request(alloc, &self.routes, sent.as_str())
     }
 
-    fn prepared(&mut self, alloc: Global, request: &Request) -> Result<Prepared, Wrong> {
+    fn prepared(&mut self, alloc: Global, request: &Request) -> Result<Prepared, Wrong>
+        ensures { IfOk result (λ p. AreReady self.new.core p.write) }
+    {
         Ok(prepare(&mut self.core, alloc, request)?)
     }
 
@@ -129,11 +156,7 @@ impl View {
         let mut line = TextBuilder::new(alloc);
         match &prepared.write {
             Some(PreparedWrite::Put(put)) => {
-                line.push("put");
-                push_key(&mut line, put.key());
-                line.word(put.text());
-                let own = put.document().json().text(alloc)?;
-                wanted(own.as_str() == put.text(), "its text is another document's")?;
+                push_put(alloc, &mut line, put)?;
             }
             Some(PreparedWrite::Delete(key, _)) => {
                 line.push("delete");
@@ -147,12 +170,7 @@ impl View {
     // `replay METHOD TARGET [BODY]`: takes a PUT or a DELETE again, as one that was stored, and says how that went.
     fn replay(&mut self, alloc: Global, line: &str) -> Result<String, Wrong> {
         let request = self.request(alloc, line)?;
-        let done = match request {
-            Request::Replace(manifest) => self.core.replay_put(alloc, manifest, ()),
-            Request::Delete(key, None) => self.core.replay_delete(alloc, &key),
-            _ => return Err(Wrong::Told("a put or a deletion is taken again")),
-        };
-        match done {
+        match taken_again(alloc, &mut self.core, request)? {
             Ok(()) => text(alloc, "ok"),
             Err(ReplayFault::NotAllowed) => text(alloc, "not allowed"),
             Err(ReplayFault::Memory) => Err(Wrong::Memory),
