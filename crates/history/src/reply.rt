@@ -1,6 +1,6 @@
 ghost use Rattle.std.specs.Prelude.{◌≡◌, [], map, string_bytes, IfOk};
 ghost use Rattle.history.specs.Listing.{served};
-ghost use Rattle.history.specs.Reply.{status, showing};
+ghost use Rattle.history.specs.Reply.{saying, status, showing, status_document};
 
 use documents::{Document, shown_document};
 use jsondoc::Doc;
@@ -31,31 +31,21 @@ impl Reply {
     pub fn status(alloc: Global, refusal: Refusal) -> Result<Reply, AllocError>
         ensures { IfOk result (λ r. r ≡ status refusal) }
     {
-        let mut document = Doc::empty_object(alloc);
-        document.put(
-            alloc,
-            "status",
-            Doc::from(String::from_str(alloc, "Failure")?),
-        )?;
-        document.put(
-            alloc,
-            "reason",
-            Doc::from(String::from_str(alloc, refusal.reason())?),
-        )?;
-        document.put(
-            alloc,
-            "message",
-            Doc::from(String::from_str(alloc, refusal.message())?),
-        )?;
-        document.put(alloc, "kind", Doc::from(String::from_str(alloc, "Status")?))?;
-        document.put(alloc, "code", Doc::from(refusal.code() as i64))?;
-        document.put(
-            alloc,
-            "apiVersion",
-            Doc::from(String::from_str(alloc, "v1")?),
-        )?;
+        Reply::saying(alloc, refusal.code(), refusal.reason(), refusal.message())
+    }
+
+    /// The reply of a `Status` with a code, a reason and a message.
+    pub fn saying(
+        alloc: Global,
+        code: u16,
+        reason: &str,
+        message: &str,
+    ) -> Result<Reply, AllocError>
+        ensures { IfOk result (λ r. r ≡ saying (record { code = code; reason = reason.now; message = message.now })) }
+    {
+        let document = status_document(alloc, code, reason, message)?;
         Ok(Reply {
-            code: refusal.code(),
+            code,
             warnings: Vec::new(alloc),
             body: document.text(alloc)?,
         })
@@ -75,18 +65,19 @@ impl Reply {
         "{\"apiVersion\":\"v1\",\"code\":500,\"kind\":\"Status\",\"message\":\"storage failed\",\"reason\":\"InternalError\",\"status\":\"Failure\"}"
     }
 
-    /// The reply that shows an object with the revision of its last write.
+    /// The reply that shows an object with the revision of its last write, and these warnings.
     pub fn showing(
         alloc: Global,
         code: u16,
+        warnings: Vec<String>,
         document: &Document,
         revision: u64,
     ) -> Result<Reply, AllocError>
-        ensures { IfOk result (λ r. r ≡ showing code document.now revision) }
+        ensures { IfOk result (λ r. r ≡ showing code (map string_bytes warnings.items) document.now revision) }
     {
         Ok(Reply {
             code,
-            warnings: Vec::new(alloc),
+            warnings,
             body: shown_document(alloc, document, revision)?.text(alloc)?,
         })
     }
@@ -122,4 +113,30 @@ impl Reply {
     {
         &self.body
     }
+}
+
+// The `Status` of a refusal.
+fn status_document(alloc: Global, code: u16, reason: &str, message: &str) -> Result<Doc, AllocError>
+    ensures { IfOk result (λ d. d ≡ status_document (record { code = code; reason = reason.now; message = message.now })) }
+{
+    let mut document = Doc::empty_object(alloc);
+    document.put(
+        alloc,
+        "status",
+        Doc::from(String::from_str(alloc, "Failure")?),
+    )?;
+    document.put(alloc, "reason", Doc::from(String::from_str(alloc, reason)?))?;
+    document.put(
+        alloc,
+        "message",
+        Doc::from(String::from_str(alloc, message)?),
+    )?;
+    document.put(alloc, "kind", Doc::from(String::from_str(alloc, "Status")?))?;
+    document.put(alloc, "code", Doc::from(code as i64))?;
+    document.put(
+        alloc,
+        "apiVersion",
+        Doc::from(String::from_str(alloc, "v1")?),
+    )?;
+    Ok(document)
 }

@@ -1,4 +1,6 @@
-ghost use Rattle.std.specs.Prelude.{◌≡◌, ◌+◌, ◌^◌, ◌<◌, ◌≤◌, length, map, Some, None, IsTrue, IfOk, OnOk, IfErr, option_copied};
+ghost use Rattle.std.specs.Prelude.{◌≡◌, ◌+◌, ◌^◌, ◌<◌, ◌≤◌, length, map, Some, None, IsTrue, IfOk, OnOk, IfErr, option_copied, option_map};
+ghost use Rattle.std.specs.List.{filter};
+ghost use Rattle.objects.specs.Objects.{is_of};
 ghost use Rattle.std.specs.Option.{option_map_or};
 ghost use Rattle.requests.specs.Codes.{document_in};
 ghost use Rattle.requests.specs.Collection.{collection_of};
@@ -16,7 +18,7 @@ ghost use Rattle.history.specs.View.{empty, stored_at, exists, change_at, docume
 
 use crate::prepared::{PreparedWrite, Put};
 use documents::Document;
-use names::{Key, Rules};
+use names::{Key, Resource, Rules};
 use objects::{Entry, Objects};
 use requests::{Collection, Manifest, Refusal};
 use std::alloc::{AllocError, Global};
@@ -108,6 +110,19 @@ impl<P: Drop> Core<P> {
         ensures { option_copied result ≡ stored_at self.now.view key.now }
     {
         self.objects.get(key)
+    }
+
+    /// What is stored of a resource, in one namespace or in all, in key order.
+    pub fn entries_of(
+        &self,
+        alloc: Global,
+        resource: Resource,
+        namespace: Option<&str>,
+    ) -> Result<Vec<&Entry<Stored<P>>>, AllocError>
+        ensures { let text = option_map (λ text. text.now) namespace.entry in
+            IfOk result (λ entries. map (λ entry. entry.now) entries.items ≡ filter (λ entry. is_of resource text entry.0) self.now.view.objects) }
+    {
+        self.objects.list(alloc, resource, namespace)
     }
 
     /// What is stored of a collection, in key order.

@@ -1,7 +1,7 @@
 -- The table of refusals: code (RFC 9110 section 15), reason and message of each (Kubernetes API conventions, "Response Status Kind").
 use Rattle.std.specs.Prelude.{ℕ, List, [], ◌∷◌, Bool, codes, if◌then◌else◌, Option, Some, None}
 use Rattle.requests.specs.declared.refusal.Refusal.{Refusal}
-use Rattle.requests.specs.declared.refusal.Refusal.TheVariants.{MalformedRequest, UnservedVersion, TooManyFields, UnservedTransferCoding, BadHost, BadContentLength, BodyTooLarge, UnservedExpectation, BadTarget, NoSuchPath, MethodNotAllowed, BadQuery, BadNameInPath, UnexpectedBody, BadVersion, Expired, BodyIsNotJson, NumberOutsideRange, WrongKind, BadMetadata, WrongName, VersionOnCreate, BadDeleteOptions, AlreadyExists, NotFound, VersionNotCurrent, ObjectTooLarge, TooManyObjects, RevisionExhausted, OutOfMemory, StorageFailed}
+use Rattle.requests.specs.declared.refusal.Refusal.TheVariants.{MalformedRequest, UnservedVersion, TooManyFields, UnservedTransferCoding, BadHost, BadContentLength, BodyTooLarge, UnservedExpectation, BadTarget, NoSuchPath, MethodNotAllowed, BadQuery, BadNameInPath, UnexpectedBody, BadVersion, Expired, BodyIsNotJson, NumberOutsideRange, WrongKind, BadMetadata, WrongName, VersionOnCreate, BadDeleteOptions, AlreadyExists, NotFound, VersionNotCurrent, BadSpec, ObjectTooLarge, TooManyObjects, RevisionExhausted, OutOfMemory, StorageFailed}
 
 -- what a refusal says
 pub record Answer : Type 0 where
@@ -37,6 +37,7 @@ answer BadDeleteOptions = record { code = 400; reason = codes "BadRequest"; mess
 answer AlreadyExists = record { code = 409; reason = codes "AlreadyExists"; message = codes "already exists" }
 answer NotFound = record { code = 404; reason = codes "NotFound"; message = codes "not found" }
 answer VersionNotCurrent = record { code = 409; reason = codes "Conflict"; message = codes "resourceVersion is not current" }
+answer BadSpec = record { code = 422; reason = codes "Invalid"; message = codes "bad spec" }
 answer ObjectTooLarge = record { code = 413; reason = codes "RequestEntityTooLarge"; message = codes "object too large" }
 answer TooManyObjects = record { code = 507; reason = codes "InsufficientStorage"; message = codes "too many objects" }
 answer RevisionExhausted = record { code = 507; reason = codes "InsufficientStorage"; message = codes "revision exhausted" }

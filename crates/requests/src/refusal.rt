@@ -56,6 +56,8 @@ pub enum Refusal {
     NotFound,
     /// A PUT or a DELETE asks for a revision that is not the object's.
     VersionNotCurrent,
+    /// A policy or a binding has not the form of one.
+    BadSpec,
     /// The stored text is above the limit.
     ObjectTooLarge,
     /// The store holds as many objects as it may.
@@ -123,6 +125,7 @@ impl Refusal {
             Refusal::AlreadyExists => (409, "AlreadyExists", "already exists"),
             Refusal::NotFound => (404, "NotFound", "not found"),
             Refusal::VersionNotCurrent => (409, "Conflict", "resourceVersion is not current"),
+            Refusal::BadSpec => (422, "Invalid", "bad spec"),
             Refusal::ObjectTooLarge => (413, "RequestEntityTooLarge", "object too large"),
             Refusal::TooManyObjects => (507, "InsufficientStorage", "too many objects"),
             Refusal::RevisionExhausted => (507, "InsufficientStorage", "revision exhausted"),
