@@ -112,9 +112,13 @@ impl<'a> Lookup<'a> for Sight<'a> {
 
     ghost failures = { λ _. 0 };
 
+    ghost is_damaged = { λ _. ⊥ };
+
     ghost goes_to = { λ before after. after.shelf.now ≡ before.shelf.now };
 
     ghost ascending = { ascends };
+
+    ghost shows_nothing = { λ _ _ _ never. never };
 
     ghost stays = { λ _. refl };
 

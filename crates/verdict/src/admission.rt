@@ -100,7 +100,7 @@ fn bindings<'a, L: Lookup<'a>>(alloc: Global, lookup: &mut L) -> Result<Vec<Boun
     ensures goes { L.goes_to lookup.old lookup.new }
     ensures counts { L.failures lookup.old ≤ L.failures lookup.new }
     ensures device { IsErrOf result LookupFault.Device → HasGrown (L.failures lookup.old) (L.failures lookup.new) }
-    ensures damaged { IsErrOf result LookupFault.Damaged → (objects : Objects) → L.shows lookup.old objects → ⊥ }
+    ensures damaged { IsErrOf result LookupFault.Damaged → L.is_damaged lookup.new }
 {
     let listed = lookup.bindings(alloc)?;
     let bindings = bindings_among(alloc, &listed)?;
@@ -123,7 +123,7 @@ fn denial_of<'a, L: Lookup<'a>>(
     ensures goes { L.goes_to lookup.old lookup.new }
     ensures counts { L.failures lookup.old ≤ L.failures lookup.new }
     ensures device { IsErrOf result LookupFault.Device → HasGrown (L.failures lookup.old) (L.failures lookup.new) }
-    ensures damaged { IsErrOf result LookupFault.Damaged → (objects : Objects) → L.shows lookup.old objects → ⊥ }
+    ensures damaged { IsErrOf result LookupFault.Damaged → L.is_damaged lookup.new }
 {
     match Policy::of(alloc, found.document.json().value())? {
         Some(policy) => denial(
@@ -167,7 +167,7 @@ fn denial_by<'a, L: Lookup<'a>>(
     ensures goes { L.goes_to lookup.old lookup.new }
     ensures counts { L.failures lookup.old ≤ L.failures lookup.new }
     ensures device { IsErrOf result LookupFault.Device → HasGrown (L.failures lookup.old) (L.failures lookup.new) }
-    ensures damaged { IsErrOf result LookupFault.Damaged → (objects : Objects) → L.shows lookup.old objects → ⊥ }
+    ensures damaged { IsErrOf result LookupFault.Damaged → L.is_damaged lookup.new }
 {
     let key = match policy_key(alloc, bound) {
         Ok(key) => key,
@@ -224,7 +224,7 @@ fn verdict_of<'a, L: Lookup<'a>>(
     ensures goes { L.goes_to lookup.old lookup.new }
     ensures counts { L.failures lookup.old ≤ L.failures lookup.new }
     ensures device { IsErrOf result LookupFault.Device → HasGrown (L.failures lookup.old) (L.failures lookup.new) }
-    ensures damaged { IsErrOf result LookupFault.Damaged → (objects : Objects) → L.shows lookup.old objects → ⊥ }
+    ensures damaged { IsErrOf result LookupFault.Damaged → L.is_damaged lookup.new }
 {
     let mut warnings = Vec::new(alloc);
     for bound in bindings {
@@ -256,7 +256,7 @@ pub fn admit<'a, L: Lookup<'a>>(
     ensures goes { L.goes_to lookup.old lookup.new }
     ensures counts { L.failures lookup.old ≤ L.failures lookup.new }
     ensures device { IsErrOf result LookupFault.Device → HasGrown (L.failures lookup.old) (L.failures lookup.new) }
-    ensures damaged { IsErrOf result LookupFault.Damaged → (objects : Objects) → L.shows lookup.old objects → ⊥ }
+    ensures damaged { IsErrOf result LookupFault.Damaged → L.is_damaged lookup.new }
 {
     let request = request_document(alloc, attempt)?;
     let bindings = bindings(alloc, lookup)?;

@@ -81,6 +81,9 @@ pub trait Lookup<'a> {
     /// How often the device below has failed.
     ghost failures: { Self → ℕ };
 
+    /// What lies below was found to be damaged.
+    ghost is_damaged: { Self → Type 0 };
+
     /// What looks may make of it.
     ghost goes_to: { Self → Self → Type 0 };
 
@@ -88,7 +91,7 @@ pub trait Lookup<'a> {
     ///
     /// # Errors
     ///
-    /// `Memory` where no memory is left, `Device` where the device failed, `Damaged` where what lies below shows nothing.
+    /// `Memory` where no memory is left, `Device` where the device failed, `Damaged` where what lies below is damaged, so that it shows nothing.
     fn policy(&mut self, alloc: Global, key: &Key) -> Result<Option<Found<'a>>, LookupFault>
         requires { key.now.resource ≡ ValidatingAdmissionPolicy }
         ensures found { (objects : Objects) → shows self.old objects → IfOk result (λ o. option_map held_by o ≡ value_at key.now (all_held objects)) }
@@ -96,7 +99,7 @@ pub trait Lookup<'a> {
         ensures goes { goes_to self.old self.new }
         ensures counts { failures self.old ≤ failures self.new }
         ensures device { IsErrOf result LookupFault.Device → HasGrown (failures self.old) (failures self.new) }
-        ensures damaged { IsErrOf result LookupFault.Damaged → (objects : Objects) → shows self.old objects → ⊥ };
+        ensures damaged { IsErrOf result LookupFault.Damaged → is_damaged self.new };
 
     /// All bindings, in key order.
     ///
@@ -110,7 +113,7 @@ pub trait Lookup<'a> {
         ensures goes { goes_to self.old self.new }
         ensures counts { failures self.old ≤ failures self.new }
         ensures device { IsErrOf result LookupFault.Device → HasGrown (failures self.old) (failures self.new) }
-        ensures damaged { IsErrOf result LookupFault.Damaged → (objects : Objects) → shows self.old objects → ⊥ };
+        ensures damaged { IsErrOf result LookupFault.Damaged → is_damaged self.new };
 
     /// The objects of a resource in a namespace that are wanted, in key order, as they are shown.
     ///
@@ -130,10 +133,13 @@ pub trait Lookup<'a> {
         ensures goes { goes_to self.old self.new }
         ensures counts { failures self.old ≤ failures self.new }
         ensures device { IsErrOf result LookupFault.Device → HasGrown (failures self.old) (failures self.new) }
-        ensures damaged { IsErrOf result LookupFault.Damaged → (objects : Objects) → shows self.old objects → ⊥ };
+        ensures damaged { IsErrOf result LookupFault.Damaged → is_damaged self.new };
 
     /// The keys of what it shows ascend.
     ghost ascending: { (lookup : Self) (objects : Objects) → shows lookup objects → IsTrue (is_sorted key_cmp objects) };
+
+    /// What is damaged shows nothing.
+    ghost shows_nothing: { (lookup : Self) (objects : Objects) → shows lookup objects → is_damaged lookup → ⊥ };
 
     /// No look may leave it as it is.
     ghost stays: { (lookup : Self) → goes_to lookup lookup };

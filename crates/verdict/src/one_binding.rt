@@ -127,7 +127,7 @@ fn on_conditions<'a, L: Lookup<'a>>(
     ensures goes { L.goes_to lookup.old lookup.new }
     ensures counts { L.failures lookup.old ≤ L.failures lookup.new }
     ensures device { IsErrOf result LookupFault.Device → HasGrown (L.failures lookup.old) (L.failures lookup.new) }
-    ensures damaged { IsErrOf result LookupFault.Damaged → (objects : Objects) → L.shows lookup.old objects → ⊥ }
+    ensures damaged { IsErrOf result LookupFault.Damaged → L.is_damaged lookup.new }
 {
     match conditions {
         Conditions::Met => {
@@ -173,7 +173,7 @@ pub(crate) fn denial<'a, L: Lookup<'a>>(
     ensures goes { L.goes_to lookup.old lookup.new }
     ensures counts { L.failures lookup.old ≤ L.failures lookup.new }
     ensures device { IsErrOf result LookupFault.Device → HasGrown (L.failures lookup.old) (L.failures lookup.new) }
-    ensures damaged { IsErrOf result LookupFault.Damaged → (objects : Objects) → L.shows lookup.old objects → ⊥ }
+    ensures damaged { IsErrOf result LookupFault.Damaged → L.is_damaged lookup.new }
 {
     if !matches(&policy.constraints, &binding.resources, attempt) {
         return Ok(None);

@@ -134,7 +134,7 @@ fn looked_up<'a, L: Lookup<'a>>(
     ensures goes { L.goes_to lookup.old lookup.new }
     ensures counts { L.failures lookup.old ≤ L.failures lookup.new }
     ensures device { IsErrOf result LookupFault.Device → HasGrown (L.failures lookup.old) (L.failures lookup.new) }
-    ensures damaged { IsErrOf result LookupFault.Damaged → (objects : Objects) → L.shows lookup.old objects → ⊥ }
+    ensures damaged { IsErrOf result LookupFault.Damaged → L.is_damaged lookup.new }
 {
     let documents = lookup.parameters(alloc, resource, namespace, wanted)?;
     Ok(found_or_not(documents))
@@ -158,7 +158,7 @@ pub(crate) fn parameters_of<'a, L: Lookup<'a>>(
     ensures goes { L.goes_to lookup.old lookup.new }
     ensures counts { L.failures lookup.old ≤ L.failures lookup.new }
     ensures device { IsErrOf result LookupFault.Device → HasGrown (L.failures lookup.old) (L.failures lookup.new) }
-    ensures damaged { IsErrOf result LookupFault.Damaged → (objects : Objects) → L.shows lookup.old objects → ⊥ }
+    ensures damaged { IsErrOf result LookupFault.Damaged → L.is_damaged lookup.new }
 {
     let resource = match kind {
         Some(resource) => resource,
