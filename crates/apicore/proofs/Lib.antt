@@ -1,1 +1,6 @@
-pub mod StepLemmas
+pub mod Admitting
+pub mod Following
+pub mod Staying
+pub mod Showing
+pub mod Finding
+pub mod Deciding

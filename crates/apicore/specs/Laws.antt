@@ -1,15 +1,16 @@
 -- Laws of histories and steps.
-use Rattle.std.specs.Prelude.{◌≡◌, ◌+◌, List, ◌∷◌, length, IsTrue}
+use Rattle.std.specs.Prelude.{◌≡◌, ◌+◌, ◌≤◌, ◌^◌, List, ◌∷◌, length, IsTrue}
 use Rattle.std.specs.FinMap.{is_sorted}
 use Rattle.circular_buffer.specs.Buffer.{keep_last}
 use Rattle.names.specs.declared.format.Rules.{Rules}
 use Rattle.names.specs.Key.{Key, key_cmp}
-use Rattle.requests.specs.Request.{Request, RequestHasForm}
+use Rattle.requests.specs.Request.{RequestHasForm}
 use Rattle.history.specs.History.{object_at}
 use Rattle.history.specs.Laws.{events_from}
 use Rattle.history.specs.View.{stored_at, view, empty}
-use Rattle.apicore.specs.Standing.{History, IsHistory}
-use Rattle.apicore.specs.Step.{step, runs}
+use Rattle.apicore.specs.Prepared.{IsReadOf}
+use Rattle.apicore.specs.Standing.{View, History, IsHistory, IsView, AreAdmitted}
+use Rattle.apicore.specs.Step.{Asked, accepted, step, runs}
 
 -- The revision is one more than the number of writes.
 abbrev pub RevisionCounts : Type 0
@@ -28,20 +29,29 @@ EventsAreLast =
 abbrev pub ObjectsAscend : Type 0
 ObjectsAscend = (rules : Rules) (h : History) → IsTrue (is_sorted key_cmp (view rules h).objects)
 
+-- The view of a history has the trees of its documents, and its keys ascend.
+abbrev pub HistoriesShow : Type 0
+HistoriesShow = (rules : Rules) (h : History) → IsHistory rules h → IsView (view rules h)
+
 -- What a request writes may follow, so that a step makes a history of a history.
 abbrev pub WritesFollow : Type 0
 WritesFollow =
-    (rules : Rules) (h : History) (r : Request) → IsHistory rules h → RequestHasForm r → IsHistory rules (step rules h r).0
+    (rules : Rules) (h : History) (a : Asked) → rules.text_limit_bytes ≤ 2 ^ 24 → IsHistory rules h → RequestHasForm a.request → IsReadOf a.request a.specification
+    → IsHistory rules (step rules h a).0
+
+-- Each accepted write was admitted by the policies, bindings and parameters just before it.
+abbrev pub AcceptedAreAdmitted : Type 0
+AcceptedAreAdmitted = (rules : Rules) (v : View) (asked : List Asked) → AreAdmitted rules v (accepted rules v asked)
 
 -- A run is its steps in turn.
 abbrev pub RunsAreSteps : Type 0
 RunsAreSteps =
-    (rules : Rules) (h : History) (r : Request) (rs : List Request) →
-    let after_one = (step rules h r).0 in
-    ((runs rules h (r ∷ rs)).0 ≡ (runs rules after_one rs).0) × ((runs rules h (r ∷ rs)).1 ≡ (step rules h r).1 ∷ (runs rules after_one rs).1)
+    (rules : Rules) (h : History) (a : Asked) (rest : List Asked) →
+    let after_one = (step rules h a).0 in
+    ((runs rules h (a ∷ rest)).0 ≡ (runs rules after_one rest).0) × ((runs rules h (a ∷ rest)).1 ≡ (step rules h a).1 ∷ (runs rules after_one rest).1)
 
 -- Equal views give equal replies, and equal views after.
 abbrev pub ViewDecides : Type 0
 ViewDecides =
-    (rules : Rules) (g h : History) (r : Request) → view rules g ≡ view rules h
-    → ((step rules g r).1 ≡ (step rules h r).1) × (view rules (step rules g r).0 ≡ view rules (step rules h r).0)
+    (rules : Rules) (g h : History) (a : Asked) → view rules g ≡ view rules h
+    → ((step rules g a).1 ≡ (step rules h a).1) × (view rules (step rules g a).0 ≡ view rules (step rules h a).0)

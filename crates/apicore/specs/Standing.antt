@@ -1,25 +1,113 @@
--- Histories as the store takes them: nothing stands beside a document yet.
-use Rattle.std.specs.Prelude.{ℕ, List, []}
+-- Histories with trees: what stands in each document, and that each write was admitted.
+use Rattle.std.specs.Prelude.{◌≡◌, ℕ, ◌+◌, ◌*◌, ◌≤◌, List, [], ◌∷◌, length, map, option_map, Option, Some, None, if◌then◌else◌, IsTrue}
+use Rattle.std.specs.FinMap.{is_sorted}
+use Rattle.std.specs.List.{AllByRecursion}
+use Rattle.serde_json.specs.Data.{Data}
+use Rattle.celtree.specs.Tree.{Expr}
+use Rattle.jsondoc.specs.Document.{text}
 use Rattle.names.specs.declared.format.Rules.{Rules}
+use Rattle.names.specs.declared.resource.Resource.{Resource}
+use Rattle.names.specs.Key.{Key, key_cmp}
+use Rattle.documents.specs.Document.{Document, shown}
 use Rattle.history.specs.History as plain
 use Rattle.history.specs.History.{put, delete}
+use Rattle.history.specs.Mapped.{mapped, mapped_write}
+use Rattle.history.specs.declared.state.Stored.{Stored}
 use Rattle.history.specs.View as seen
-use Rattle.history.specs.View.{AllFollow}
+use Rattle.history.specs.View.{stored_at, exists, after, empty}
+use Rattle.matching.specs.Rules.{Attempt}
+use Rattle.matching.specs.declared.rules.Operation.TheVariants.{Create, Update, Delete}
+use Rattle.plancode.specs.Plans.{Judged}
+use Rattle.specification.specs.Specification.{IsSpecification, sound, plans_in, plans_bytes, MayHavePlans}
+use Rattle.verdict.specs.Admission.{verdict}
+use Rattle.verdict.specs.Objects.{Object, Objects}
+use Rattle.verdict.specs.Verdict.{Verdict, admitted, denied}
 
+-- A write puts a document with the trees of its expressions, or deletes.
 abbrev pub Write : Type 0
-Write = plain.Write (Unit {0})
+Write = plain.Write (List Expr)
 
 abbrev pub History : Type 0
 History = List Write
 
 abbrev pub View : Type 0
-View = seen.View (Unit {0})
+View = seen.View (List Expr)
+
+-- The expressions of the document spell these trees and no others; plans of them can be held, and have few bytes.
+pub record HasTrees (r : Resource) (d : Data) (trees : List Expr) : Type 0 where
+  pub spelled : IsSpecification r d (sound trees)
+  pub alone : (other : List Expr) → IsSpecification r d (sound other) → other ≡ trees
+  pub held : MayHavePlans r d (plans_in d trees)
+  pub short : length (plans_bytes r (plans_in d trees)) ≤ 2 + 22 * length (text d)
+
+abbrev pub PutsTrees : Write → Type 0
+PutsTrees (put k d trees) = HasTrees k.resource d.json trees
+PutsTrees (delete k) = Unit {0}
+
+-- the write may follow a history of which v is seen, and puts the trees of its document
+abbrev pub MayFollow : Rules → View → Write → Type 0
+MayFollow rules v w = seen.MayFollow rules v w × PutsTrees w
+
+abbrev pub AllMayFollow : Rules → View → List Write → Type 0
+AllMayFollow rules v [] = Unit {0}
+AllMayFollow rules v (w ∷ ws) = MayFollow rules v w × AllMayFollow rules (after rules v w) ws
 
 -- a list of writes that a store may have taken
 abbrev pub IsHistory : Rules → History → Type 0
-IsHistory rules h = AllFollow rules h
+IsHistory rules h = AllMayFollow rules empty h
 
--- A write as a record holds it. Of plans it has none: no document has any yet.
-abbrev pub recorded : Write → plain.Write (List ℕ)
-recorded (put k d _) = put k d []
+-- each object has the trees of its document
+abbrev pub HaveTrees : View → Type 0
+HaveTrees v = AllByRecursion (λ o. HasTrees o.0.resource o.1.document.json o.1.beside) v.objects
+
+-- A view as histories have it: the keys ascend, and each object has the trees of its document.
+pub record IsView (v : View) : Type 0 where
+  pub ascends : IsTrue (is_sorted key_cmp v.objects)
+  pub trees : HaveTrees v
+
+-- ---- admission
+
+abbrev pub IsAdmitted : Verdict → Type 0
+IsAdmitted (admitted warnings) = Unit {0}
+IsAdmitted (denied policy binding reason message) = ⊥
+
+-- an object with its trees, as a verdict is given by it
+abbrev pub object_of : Stored (List Expr) → Object
+object_of s = record { document = s.document; trees = s.beside; revision = s.revision }
+
+abbrev pub objects_of : View → Objects
+objects_of v = map (λ o. (o.0, object_of o.1)) v.objects
+
+-- the object at a key, as it is shown
+abbrev pub shown_at : {P : Type 0} → seen.View P → Key → Option Data
+shown_at v k = option_map (λ s. shown s.document s.revision) (stored_at v k)
+
+-- what a write attempts: a put creates or updates, and a deletion tells what it removes
+abbrev pub attempt_of : View → Write → Attempt
+attempt_of v (put k d trees) = record { operation = if exists v k then Update else Create; key = k; object = Some d.json; old_object = shown_at v k }
+attempt_of v (delete k) = record { operation = Delete; key = k; object = None; old_object = shown_at v k }
+
+-- the verdict of the policies, bindings and parameters just before the write
+abbrev pub verdict_on : View → Write → Verdict
+verdict_on v w = verdict (objects_of v) (attempt_of v w)
+
+-- Each of the writes was admitted by the policies, bindings and parameters just before it.
+abbrev pub AreAdmitted : Rules → View → List Write → Type 0
+AreAdmitted rules v [] = Unit {0}
+AreAdmitted rules v (w ∷ ws) = IsAdmitted (verdict_on v w) × AreAdmitted rules (after rules v w) ws
+
+-- ---- with plans for trees, as the code holds them and as a record does
+
+abbrev pub plans_beside : Document → List Expr → List Judged
+plans_beside d trees = plans_in d.json trees
+
+abbrev pub with_plans : View → seen.View (List Judged)
+with_plans v = mapped plans_beside v
+
+abbrev pub write_with_plans : Write → plain.Write (List Judged)
+write_with_plans w = mapped_write plans_beside w
+
+-- a put as a record holds it: with the bytes of its plans
+abbrev pub recorded : plain.Write (List Judged) → plain.Write (List ℕ)
+recorded (put k d plans) = put k d (plans_bytes k.resource plans)
 recorded (delete k) = delete k

@@ -1,127 +1,211 @@
 -- One request: what refuses it, what it writes, what is replied. And runs of requests.
-use Rattle.std.specs.Prelude.{ℕ, ◌+◌, List, [], ◌∷◌, ◌++◌, length, Bool, true, false, not, ◌&&◌, ◌==◌, decimal, if◌then◌else◌, Option, is_some}
+use Rattle.std.specs.Prelude.{ℕ, ◌+◌, List, [], ◌∷◌, ◌++◌, length, map, Bool, true, false, not, ◌&&◌, ◌==◌, codes, decimal, if◌then◌else◌, Option, Some, None, is_some}
 use Rattle.std.specs.Option.{option_map_or}
 use Rattle.std.specs.Str.{bytes_eq}
+use Rattle.celtree.specs.Tree.{Expr}
 use Rattle.names.specs.declared.format.Rules.{Rules}
 use Rattle.names.specs.Key.{Key}
-use Rattle.requests.specs.declared.refusal.Refusal.{Refusal}
-use Rattle.requests.specs.declared.refusal.Refusal.TheVariants.{AlreadyExists, NotFound, VersionNotCurrent, ObjectTooLarge, TooManyObjects, RevisionExhausted}
-use Rattle.requests.specs.Manifest.{Body, sound}
-use Rattle.requests.specs.Refusal.{Condition, first_of}
+use Rattle.documents.specs.Document.{Document}
+use Rattle.requests.specs.Codes.{document_in}
+use Rattle.requests.specs.Manifest.{Manifest}
+use Rattle.requests.specs.declared.refusal.Refusal as told
+use Rattle.requests.specs.declared.refusal.Refusal.TheVariants.{AlreadyExists, NotFound, VersionNotCurrent, BadSpec, ObjectTooLarge, TooManyObjects, RevisionExhausted}
+use Rattle.requests.specs.Refusal as table
+use Rattle.requests.specs.Refusal.{Answer}
 use Rattle.requests.specs.Request.{Request, get, list, watch, create, replace, delete, refused}
 use Rattle.history.specs.History as write
-use Rattle.history.specs.History.{put}
 use Rattle.history.specs.Listing.{watch_conditions, listing, watching}
-use Rattle.history.specs.Reply.{Reply, status, showing}
+use Rattle.history.specs.Reply.{Reply, saying, showing}
+use Rattle.history.specs.View as seen
 use Rattle.history.specs.View.{stored_at, exists, document_at, is_too_large, is_full, is_exhausted, after_all, view}
-use Rattle.apicore.specs.Standing.{Write, History, View}
+use Rattle.policy.specs.declared.validation.Reason.{Reason}
+use Rattle.policy.specs.declared.validation.Reason.TheVariants.{Unauthorized, Forbidden, Invalid, RequestEntityTooLarge}
+use Rattle.specification.specs.Specification.{Specification, sound, bad_spec, bad_expression}
+use Rattle.verdict.specs.Verdict.{Verdict, admitted, denied, denial_text}
+use Rattle.apicore.specs.Standing.{Write, History, View, verdict_on}
+
+-- a request, and what stands in the document that it asks to be stored
+pub record Asked : Type 0 where
+  pub request : Request
+  pub specification : Specification Expr
 
 -- ---- refusals
 
--- what refuses a body that is to be a new object
-abbrev pub create_conditions : Rules → View → Key → Body → List Condition
-create_conditions rules v k (sound d) =
-    (AlreadyExists, exists v k)
-    ∷ (ObjectTooLarge, is_too_large rules d)
-    ∷ (TooManyObjects, is_full rules v)
-    ∷ (RevisionExhausted, is_exhausted rules v)
-    ∷ []
+pub data Refusal : Type 0 where
+  -- one of the table
+  known : told.Refusal → Refusal
+  -- an expression of a policy is bad
+  with_bad_expression : (text : List ℕ) → Refusal
+  -- a policy denies the write
+  denied_by : (policy binding : List ℕ) → (reason : Reason) → (message : List ℕ) → Refusal
+
+-- a refusal, and whether its condition holds
+abbrev pub Condition : Type 0
+Condition = Refusal × Bool
+
+-- the first refusal whose condition holds
+abbrev pub first_of : List Condition → Option Refusal
+first_of [] = None
+first_of (c ∷ cs) = if c.1 then Some c.0 else first_of cs
+
+abbrev pub of_table : List table.Condition → List Condition
+of_table cs = map (λ c. (known c.0, c.1)) cs
+
+-- the code (RFC 9110 section 15) and the word of a denial's reason (Kubernetes, "Validation.Reason")
+abbrev pub reason_code : Reason → ℕ
+reason_code Unauthorized = 401
+reason_code Forbidden = 403
+reason_code Invalid = 422
+reason_code RequestEntityTooLarge = 413
+
+abbrev pub reason_word : Reason → List ℕ
+reason_word Unauthorized = codes "Unauthorized"
+reason_word Forbidden = codes "Forbidden"
+reason_word Invalid = codes "Invalid"
+reason_word RequestEntityTooLarge = codes "RequestEntityTooLarge"
+
+abbrev pub answer : Refusal → Answer
+answer (known r) = table.answer r
+answer (with_bad_expression text) = record { code = 422; reason = codes "Invalid"; message = codes "bad expression: " ++ text }
+answer (denied_by policy binding reason message) =
+    record { code = reason_code reason; reason = reason_word reason; message = denial_text policy binding message }
+
+abbrev pub status : Refusal → Reply
+status r = saying (answer r)
+
+-- what stands in the document is not what must
+abbrev pub form_conditions : Specification Expr → List Condition
+form_conditions (sound trees) = []
+form_conditions bad_spec = (known BadSpec, true) ∷ []
+form_conditions (bad_expression text) = (with_bad_expression text, true) ∷ []
+
+-- the policies deny the write
+abbrev pub verdict_conditions : Verdict → List Condition
+verdict_conditions (admitted warnings) = []
+verdict_conditions (denied policy binding reason message) = (denied_by policy binding reason message, true) ∷ []
 
 -- the text is that of the revision of the object at the key: texts are compared, not numbers
-abbrev pub is_current : View → Key → (text : List ℕ) → Bool
+abbrev pub is_current : {P : Type 0} → seen.View P → Key → (text : List ℕ) → Bool
 is_current v k text = option_map_or (λ s. bytes_eq text (decimal s.revision)) (stored_at v k) false
 
 -- an update asks for another revision than the object's: an empty text asks for none, and what asks for none is unconditional
-abbrev pub update_conflicts : View → Key → (asked : Option (List ℕ)) → Bool
+abbrev pub update_conflicts : {P : Type 0} → seen.View P → Key → (asked : Option (List ℕ)) → Bool
 update_conflicts v k asked = option_map_or (λ text. not (length text == 0) && not (is_current v k text)) asked false
 
 -- a deletion's precondition is another revision than the object's
-abbrev pub deletion_conflicts : View → Key → (asked : Option (List ℕ)) → Bool
+abbrev pub deletion_conflicts : {P : Type 0} → seen.View P → Key → (asked : Option (List ℕ)) → Bool
 deletion_conflicts v k asked = option_map_or (λ text. not (is_current v k text)) asked false
 
--- what refuses a body that is to stand in place of an object
-abbrev pub replace_conditions : Rules → View → Key → (asked : Option (List ℕ)) → Body → List Condition
-replace_conditions rules v k asked (sound d) =
-    (NotFound, not (exists v k))
-    ∷ (VersionNotCurrent, update_conflicts v k asked)
-    ∷ (ObjectTooLarge, is_too_large rules d)
-    ∷ (RevisionExhausted, is_exhausted rules v)
-    ∷ []
+-- what refuses a creation, a replacement and a deletion for the object that stands at its key
+abbrev pub create_conditions : {P : Type 0} → seen.View P → Key → List Condition
+create_conditions v k = (known AlreadyExists, exists v k) ∷ []
 
--- what refuses a deletion
-abbrev pub delete_conditions : Rules → View → Key → (asked : Option (List ℕ)) → List Condition
+abbrev pub replace_conditions : {P : Type 0} → seen.View P → Key → (asked : Option (List ℕ)) → List Condition
+replace_conditions v k asked = (known NotFound, not (exists v k)) ∷ (known VersionNotCurrent, update_conflicts v k asked) ∷ []
+
+abbrev pub delete_conditions : {P : Type 0} → Rules → seen.View P → Key → (asked : Option (List ℕ)) → List Condition
 delete_conditions rules v k asked =
-    (NotFound, not (exists v k))
-    ∷ (VersionNotCurrent, deletion_conflicts v k asked)
-    ∷ (RevisionExhausted, is_exhausted rules v)
+    (known NotFound, not (exists v k))
+    ∷ (known VersionNotCurrent, deletion_conflicts v k asked)
+    ∷ (known RevisionExhausted, is_exhausted rules v)
     ∷ []
 
--- each refusal of a request, in order, and whether its condition holds
-abbrev pub conditions : Rules → View → Request → List Condition
-conditions rules v (refused r) = (r, true) ∷ []
-conditions rules v (get k) = (NotFound, not (exists v k)) ∷ []
-conditions rules v (list c selector) = []
-conditions rules v (watch c revision) = watch_conditions rules v revision
-conditions rules v (create m) = create_conditions rules v m.key m.body
-conditions rules v (replace m) = replace_conditions rules v m.key m.version m.body
-conditions rules v (delete k asked) = delete_conditions rules v k asked
+-- what refuses a document that is to be a new object, and one that is to stand in place of an object, for the limits of the store
+abbrev pub create_limits : {P : Type 0} → Rules → seen.View P → Document → List Condition
+create_limits rules v d =
+    (known ObjectTooLarge, is_too_large rules d)
+    ∷ (known TooManyObjects, is_full rules v)
+    ∷ (known RevisionExhausted, is_exhausted rules v)
+    ∷ []
 
-abbrev pub refusal : Rules → View → Request → Option Refusal
-refusal rules v r = first_of (conditions rules v r)
+abbrev pub replace_limits : {P : Type 0} → Rules → seen.View P → Document → List Condition
+replace_limits rules v d = (known ObjectTooLarge, is_too_large rules d) ∷ (known RevisionExhausted, is_exhausted rules v) ∷ []
+
+-- what refuses a request, in order, before the policies are asked, and whether its condition holds
+abbrev pub own_conditions : Rules → View → Request → Specification Expr → List Condition
+own_conditions rules v (refused r) s = (known r, true) ∷ []
+own_conditions rules v (get k) s = (known NotFound, not (exists v k)) ∷ []
+own_conditions rules v (list c selector) s = []
+own_conditions rules v (watch c revision) s = of_table (watch_conditions rules v revision)
+own_conditions rules v (create m) s = create_conditions v m.key ++ (form_conditions s ++ create_limits rules v (document_in m.body))
+own_conditions rules v (replace m) s =
+    replace_conditions v m.key m.version ++ (form_conditions s ++ replace_limits rules v (document_in m.body))
+own_conditions rules v (delete k asked) s = delete_conditions rules v k asked
+
+abbrev pub trees_of : Specification Expr → List Expr
+trees_of (sound trees) = trees
+trees_of bad_spec = []
+trees_of (bad_expression text) = []
+
+-- the put that a manifest asks for
+abbrev pub put_of : Manifest → Specification Expr → Write
+put_of m s = write.put m.key (document_in m.body) (trees_of s)
+
+-- the write that a request asks for, if any
+abbrev pub asks_for : Request → Specification Expr → List Write
+asks_for (refused r) s = []
+asks_for (get k) s = []
+asks_for (list c selector) s = []
+asks_for (watch c revision) s = []
+asks_for (create m) s = put_of m s ∷ []
+asks_for (replace m) s = put_of m s ∷ []
+asks_for (delete k asked) s = write.delete k ∷ []
+
+-- what the policies say of the write, if there is one
+abbrev pub verdict_of : View → List Write → Verdict
+verdict_of v [] = admitted []
+verdict_of v (w ∷ ws) = verdict_on v w
+
+-- each refusal of a request, in order, and whether its condition holds: the verdict of the policies is the last
+abbrev pub conditions : Rules → View → Asked → List Condition
+conditions rules v a =
+    own_conditions rules v a.request a.specification ++ verdict_conditions (verdict_of v (asks_for a.request a.specification))
+
+abbrev pub refusal : Rules → View → Asked → Option Refusal
+refusal rules v a = first_of (conditions rules v a)
 
 -- ---- writes
 
-abbrev pub put_of : Key → Body → List Write
-put_of k (sound d) = put k d tt ∷ []
-
--- the write of a request that nothing refuses
-abbrev write_of : Request → List Write
-write_of (refused r) = []
-write_of (get k) = []
-write_of (list c selector) = []
-write_of (watch c revision) = []
-write_of (create m) = put_of m.key m.body
-write_of (replace m) = put_of m.key m.body
-write_of (delete k asked) = write.delete k ∷ []
-
 -- the write that a request makes, if any: a refused request makes none
-abbrev pub writes : Rules → View → Request → List Write
-writes rules v r = if is_some (refusal rules v r) then [] else write_of r
+abbrev pub writes : Rules → View → Asked → List Write
+writes rules v a = if is_some (refusal rules v a) then [] else asks_for a.request a.specification
 
 -- ---- replies
 
-abbrev pub written : (code : ℕ) → Body → (revision : ℕ) → Reply
-written code (sound d) revision = showing code d revision
+abbrev pub warnings_of : Verdict → List (List ℕ)
+warnings_of (admitted warnings) = warnings
+warnings_of (denied policy binding reason message) = []
 
 -- The reply to a request that nothing refuses: a write shows its object with the revision that it makes, and a deletion the
--- object that it removes.
-abbrev success : View → Request → Reply
-success v (refused r) = status r
-success v (get k) = option_map_or (λ s. showing 200 s.document s.revision) (stored_at v k) (status NotFound)
-success v (list c selector) = listing v c selector
-success v (watch c revision) = watching v c revision
-success v (create m) = written 201 m.body (v.revision + 1)
-success v (replace m) = written 200 m.body (v.revision + 1)
-success v (delete k asked) = showing 200 (document_at v k) (v.revision + 1)
+-- object that it removes, with the warnings of the policies.
+abbrev pub success : View → Request → (warnings : List (List ℕ)) → Reply
+success v (refused r) warnings = status (known r)
+success v (get k) warnings = option_map_or (λ s. showing 200 [] s.document s.revision) (stored_at v k) (status (known NotFound))
+success v (list c selector) warnings = listing v c selector
+success v (watch c revision) warnings = watching v c revision
+success v (create m) warnings = showing 201 warnings (document_in m.body) (v.revision + 1)
+success v (replace m) warnings = showing 200 warnings (document_in m.body) (v.revision + 1)
+success v (delete k asked) warnings = showing 200 warnings (document_at v k) (v.revision + 1)
 
-abbrev pub reply : Rules → View → Request → Reply
-reply rules v r = option_map_or status (refusal rules v r) (success v r)
+abbrev pub reply : Rules → View → Asked → Reply
+reply rules v a =
+    option_map_or status (refusal rules v a) (success v a.request (warnings_of (verdict_of v (asks_for a.request a.specification))))
 
 -- ---- runs
 
 -- the writes that requests add: those that were accepted
-abbrev pub accepted : Rules → View → List Request → List Write
+abbrev pub accepted : Rules → View → List Asked → List Write
 accepted rules v [] = []
-accepted rules v (r ∷ rs) = writes rules v r ++ accepted rules (after_all rules v (writes rules v r)) rs
+accepted rules v (a ∷ rest) = writes rules v a ++ accepted rules (after_all rules v (writes rules v a)) rest
 
-abbrev pub replies : Rules → View → List Request → List Reply
+abbrev pub replies : Rules → View → List Asked → List Reply
 replies rules v [] = []
-replies rules v (r ∷ rs) = reply rules v r ∷ replies rules (after_all rules v (writes rules v r)) rs
+replies rules v (a ∷ rest) = reply rules v a ∷ replies rules (after_all rules v (writes rules v a)) rest
 
 -- the history after a request, and the reply
-abbrev pub step : Rules → History → Request → History × Reply
-step rules h r = (h ++ writes rules (view rules h) r, reply rules (view rules h) r)
+abbrev pub step : Rules → History → Asked → History × Reply
+step rules h a = (h ++ writes rules (view rules h) a, reply rules (view rules h) a)
 
 -- the history after requests, and the replies
-abbrev pub runs : Rules → History → List Request → History × List Reply
-runs rules h rs = (h ++ accepted rules (view rules h) rs, replies rules (view rules h) rs)
+abbrev pub runs : Rules → History → List Asked → History × List Reply
+runs rules h asked = (h ++ accepted rules (view rules h) asked, replies rules (view rules h) asked)

@@ -1,5 +1,5 @@
 // The laws of the definitions, each the contract of a function.
-ghost use Rattle.apicore.specs.Laws.{RevisionCounts, KeyHasLastWrite, EventsAreLast, ObjectsAscend, WritesFollow, RunsAreSteps, ViewDecides};
+ghost use Rattle.apicore.specs.Laws.{RevisionCounts, KeyHasLastWrite, EventsAreLast, ObjectsAscend, HistoriesShow, WritesFollow, AcceptedAreAdmitted, RunsAreSteps, ViewDecides};
 
 /// The revision is one more than the number of writes.
 pub fn revision_counts()
@@ -21,9 +21,19 @@ pub fn objects_ascend()
     ensures { ObjectsAscend }
 {}
 
+/// The view of a history has the trees of its documents, and its keys ascend.
+pub fn histories_show()
+    ensures { HistoriesShow }
+{}
+
 /// What a request writes may follow, so that a step makes a history of a history.
 pub fn writes_follow()
     ensures { WritesFollow }
+{}
+
+/// Each accepted write was admitted by the policies, bindings and parameters just before it.
+pub fn accepted_are_admitted()
+    ensures { AcceptedAreAdmitted }
 {}
 
 /// A run is its steps in turn.

@@ -1,23 +1,28 @@
-//! What a request does to what is stored: one step of the model of the server.
+//! What a request does to what is stored, and to what the policies among it say: one step of the model of the server.
 //!
 //! ```text
 //! let prepared = prepare(&mut core, alloc, &Request::Create(manifest))?;
 //! core.take(prepared.write);
 //! ```
 //!
-//! A step takes a history and a request to a history and a reply. `prepare` takes all the memory of a step and changes nothing that is
-//! seen, `Core::take` takes none, and together they are one step.
+//! A step takes a history and a request, with what stands in the document that it asks to be stored, to a history and a reply. Each
+//! write is asked of the policies and bindings that are stored just before it: one that they deny is refused, and stands nowhere.
+//! `prepare` takes all the memory of a step and changes nothing that is seen, `Core::take` takes none, and together they are one step.
+//! Beside each document the model has the trees of its expressions, and the core the plans of those trees.
 #![tactic(auto)]
 
 mod conflicts;
+mod judging;
 mod laws;
 mod prepared;
 mod preparing;
+mod reading;
 mod refusing;
+mod sight;
 
 pub use laws::{
-    events_are_last, key_has_last_write, objects_ascend, revision_counts, runs_are_steps,
-    view_decides, writes_follow,
+    accepted_are_admitted, events_are_last, histories_show, key_has_last_write, objects_ascend,
+    revision_counts, runs_are_steps, view_decides, writes_follow,
 };
 pub use prepared::{Core, Prepared};
 pub use preparing::prepare;

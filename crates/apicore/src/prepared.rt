@@ -1,15 +1,16 @@
 ghost use Rattle.std.specs.Prelude.{◌≡◌, None};
 
 use history::{PreparedWrite, Reply};
+use plancode::Verified;
 
-/// What is stored. Nothing stands beside a document yet.
-pub type Core = history::Core<()>;
+/// What is stored, with the plans of each policy's expressions beside its document.
+pub type Core = history::Core<Vec<Verified>>;
 
 /// A step that has all its memory: the reply, and the write that it makes if it makes one.
 #[derive(Drop)]
 pub struct Prepared {
     pub reply: Reply,
-    pub write: Option<PreparedWrite<()>>,
+    pub write: Option<PreparedWrite<Vec<Verified>>>,
 }
 
 impl Prepared {

@@ -1,5 +1,5 @@
-use Rattle.apicore.proofs.StepLemmas.{runs_are_steps}
+use Rattle.apicore.proofs.Following.{runs_are_steps}
 use Rattle.apicore.proofs.laws.runs_are_steps.Goals as goal
 
 pub returns : goal.returns
-returns c = λ rules h r rs. runs_are_steps rules h r rs
+returns c = λ rules h a rest. runs_are_steps rules h a rest

@@ -1,0 +1,116 @@
+-- What is found in a core, as it is looked up.
+use Rattle.std.proofs.Common.{◌≡◌, ◌∙◌, sym, ap, refl, subst, List, [], ◌∷◌, length, map, nat_le, Bool, true, false, cond, ◌&&◌, Vec, option_map, option_and_then, if◌then◌else◌, Option, Some, None, IsTrue}
+use Rattle.std.specs.FinMap.{is_sorted}
+use Rattle.std.specs.FinMap.Entries.{below_all}
+use Rattle.std.specs.List.{AllByRecursion}
+use Rattle.std.specs.Ordering.{is_lt}
+use Rattle.std.specs.declared.alloc.Global.{Global}
+use Rattle.serde_json.specs.Data.{Data}
+use Rattle.celtree.specs.Tree.{Expr}
+use Rattle.names.specs.Key.{Key, key_cmp}
+use Rattle.names.specs.declared.resource.Resource.{Resource}
+use Rattle.names.specs.declared.resource.Resource.TheVariants.{ConfigMap, Node, Pod, Service, Deployment, ValidatingAdmissionPolicy, ValidatingAdmissionPolicyBinding}
+use Rattle.objects.specs.Objects.{value_at}
+use Rattle.history.specs.declared.state.Stored.{Stored}
+use Rattle.history.specs.Mapped.{each}
+use Rattle.history.specs.View as seen
+use Rattle.plancode.specs.Plans.{Judged}
+use Rattle.policy.specs.Forms.{Text}
+use Rattle.policy.specs.Policies.{policy_of}
+use Rattle.policy.specs.Spec.{Policy, Wanted}
+use Rattle.expressions.specs.Expressions.{sources}
+use Rattle.expressions.specs.Typed.{AreTyped}
+use Rattle.specification.specs.Places.{policy_in}
+use Rattle.verdict.specs.Objects as asked
+use Rattle.verdict.specs.Objects.{Held, Object, Objects, all_held, shown_objects}
+use Rattle.verdict.specs.Parameters.{listed, wanted_of}
+use Rattle.verdict.specs.Seen.{shown_held}
+use Rattle.verdict.proofs.Standing.{listed-map, value_at-map, shown_listed}
+use Rattle.apicore.specs.Prepared.{plans_held, Shows}
+use Rattle.apicore.specs.Sights.{held_of, entry_held}
+use Rattle.apicore.specs.Standing.{View, IsView, HasTrees, plans_beside, object_of, objects_of}
+
+abbrev Stands : Type 0
+Stands = Stored (Vec Judged Global)
+
+-- ---- looking up
+
+pub value_found : (key : Key) (os : List (Key × Stands)) → value_at key (map entry_held os) ≡ option_map held_of (value_at key os)
+value_found key os = value_at-map held_of key os
+
+pub listed_found : (r : Resource) (n : Option Text) (os : List (Key × Stands)) → listed r n (map entry_held os) ≡ map entry_held (listed r n os)
+listed_found r n os = listed-map held_of r n os
+
+-- what is wanted of what is listed, as it is shown
+pub parameters_found : (w : Wanted) (r : Resource) (n : Text) (os : List (Key × Stands)) (objects : Objects) (hs : List (Key × Held)) (ds : List Data)
+    → ds ≡ wanted_of w (map shown_held hs) → hs ≡ map entry_held (listed r (Some n) os) → map entry_held os ≡ all_held objects
+    → ds ≡ wanted_of w (listed r (Some n) (shown_objects objects))
+parameters_found w r n os objects hs ds wanted lent shows =
+    let held_there = lent ∙ sym (listed_found r (Some n) os) ∙ ap (λ (ps : List (Key × Held)). listed r (Some n) ps) shows in
+    wanted ∙ ap (λ (ps : List (Key × Held)). wanted_of w (map shown_held ps)) held_there ∙ ap (λ (ps : List (Key × Data)). wanted_of w ps) (shown_listed r (Some n) objects)
+
+-- ---- what a core shows it has
+
+abbrev planned : Stored (List Judged) → Held
+planned s = record { document = s.document; plans = s.beside; revision = s.revision }
+
+abbrev all_planned : List (Key × Stored (List Judged)) → List (Key × Held)
+all_planned os = map (λ o. (o.0, planned o.1)) os
+
+held_planned : (os : List (Key × Stands)) → all_planned (each plans_held os) ≡ map entry_held os
+held_planned [] = refl
+held_planned (o ∷ os) = ap (λ (rest : List (Key × Held)). entry_held o ∷ rest) (held_planned os)
+
+beside_planned : (os : List (Key × Stored (List Expr))) → all_planned (each plans_beside os) ≡ all_held (map (λ o. (o.0, object_of o.1)) os)
+beside_planned [] = refl
+beside_planned (o ∷ os) = ap (λ (rest : List (Key × Held)). (o.0, asked.held (object_of o.1)) ∷ rest) (beside_planned os)
+
+held_shown : (core : seen.View (Vec Judged Global)) (v : View) → Shows core v → map entry_held core.objects ≡ all_held (objects_of v)
+held_shown core v shows =
+    sym (held_planned core.objects) ∙ ap (λ (u : seen.View (List Judged)). all_planned u.objects) shows ∙ beside_planned v.objects
+
+module _ {A B : Type 0} (f : A → B) where
+  below_map : (key : Key) (os : List (Key × A)) → below_all key_cmp key (map (λ o. (o.0, f o.1)) os) ≡ below_all key_cmp key os
+  below_map key [] = refl
+  below_map key (o ∷ os) = ap (λ (b : Bool). is_lt (key_cmp key o.0) && b) (below_map key os)
+
+  -- whether keys ascend lies not in what stands under them
+  sorted_map : (os : List (Key × A)) → is_sorted key_cmp (map (λ o. (o.0, f o.1)) os) ≡ is_sorted key_cmp os
+  sorted_map [] = refl
+  sorted_map (o ∷ os) =
+      ap (λ (b : Bool). b && is_sorted key_cmp (map (λ p. (p.0, f p.1)) os)) (below_map o.0 os)
+      ∙ ap (λ (b : Bool). below_all key_cmp o.0 os && b) (sorted_map os)
+
+pub sees_shown : (core : seen.View (Vec Judged Global)) (v : View) → Shows core v → IsView v
+    → (map entry_held core.objects ≡ all_held (objects_of v)) × IsTrue (is_sorted key_cmp (objects_of v))
+sees_shown core v shows is_view = (held_shown core v shows, sorted_map object_of v.objects ∙ is_view.ascends)
+
+-- ---- the trees of policies
+
+one_policy : (p q : Policy) (b : Bool) → cond b (Some p) None ≡ Some q → q ≡ p
+one_policy p q true same = let e : p ≡ q = cc in sym e
+one_policy p q false same = absurd (let never : ◌≡◌ {A = Option Policy} None (Some q) = same in cc)
+
+policy_is : (d : Data) (p q : Policy) → policy_of d ≡ Some p → policy_in d ≡ Some q → q ≡ p
+policy_is d p q spelled stands =
+    one_policy p q (nat_le (length (sources p)) 65535)
+    (sym (ap (λ (o : Option Policy). option_and_then (λ x. if nat_le (length (sources x)) 65535 then Some x else None) o) spelled) ∙ stands)
+
+trees_of : (r : Resource) (o : Stored (List Expr)) → HasTrees r o.document.json o.beside → asked.HasTrees r (object_of o)
+trees_of ValidatingAdmissionPolicy o has = λ p spelled.
+    let stands = has.spelled in
+    subst (λ (q : Policy). AreTyped q [] (sources q) o.beside) (policy_is o.document.json p stands.0 spelled stands.1) stands.2
+trees_of ConfigMap o has = tt
+trees_of Node o has = tt
+trees_of Pod o has = tt
+trees_of Service o has = tt
+trees_of Deployment o has = tt
+trees_of ValidatingAdmissionPolicyBinding o has = tt
+
+all_trees : (os : List (Key × Stored (List Expr))) → AllByRecursion (λ o. HasTrees o.0.resource o.1.document.json o.1.beside) os
+    → asked.HaveTrees (map (λ o. (o.0, object_of o.1)) os)
+all_trees [] have = tt
+all_trees (o ∷ os) have = (trees_of o.0.resource o.1 have.0, all_trees os have.1)
+
+pub have_trees : (v : View) → IsView v → asked.HaveTrees (objects_of v)
+have_trees v is_view = all_trees v.objects is_view.trees
