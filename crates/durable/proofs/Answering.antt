@@ -1,140 +1,276 @@
--- What a prepared step makes of a settled store.
-use Rattle.std.proofs.Common.{arith, ◌≡◌, ◌∙◌, sym, ap, subst, ◌<◌, ◌^◌, ◌++◌, List, [], ◌∷◌, refl, true, false, Option, Some, None, Result, Ok, Err, OnOk, IsErrOf, is_ok, true≢false}
+-- What a prepared step makes of a store.
+use Rattle.std.proofs.Common.{arith, ◌≡◌, ◌∙◌, sym, ap, subst, map, ◌≤◌, ◌<◌, ◌^◌, ◌++◌, ℕ, List, [], ◌∷◌, refl, true, false, Option, Some, None, Result, Ok, Err, IfOk, OnOk, IsErrOf, is_ok, true≢false, Vec}
 use Rattle.std.proofs.lemmas.List.{append-nil}
+use Rattle.std.specs.declared.alloc.Global.{Global}
 use Rattle.device.specs.declared.device.Device.{Ghosts}
+use Rattle.device.specs.Disk.{LeavesOnly}
 use Rattle.device.specs.Run.{Stands}
 use Rattle.gatelog.specs.declared.record.Body.{Body}
 use Rattle.gatelog.specs.Payload.{payload_of}
 use Rattle.names.specs.declared.format.Rules.{Rules}
 use Rattle.requests.specs.Request.{Request, RequestHasForm}
-use Rattle.apicore.specs.declared.prepared.Prepared.{Prepared}
+use Rattle.history.specs.History as plain
 use Rattle.history.specs.History.{put, delete}
-use Rattle.apicore.specs.Standing.{Write, History, View}
-use Rattle.history.specs.Prepared.{writes_of}
-use Rattle.apicore.specs.Prepared.{IsStepOf}
+use Rattle.history.specs.Mapped.{mapped, mapped_write}
+use Rattle.history.specs.Prepared.{write_of, writes_of}
 use Rattle.history.specs.declared.prepared.PreparedWrite.{PreparedWrite}
-use Rattle.history.specs.declared.prepared.PreparedWrite.TheVariants.{Put, Delete}
-use Rattle.apicore.specs.Step.{writes}
-use Rattle.history.specs.View.{view, empty, after_all, MayFollow, AllMayFollow}
-use Rattle.apicore.proofs.StepLemmas.{AllMayFollow-writes, is_key-deleted}
-use Rattle.history.proofs.ViewLemmas.{after_all-append}
-use Rattle.recovery.specs.Written.{payload, IsStorable}
+use Rattle.history.specs.View as seen
+use Rattle.history.specs.View.{view, empty, after_all}
+use Rattle.history.proofs.Mapping.{all_mapped}
+use Rattle.history.proofs.ViewLemmas.{after_all-append, objects_ascend}
+use Rattle.records.specs.Payload as bytes
+use Rattle.plancode.specs.Plans.{Judged}
+use Rattle.apicore.specs.declared.prepared.Prepared.{Prepared}
+use Rattle.apicore.specs.Standing.{Write, History, View, IsView, MayFollow, AllMayFollow, plans_beside, with_plans, write_with_plans, recorded}
+use Rattle.apicore.specs.Step.{Asked, writes}
+use Rattle.apicore.specs.Prepared.{Shows, IsReadOf, IsStepOf, IsPrepared, plans_held}
+use Rattle.apicore.proofs.Admitting.{written_admitted}
+use Rattle.apicore.proofs.Following.{IsKeyOf, key_of_written, AllMayFollow-writes}
+use Rattle.apicore.proofs.Staying.{trees_stay, histories_show}
+use Rattle.durable.specs.Recorded.{payload, IsStorable}
 use Rattle.durable.specs.declared.store.Store.{Store}
 use Rattle.durable.specs.Ready.{HoldsHistory}
 use Rattle.durable.specs.RecordOf.{IsRecordOf}
 use Rattle.durable.specs.Rules.{first_rules}
-use Rattle.durable.specs.Settled.{IsFound, IsSettledAt, IsLeftAt, LeavesSome, device_of, serves, shown}
+use Rattle.durable.specs.Settled.{IsFound, ServesAt, IsSettledAt, IsLeftAt, LeavesSome, HasReplied, HasFailedAt, device_of, serves, shown}
+use Rattle.durable.proofs.Findings.{leaves-idle}
+
+-- ---- results
+
+pub fault_is_no_success : {T E : Type 0} (e : E) (r : Result T E) → IsErrOf r e → is_ok r ≡ false
+fault_is_no_success e r is = ap is_ok is
+
+pub if_ok : {T E : Type 0} (r : Result T E) (P Q : T → Type 0) → ((x : T) → is_ok r ≡ true → P x → Q x) → IfOk r P → IfOk r Q
+if_ok (Ok x) P Q to holds = to x refl holds
+if_ok (Err e) P Q to holds = holds
+
+pub on_success : {T E : Type 0} (P : Type 0) (r : Result T E) → is_ok r ≡ true → OnOk r P → P
+on_success P (Ok x) ok holds = holds
+on_success P (Err e) ok holds = absurd (true≢false (sym ok))
+
+-- ---- what a store shows, and what its device holds
+
+-- what is seen after the writes
+pub view-after : (h : History) (ws : List Write) → after_all first_rules (view first_rules h) ws ≡ view first_rules (h ++ ws)
+view-after h ws = sym (after_all-append first_rules empty h ws)
 
 -- a settled store's device holds its history
 pub held : {D : Type 0} {g : Ghosts D} (store : Store D g) (h : History) → IsSettledAt first_rules store h → HoldsHistory first_rules g.disk (device_of store) h
 held store h settled = record { keeps = settled.keeps; read = settled.read; left = settled.left }
 
 -- and the other way round
-pub settled_from : {D : Type 0} {g : Ghosts D} (store : Store D g) (h : History) → serves store ≡ true → shown store ≡ view first_rules h
+pub settled_from : {D : Type 0} {g : Ghosts D} (store : Store D g) (h : History) → serves store ≡ true → Shows (shown store) (view first_rules h)
     → HoldsHistory first_rules g.disk (device_of store) h → IsSettledAt first_rules store h
 settled_from store h working shows holds = record { working = working; keeps = holds.keeps; shows = shows; read = holds.read; left = holds.left }
 
--- with success as a premise
-pub on_ok_with : {T E : Type 0} (P Q : Type 0) (r : Result T E) → (is_ok r ≡ true → P → Q) → OnOk r P → OnOk r Q
-on_ok_with P Q (Ok v) to holds = to refl holds
-on_ok_with P Q (Err e) to holds = holds
+-- a store that is settled at a history serves, and shows its view
+pub settled_serves : {D : Type 0} {g : Ghosts D} (rules : Rules) (store : Store D g) (h : History) → IsSettledAt rules store h → ServesAt store (view rules h)
+settled_serves rules store h settled =
+    record { working = settled.working; shows = settled.shows; seen = histories_show rules h settled.read.history }
 
-pub fault_is_no_success : {T E : Type 0} (e : E) (r : Result T E) → IsErrOf r e → is_ok r ≡ false
-fault_is_no_success e r is = ap is_ok is
+-- a store that serves after the writes of a history, on a device that holds them
+settled_after : {D : Type 0} {g : Ghosts D} (store : Store D g) (h : History) (ws : List Write) → ServesAt store (after_all first_rules (view first_rules h) ws)
+    → HoldsHistory first_rules g.disk (device_of store) (h ++ ws) → IsSettledAt first_rules store (h ++ ws)
+settled_after store h ws serving holds =
+    let Shown : View → Type 0 = λ v. Shows (shown store) v in
+    settled_from store (h ++ ws) serving.working (subst Shown (view-after h ws) serving.shows) holds
 
-pub success_is_no_fault : {T E : Type 0} (e : E) (v : T) → ◌≡◌ {A = Result T E} (Ok v) (Err e) → ⊥
-success_is_no_fault e v is = true≢false (ap is_ok is)
+-- what is shown after writes that are held with the plans of these
+shown_after : (held : seen.View (Vec Judged Global)) (v : View) (ws : List (plain.Write (Vec Judged Global))) (us : List Write) → Shows held v
+    → map (mapped_write plans_held) ws ≡ map write_with_plans us → Shows (after_all first_rules held ws) (after_all first_rules v us)
+shown_after held v ws us shows same =
+    all_mapped plans_held first_rules held ws
+    ∙ ap (λ (x : seen.View (List Judged)). after_all first_rules x (map (mapped_write plans_held) ws)) shows
+    ∙ ap (λ (xs : List (plain.Write (List Judged))). after_all first_rules (with_plans v) xs) same
+    ∙ sym (all_mapped plans_beside first_rules v us)
 
--- what is seen after the writes
-pub view-after : (h : History) (ws : List Write) → after_all first_rules (view first_rules h) ws ≡ view first_rules (h ++ ws)
-view-after h ws = sym (after_all-append first_rules empty h ws)
+small : first_rules.text_limit_bytes ≤ 2 ^ 24
+unfolding first_rules
+small = omega arith
 
--- the writes of a step that was prepared from what a history shows
-pub step_writes : (rules : Rules) (v : View) (h : History) (r : Request) (p : Prepared) → rules ≡ first_rules → v ≡ view first_rules h → IsStepOf rules v r p
-    → writes_of p.write ≡ writes first_rules (view first_rules h) r
-step_writes rules v h r p same_rules same_view step =
-    step.writes ∙ ap (λ x. writes x v r) same_rules ∙ ap (λ x. writes first_rules x r) same_view
+-- a view as histories have it stays one
+seen_after : (v : View) (a : Asked) → IsView v → RequestHasForm a.request → IsReadOf a.request a.specification → IsView (after_all first_rules v (writes first_rules v a))
+seen_after v a is form read = record {
+  ascends = objects_ascend first_rules v (writes first_rules v a) is.ascends;
+  trees = trees_stay first_rules v (writes first_rules v a) is.trees (AllMayFollow-writes first_rules v a.request a.specification small form read);
+}
 
-no_record : (asked : Option (PreparedWrite (Unit {0}))) → IsRecordOf asked None → writes_of asked ≡ []
+-- ---- the step
+
+-- the step under the store's rules
+at_first_rules : (rules : Rules) (v : View) (a : Asked) (p : Prepared) → rules ≡ first_rules → IsStepOf rules v a p → IsStepOf first_rules v a p
+at_first_rules rules v a p same step = let Of : Rules → Type 0 = λ r. IsStepOf r v a p in subst Of same step
+
+-- at what the store shows it is the model's
+step_at : {D : Type 0} {g : Ghosts D} (old : Store D g) (r : Request) (p : Prepared) (is : IsPrepared old.core r p) (v : View) → ServesAt old v
+    → IsStepOf first_rules v (record { request = r; specification = is.specification }) p
+step_at old r p is v serving =
+    at_first_rules old.core.rules v (record { request = r; specification = is.specification }) p old.rules (is.step v serving.shows serving.seen)
+
+no_record : (asked : Option (PreparedWrite (Vec Judged Global))) → IsRecordOf asked None → writes_of asked ≡ []
 no_record None is = refl
 no_record (Some p) is = absurd is
 
--- A request that writes nothing leaves the store settled.
-pub nothing_written : {D : Type 0} {g : Ghosts D} (old new : Store D g) (h : History) (r : Request) (p : Prepared) → IsSettledAt first_rules old h
-    → old.core.rules ≡ first_rules → IsStepOf old.core.rules (shown old) r p → IsRecordOf p.write None → device_of old ≡ device_of new → serves old ≡ serves new
-    → shown new ≡ shown old → IsSettledAt first_rules new (h ++ writes first_rules (view first_rules h) r)
-nothing_written {D} {g} old new h r p settled same_rules step without device working shows =
-    let none : writes_of p.write ≡ [] = no_record p.write without in
-    let ws : List Write = writes first_rules (view first_rules h) r in
-    let are : writes_of p.write ≡ ws = step_writes old.core.rules (shown old) h r p same_rules settled.shows step in
-    let unchanged : h ≡ h ++ ws = sym (append-nil h) ∙ ap (λ (w : List Write). h ++ w) (sym none ∙ are) in
-    let Held : D → Type 0 = λ d. HoldsHistory first_rules g.disk d h in
-    let At : History → Type 0 = λ x. IsSettledAt first_rules new x in
-    subst At unchanged (settled_from new h (sym working ∙ settled.working) (shows ∙ settled.shows) (subst Held device (held old h settled)))
+none_of : (ws : List Write) → [] ≡ map write_with_plans ws → ws ≡ []
+none_of [] is = refl
+none_of (w ∷ ws) is = cc
+
+one_of : (ws : List Write) (x : plain.Write (List Judged)) → x ∷ [] ≡ map write_with_plans ws → (w : Write) × (ws ≡ w ∷ []) × (x ≡ write_with_plans w)
+one_of [] x is = cc
+one_of (w ∷ []) x is = (w, refl, let same : x ≡ write_with_plans w = cc in same)
+one_of (v ∷ w ∷ ws) x is = cc
+
+-- without a record nothing is written
+nothing_written : (v : View) (a : Asked) (p : Prepared) → IsStepOf first_rules v a p → IsRecordOf p.write None → writes first_rules v a ≡ []
+nothing_written v a p step without =
+    none_of (writes first_rules v a) (ap (λ (xs : List (plain.Write (Vec Judged Global))). map (mapped_write plans_held) xs) (sym (no_record p.write without)) ∙ step.writes)
+
+-- and with one something is
+something_written : (v : View) (a : Asked) (p : Prepared) (body : Body) → IsStepOf first_rules v a p → IsRecordOf p.write (Some body) → writes first_rules v a ≡ [] → ⊥
+something_written v a p body step is none = go p.write (step.writes ∙ ap (λ (ws : List Write). map write_with_plans ws) none) is
+  where
+    go : (asked : Option (PreparedWrite (Vec Judged Global))) → map (mapped_write plans_held) (writes_of asked) ≡ [] → IsRecordOf asked (Some body) → ⊥
+    go None are is = is
+    go (Some q) are is = let never : ◌≡◌ {A = List (plain.Write (List Judged))} (mapped_write plans_held (write_of q) ∷ []) [] = are in cc
 
 -- The one write of a request that writes.
-pub record OneWrite (h : History) (r : Request) (asked : Option (PreparedWrite (Unit {0}))) (body : Body) : Type 0 where
+pub record OneWrite (h : History) (a : Asked) (body : Body) : Type 0 where
   pub write : Write
-  pub asked_is : writes_of asked ≡ write ∷ []
-  pub writes_are : writes first_rules (view first_rules h) r ≡ write ∷ []
+  pub writes_are : writes first_rules (view first_rules h) a ≡ write ∷ []
   pub follows : MayFollow first_rules (view first_rules h) write
   pub storable : IsStorable write
   pub payload_is : payload_of body ≡ payload write
 
-small : first_rules.text_limit_bytes < 2 ^ 32
-unfolding first_rules
-small = omega arith
+storable_of : (v : View) (w : Write) → MayFollow first_rules v w → IsKeyOf w → IsStorable w
+storable_of v (put k d trees) may key = (may.0.form, omega (arith, small, may.0.size), omega (arith, small, may.0.size, may.1.short))
+storable_of v (delete k) may key = key
 
-pub one_write : (rules : Rules) (v : View) (h : History) (r : Request) (p : Prepared) (body : Body) → rules ≡ first_rules → v ≡ view first_rules h
-    → IsStepOf rules v r p → RequestHasForm r → IsRecordOf p.write (Some body) → OneWrite h r p.write body
-one_write rules v h r p body same_rules same_view step form is =
-    go p.write (step_writes rules v h r p same_rules same_view step) is
+one_write : (h : History) (a : Asked) (p : Prepared) (body : Body) → IsStepOf first_rules (view first_rules h) a p → RequestHasForm a.request → IsReadOf a.request a.specification
+    → IsRecordOf p.write (Some body) → OneWrite h a body
+one_write h a p body step form read is = go p.write step.writes is
   where
-    go : (asked : Option (PreparedWrite (Unit {0}))) → writes_of asked ≡ writes first_rules (view first_rules h) r → IsRecordOf asked (Some body) → OneWrite h r asked body
+    go : (asked : Option (PreparedWrite (Vec Judged Global))) → map (mapped_write plans_held) (writes_of asked) ≡ map write_with_plans (writes first_rules (view first_rules h) a)
+        → IsRecordOf asked (Some body) → OneWrite h a body
     go None are is = absurd is
-    go (Some (Put q)) are is =
+    go (Some q) are is =
+        let one = one_of (writes first_rules (view first_rules h) a) (mapped_write plans_held (write_of q)) are in
         let All : List Write → Type 0 = λ ws. AllMayFollow first_rules (view first_rules h) ws in
-        let follow = subst All (sym are) (AllMayFollow-writes first_rules (view first_rules h) r form) in
+        let follow = subst All one.1 (AllMayFollow-writes first_rules (view first_rules h) a.request a.specification small form read) in
         record {
-          write = put q.key q.document tt;
-          asked_is = refl;
-          writes_are = sym are;
+          write = one.0;
+          writes_are = one.1;
           follows = follow.0;
-          storable = (follow.0.form, omega (arith, small, follow.0.size), omega arith);
-          payload_is = is;
-        }
-    go (Some (Delete k gone)) are is =
-        let All : List Write → Type 0 = λ ws. AllMayFollow first_rules (view first_rules h) ws in
-        let follow = subst All (sym are) (AllMayFollow-writes first_rules (view first_rules h) r form) in
-        record {
-          write = delete k;
-          asked_is = refl;
-          writes_are = sym are;
-          follows = follow.0;
-          storable = is_key-deleted first_rules (view first_rules h) r k form are;
-          payload_is = is;
+          storable = storable_of (view first_rules h) one.0 follow.0 (key_of_written first_rules (view first_rules h) a.request a.specification one.0 form one.1);
+          payload_is = is ∙ ap (λ x. bytes.payload (recorded x)) one.2;
         }
 
--- What the append of the write leaves of the device, for the writes of the request.
-module _ {D : Type 0} {g : Ghosts D} (old new : Store D g) (h : History) (r : Request) (asked : Option (PreparedWrite (Unit {0}))) (body : Body) (one : OneWrite h r asked body) where
-  pub leaves_written : Stands g.disk (device_of old) (device_of new) (IsFound first_rules h [] (one.write ∷ [])) (IsFound first_rules h [] (one.write ∷ []))
-      → LeavesSome first_rules old new h (writes first_rules (view first_rules h) r)
-  leaves_written stands =
-      let Leaves : List Write → Type 0 = λ ws. LeavesSome first_rules old new h ws in subst Leaves (sym one.writes_are) stands.moments
+-- ---- a request that writes nothing
 
-  pub left_written : serves new ≡ false
-      → Stands g.disk (device_of old) (device_of new) (IsFound first_rules h [] (one.write ∷ [])) (IsFound first_rules h [] (one.write ∷ []))
-      → IsLeftAt first_rules new h [] (writes first_rules (view first_rules h) r)
-  left_written stopped stands =
-      let Left : List Write → Type 0 = λ ws. IsLeftAt first_rules new h [] ws in
-      subst Left (sym one.writes_are) (record { stopped = stopped; keeps = stands.kept; read = stands.seen; left = stands.crash })
+module _ {D : Type 0} {g : Ghosts D} (old new : Store D g) (device : device_of old ≡ device_of new) (working : serves old ≡ serves new) (shows : shown new ≡ shown old)
+    (only_now : (c : List ℕ) → g.disk.keeps (device_of old) → g.disk.since (device_of old) (g.disk.moment (device_of old)) c → g.disk.left (device_of old) c) where
+  -- the store serves as before
+  pub serving_still : (v : View) → ServesAt old v → ServesAt new v
+  serving_still v serving = record { working = sym working ∙ serving.working; shows = ap (mapped plans_held) shows ∙ serving.shows; seen = serving.seen }
 
-  pub settled_written : serves new ≡ true → shown old ≡ view first_rules h → shown new ≡ after_all first_rules (shown old) (writes_of asked)
-      → HoldsHistory first_rules g.disk (device_of new) (h ++ one.write ∷ [])
-      → IsSettledAt first_rules new (h ++ writes first_rules (view first_rules h) r)
-  settled_written working was shows holds =
-      let At : List Write → Type 0 = λ ws. IsSettledAt first_rules new (h ++ ws) in
-      subst At (sym one.writes_are)
-      (settled_from new (h ++ one.write ∷ []) working
-      (shows ∙ ap (λ v. after_all first_rules v (writes_of asked)) was ∙ ap (after_all first_rules (view first_rules h)) one.asked_is ∙ view-after h (one.write ∷ []))
-      holds)
+  -- is settled as before
+  pub settled_still : (h : History) → IsSettledAt first_rules old h → IsSettledAt first_rules new h
+  settled_still h settled =
+      let Held : D → Type 0 = λ d. HoldsHistory first_rules g.disk d h in
+      settled_from new h (sym working ∙ settled.working) (ap (mapped plans_held) shows ∙ settled.shows) (subst Held device (held old h settled))
+
+  -- and a crash leaves what it left
+  moments_still : (h : History) (ws : List Write) → IsSettledAt first_rules old h → LeavesSome first_rules old new h ws
+  moments_still h ws settled =
+      let Leaves : D → Type 0 = λ d. LeavesOnly g.disk (device_of old) d (IsFound first_rules h [] ws) in
+      subst Leaves device (leaves-idle first_rules old h ws (λ c since. only_now c settled.keeps since) settled)
+
+  pub replied_still : (r : Request) (p : Prepared) → IsPrepared old.core r p → IsRecordOf p.write None → HasReplied first_rules old new r p.reply
+  replied_still r p is without =
+      let a : Asked = record { request = r; specification = is.specification } in
+      record {
+        specification = is.specification;
+        read = is.read;
+        shown = λ v serving.
+            let step = step_at old r p is v serving in
+            let Serves : List Write → Type 0 = λ ws. ServesAt new (after_all first_rules v ws) in
+            record {
+              reply = step.reply;
+              serving = subst Serves (sym (nothing_written v a p step without)) (serving_still v serving);
+              untouched = λ none. sym device;
+              admitted = written_admitted first_rules v r is.specification;
+            };
+        settled = λ h settled.
+            let step = step_at old r p is (view first_rules h) (settled_serves first_rules old h settled) in
+            let none = nothing_written (view first_rules h) a p step without in
+            let At : History → Type 0 = λ x. IsSettledAt first_rules new x in
+            record {
+              settled = subst At (sym (append-nil h) ∙ ap (λ (ws : List Write). h ++ ws) (sym none)) (settled_still h settled);
+              moments = moments_still h (writes first_rules (view first_rules h) a) settled;
+            };
+      }
+
+-- ---- a request whose write is appended
+
+module _ {D : Type 0} {g : Ghosts D} (old new : Store D g) (r : Request) (p : Prepared) (body : Body) (is : IsPrepared old.core r p) (form : RequestHasForm r)
+    (has_record : IsRecordOf p.write (Some body))
+    (stands : (h : History) (w : Write) → HoldsHistory first_rules g.disk (device_of old) h → MayFollow first_rules (view first_rules h) w → IsStorable w
+    → payload_of body ≡ payload w → Stands g.disk (device_of old) (device_of new) (IsFound first_rules h [] (w ∷ [])) (IsFound first_rules h [] (w ∷ []))) where
+  one_at : (h : History) → IsSettledAt first_rules old h → OneWrite h (record { request = r; specification = is.specification }) body
+  one_at h settled =
+      one_write h (record { request = r; specification = is.specification }) p body (step_at old r p is (view first_rules h) (settled_serves first_rules old h settled))
+      form is.read has_record
+
+  moments_written : (h : History) → IsSettledAt first_rules old h → LeavesSome first_rules old new h (writes first_rules (view first_rules h) (record { request = r; specification = is.specification }))
+  moments_written h settled =
+      let one = one_at h settled in
+      let Leaves : List Write → Type 0 = λ ws. LeavesSome first_rules old new h ws in
+      subst Leaves (sym one.writes_are) (stands h one.write (held old h settled) one.follows one.storable one.payload_is).moments
+
+  pub replied_written : serves new ≡ true → shown new ≡ after_all first_rules (shown old) (writes_of p.write)
+      → ((h : History) (w : Write) → HoldsHistory first_rules g.disk (device_of old) h → MayFollow first_rules (view first_rules h) w → IsStorable w
+      → payload_of body ≡ payload w → HoldsHistory first_rules g.disk (device_of new) (h ++ w ∷ []))
+      → HasReplied first_rules old new r p.reply
+  replied_written working shows appended =
+      let a : Asked = record { request = r; specification = is.specification } in
+      let serving_after : (v : View) → ServesAt old v → ServesAt new (after_all first_rules v (writes first_rules v a)) =
+      (λ v serving.
+      let step = step_at old r p is v serving in
+      record {
+        working = working;
+        shows = ap (mapped plans_held) shows ∙ shown_after (shown old) v (writes_of p.write) (writes first_rules v a) serving.shows step.writes;
+        seen = seen_after v a serving.seen form is.read;
+      })
+      in
+      record {
+        specification = is.specification;
+        read = is.read;
+        shown = λ v serving. record {
+          reply = (step_at old r p is v serving).reply;
+          serving = serving_after v serving;
+          untouched = λ none. absurd (something_written v a p body (step_at old r p is v serving) has_record none);
+          admitted = written_admitted first_rules v r is.specification;
+        };
+        settled = λ h settled.
+            let one = one_at h settled in
+            let Holds : List Write → Type 0 = λ ws. HoldsHistory first_rules g.disk (device_of new) (h ++ ws) in
+            record {
+              settled = settled_after new h (writes first_rules (view first_rules h) a) (serving_after (view first_rules h) (settled_serves first_rules old h settled))
+                  (subst Holds (sym one.writes_are) (appended h one.write (held old h settled) one.follows one.storable one.payload_is));
+              moments = moments_written h settled;
+            };
+      }
+
+  pub failed_written : serves new ≡ false → HasFailedAt first_rules old new r
+  failed_written stopped =
+      let a : Asked = record { request = r; specification = is.specification } in
+      record {
+        specification = is.specification;
+        read = is.read;
+        untouched = λ v serving none. absurd (something_written v a p body (step_at old r p is v serving) has_record none);
+        left = λ h settled.
+            let one = one_at h settled in
+            let at = stands h one.write (held old h settled) one.follows one.storable one.payload_is in
+            let Left : List Write → Type 0 = λ ws. IsLeftAt first_rules new h [] ws in
+            (subst Left (sym one.writes_are) (record { stopped = stopped; keeps = at.kept; read = at.seen; left = at.crash }), moments_written h settled);
+        admitted = λ v. written_admitted first_rules v r is.specification;
+      }

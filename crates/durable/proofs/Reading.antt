@@ -1,5 +1,5 @@
 -- What reading a device tells of the history that its content stands for.
-use Rattle.std.proofs.Common.{◌≡◌, ◌∙◌, sym, ap, subst, ◌++◌, ℕ, List, [], refl, map}
+use Rattle.std.proofs.Common.{◌≡◌, ◌∙◌, sym, ap, subst, ◌++◌, ℕ, List, [], ◌∷◌, refl, map}
 use Rattle.gatelog.specs.declared.gate_log.Log.{Log}
 use Rattle.gatelog.specs.Log.{HoldsLog}
 use Rattle.gatelog.proofs.Walking.{at_most_one}
@@ -7,14 +7,67 @@ use Rattle.checkpoint.specs.declared.root.Root.{Root}
 use Rattle.checkpoint.specs.Root.{log_start, HoldsRoot}
 use Rattle.checkpoint.proofs.Counting.{one_counts}
 use Rattle.names.specs.declared.format.Rules.{Rules}
-use Rattle.apicore.specs.Standing.{History, IsHistory}
-use Rattle.history.specs.State.{State}
-use Rattle.history.specs.View.{view}
-use Rattle.recovery.specs.Written.{payload, IsWritten}
+use Rattle.names.specs.Key.{Key}
+use Rattle.documents.specs.Document.{Document}
+use Rattle.history.specs.History as plain
+use Rattle.history.specs.History.{put, delete}
+use Rattle.history.specs.View as seen
+use Rattle.history.specs.View.{view, after, after_all, empty}
+use Rattle.history.specs.Mapped.{mapped}
+use Rattle.history.proofs.Mapping.{all_mapped, all_follow_mapped}
+use Rattle.plancode.specs.Plans.{Judged}
+use Rattle.apicore.specs.Standing.{Write, History, View, PutsTrees, HasTrees, AllMayFollow, IsHistory, plans_beside, with_plans, write_with_plans}
+use Rattle.recovery.specs.Written as written
+use Rattle.recovery.specs.Written.{IsWritten}
 use Rattle.recovery.proofs.Histories.{one_history as payloads_one}
-use Rattle.durable.specs.Laws.{AtMostOneView}
-use Rattle.durable.specs.Opened.{IsStoreOf}
+use Rattle.durable.specs.Recorded.{payload, AllStorable}
+use Rattle.apicore.proofs.Staying.{histories_show}
+use Rattle.durable.specs.Laws.{AtMostOneHistory, AtMostOneView, ReplayedIsShown}
 use Rattle.durable.specs.Stands.{StandsFor}
+
+-- ---- with plans for trees
+
+payloads_same : (ws : List Write) → map written.payload (map write_with_plans ws) ≡ map payload ws
+payloads_same [] = refl
+payloads_same (w ∷ ws) = ap (λ (ps : List (List ℕ)). payload w ∷ ps) (payloads_same ws)
+
+follow_plainly : (rules : Rules) (v : View) (ws : List Write) → AllMayFollow rules v ws → seen.AllMayFollow rules v ws
+follow_plainly rules v [] all = tt
+follow_plainly rules v (w ∷ ws) all = (all.0.0, follow_plainly rules (after rules v w) ws all.1)
+
+has_plans : (w : Write) → PutsTrees w → written.HasPlans (write_with_plans w)
+has_plans (put k d trees) puts = puts.held
+has_plans (delete k) puts = tt
+
+storable_with : (rules : Rules) (v : View) (ws : List Write) → AllStorable ws → AllMayFollow rules v ws → written.AllStorable (map write_with_plans ws)
+storable_with rules v [] storable all = tt
+storable_with rules v (w ∷ ws) storable all = ((storable.0, has_plans w all.0.1), storable_with rules (after rules v w) ws storable.1 all.1)
+
+-- the same write with plans is the same write: its document spells no other trees
+same_write : (v w : Write) → PutsTrees v → PutsTrees w → write_with_plans v ≡ write_with_plans w → v ≡ w
+same_write (put k d t) (put l e u) a b same =
+    let key : k ≡ l = cc in
+    let document : d ≡ e = cc in
+    let Has : Key → Document → Type 0 = λ x y. HasTrees x.resource y.json t in
+    let there : HasTrees l.resource e.json t = subst (Has l) document (subst (λ x. Has x d) key a) in
+    let trees : t ≡ u = b.alone t there.spelled in
+    λ i. put (key i) (document i) (trees i)
+same_write (put k d t) (delete l) a b same = cc
+same_write (delete k) (put l e u) a b same = cc
+same_write (delete k) (delete l) a b same = let key : k ≡ l = cc in λ i. delete (key i)
+
+same_writes : (rules : Rules) (u v : View) (g h : List Write) → AllMayFollow rules u g → AllMayFollow rules v h → map write_with_plans g ≡ map write_with_plans h → g ≡ h
+same_writes rules u v [] [] a b same = refl
+same_writes rules u v [] (w ∷ h) a b same = cc
+same_writes rules u v (x ∷ g) [] a b same = cc
+same_writes rules u v (x ∷ g) (w ∷ h) a b same =
+    let first : write_with_plans x ≡ write_with_plans w = cc in
+    let rest : map write_with_plans g ≡ map write_with_plans h = cc in
+    let one : x ≡ w = same_write x w a.0.1 b.0.1 first in
+    let others : g ≡ h = same_writes rules (after rules u x) (after rules v w) g h a.1 b.1 rest in
+    λ i. one i ∷ others i
+
+-- ---- what is read
 
 module _ (rules : Rules) (content : List ℕ) (h : History) (stands : StandsFor rules content h) (root : Root) (counts : HoldsRoot content root) where
   -- the log of the history stands behind the root that counts
@@ -27,49 +80,46 @@ module _ (rules : Rules) (content : List ℕ) (h : History) (stands : StandsFor 
   pub no_log_here : ((payloads : List (List ℕ)) (last : ℕ) → HoldsLog (log_start root) payloads last content → ⊥) → ⊥
   no_log_here none = none (map payload stands.later) stands.last log_here
 
-  -- and its payloads are those that are read
-  pub written_here : (payloads : List (List ℕ)) (last : ℕ) → HoldsLog (log_start root) payloads last content → IsWritten rules stands.later payloads
-  written_here payloads last log =
+  later_is : IsHistory rules stands.later
+  later_is =
       let At : History → Type 0 = λ g. IsHistory rules g in
-      record {
-        payloads_are = (at_most_one (log_start root) content payloads (map payload stands.later) last stands.last log log_here).0;
-        storable = stands.storable;
-        history = subst At (stands.parts ∙ ap (λ (g : History). g ++ stands.later) stands.checkpoint.no_writes) stands.history;
-      }
+      subst At (stands.parts ∙ ap (λ (g : History). g ++ stands.later) stands.checkpoint.no_writes) stands.history
 
--- the history of the payloads behind a root without pages
-pub stands_read : (rules : Rules) (content : List ℕ) (root : Root) (log : Log) (payloads : List (List ℕ)) (core : State (Unit {0})) → HoldsRoot content root
-    → root.pages ≡ 0 → root.revision ≡ 1 → log.start ≡ log_start root → HoldsLog (log_start root) payloads log.last content
-    → (found : (h : History) × IsWritten rules h payloads × (core.view ≡ view rules h)) → (h : History) × IsStoreOf rules content core log h
-stands_read rules content root log payloads core counts pages revision start holds found =
-    let Holds : List (List ℕ) → Type 0 = λ ps. HoldsLog (log_start root) ps log.last content in (
-      found.0,
-      record {
-        stands = record {
-          root = root;
-          counts = counts;
-          base = [];
-          checkpoint = record { no_pages = pages; no_writes = refl; revision = revision };
-          later = found.0;
-          parts = refl;
-          last = log.last;
-          log = subst Holds found.1.payloads_are holds;
-          storable = found.1.storable;
-          history = found.1.history;
-        };
-        shows = found.2;
-        start = start;
-        last = refl;
-      },
-    )
+  -- and its payloads are those that are read
+  pub written_here : (payloads : List (List ℕ)) (last : ℕ) → HoldsLog (log_start root) payloads last content → IsWritten rules (map write_with_plans stands.later) payloads
+  written_here payloads last log = record {
+    payloads_are = (at_most_one (log_start root) content payloads (map payload stands.later) last stands.last log log_here).0 ∙ sym (payloads_same stands.later);
+    storable = storable_with rules empty stands.later stands.storable later_is;
+    history = all_follow_mapped plans_beside rules empty stands.later (follow_plainly rules empty stands.later later_is);
+  }
 
--- the histories of a content have one view
-pub one_view : AtMostOneView
-one_view rules content g h first second =
+  -- what was read of them shows the history
+  pub shows_here : (payloads : List (List ℕ)) (last : ℕ) (held : seen.View (List Judged)) → HoldsLog (log_start root) payloads last content
+      → (g : written.History) × IsWritten rules g payloads × (held ≡ view rules g) → held ≡ with_plans (view rules h)
+  shows_here payloads last held log found =
+      let same : found.0 ≡ map write_with_plans stands.later = payloads_one rules found.0 (map write_with_plans stands.later) payloads found.1 (written_here payloads last log) in
+      found.2 ∙ ap (λ (g : written.History). view rules g) same ∙ sym (all_mapped plans_beside rules empty stands.later)
+      ∙ ap (λ (g : History). with_plans (view rules g)) (sym (stands.parts ∙ ap (λ (b : History). b ++ stands.later) stands.checkpoint.no_writes))
+
+-- a content stands for one history
+pub one_history : AtMostOneHistory
+one_history rules content g h first second =
     let written = written_here rules content g first second.root second.counts (map payload second.later) second.last second.log in
     let own = written_here rules content h second second.root second.counts (map payload second.later) second.last second.log in
-    let same : first.later ≡ second.later = payloads_one rules first.later second.later (map payload second.later) written own in
-    let both : g ≡ h =
+    let held : map write_with_plans first.later ≡ map write_with_plans second.later =
+    payloads_one rules (map write_with_plans first.later) (map write_with_plans second.later) (map payload second.later) written own in
+    let same : first.later ≡ second.later =
+    same_writes rules empty empty first.later second.later (later_is rules content g first second.root second.counts) (later_is rules content h second second.root second.counts) held in
     first.parts ∙ ap (λ (b : History). b ++ first.later) first.checkpoint.no_writes ∙ same
-    ∙ sym (second.parts ∙ ap (λ (b : History). b ++ second.later) second.checkpoint.no_writes) in
-    ap (view rules) both
+    ∙ sym (second.parts ∙ ap (λ (b : History). b ++ second.later) second.checkpoint.no_writes)
+
+-- so its histories have one view
+pub one_view : AtMostOneView
+one_view rules content g h first second = ap (view rules) (one_history rules content g h first second)
+
+-- what the writes of a history left, with the plans of its trees, shows the view of that history
+pub replayed_is_shown : ReplayedIsShown
+replayed_is_shown rules held h history is same = (
+  is.shows ∙ ap (λ (ws : List (plain.Write (List Judged))). view rules ws) same ∙ sym (all_mapped plans_beside rules empty h),
+  histories_show rules h history,
+)

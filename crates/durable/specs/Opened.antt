@@ -1,16 +1,29 @@
 -- What is found on a device that is opened.
-use Rattle.std.specs.Prelude.{◌≡◌, ℕ, List}
-use Rattle.gatelog.specs.declared.gate_log.Log.{Log}
+use Rattle.std.specs.Prelude.{◌≡◌, ℕ, List, Vec}
+use Rattle.std.specs.declared.alloc.Global.{Global}
 use Rattle.names.specs.declared.format.Rules.{Rules}
-use Rattle.apicore.specs.Standing.{History}
-use Rattle.history.specs.State.{State}
-use Rattle.history.specs.View.{view}
-use Rattle.checkpoint.specs.Root.{log_start}
-use Rattle.durable.specs.Stands.{StandsFor}
+use Rattle.history.specs.Mapped.{mapped}
+use Rattle.history.specs.View as seen
+use Rattle.history.specs.View.{AllFollow, view}
+use Rattle.plancode.specs.Plans.{Judged}
+use Rattle.apicore.specs.Prepared.{plans_held}
+use Rattle.recovery.specs.Written.{History, AllStorable}
+use Rattle.gatelog.specs.declared.gate_log.Log.{Log}
+use Rattle.checkpoint.specs.declared.root.Root.{Root}
+use Rattle.checkpoint.specs.Root.{log_start, HoldsRoot}
+use Rattle.gatelog.specs.Log.{HoldsLog}
 
--- The content stands for the history, which the core shows, and the log is the one that it was read from.
-pub record IsStoreOf (rules : Rules) (content : List ℕ) (core : State (Unit {0})) (log : Log) (h : History) : Type 0 where
-  pub stands : StandsFor rules content h
-  pub shows : core.view ≡ view rules h
-  pub start : log.start ≡ log_start stands.root
-  pub last : log.last ≡ stands.last
+-- The log is that behind the root that counts, with these payloads.
+pub record IsLogOf (content : List ℕ) (log : Log) : Type 0 where
+  pub root : Root
+  pub counts : HoldsRoot content root
+  pub start : log.start ≡ log_start root
+  pub payloads : List (List ℕ)
+  pub holds : HoldsLog log.start payloads log.last content
+
+-- What is held is what the writes of a history with plans left, each of which a record can hold. Nothing is said of a device.
+pub record IsReplayed (rules : Rules) (held : seen.View (Vec Judged Global)) : Type 0 where
+  pub history : History
+  pub storable : AllStorable history
+  pub follows : AllFollow rules history
+  pub shows : mapped plans_held held ≡ view rules history

@@ -1,19 +1,31 @@
--- A store that is settled at a history, and what a run of requests leaves.
-use Rattle.std.specs.Prelude.{◌≡◌, ℕ, List, [], ◌++◌, Bool, true, false}
+-- A store that serves a view, or is settled at a history, and what requests leave of it.
+use Rattle.std.specs.Prelude.{◌≡◌, ℕ, List, [], ◌∷◌, ◌++◌, map, Bool, true, false, Vec}
+use Rattle.std.specs.List.{AllByRecursion}
+use Rattle.std.specs.declared.alloc.Global.{Global}
 use Rattle.device.specs.declared.device.Device.{Ghosts}
 use Rattle.device.specs.Disk.{LeavesOnly}
 use Rattle.names.specs.declared.format.Rules.{Rules}
 use Rattle.requests.specs.Request.{Request}
-use Rattle.apicore.specs.Standing.{Write, History, View}
 use Rattle.history.specs.Reply.{Reply}
-use Rattle.apicore.specs.Step.{accepted, replies}
+use Rattle.history.specs.View as seen
 use Rattle.history.specs.View.{view, after_all}
+use Rattle.celtree.specs.Tree.{Expr}
+use Rattle.plancode.specs.Plans.{Judged}
+use Rattle.specification.specs.Specification.{Specification}
+use Rattle.apicore.specs.Standing.{Write, History, View, IsView, AreAdmitted}
+use Rattle.apicore.specs.Step.{Asked, writes, reply, accepted, replies}
+use Rattle.apicore.specs.Prepared.{Shows, IsReadOf}
 use Rattle.durable.specs.declared.store.Store.{Store}
 use Rattle.durable.specs.Stands.{StandsFor}
 
 -- the writes that requests add to a history: those that were accepted
-abbrev pub added : Rules → History → List Request → List Write
-added rules h requests = accepted rules (view rules h) requests
+abbrev pub added : Rules → History → List Asked → List Write
+added rules h asked = accepted rules (view rules h) asked
+
+-- the requests, each with what stands in its document
+pub record AreAsked (requests : List Request) (asked : List Asked) : Type 0 where
+  pub are : map (λ a. a.request) asked ≡ requests
+  pub read : AllByRecursion (λ a. IsReadOf a.request a.specification) asked
 
 -- The content stands for a history, followed by all the kept ones of its writes and perhaps by some of the next, in order, none skipped.
 pub record IsFound (rules : Rules) (h : History) (kept writes : List Write) (c : List ℕ) : Type 0 where
@@ -31,24 +43,25 @@ module _ {D : Type 0} {g : Ghosts D} where
   abbrev pub serves : Store D g → Bool
   serves store = store.serves
 
-  -- what a store shows
-  abbrev pub shown : Store D g → View
+  -- what a store holds of its objects, with their plans
+  abbrev pub shown : Store D g → seen.View (Vec Judged Global)
   shown store = store.core.view
 
   -- At every moment since old a crash leaves the history, followed by some first ones of the writes.
   abbrev pub LeavesSome : Rules → (old new : Store D g) → History → List Write → Type 0
   LeavesSome rules old new h writes = LeavesOnly g.disk (device_of old) (device_of new) (IsFound rules h [] writes)
 
--- The store serves, and shows this. Nothing is said of its device.
+-- The store serves, and shows this view, which is one as histories have it. Nothing is said of its device.
 pub record ServesAt {D : Type 0} {g : Ghosts D} (store : Store D g) (v : View) : Type 0 where
   pub working : serves store ≡ true
-  pub shows : shown store ≡ v
+  pub shows : Shows (shown store) v
+  pub seen : IsView v
 
 -- The store serves and shows this history, and it would be found again, after a crash and without one.
 pub record IsSettledAt {D : Type 0} {g : Ghosts D} (rules : Rules) (store : Store D g) (h : History) : Type 0 where
   pub working : serves store ≡ true
   pub keeps : g.disk.keeps (device_of store)
-  pub shows : shown store ≡ view rules h
+  pub shows : Shows (shown store) (view rules h)
   pub read : StandsFor rules (g.disk.content (device_of store)) h
   pub left : (c : List ℕ) → g.disk.left (device_of store) c → StandsFor rules c h
 
@@ -59,19 +72,73 @@ pub record IsLeftAt {D : Type 0} {g : Ghosts D} (rules : Rules) (store : Store D
   pub read : IsFound rules h kept writes (g.disk.content (device_of store))
   pub left : (c : List ℕ) → g.disk.left (device_of store) c → IsFound rules h kept writes c
 
--- A store that showed v has answered these requests as the model does, serves, and shows what they leave.
-pub record HasAnswered {D : Type 0} {g : Ghosts D} (rules : Rules) (new : Store D g) (v : View) (requests : List Request) (given : List Reply) : Type 0 where
-  pub serving : ServesAt new (after_all rules v (accepted rules v requests))
-  pub answered : given ≡ replies rules v requests
+-- ---- one request
 
--- A run from old, which was settled at the history, has answered these requests, and the store is settled after them.
-pub record HasServed {D : Type 0} {g : Ghosts D} (rules : Rules) (old new : Store D g) (h : History) (requests : List Request) (given : List Reply) : Type 0 where
-  pub settled : IsSettledAt rules new (h ++ added rules h requests)
-  pub answered : given ≡ replies rules (view rules h) requests
-  pub moments : LeavesSome rules old new h (added rules h requests)
+-- A store that showed v has answered as the model does, serves, and shows what the request leaves. Its write was admitted just before it.
+pub record HasReplyAt {D : Type 0} {g : Ghosts D} (rules : Rules) (old new : Store D g) (v : View) (a : Asked) (said : Reply) : Type 0 where
+  pub reply : said ≡ reply rules v a
+  pub serving : ServesAt new (after_all rules v (writes rules v a))
+  pub untouched : writes rules v a ≡ [] → device_of new ≡ device_of old
+  pub admitted : AreAdmitted rules v (writes rules v a)
 
--- A run from old has answered these first requests of all, and the device failed in the next one.
-pub record HasStopped {D : Type 0} {g : Ghosts D} (rules : Rules) (old new : Store D g) (h : History) (done all : List Request) (given : List Reply) : Type 0 where
+-- A store that was settled at the history is settled after the request.
+pub record HasSettledAt {D : Type 0} {g : Ghosts D} (rules : Rules) (old new : Store D g) (h : History) (a : Asked) : Type 0 where
+  pub settled : IsSettledAt rules new (h ++ writes rules (view rules h) a)
+  pub moments : LeavesSome rules old new h (writes rules (view rules h) a)
+
+-- What a request does to a store, with what stands in its document.
+pub record HasReplied {D : Type 0} {g : Ghosts D} (rules : Rules) (old new : Store D g) (r : Request) (said : Reply) : Type 0 where
+  pub specification : Specification Expr
+  pub read : IsReadOf r specification
+  -- at whatever view the store showed
+  pub shown : (v : View) → ServesAt old v → HasReplyAt rules old new v (record { request = r; specification = specification }) said
+  -- and where its device keeps the disk model
+  pub settled : (h : History) → IsSettledAt rules old h → HasSettledAt rules old new h (record { request = r; specification = specification })
+
+-- The device failed in the request: its write stands, or it does not.
+pub record HasFailedAt {D : Type 0} {g : Ghosts D} (rules : Rules) (old new : Store D g) (r : Request) : Type 0 where
+  pub specification : Specification Expr
+  pub read : IsReadOf r specification
+  pub untouched : (v : View) → ServesAt old v → writes rules v (record { request = r; specification = specification }) ≡ []
+      → device_of new ≡ device_of old
+  pub left : (h : History) → IsSettledAt rules old h
+      → IsLeftAt rules new h [] (writes rules (view rules h) (record { request = r; specification = specification }))
+      × LeavesSome rules old new h (writes rules (view rules h) (record { request = r; specification = specification }))
+  pub admitted : (v : View) → AreAdmitted rules v (writes rules v (record { request = r; specification = specification }))
+
+-- ---- requests, one after the other
+
+-- A store that showed v has answered as the model does, serves, and shows what the requests leave. Each write was admitted just before it.
+pub record HasAnsweredAt {D : Type 0} {g : Ghosts D} (rules : Rules) (old new : Store D g) (v : View) (asked : List Asked) (given : List Reply) : Type 0 where
+  pub serving : ServesAt new (after_all rules v (accepted rules v asked))
+  pub answered : given ≡ replies rules v asked
+  pub untouched : accepted rules v asked ≡ [] → device_of new ≡ device_of old
+  pub admitted : AreAdmitted rules v (accepted rules v asked)
+
+-- A store that was settled at the history is settled after what was asked.
+pub record HasServedAs {D : Type 0} {g : Ghosts D} (rules : Rules) (old new : Store D g) (h : History) (asked : List Asked) : Type 0 where
+  pub settled : IsSettledAt rules new (h ++ added rules h asked)
+  pub moments : LeavesSome rules old new h (added rules h asked)
+
+-- A run from old has answered these requests, with what stands in their documents.
+pub record HasServed {D : Type 0} {g : Ghosts D} (rules : Rules) (old new : Store D g) (requests : List Request) (given : List Reply) : Type 0 where
+  pub asked : List Asked
+  pub are : AreAsked requests asked
+  pub shown : (v : View) → ServesAt old v → HasAnsweredAt rules old new v asked given
+  pub settled : (h : History) → IsSettledAt rules old h → HasServedAs rules old new h asked
+
+-- A store that was settled at the history has taken what was asked first of all, and its device failed in the next.
+pub record HasStoppedAs {D : Type 0} {g : Ghosts D} (rules : Rules) (old new : Store D g) (h : History) (done all : List Asked) : Type 0 where
   pub left : IsLeftAt rules new h (added rules h done) (added rules h all)
-  pub answered : given ≡ replies rules (view rules h) done
   pub moments : LeavesSome rules old new h (added rules h all)
+
+-- A run from old has answered these requests but the last, in which the device failed.
+pub record HasStopped {D : Type 0} {g : Ghosts D} (rules : Rules) (old new : Store D g) (requests : List Request) (given : List Reply) : Type 0 where
+  pub asked : List Asked
+  pub failing : Asked
+  pub are : AreAsked requests (asked ++ failing ∷ [])
+  pub shown : (v : View) → ServesAt old v
+      → (given ≡ replies rules v asked)
+      × (accepted rules v (asked ++ failing ∷ []) ≡ [] → device_of new ≡ device_of old)
+      × AreAdmitted rules v (accepted rules v (asked ++ failing ∷ []))
+  pub stopped : (h : History) → IsSettledAt rules old h → HasStoppedAs rules old new h asked (asked ++ failing ∷ [])

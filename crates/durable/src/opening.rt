@@ -9,7 +9,9 @@ ghost use Rattle.checkpoint.specs.Root.{HoldsRoot};
 ghost use Rattle.apicore.specs.Standing.{History};
 ghost use Rattle.durable.specs.declared.fault.Damage.{Damage};
 ghost use Rattle.durable.specs.declared.fault.Fault.TheVariants as Fault;
-ghost use Rattle.durable.specs.Opened.{IsStoreOf};
+ghost use Rattle.durable.specs.Opened.{IsLogOf, IsReplayed};
+ghost use Rattle.apicore.specs.Prepared.{Shows};
+ghost use Rattle.history.specs.View.{view};
 ghost use Rattle.durable.specs.Rules.{first_rules};
 ghost use Rattle.durable.specs.Stands.{StandsFor};
 
@@ -74,7 +76,9 @@ fn read_log<D: Device>(alloc: Global, device: &mut D, at: u64) -> Result<(Log, V
 fn read_store<D: Device>(alloc: Global, device: &mut D) -> Result<Opened, Fault>
     ensures rules { IfOk result (λ opened. opened.core.rules ≡ first_rules) }
     ensures works { IfOk result (λ opened. opened.log.failed ≡ false) }
-    ensures found { D.disk.keeps device.old → IfOk result (λ opened. (h : History) × IsStoreOf first_rules (D.disk.content device.old) opened.core opened.log h) }
+    ensures found { D.disk.keeps device.old → (h : History) → StandsFor first_rules (D.disk.content device.old) h → IfOk result (λ opened. Shows opened.core.view (view first_rules h)) }
+    ensures replayed { IfOk result (λ opened. IsReplayed first_rules opened.core.view) }
+    ensures log { D.disk.keeps device.old → IfOk result (λ opened. IsLogOf (D.disk.content device.old) opened.log) }
     ensures damaged { D.disk.keeps device.old → (damage : Damage) → IsErrOf result (Fault.Damaged damage)
         → (h : History) → StandsFor first_rules (D.disk.content device.old) h → ⊥ }
     ensures ran { Ran D.disk device.old device.new Same }
@@ -100,7 +104,9 @@ fn read_store<D: Device>(alloc: Global, device: &mut D) -> Result<Opened, Fault>
 pub(crate) fn synced_store<D: Device>(alloc: Global, device: &mut D) -> Result<Opened, Fault>
     ensures rules { IfOk result (λ opened. opened.core.rules ≡ first_rules) }
     ensures works { IfOk result (λ opened. opened.log.failed ≡ false) }
-    ensures found { D.disk.keeps device.old → IfOk result (λ opened. (h : History) × IsStoreOf first_rules (D.disk.content device.old) opened.core opened.log h) }
+    ensures found { D.disk.keeps device.old → (h : History) → StandsFor first_rules (D.disk.content device.old) h → IfOk result (λ opened. Shows opened.core.view (view first_rules h)) }
+    ensures replayed { IfOk result (λ opened. IsReplayed first_rules opened.core.view) }
+    ensures log { D.disk.keeps device.old → IfOk result (λ opened. IsLogOf (D.disk.content device.old) opened.log) }
     ensures durable { D.disk.keeps device.old → OnOk result (Only (D.disk.content device.new) (D.disk.left device.new)) }
     ensures damaged { D.disk.keeps device.old → (damage : Damage) → IsErrOf result (Fault.Damaged damage)
         → (h : History) → StandsFor first_rules (D.disk.content device.old) h → ⊥ }

@@ -1,5 +1,6 @@
-ghost use Rattle.std.specs.Prelude.{◌≡◌, ◌≢◌, ◌≤◌, ◌++◌, ◌∷◌, [], List, ℕ, length, take, map, true, false, is_ok, None, Some, IsSome, IfSome, IfOk, IfErr, OnOk, OnErr, IsErrOf, ◌⊎◌};
+ghost use Rattle.std.specs.Prelude.{◌≡◌, ◌≢◌, ◌≤◌, ◌+◌, ◌++◌, ◌∷◌, [], List, ℕ, length, take, map, true, false, is_ok, None, Some, IsSome, IfSome, IfOk, IfErr, OnOk, OnErr, IsErrOf, ◌⊎◌};
 ghost use Rattle.durable.specs.Rules.{first_rules};
+ghost use Rattle.durable.specs.Opened.{IsReplayed};
 ghost use Rattle.durable.specs.Ready.{IsReady};
 
 use crate::Fault;
@@ -29,15 +30,14 @@ impl<D: Device> Store<D> {
     ghost use Rattle.device.specs.Run.{Stands};
     ghost use Rattle.gatelog.specs.Payload.{payload_of};
     ghost use Rattle.requests.specs.RequestOf.{request_of};
-    ghost use Rattle.recovery.specs.Written.{payload, IsStorable};
     ghost use Rattle.history.specs.Prepared.{AreReady, writes_of};
-    ghost use Rattle.durable.specs.Ready.{HoldsHistory};
+    ghost use Rattle.history.specs.View.{view, after_all};
+    ghost use Rattle.apicore.specs.Standing.{Write, History, View, MayFollow};
     ghost use Rattle.durable.specs.declared.fault.Fault.TheVariants as Fault;
-    ghost use Rattle.apicore.specs.Standing.{Write, History, View};
-    ghost use Rattle.apicore.specs.Step.{reply, writes, accepted, replies};
-    ghost use Rattle.history.specs.View.{view, after_all, MayFollow};
+    ghost use Rattle.durable.specs.Recorded.{payload, IsStorable};
+    ghost use Rattle.durable.specs.Ready.{HoldsHistory};
     ghost use Rattle.durable.specs.Stands.{StandsFor};
-    ghost use Rattle.durable.specs.Settled.{device_of, serves, shown, ServesAt, IsFound, IsSettledAt, IsLeftAt, LeavesSome, HasAnswered, HasServed, HasStopped};
+    ghost use Rattle.durable.specs.Settled.{device_of, serves, shown, ServesAt, IsFound, IsSettledAt, LeavesSome, HasReplied, HasFailedAt, HasServed, HasStopped};
 
     /// Opens the store on a device: syncs it, reads it, and writes nothing. With a refusal it gives the device back.
     ///
@@ -48,6 +48,9 @@ impl<D: Device> Store<D> {
         ensures settled { (h : History) → D.disk.keeps device → StandsFor first_rules (D.disk.content device) h
             → IfOk result (λ store. IsSettledAt first_rules store h) }
         ensures serves { IfOk result (λ store. serves store ≡ true) }
+
+        // Whatever the device: it shows what the writes that were read left, with their plans.
+        ensures replayed { IfOk result (λ store. IsReplayed first_rules (shown store)) }
 
         // At every moment a crash leaves what it might have left before.
         ensures any_moment { D.disk.keeps device → IfOk result (λ store. LeavesOnly D.disk device (device_of store) (D.disk.left device)) }
@@ -95,23 +98,10 @@ impl<D: Device> Store<D> {
     /// `Device` only where the device failed in this call: the write may stand or not, and the store answers `Failed` from then
     /// on. `Memory` changes nothing. `Failed` after a failure, with no call of the device.
     pub fn apply(&mut self, alloc: Global, request: &Request) -> Result<Reply, Fault>
-        ensures reply { (v : View) → ServesAt self.old v → IfOk result (λ r. r ≡ reply first_rules v (request_of request.now)) }
-        ensures serving { (v : View) → ServesAt self.old v
-            → OnOk result (ServesAt self.new (after_all first_rules v (writes first_rules v (request_of request.now)))) }
+        ensures ok { serves self.old ≡ true → IfOk result (HasReplied first_rules self.old self.new (request_of request.now)) }
+        ensures device { IsErrOf result Fault.Device → HasFailedAt first_rules self.old self.new (request_of request.now) }
         ensures memory_serving { (v : View) → ServesAt self.old v → IsErrOf result Fault.Memory
             → ServesAt self.new v × (device_of self.new ≡ device_of self.old) }
-
-        // A request without a write leaves the device as it is.
-        ensures untouched { (v : View) → ServesAt self.old v → writes first_rules v (request_of request.now) ≡ []
-            → device_of self.new ≡ device_of self.old }
-
-        // Where the device keeps the disk model, what is acknowledged is found again.
-        ensures settled { (h : History) → IsSettledAt first_rules self.old h
-            → OnOk result (IsSettledAt first_rules self.new (h ++ writes first_rules (view first_rules h) (request_of request.now))) }
-        ensures any_moment { (h : History) → IsSettledAt first_rules self.old h
-            → LeavesSome first_rules self.old self.new h (writes first_rules (view first_rules h) (request_of request.now)) }
-        ensures device { (h : History) → IsSettledAt first_rules self.old h → IsErrOf result Fault.Device
-            → IsLeftAt first_rules self.new h [] (writes first_rules (view first_rules h) (request_of request.now)) }
         ensures memory { (h : History) → IsSettledAt first_rules self.old h → IsErrOf result Fault.Memory
             → IsSettledAt first_rules self.new h × LeavesSome first_rules self.old self.new h [] }
 
@@ -181,23 +171,15 @@ impl<D: Device> Store<D> {
     /// requests before the first is applied, or the fault is `Memory` with no reply. A store that has failed answers `Failed`, also
     /// where there is no request.
     pub fn run(&mut self, alloc: Global, requests: &[Request]) -> (Vec<Reply>, Option<Fault>)
-        ensures all_answered { (v : View) → ServesAt self.old v → result.1 ≡ None
-            → HasAnswered first_rules self.new v (map request_of requests.now) result.0.items }
-        ensures memory_answered { (v : View) → ServesAt self.old v → result.1 ≡ Some Fault.Memory
-            → HasAnswered first_rules self.new v (take (length result.0.items) (map request_of requests.now)) result.0.items }
-        ensures device_answered { (v : View) → ServesAt self.old v → result.1 ≡ Some Fault.Device
-            → result.0.items ≡ replies first_rules v (take (length result.0.items) (map request_of requests.now)) }
+        ensures all { result.1 ≡ None
+            → HasServed first_rules self.old self.new (map request_of requests.now) result.0.items }
+        ensures memory { result.1 ≡ Some Fault.Memory
+            → HasServed first_rules self.old self.new (take (length result.0.items) (map request_of requests.now)) result.0.items }
 
-        // Requests without a write leave the device as it is.
-        ensures untouched { (v : View) → ServesAt self.old v → accepted first_rules v (map request_of requests.now) ≡ []
-            → device_of self.new ≡ device_of self.old }
+        // It speaks of the requests up to the one in which the device failed: nothing was read of those behind it.
+        ensures device { result.1 ≡ Some Fault.Device
+            → HasStopped first_rules self.old self.new (take (length result.0.items + 1) (map request_of requests.now)) result.0.items }
 
-        ensures all { (h : History) → IsSettledAt first_rules self.old h → result.1 ≡ None
-            → HasServed first_rules self.old self.new h (map request_of requests.now) result.0.items }
-        ensures memory { (h : History) → IsSettledAt first_rules self.old h → result.1 ≡ Some Fault.Memory
-            → HasServed first_rules self.old self.new h (take (length result.0.items) (map request_of requests.now)) result.0.items }
-        ensures device { (h : History) → IsSettledAt first_rules self.old h → result.1 ≡ Some Fault.Device
-            → HasStopped first_rules self.old self.new h (take (length result.0.items) (map request_of requests.now)) (map request_of requests.now) result.0.items }
         ensures refusal { serves self.old ≡ true → IfSome result.1 (λ fault. (fault ≡ Fault.Device) ⊎ (fault ≡ Fault.Memory)) }
         ensures failed { serves self.old ≡ false → (self.new ≡ self.old) × (result.0.items ≡ []) × (result.1 ≡ Some Fault.Failed) }
         ensures cause { result.1 ≡ Some Fault.Device → HasFailed D.disk (device_of self.old) (device_of self.new) }

@@ -1,32 +1,39 @@
 -- Histories and the payloads that they have.
-use Rattle.std.proofs.Common.{◌≡◌, ◌==◌, true, ℕ, ◌+◌, ◌^◌, ◌<◌, List, [], ◌∷◌, ◌++◌, length, map, get_or, take, drop, refl, sym, ap, subst, ◌∙◌, arith, Result, Ok, Err, OnOk}
+use Rattle.std.proofs.Common.{◌≡◌, ℕ, ◌+◌, ◌^◌, ◌<◌, List, [], ◌∷◌, ◌++◌, length, map, get_or, take, drop, refl, sym, ap, subst, ◌∙◌, arith, Result, Ok, Err, OnOk}
 use Rattle.std.proofs.lemmas.List.{map-append, map_push, drop_more, take-append-drop}
 use Rattle.names.specs.declared.format.Rules.{Rules}
 use Rattle.names.specs.Key.{Key}
 use Rattle.documents.specs.Document.{Document}
 use Rattle.history.specs.History as plain
 use Rattle.history.specs.History.{put, delete}
+use Rattle.history.specs.View as seen
 use Rattle.history.specs.View.{view, empty, after, after_all, MayPut, MayFollow, AllMayFollow}
 use Rattle.history.proofs.ViewLemmas.{after_all-append, AllMayFollow-append}
 use Rattle.records.proofs.Writes as bytes
 use Rattle.records.specs.Payload as bytes_form
-use Rattle.apicore.specs.Standing.{Write, History, View, recorded}
-use Rattle.recovery.specs.Written.{payload, IsStorable, AllStorable, IsWritten}
+use Rattle.plancode.specs.Plans.{Judged}
+use Rattle.specification.specs.Specification.{MayHavePlans, plans_bytes}
+use Rattle.apicore.specs.Standing.{recorded}
+use Rattle.specification.proofs.Listed.{one_stored_list}
+use Rattle.recovery.specs.Written.{Write, History, payload, HasPlans, IsStorable, AllStorable, IsWritten}
 
--- a write is recorded as no other is
-one_recorded : (v w : Write) → recorded v ≡ recorded w → v ≡ w
-one_recorded (put k d x) (put l e y) same =
+abbrev View : Type 0
+View = seen.View (List Judged)
+
+-- a write with plans has its payload alone
+pub one_write : (v w : Write) → IsStorable v → IsStorable w → payload v ≡ payload w → v ≡ w
+one_write (put k d p) (put l e q) a b same =
+    let raw : ◌≡◌ {A = plain.Write (List ℕ)} (put k d (plans_bytes k.resource p)) (put l e (plans_bytes l.resource q)) = bytes.one_write (recorded (put k d p)) (recorded (put l e q)) a.0 b.0 same in
     let key : k ≡ l = cc in
     let document : d ≡ e = cc in
-    λ i. put (key i) (document i) tt
-one_recorded (put k d x) (delete l) same = cc
-one_recorded (delete k) (put l e y) same = cc
-one_recorded (delete k) (delete l) same =
-    let key : k ≡ l = cc in λ i. delete (key i)
-
--- a write has its payload alone
-pub one_write : (v w : Write) → IsStorable v → IsStorable w → payload v ≡ payload w → v ≡ w
-one_write v w a b same = one_recorded v w (bytes.one_write (recorded v) (recorded w) a b same)
+    let plans : plans_bytes k.resource p ≡ plans_bytes l.resource q = cc in
+    let Has : Key → Document → Type 0 = λ x y. MayHavePlans x.resource y.json p in
+    let Same : Key → Type 0 = λ x. plans_bytes x.resource p ≡ plans_bytes l.resource q in
+    let alike : p ≡ q = one_stored_list l.resource e.json p q (subst (Has l) document (subst (λ x. Has x d) key a.1)) b.1 (subst Same key plans) in
+    λ i. put (key i) (document i) (alike i)
+one_write (put k d p) (delete l) a b same = let raw : ◌≡◌ {A = plain.Write (List ℕ)} (put k d (plans_bytes k.resource p)) (delete l) = bytes.one_write (recorded (put k d p)) (recorded (delete l)) a.0 b.0 same in cc
+one_write (delete k) (put l e q) a b same = let raw : ◌≡◌ {A = plain.Write (List ℕ)} (delete k) (put l e (plans_bytes l.resource q)) = bytes.one_write (recorded (delete k)) (recorded (put l e q)) a.0 b.0 same in cc
+one_write (delete k) (delete l) a b same = let raw : ◌≡◌ {A = plain.Write (List ℕ)} (delete k) (delete l) = bytes.one_write (recorded (delete k)) (recorded (delete l)) a.0 b.0 same in let key : k ≡ l = cc in λ i. delete (key i)
 
 AllStorable-append : (g h : List Write) → AllStorable g → AllStorable h → AllStorable (g ++ h)
 AllStorable-append [] h first more = more
@@ -138,32 +145,25 @@ map-at f xs i x inside is =
     ap (map f) (sym (take-append-drop i xs) ∙ ap (λ rest. take i xs ++ rest) (drop_more xs i x inside ∙ ap (λ y. y ∷ drop (i + 1) xs) (sym is)))
     ∙ map-append f (take i xs) (x ∷ drop (i + 1) xs)
 
--- ---- a put with no plans
+-- ---- a put with the plans of these bytes
 
-pub zero_if : (n : ℕ) → (n == 0) ≡ true → n ≡ 0
-zero_if n is = Prim.grind arith
-
-pub put_of_recorded : (rules : Rules) (v : View) (w : Write) (k : Key) (d : Document) (plans : List ℕ) → recorded w ≡ put k d plans → MayFollow rules v w → MayPut rules v k d
-put_of_recorded rules v (put l e x) k d plans is may =
+pub put_of_recorded : (rules : Rules) (v : View) (w : Write) (k : Key) (d : Document) (x : List ℕ) → recorded w ≡ put k d x → MayFollow rules v w → MayPut rules v k d
+put_of_recorded rules v (put l e p) k d x is may =
     let key : l ≡ k = cc in
     let document : e ≡ d = cc in
     let May : Key → Document → Type 0 = λ y z. MayPut rules v y z in
     subst (May k) document (subst (λ y. May y e) key may)
-put_of_recorded rules v (delete l) k d plans is may = cc
+put_of_recorded rules v (delete l) k d x is may = cc
 
 -- what was read is the write that was recorded
 pub recorded_is : (w : Write) (raw : plain.Write (List ℕ)) (payload_bytes : List ℕ) → IsStorable w → bytes_form.IsStorable raw → payload w ≡ payload_bytes → bytes_form.payload raw ≡ payload_bytes → recorded w ≡ raw
-recorded_is w raw payload_bytes storable fits is are = bytes.one_write (recorded w) raw storable fits (is ∙ sym are)
+recorded_is w raw payload_bytes storable fits is are = bytes.one_write (recorded w) raw storable.0 fits (is ∙ sym are)
 
-pub storable_as : (w : Write) (raw : plain.Write (List ℕ)) → recorded w ≡ raw → bytes_form.IsStorable raw → IsStorable w
-storable_as w raw is fits = let P : plain.Write (List ℕ) → Type 0 = λ x. bytes_form.IsStorable x in subst P (sym is) fits
-
--- a put that may follow can be held by a record, where the text's limit fits four bytes
-pub IsStorable-put : (rules : Rules) (v : View) (k : Key) (d : Document) → MayPut rules v k d → rules.text_limit_bytes < 2 ^ 32 → IsStorable (put k d tt)
-IsStorable-put rules v k d may limit = (may.form, omega (arith, may.size), omega arith)
+pub storable_as : (w : Write) (raw : plain.Write (List ℕ)) → HasPlans w → recorded w ≡ raw → bytes_form.IsStorable raw → IsStorable w
+storable_as w raw has is fits = let P : plain.Write (List ℕ) → Type 0 = λ x. bytes_form.IsStorable x in (subst P (sym is) fits, has)
 
 pub recorded_delete : (w : Write) (k : Key) → recorded w ≡ delete k → w ≡ delete k
-recorded_delete (put l e x) k is = cc
+recorded_delete (put l e p) k is = cc
 recorded_delete (delete l) k is = let key : l ≡ k = cc in λ i. delete (key i)
 
 pub on_ok_to : {T E : Type 0} (r : Result T E) (P Q : Type 0) → (P → Q) → OnOk r P → OnOk r Q

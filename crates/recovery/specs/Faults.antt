@@ -3,6 +3,8 @@ use Rattle.history.specs.declared.replay.ReplayFault as replay
 use Rattle.history.specs.declared.replay.ReplayFault.TheVariants as replay_fault
 use Rattle.records.specs.declared.fault.RecordFault as record_of
 use Rattle.records.specs.declared.fault.RecordFault.TheVariants as record_fault
+use Rattle.planlist.specs.declared.reading.ReadPlansFault as plans_of
+use Rattle.planlist.specs.declared.reading.ReadPlansFault.TheVariants as plans_fault
 use Rattle.recovery.specs.declared.fault.RecoveryFault.{RecoveryFault}
 use Rattle.recovery.specs.declared.fault.RecoveryFault.TheVariants.{Damaged, Memory}
 
@@ -15,3 +17,8 @@ of_record_fault record_fault.Memory = Memory
 abbrev pub of_replay_fault : replay.ReplayFault → RecoveryFault
 of_replay_fault replay_fault.NotAllowed = Damaged
 of_replay_fault replay_fault.Memory = Memory
+
+-- Bytes that no plans have are damage.
+abbrev pub of_plans_fault : plans_of.ReadPlansFault → RecoveryFault
+of_plans_fault plans_fault.Damaged = Damaged
+of_plans_fault plans_fault.Memory = Memory

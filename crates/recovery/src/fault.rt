@@ -1,6 +1,7 @@
 ghost use Rattle.std.specs.Prelude.{◌≡◌};
 
 use history::ReplayFault;
+use planlist::ReadPlansFault;
 use records::RecordFault;
 use std::alloc::AllocError;
 use std::fmt;
@@ -56,6 +57,19 @@ impl From<ReplayFault> for RecoveryFault {
         match fault {
             ReplayFault::NotAllowed => RecoveryFault::Damaged,
             ReplayFault::Memory => RecoveryFault::Memory,
+        }
+    }
+}
+
+impl From<ReadPlansFault> for RecoveryFault {
+    ghost use Rattle.recovery.specs.Faults.{of_plans_fault};
+
+    ghost from_gives = { λ plans_fault fault. fault ≡ of_plans_fault plans_fault };
+
+    fn from(fault: ReadPlansFault) -> RecoveryFault {
+        match fault {
+            ReadPlansFault::Damaged => RecoveryFault::Damaged,
+            ReadPlansFault::Memory => RecoveryFault::Memory,
         }
     }
 }

@@ -1,23 +1,26 @@
-ghost use Rattle.std.specs.Prelude.{◌≡◌, List, map, IfOk, OnOk, IsErrOf};
+ghost use Rattle.std.specs.Prelude.{◌≡◌, ℕ, List, map, IfOk, OnOk, IsErrOf};
+ghost use Rattle.history.specs.View.{view, after, MayFollow};
+ghost use Rattle.history.specs.Mapped.{mapped};
 ghost use Rattle.requests.specs.Codes.{document_in};
 ghost use Rattle.history.specs.History.{put, delete};
-ghost use Rattle.history.specs.View.{view, after, MayFollow};
-ghost use Rattle.apicore.specs.Standing.{Write, History, recorded};
+ghost use Rattle.apicore.specs.Standing.{recorded};
+ghost use Rattle.apicore.specs.Prepared.{plans_held};
 ghost use Rattle.recovery.specs.declared.fault.RecoveryFault.TheVariants as RecoveryFault;
-ghost use Rattle.recovery.specs.Written.{payload, IsStorable, IsWritten};
+ghost use Rattle.recovery.specs.Written.{Write, History, payload, HasPlans, IsStorable, IsWritten};
 
 use crate::RecoveryFault;
 use apicore::Core;
 use names::{Key, Rules};
 use records::{StoredWrite, read_write};
 use requests::Manifest;
+use specification::stored_plans;
 use std::alloc::Global;
 
 /// The store that took the writes of a log with these payloads. `Damaged` where no history has them.
 pub fn replayed(alloc: Global, rules: Rules, payloads: &[Vec<u8>]) -> Result<Core, RecoveryFault>
     ensures rules { IfOk result (λ core. core.rules ≡ rules) }
     ensures found { IfOk result (λ core.
-        (h : History) × IsWritten rules h (map (λ p. p.items) payloads.now) × (core.view ≡ view rules h)) }
+        (h : History) × IsWritten rules h (map (λ p. p.items) payloads.now) × (mapped plans_held core.view ≡ view rules h)) }
     ensures damaged { IsErrOf result RecoveryFault.Damaged
         → (h : History) → IsWritten rules h (map (λ p. p.items) payloads.now) → ⊥ }
 {
@@ -32,9 +35,9 @@ pub fn replayed(alloc: Global, rules: Rules, payloads: &[Vec<u8>]) -> Result<Cor
 fn replay(alloc: Global, core: &mut Core, bytes: &[u8]) -> Result<(), RecoveryFault>
     ensures rules { core.new.rules ≡ core.old.rules }
     ensures taken { OnOk result ((w : Write) × IsStorable w × (payload w ≡ bytes.now)
-        × MayFollow core.old.rules core.old.view w × (core.new.view ≡ after core.old.rules core.old.view w)) }
+        × MayFollow core.old.rules (mapped plans_held core.old.view) w × (mapped plans_held core.new.view ≡ after core.old.rules (mapped plans_held core.old.view) w)) }
     ensures damaged { IsErrOf result RecoveryFault.Damaged
-        → (w : Write) → IsStorable w → payload w ≡ bytes.now → MayFollow core.old.rules core.old.view w → ⊥ }
+        → (w : Write) → IsStorable w → payload w ≡ bytes.now → MayFollow core.old.rules (mapped plans_held core.old.view) w → ⊥ }
 {
     match read_write(alloc, bytes)? {
         StoredWrite::Put(manifest, plans) => replay_put(alloc, core, manifest, plans),
@@ -42,7 +45,7 @@ fn replay(alloc: Global, core: &mut Core, bytes: &[u8]) -> Result<(), RecoveryFa
     }
 }
 
-// Takes a put. No document has plans yet.
+// Takes a put with the plans of these bytes.
 fn replay_put(
     alloc: Global,
     core: &mut Core,
@@ -50,24 +53,27 @@ fn replay_put(
     plans: &[u8],
 ) -> Result<(), RecoveryFault>
     ensures rules { core.new.rules ≡ core.old.rules }
-    ensures taken { OnOk result ((w : Write) × (recorded w ≡ put manifest.key (document_in manifest.body) plans.now)
-        × MayFollow core.old.rules core.old.view w × (core.new.view ≡ after core.old.rules core.old.view w)) }
+    ensures taken { OnOk result ((w : Write) × HasPlans w × (recorded w ≡ put manifest.key (document_in manifest.body) plans.now)
+        × MayFollow core.old.rules (mapped plans_held core.old.view) w × (mapped plans_held core.new.view ≡ after core.old.rules (mapped plans_held core.old.view) w)) }
     ensures damaged { IsErrOf result RecoveryFault.Damaged
-        → (w : Write) → recorded w ≡ put manifest.key (document_in manifest.body) plans.now → MayFollow core.old.rules core.old.view w → ⊥ }
+        → (w : Write) → HasPlans w → recorded w ≡ put manifest.key (document_in manifest.body) plans.now → MayFollow core.old.rules (mapped plans_held core.old.view) w → ⊥ }
 {
-    if !plans.is_empty() {
-        return Err(RecoveryFault::Damaged);
-    }
-    core.replay_put(alloc, manifest, ())?;
+    let plans = stored_plans(
+        alloc,
+        manifest.key().resource(),
+        manifest.document().json(),
+        plans,
+    )?;
+    core.replay_put(alloc, manifest, plans)?;
     Ok(())
 }
 
 // Takes a deletion.
 fn replay_delete(alloc: Global, core: &mut Core, key: &Key) -> Result<(), RecoveryFault>
     ensures rules { core.new.rules ≡ core.old.rules }
-    ensures taken { OnOk result (MayFollow core.old.rules core.old.view (delete key.now)
-        × (core.new.view ≡ after core.old.rules core.old.view (delete key.now))) }
-    ensures damaged { IsErrOf result RecoveryFault.Damaged → MayFollow core.old.rules core.old.view (delete key.now) → ⊥ }
+    ensures taken { OnOk result (MayFollow core.old.rules (mapped plans_held core.old.view) (delete key.now)
+        × (mapped plans_held core.new.view ≡ after core.old.rules (mapped plans_held core.old.view) (delete key.now))) }
+    ensures damaged { IsErrOf result RecoveryFault.Damaged → MayFollow core.old.rules (mapped plans_held core.old.view) (delete key.now) → ⊥ }
 {
     core.replay_delete(alloc, key)?;
     Ok(())

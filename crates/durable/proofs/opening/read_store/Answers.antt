@@ -2,12 +2,14 @@ use Rattle.std.proofs.Common.{◌≡◌, ◌∙◌, sym, ap, subst, List, ℕ, m
 use Rattle.gatelog.specs.Log.{HoldsLog}
 use Rattle.checkpoint.specs.Root.{log_start}
 use Rattle.names.specs.declared.format.Rules.{Rules}
-use Rattle.apicore.specs.Standing.{History}
+use Rattle.apicore.specs.Standing.{write_with_plans}
+use Rattle.apicore.specs.Prepared.{plans_held}
+use Rattle.history.specs.Mapped.{mapped}
 use Rattle.history.specs.View.{view}
-use Rattle.recovery.specs.Written.{IsWritten}
+use Rattle.recovery.specs.Written.{History, IsWritten}
 use Rattle.durable.specs.declared.fault.Fault.TheVariants as Fault
 use Rattle.durable.specs.Rules.{first_rules}
-use Rattle.durable.proofs.Reading.{no_log_here, written_here, stands_read}
+use Rattle.durable.proofs.Reading.{no_log_here, written_here, shows_here}
 use Rattle.durable.proofs.opening.read_store.Goals as goal
 
 pub returns-in-Err-clause-damaged : goal.returns-in-Err-clause-damaged
@@ -36,14 +38,15 @@ returns-in-Err-Damaged-clause-damaged g c keeps damage is h stands =
     let there : HoldsLog (log_start root) payloads log.last content =
     subst In (c.root_without_pages.ensures.ran.seen keeps) (subst At c.log_start.ensures.place (c.in-Ok-read_log.ensures.found (c.root_without_pages.ensures.ran.kept keeps)))
     in
-    let Of : Rules → Type 0 = λ r. IsWritten r stands.later (map (λ p. p.items) c.deref.result.now) in
-    c.replayed.ensures.damaged (c.in-Err-Damaged.is ∙ ap Err c.in-Err-Damaged.field-0-is) stands.later
+    let later = map write_with_plans stands.later in
+    let Of : Rules → Type 0 = λ r. IsWritten r later (map (λ p. p.items) c.deref.result.now) in
+    c.replayed.ensures.damaged (c.in-Err-Damaged.is ∙ ap Err c.in-Err-Damaged.field-0-is) later
     (subst Of (sym c.rules.ensures)
-    (subst (IsWritten first_rules stands.later) (ap (map (λ p. p.items)) (sym c.deref.ensures.value))
+    (subst (IsWritten first_rules later) (ap (map (λ p. p.items)) (sym c.deref.ensures.value))
     (written_here first_rules content h stands root (c.in-Ok.ensures.found keeps) payloads log.last there)))
 
 pub returns-in-Ok-replayed-clause-found : goal.returns-in-Ok-replayed-clause-found
-returns-in-Ok-replayed-clause-found g c keeps =
+returns-in-Ok-replayed-clause-found g c keeps h stands =
     let content = g.D.Device.disk.content c.args.device.now in
     let root = c.in-Ok.root in
     let log = c.in-Ok-read_log.found.0 in
@@ -54,8 +57,30 @@ returns-in-Ok-replayed-clause-found g c keeps =
     let there : HoldsLog (log_start root) payloads log.last content =
     subst In (c.root_without_pages.ensures.ran.seen keeps) (subst At c.log_start.ensures.place (c.in-Ok-read_log.ensures.found (c.root_without_pages.ensures.ran.kept keeps)))
     in
-    let Found : Rules → Type 0 = λ r. (h : History) × IsWritten r h (map (λ p. p.items) c.deref.result.now) × (core.view ≡ view r h) in
-    let Found' : List (List ℕ) → Type 0 = λ ps. (h : History) × IsWritten first_rules h ps × (core.view ≡ view first_rules h) in
-    stands_read first_rules content root log payloads core (c.in-Ok.ensures.found keeps) c.in-Ok.ensures.no_pages c.in-Ok.ensures.revision
-    (c.in-Ok-read_log.ensures.place.0 ∙ c.log_start.ensures.place) there
+    let Found : Rules → Type 0 = λ r. (h : History) × IsWritten r h (map (λ p. p.items) c.deref.result.now) × (mapped plans_held core.view ≡ view r h) in
+    let Found' : List (List ℕ) → Type 0 = λ ps. (h : History) × IsWritten first_rules h ps × (mapped plans_held core.view ≡ view first_rules h) in
+    shows_here first_rules content h stands root (c.in-Ok.ensures.found keeps) payloads log.last (mapped plans_held core.view) there
     (subst Found' (ap (map (λ p. p.items)) c.deref.ensures.value) (subst Found c.rules.ensures c.in-Ok-replayed.ensures.found))
+
+pub returns-in-Ok-replayed-clause-log : goal.returns-in-Ok-replayed-clause-log
+returns-in-Ok-replayed-clause-log g c keeps =
+    let content = g.D.Device.disk.content c.args.device.now in
+    let root = c.in-Ok.root in
+    let log = c.in-Ok-read_log.found.0 in
+    let payloads : List (List ℕ) = map (λ p. p.items) c.in-Ok-read_log.found.1.items in
+    let In : List ℕ → Type 0 = λ x. HoldsLog log.start payloads log.last x in
+    let At : ℕ → Type 0 = λ at. HoldsLog at payloads log.last (g.D.Device.disk.content c.root_without_pages.new.device) in
+    record {
+      root = root;
+      counts = c.in-Ok.ensures.found keeps;
+      start = c.in-Ok-read_log.ensures.place.0 ∙ c.log_start.ensures.place;
+      payloads = payloads;
+      holds = subst In (c.root_without_pages.ensures.ran.seen keeps) (subst At (sym c.in-Ok-read_log.ensures.place.0) (c.in-Ok-read_log.ensures.found (c.root_without_pages.ensures.ran.kept keeps)));
+    }
+
+pub returns-in-Ok-replayed-clause-replayed : goal.returns-in-Ok-replayed-clause-replayed
+returns-in-Ok-replayed-clause-replayed g c =
+    let core = c.in-Ok-replayed.core in
+    let Found : Rules → Type 0 = λ r. (h : History) × IsWritten r h (map (λ p. p.items) c.deref.result.now) × (mapped plans_held core.view ≡ view r h) in
+    let found = subst Found c.rules.ensures c.in-Ok-replayed.ensures.found in
+    record { history = found.0; storable = found.1.storable; follows = found.1.history; shows = found.2 }

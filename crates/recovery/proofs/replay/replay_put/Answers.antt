@@ -1,26 +1,41 @@
-use Rattle.std.proofs.Common.{rules, ◌≡◌, ap, sym, List, ℕ, [], length, ◌==◌, true, ◌∙◌}
-use Rattle.std.proofs.lemmas.List.{nil_from_length}
+use Rattle.std.proofs.Common.{rules, ◌≡◌, ap, subst, sym, ◌∙◌, map, ℕ, List}
 use Rattle.std.specs.Prelude.{IsErrOf}
 use Rattle.requests.specs.Codes.{document_in}
+use Rattle.names.specs.Key.{Key}
+use Rattle.names.specs.declared.resource.Resource.{Resource}
+use Rattle.serde_json.specs.Data.{Data}
 use Rattle.history.specs.declared.replay.ReplayFault.TheVariants as ReplayFault
+use Rattle.history.specs.History as plain
 use Rattle.history.specs.History.{put}
-use Rattle.recovery.proofs.Histories.{put_of_recorded, zero_if}
+use Rattle.history.specs.Mapped.{mapped}
+use Rattle.history.proofs.Mapping.{follows_mapped, follows_back, after_mapped}
+use Rattle.specification.specs.Specification.{plans_bytes, MayHavePlans}
+use Rattle.apicore.specs.Prepared.{plans_held}
+use Rattle.recovery.proofs.Histories.{put_of_recorded}
 use Rattle.recovery.proofs.replay.replay_put.Goals as goal
 
 pub returns-in_err-replay_put-clause-damaged : goal.returns-in_err-replay_put-clause-damaged
-returns-in_err-replay_put-clause-damaged c is_damaged w is may =
+returns-in_err-replay_put-clause-damaged c is_damaged w has is may =
     let told : IsErrOf c.replay_put.result ReplayFault.NotAllowed = search rules in
     let m = c.args.manifest in
     let core = c.args.core.now in
-    c.replay_put.ensures.not_allowed told (put_of_recorded core.rules core.view w m.key (document_in m.body) c.args.plans.now is may)
+    c.replay_put.ensures.not_allowed told
+    (follows_back plans_held core.rules core.view (put m.key (document_in m.body) c.in_ok-plans.plans)
+    (put_of_recorded core.rules (mapped plans_held core.view) w m.key (document_in m.body) c.args.plans.now is may))
 
 pub returns-clause-taken : goal.returns-clause-taken
 returns-clause-taken c =
     let m = c.args.manifest in
-    let size : (length c.args.plans.now == 0) ≡ true = sym c.is_empty.ensures ∙ c.if-not-is_empty.false in
-    let none : c.args.plans.now ≡ [] = nil_from_length c.args.plans.now (zero_if (length c.args.plans.now) size) in (
-      put m.key (document_in m.body) tt,
-      ap (λ (x : List ℕ). put m.key (document_in m.body) x) (sym none),
-      c.in_ok-replay_put.ensures.taken.0,
-      c.in_ok-replay_put.ensures.taken.1,
+    let core = c.args.core.now in
+    let taken = c.in_ok-replay_put.ensures.taken in
+    let vec = c.in_ok-plans.plans in
+    let resource : c.resource.result ≡ m.key.resource = c.resource.ensures.value ∙ ap (λ (k : Key). k.resource) c.key.ensures in
+    let json : c.json.result.now ≡ (document_in m.body).json = c.json.ensures ∙ sym (ap (λ b. (document_in b).json) c.document.ensures.body) in
+    let Has : Resource → Data → Type 0 = λ r d. MayHavePlans r d vec.items in
+    let Bytes : Resource → Type 0 = λ r. plans_bytes r vec.items ≡ c.args.plans.now in (
+      put m.key (document_in m.body) vec.items,
+      subst (Has m.key.resource) json (subst (λ r. Has r c.json.result.now) resource c.in_ok-plans.ensures.fits),
+      ap (λ (x : List ℕ). put m.key (document_in m.body) x) (subst Bytes resource c.in_ok-plans.ensures.found),
+      follows_mapped plans_held core.rules core.view (put m.key (document_in m.body) vec) taken.0,
+      ap (mapped plans_held) taken.1 ∙ after_mapped plans_held core.rules core.view (put m.key (document_in m.body) vec),
     )
