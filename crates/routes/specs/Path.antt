@@ -4,7 +4,7 @@ use Rattle.std.specs.List.{slice_split, before_first, after_first}
 use Rattle.std.specs.Option.{option_map_or}
 use Rattle.std.specs.Str.{bytes_eq}
 use Rattle.names.specs.declared.resource.Resource.{Resource}
-use Rattle.names.specs.declared.resource.Resource.TheVariants.{ConfigMap, Node, Pod, Service, Deployment}
+use Rattle.names.specs.declared.resource.Resource.TheVariants.{ConfigMap, Node, Pod, Service, Deployment, ValidatingAdmissionPolicy, ValidatingAdmissionPolicyBinding}
 use Rattle.names.specs.declared.resource.Scope.{Scope}
 use Rattle.names.specs.declared.resource.Scope.TheVariants.{Namespaced, Cluster}
 use Rattle.names.specs.Resource.{row}
@@ -86,9 +86,9 @@ path_group (byte ∷ group) = Some (byte ∷ group)
 abbrev pub literal_of : Resource → List ℕ
 literal_of r = literal (path_group (row r).group) (row r).version (row r).plural
 
--- the resources that are served
+-- the resources that are served, in the order of their paths
 abbrev pub served : List Resource
-served = ConfigMap ∷ Node ∷ Pod ∷ Service ∷ Deployment ∷ []
+served = ConfigMap ∷ Node ∷ Pod ∷ Service ∷ ValidatingAdmissionPolicy ∷ ValidatingAdmissionPolicyBinding ∷ Deployment ∷ []
 
 -- the resource that is served at this literal path
 abbrev pub resource_at : List ℕ → Option Resource

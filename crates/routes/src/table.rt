@@ -85,6 +85,14 @@ fn router_of_resources(alloc: Global) -> Result<Router<Resource>, InsertError>
     router.insert("/api/v1/nodes", Resource::Node)?;
     router.insert("/api/v1/pods", Resource::Pod)?;
     router.insert("/api/v1/services", Resource::Service)?;
+    router.insert(
+        "/apis/admissionregistration.k8s.io/v1/validatingadmissionpolicies",
+        Resource::ValidatingAdmissionPolicy,
+    )?;
+    router.insert(
+        "/apis/admissionregistration.k8s.io/v1/validatingadmissionpolicybindings",
+        Resource::ValidatingAdmissionPolicyBinding,
+    )?;
     router.insert("/apis/apps/v1/deployments", Resource::Deployment)?;
     Ok(router)
 }
