@@ -1,89 +1,98 @@
 -- The status of a reply is a status code.
-use Rattle.std.proofs.Common.{ℕ, List, ◌+◌, Option, Some, None, Bool, true, false, arith}
+use Rattle.std.proofs.Common.{ℕ, List, [], ◌+◌, Option, Some, None, Bool, true, false, arith}
 use Rattle.std.specs.Option.{option_map_or}
 use Rattle.http.specs.StatusCode.{IsStatusCode}
-use Rattle.names.specs.declared.format.Rules.{Rules}
-use Rattle.names.specs.Key.{Key}
+use Rattle.celtree.specs.Tree.{Expr}
 use Rattle.history.specs.declared.state.Stored.{Stored}
-use Rattle.requests.specs.declared.refusal.Refusal.{Refusal}
-use Rattle.requests.specs.declared.refusal.Refusal.TheVariants.{MalformedRequest, UnservedVersion, TooManyFields, UnservedTransferCoding, BadHost, BadContentLength, BodyTooLarge, UnservedExpectation, BadTarget, NoSuchPath, MethodNotAllowed, BadQuery, BadNameInPath, UnexpectedBody, BadVersion, Expired, BodyIsNotJson, NumberOutsideRange, WrongKind, BadMetadata, WrongName, VersionOnCreate, BadDeleteOptions, AlreadyExists, NotFound, VersionNotCurrent, ObjectTooLarge, TooManyObjects, RevisionExhausted, OutOfMemory, StorageFailed}
-use Rattle.requests.specs.Manifest.{Body, sound}
-use Rattle.requests.specs.Refusal.{answer}
+use Rattle.requests.specs.declared.refusal.Refusal as told
+use Rattle.requests.specs.declared.refusal.Refusal.TheVariants.{MalformedRequest, UnservedVersion, TooManyFields, UnservedTransferCoding, BadHost, BadContentLength, BodyTooLarge, UnservedExpectation, BadTarget, NoSuchPath, MethodNotAllowed, BadQuery, BadNameInPath, UnexpectedBody, BadVersion, Expired, BodyIsNotJson, NumberOutsideRange, WrongKind, BadMetadata, WrongName, VersionOnCreate, BadDeleteOptions, AlreadyExists, NotFound, VersionNotCurrent, BadSpec, ObjectTooLarge, TooManyObjects, RevisionExhausted, OutOfMemory, StorageFailed}
+use Rattle.requests.specs.Refusal as table
 use Rattle.requests.specs.Request.{Request, get, list, watch, create, replace, delete, refused}
-use Rattle.history.specs.Listing.{watching}
-use Rattle.history.specs.Reply.{Reply, status, showing}
-use Rattle.apicore.specs.Step.{refusal, reply}
-use Rattle.history.specs.View.{stored_at, document_at}
+use Rattle.history.specs.Reply.{Reply, showing}
+use Rattle.history.specs.View.{stored_at}
+use Rattle.policy.specs.declared.validation.Reason.{Reason}
+use Rattle.policy.specs.declared.validation.Reason.TheVariants.{Unauthorized, Forbidden, Invalid, RequestEntityTooLarge}
+use Rattle.specification.specs.Specification.{Specification}
+use Rattle.apicore.specs.Step.{Asked, Refusal, known, with_bad_expression, denied_by, reason_code, status, refusal, success, warnings_of, verdict_of, asks_for, reply}
 use Rattle.apicore.specs.Standing.{View}
 use Rattle.durable.specs.Rules.{first_rules}
 use Rattle.httpmsg.specs.Stream.{Message}
 use Rattle.routes.specs.Asked.{asked}
 use Rattle.api.specs.Answers.{Answered, reply_of}
 
-pub refusal_code : (r : Refusal) → IsStatusCode (answer r).code
-refusal_code MalformedRequest = (omega arith, omega arith)
-refusal_code UnservedVersion = (omega arith, omega arith)
-refusal_code TooManyFields = (omega arith, omega arith)
-refusal_code UnservedTransferCoding = (omega arith, omega arith)
-refusal_code BadHost = (omega arith, omega arith)
-refusal_code BadContentLength = (omega arith, omega arith)
-refusal_code BodyTooLarge = (omega arith, omega arith)
-refusal_code UnservedExpectation = (omega arith, omega arith)
-refusal_code BadTarget = (omega arith, omega arith)
-refusal_code NoSuchPath = (omega arith, omega arith)
-refusal_code MethodNotAllowed = (omega arith, omega arith)
-refusal_code BadQuery = (omega arith, omega arith)
-refusal_code BadNameInPath = (omega arith, omega arith)
-refusal_code UnexpectedBody = (omega arith, omega arith)
-refusal_code BadVersion = (omega arith, omega arith)
-refusal_code Expired = (omega arith, omega arith)
-refusal_code BodyIsNotJson = (omega arith, omega arith)
-refusal_code NumberOutsideRange = (omega arith, omega arith)
-refusal_code WrongKind = (omega arith, omega arith)
-refusal_code BadMetadata = (omega arith, omega arith)
-refusal_code WrongName = (omega arith, omega arith)
-refusal_code VersionOnCreate = (omega arith, omega arith)
-refusal_code BadDeleteOptions = (omega arith, omega arith)
-refusal_code AlreadyExists = (omega arith, omega arith)
-refusal_code NotFound = (omega arith, omega arith)
-refusal_code VersionNotCurrent = (omega arith, omega arith)
-refusal_code ObjectTooLarge = (omega arith, omega arith)
-refusal_code TooManyObjects = (omega arith, omega arith)
-refusal_code RevisionExhausted = (omega arith, omega arith)
-refusal_code OutOfMemory = (omega arith, omega arith)
-refusal_code StorageFailed = (omega arith, omega arith)
+table_code : (r : told.Refusal) → IsStatusCode (table.answer r).code
+table_code MalformedRequest = (omega arith, omega arith)
+table_code UnservedVersion = (omega arith, omega arith)
+table_code TooManyFields = (omega arith, omega arith)
+table_code UnservedTransferCoding = (omega arith, omega arith)
+table_code BadHost = (omega arith, omega arith)
+table_code BadContentLength = (omega arith, omega arith)
+table_code BodyTooLarge = (omega arith, omega arith)
+table_code UnservedExpectation = (omega arith, omega arith)
+table_code BadTarget = (omega arith, omega arith)
+table_code NoSuchPath = (omega arith, omega arith)
+table_code MethodNotAllowed = (omega arith, omega arith)
+table_code BadQuery = (omega arith, omega arith)
+table_code BadNameInPath = (omega arith, omega arith)
+table_code UnexpectedBody = (omega arith, omega arith)
+table_code BadVersion = (omega arith, omega arith)
+table_code Expired = (omega arith, omega arith)
+table_code BodyIsNotJson = (omega arith, omega arith)
+table_code NumberOutsideRange = (omega arith, omega arith)
+table_code WrongKind = (omega arith, omega arith)
+table_code BadMetadata = (omega arith, omega arith)
+table_code WrongName = (omega arith, omega arith)
+table_code VersionOnCreate = (omega arith, omega arith)
+table_code BadDeleteOptions = (omega arith, omega arith)
+table_code AlreadyExists = (omega arith, omega arith)
+table_code NotFound = (omega arith, omega arith)
+table_code VersionNotCurrent = (omega arith, omega arith)
+table_code BadSpec = (omega arith, omega arith)
+table_code ObjectTooLarge = (omega arith, omega arith)
+table_code TooManyObjects = (omega arith, omega arith)
+table_code RevisionExhausted = (omega arith, omega arith)
+table_code OutOfMemory = (omega arith, omega arith)
+table_code StorageFailed = (omega arith, omega arith)
 
-shown_code : (o : Option (Stored (Unit {0}))) → IsStatusCode (option_map_or (λ (s : Stored (Unit {0})). showing 200 s.document s.revision) o (status NotFound)).code
+-- the code of a denial's reason
+denial_code : (reason : Reason) → IsStatusCode (reason_code reason)
+denial_code Unauthorized = (omega arith, omega arith)
+denial_code Forbidden = (omega arith, omega arith)
+denial_code Invalid = (omega arith, omega arith)
+denial_code RequestEntityTooLarge = (omega arith, omega arith)
+
+refusal_code : (r : Refusal) → IsStatusCode (status r).code
+refusal_code (known r) = table_code r
+refusal_code (with_bad_expression text) = (omega arith, omega arith)
+refusal_code (denied_by policy binding reason message) = denial_code reason
+
+shown_code : (o : Option (Stored (List Expr)))
+    → IsStatusCode (option_map_or (λ (s : Stored (List Expr)). showing 200 [] s.document s.revision) o (status (known NotFound))).code
 shown_code None = (omega arith, omega arith)
 shown_code (Some s) = (omega arith, omega arith)
+
+success_code : (v : View) (r : Request) (warnings : List (List ℕ)) → IsStatusCode (success v r warnings).code
+success_code v (refused r) warnings = table_code r
+success_code v (get k) warnings = shown_code (stored_at v k)
+success_code v (list c selector) warnings = (omega arith, omega arith)
+success_code v (watch c revision) warnings = (omega arith, omega arith)
+success_code v (create m) warnings = (omega arith, omega arith)
+success_code v (replace m) warnings = (omega arith, omega arith)
+success_code v (delete k asked) warnings = (omega arith, omega arith)
 
 choice_code : (o : Option Refusal) (good : Reply) → IsStatusCode good.code → IsStatusCode (option_map_or status o good).code
 choice_code None good is = is
 choice_code (Some r) good is = refusal_code r
 
-created_code : (rules : Rules) (v : View) (k : Key) (b : Body) (version : Option (List ℕ))
-    → IsStatusCode (reply rules v (create (record { key = k; body = b; version = version }))).code
-created_code rules v k (sound d) version =
-    choice_code (refusal rules v (create (record { key = k; body = sound d; version = version }))) (showing 201 d (v.revision + 1)) (omega arith, omega arith)
+request_code : (v : View) (a : Asked) → IsStatusCode (reply first_rules v a).code
+request_code v a =
+    let warnings : List (List ℕ) = warnings_of (verdict_of v (asks_for a.request a.specification)) in
+    choice_code (refusal first_rules v a) (success v a.request warnings) (success_code v a.request warnings)
 
-replaced_code : (rules : Rules) (v : View) (k : Key) (b : Body) (version : Option (List ℕ))
-    → IsStatusCode (reply rules v (replace (record { key = k; body = b; version = version }))).code
-replaced_code rules v k (sound d) version =
-    choice_code (refusal rules v (replace (record { key = k; body = sound d; version = version }))) (showing 200 d (v.revision + 1)) (omega arith, omega arith)
-
-request_code : (rules : Rules) (v : View) (r : Request) → IsStatusCode (reply rules v r).code
-request_code rules v (refused r) = refusal_code r
-request_code rules v (get k) = choice_code (refusal rules v (get k)) _ (shown_code (stored_at v k))
-request_code rules v (list c selector) = (omega arith, omega arith)
-request_code rules v (watch c revision) = choice_code (refusal rules v (watch c revision)) (watching v c revision) (omega arith, omega arith)
-request_code rules v (create m) = created_code rules v m.key m.body m.version
-request_code rules v (replace m) = replaced_code rules v m.key m.body m.version
-request_code rules v (delete k asked) =
-    choice_code (refusal rules v (delete k asked)) (showing 200 (document_at v k) (v.revision + 1)) (omega arith, omega arith)
-
-either_code : (b : Bool) (v : View) (m : Message) → IsStatusCode (reply_of v (record { message = m; is_served = b })).code
-either_code true v m = request_code first_rules v (asked m)
-either_code false v m = refusal_code OutOfMemory
+either_code : (b : Bool) (v : View) (m : Message) (s : Specification Expr)
+    → IsStatusCode (reply_of v (record { message = m; specification = s; is_served = b })).code
+either_code true v m s = request_code v (record { request = asked m; specification = s })
+either_code false v m s = table_code OutOfMemory
 
 pub reply_code : (v : View) (a : Answered) → IsStatusCode (reply_of v a).code
-reply_code v a = either_code a.is_served v a.message
+reply_code v a = either_code a.is_served v a.message a.specification

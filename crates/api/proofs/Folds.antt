@@ -4,13 +4,14 @@ use Rattle.std.proofs.lemmas.List.{append-nil, map-append}
 use Rattle.device.specs.declared.device.Device.{Ghosts}
 use Rattle.device.proofs.Moments.{followed_by}
 use Rattle.requests.specs.declared.refusal.Refusal.TheVariants.{StorageFailed}
-use Rattle.apicore.specs.Standing.{Write, History, View}
+use Rattle.apicore.specs.Standing.{Write, History, View, AreAdmitted}
+use Rattle.apicore.proofs.Admitting.{AreAdmitted-append}
 use Rattle.history.specs.View.{view, after_all}
 use Rattle.history.proofs.ViewLemmas.{after_all-append}
 use Rattle.durable.specs.declared.store.Store.{Store}
 use Rattle.durable.specs.Rules.{first_rules}
 use Rattle.durable.specs.Stands.{StandsFor}
-use Rattle.durable.specs.Settled.{device_of, serves, shown, IsFound, IsSettledAt, IsLeftAt, LeavesSome}
+use Rattle.durable.specs.Settled.{device_of, serves, IsFound, IsSettledAt, IsLeftAt, LeavesSome}
 use Rattle.durable.proofs.Answering.{view-after}
 use Rattle.durable.proofs.Findings.{leaves-idle}
 use Rattle.httpmsg.specs.Flow.{HasCause, TookSome, Writes}
@@ -18,7 +19,7 @@ use Rattle.httpmsg.specs.Stream.{Message}
 use Rattle.api.specs.declared.fault.ServeFault.{ServeFault}
 use Rattle.api.specs.declared.fault.ServeFault.TheVariants.{Read, Write as WriteFault, Device, Memory, Damaged, Failed}
 use Rattle.api.specs.ReplyBytes.{reply_bytes, closing_bytes}
-use Rattle.api.specs.Answers.{Answered, served, messages, writes_of, reply_of, all_writes, all_bytes, AllRefused, HasGrown, WhereSettled, HasApplied, Answers, WritesSome, MeetsFailure, Stops}
+use Rattle.api.specs.Answers.{Answered, ShowsAt, AreRead, messages, writes_of, reply_of, all_writes, all_bytes, AllRefused, HasGrown, WhereSettled, HasApplied, Answers, WritesSome, MeetsFailure, Stops}
 
 -- what is seen after some answers
 abbrev pub seen : View → List Answered → View
@@ -51,6 +52,17 @@ seen-append v xs ys = ap (after_all first_rules v) (all_writes-append v xs ys) �
 AllRefused-append : (xs ys : List Answered) → AllRefused xs → AllRefused ys → AllRefused (xs ++ ys)
 AllRefused-append [] ys first second = second
 AllRefused-append (x ∷ xs) ys first second = (first.0, AllRefused-append xs ys first.1 second)
+
+read_then : (xs ys : List Answered) → AreRead xs → AreRead ys → AreRead (xs ++ ys)
+read_then [] ys first second = second
+read_then (x ∷ xs) ys first second = (first.0, read_then xs ys first.1 second)
+
+-- the writes of some answers, and then of others
+admitted_then : (v : View) (xs ys : List Answered) → AreAdmitted first_rules v (all_writes v xs)
+    → AreAdmitted first_rules (seen v xs) (all_writes (seen v xs) ys) → AreAdmitted first_rules v (all_writes v (xs ++ ys))
+admitted_then v xs ys first second =
+    subst (AreAdmitted first_rules v) (sym (all_writes-append v xs ys))
+    (AreAdmitted-append first_rules v (all_writes v xs) (all_writes (seen v xs) ys) first second)
 
 -- the view of a history, and of what follows it
 pub seen_view : (v : View) (h : History) (ws : List Write) → v ≡ view first_rules h → after_all first_rules v ws ≡ view first_rules (h ++ ws)
@@ -109,11 +121,13 @@ module _ {D : Type 0} {g : Ghosts D} where
       let writes : all_writes v (xs ++ ys) ≡ us ++ ws = all_writes-append v xs ys in
       record {
         serving = after.serving ∙ before.serving;
-        shows = after.shows ∙ sym (seen-append v xs ys);
+        shows = subst (ShowsAt new) (sym (seen-append v xs ys)) after.shows;
         failed = λ stopped.
             let first = before.failed stopped in
             let second = after.failed (before.serving ∙ stopped) in
             (second.0 ∙ first.0, AllRefused-append xs ys first.1 second.1);
+        specified = read_then xs ys before.specified after.specified;
+        admitted = admitted_then v xs ys before.admitted after.admitted;
         settled = λ h is settled. subst (IsSettledAt first_rules new) (append_assoc h us ws ∙ ap (λ w. h ++ w) (sym writes))
             (after.settled (h ++ us) (seen_view v h us is) (before.settled h is settled));
         moments = λ h is settled. subst (LeavesSome first_rules old new h) (sym writes)
@@ -121,13 +135,15 @@ module _ {D : Type 0} {g : Ghosts D} where
             (after.moments (h ++ us) (seen_view v h us is) (before.settled h is settled)));
       }
 
-  pub applied_none : (store : Store D g) (v : View) → shown store ≡ v
+  pub applied_none : (store : Store D g) (v : View) → ShowsAt store v
       → (g.disk.keeps (device_of store) → (c : List ℕ) → g.disk.since (device_of store) (g.disk.moment (device_of store)) c → g.disk.left (device_of store) c)
       → HasApplied store store v []
   applied_none store v shows only_now = record {
     serving = refl;
     shows = shows;
     failed = λ stopped. (refl, tt);
+    specified = tt;
+    admitted = tt;
     settled = λ h is settled. subst (IsSettledAt first_rules store) (sym (append-nil h)) settled;
     moments = λ h is settled. leaves-idle first_rules store h [] (only_now settled.keeps) settled;
   }
@@ -173,7 +189,7 @@ grown_after a b c le (inr most) = inr most
 -- ---- answers
 
 module _ {O D : Type 0} {g : Ghosts D} (took : O → O → List ℕ → Type 0) where
-  pub answers_none : (o : O) (store : Store D g) (v : View) → took o o [] → shown store ≡ v
+  pub answers_none : (o : O) (store : Store D g) (v : View) → took o o [] → ShowsAt store v
       → (g.disk.keeps (device_of store) → (c : List ℕ) → g.disk.since (device_of store) (g.disk.moment (device_of store)) c → g.disk.left (device_of store) c)
       → Answers took o o store store v [] []
   answers_none o store v none shows only_now = record { answered = []; answers = refl; written = none; store = applied_none store v shows only_now }
@@ -200,37 +216,39 @@ module _ {O D : Type 0} {g : Ghosts D} (took : O → O → List ℕ → Type 0) 
   }
 
   -- the device failed at one message, now or before
-  pub fails_at_one : (failures : O → ℕ) (o p : O) (old new : Store D g) (v : View) (m : Message)
+  pub fails_at_one : (failures : O → ℕ) (o p : O) (old new : Store D g) (v : View) (a : Answered) → a.is_served ≡ serves old
       → (written : TookSome took o p (closing_bytes false StorageFailed)) → (written.rest ≡ []) ⊎ HasGrown (failures o) (failures p)
-      → serves new ≡ false → (serves old ≡ false → new ≡ old)
-      → WhereSettled old v (λ h. IsLeftAt first_rules new h [] (writes_of v (served m)))
-      → WhereSettled old v (λ h. LeavesSome first_rules old new h (writes_of v (served m)))
-      → MeetsFailure took o p old new failures v (m ∷ [])
-  fails_at_one failures o p old new v m written whole stopped failed left moments =
-      let one : writes_of v (served m) ≡ all_writes v (served m ∷ []) = sym (append-nil (writes_of v (served m))) in
-      record {
-        answered = [];
-        failing = m;
-        waiting = [];
-        split = refl;
-        closing = written.front;
-        unwritten = written.rest;
-        refusal = written.split;
-        whole = whole;
-        written = written.taken;
-        stopped = stopped;
-        failed = λ f. (failed f, tt);
-        left = λ h is settled. subst (IsLeftAt first_rules new h []) one (left h is settled);
-        moments = λ h is settled. subst (LeavesSome first_rules old new h) one (moments h is settled);
-      }
+      → serves new ≡ false → (serves old ≡ false → new ≡ old) → AreRead (a ∷ []) → AreAdmitted first_rules v (all_writes v (a ∷ []))
+      → WhereSettled old v (λ h. IsLeftAt first_rules new h [] (all_writes v (a ∷ [])))
+      → WhereSettled old v (λ h. LeavesSome first_rules old new h (all_writes v (a ∷ [])))
+      → MeetsFailure took o p old new failures v (a.message ∷ [])
+  fails_at_one failures o p old new v a tried written whole stopped failed read admitted left moments = record {
+    answered = [];
+    failing = a;
+    tried = tried;
+    waiting = [];
+    split = refl;
+    closing = written.front;
+    unwritten = written.rest;
+    refusal = written.split;
+    whole = whole;
+    written = written.taken;
+    stopped = stopped;
+    failed = λ f. (failed f, tt);
+    specified = read;
+    admitted = admitted;
+    left = left;
+    moments = moments;
+  }
 
   abbrev fails_before : (failures : O → ℕ) (o p : O) (old new : Store D g) (v : View) (ms more : List Message)
       → MeetsFailure took o p old new failures v ms → MeetsFailure took o p old new failures v (ms ++ more)
   fails_before failures o p old new v ms more stops = record {
     answered = stops.answered;
     failing = stops.failing;
+    tried = stops.tried;
     waiting = stops.waiting ++ more;
-    split = ap (λ z. z ++ more) stops.split ∙ append_assoc (messages stops.answered) (stops.failing ∷ stops.waiting) more;
+    split = ap (λ z. z ++ more) stops.split ∙ append_assoc (messages stops.answered) (stops.failing.message ∷ stops.waiting) more;
     closing = stops.closing;
     unwritten = stops.unwritten;
     refusal = stops.refusal;
@@ -238,6 +256,8 @@ module _ {O D : Type 0} {g : Ghosts D} (took : O → O → List ℕ → Type 0) 
     written = stops.written;
     stopped = stops.stopped;
     failed = stops.failed;
+    specified = stops.specified;
+    admitted = stops.admitted;
     left = stops.left;
     moments = stops.moments;
   }
@@ -304,7 +324,7 @@ module _ {O D : Type 0} {g : Ghosts D} (took : O → O → List ℕ → Type 0)
   fails_then failures o q p later old mid new v ms ns before after =
       let xs : List Answered = before.answered in
       let ys : List Answered = after.answered in
-      let last : List Answered = served after.failing ∷ [] in
+      let last : List Answered = after.failing ∷ [] in
       let first : List Write = all_writes v xs in
       let u : View = seen v xs in
       let kept : first ++ all_writes u ys ≡ all_writes v (xs ++ ys) = sym (all_writes-append v xs ys) in
@@ -314,8 +334,9 @@ module _ {O D : Type 0} {g : Ghosts D} (took : O → O → List ℕ → Type 0)
       record {
         answered = xs ++ ys;
         failing = after.failing;
+        tried = after.tried ∙ before.store.serving;
         waiting = after.waiting;
-        split = split_then xs ms ns ys (after.failing ∷ after.waiting) before.answers after.split;
+        split = split_then xs ms ns ys (after.failing.message ∷ after.waiting) before.answers after.split;
         closing = after.closing;
         unwritten = after.unwritten;
         refusal = after.refusal;
@@ -327,6 +348,9 @@ module _ {O D : Type 0} {g : Ghosts D} (took : O → O → List ℕ → Type 0)
             let earlier = before.store.failed stopped in
             let then_ = after.failed (before.store.serving ∙ stopped) in
             (then_.0 ∙ earlier.0, AllRefused-append xs ys earlier.1 then_.1);
+        specified = subst AreRead (sym (append_assoc xs ys last)) (read_then xs (ys ++ last) before.store.specified after.specified);
+        admitted = subst (λ zs. AreAdmitted first_rules v (all_writes v zs)) (sym (append_assoc xs ys last))
+            (admitted_then v xs (ys ++ last) before.store.admitted after.admitted);
         left = λ h is settled. subst (λ k. IsLeftAt first_rules new h k (all_writes v ((xs ++ ys) ++ last))) kept
             (subst (IsLeftAt first_rules new h (first ++ all_writes u ys)) all
             (left_after new h first (all_writes u ys) (all_writes u (ys ++ last))

@@ -1,25 +1,28 @@
 -- The reply to one message.
-use Rattle.std.proofs.Common.{◌≡◌, ◌≢◌, ◌∙◌, sym, ap, refl, subst, ◌⊎◌, inl, inr, ℕ, List, [], ◌∷◌, ◌++◌, true, false, true≢false, Bool, Some, None, Result, Err, IsErrOf}
+use Rattle.std.proofs.Common.{◌≡◌, ◌≢◌, ◌∙◌, sym, ap, refl, subst, ◌⊎◌, inl, inr, ⊎_elim, ℕ, List, [], ◌∷◌, ◌++◌, true, false, true≢false, Bool, Some, None, Result, Ok, Err, IsErrOf, OnErr}
 use Rattle.std.proofs.lemmas.List.{append-nil}
 use Rattle.device.specs.declared.device.Device.{Ghosts}
 use Rattle.requests.specs.declared.refusal.Refusal.TheVariants.{StorageFailed}
 use Rattle.requests.specs.Request.{Request}
-use Rattle.apicore.specs.Standing.{Write, History, View}
+use Rattle.celtree.specs.Tree.{Expr}
+use Rattle.specification.specs.Specification.{Specification, sound}
+use Rattle.apicore.specs.Standing.{Write, History, View, AreAdmitted}
 use Rattle.history.specs.Reply.{Reply}
-use Rattle.apicore.specs.Step.{writes, reply}
+use Rattle.apicore.specs.Step.{writes}
 use Rattle.history.specs.View.{view, after_all}
 use Rattle.durable.specs.declared.store.Store.{Store}
 use Rattle.durable.specs.declared.fault.Fault.{Fault}
 use Rattle.durable.specs.declared.fault.Fault.TheVariants as fault
 use Rattle.durable.specs.Rules.{first_rules}
-use Rattle.durable.specs.Settled.{device_of, serves, shown, ServesAt, IsSettledAt, IsLeftAt, LeavesSome}
+use Rattle.durable.specs.Settled.{device_of, serves, ServesAt, IsSettledAt, IsLeftAt, LeavesSome, HasReplyAt}
+use Rattle.durable.specs.Settled as store
 use Rattle.httpmsg.specs.Flow.{HasCause, Writes}
 use Rattle.httpmsg.specs.Stream.{Message}
 use Rattle.routes.specs.Asked.{asked}
 use Rattle.api.specs.declared.fault.ServeFault.{ServeFault}
 use Rattle.api.specs.declared.fault.ServeFault.TheVariants.{Device, Failed}
 use Rattle.api.specs.ReplyBytes.{closing_bytes}
-use Rattle.api.specs.Answers.{HasReplied, HasFailedAt, Stops}
+use Rattle.api.specs.Answers.{Answered, served, answered_by, asked_of, ShowsAt, HasReplied, HasFailedAt, MeetsFailure, Stops}
 use Rattle.api.proofs.Folds.{took_some_of, took_whole, fails_at_one, applied_none}
 
 -- a store that does not answer `Failed` serves
@@ -27,85 +30,113 @@ pub serving_of : {T : Type 0} (b : Bool) (r : Result T Fault) → (b ≡ false �
 serving_of true r failed is = refl
 serving_of false r failed is = absurd (is (failed refl))
 
-module _ {D : Type 0} {g : Ghosts D} (old new : Store D g) (v : View) (m : Message) (shows : shown old ≡ v) where
+-- a store that answers `Failed` had failed
+pub stopped_of : {T : Type 0} (b : Bool) (r : Result T Fault) → (b ≡ true → OnErr r (IsErrOf r fault.Device ⊎ IsErrOf r fault.Memory)) → r ≡ Err fault.Failed
+    → b ≡ false
+stopped_of false r refused is = refl
+stopped_of true (Ok x) refused is = cc
+stopped_of true (Err f) refused is = ⊎_elim (λ e. let clash = sym e ∙ is in cc) (λ e. let clash = sym e ∙ is in cc) (refused refl)
+
+module _ {D : Type 0} {g : Ghosts D} (old new : Store D g) (v : View) (m : Message) (shows : ShowsAt old v) where
+  -- the writes of a message that was served, at a view and at its history
+  same_writes : (s : Specification Expr) (h : History) → v ≡ view first_rules h
+      → writes first_rules (view first_rules h) (asked_of (served m s)) ≡ writes first_rules v (asked_of (served m s)) ++ []
+  same_writes s h e =
+      ap (λ x. writes first_rules x (asked_of (served m s))) (sym e) ∙ sym (append-nil (writes first_rules v (asked_of (served m s))))
+
   -- the store replied
-  pub replied : (r : Reply) (request : Request) → request ≡ asked m → serves old ≡ true
-      → ((w : View) → ServesAt old w → r ≡ reply first_rules w request)
-      → ((w : View) → ServesAt old w → ServesAt new (after_all first_rules w (writes first_rules w request)))
-      → ((h : History) → IsSettledAt first_rules old h → IsSettledAt first_rules new (h ++ writes first_rules (view first_rules h) request))
-      → ((h : History) → IsSettledAt first_rules old h → LeavesSome first_rules old new h (writes first_rules (view first_rules h) request))
-      → HasReplied old new v m (Some r)
-  replied r request is working answer serving settled moments =
-      let here : ServesAt old v = record { working = working; shows = shows } in
-      let after : ServesAt new (after_all first_rules v (writes first_rules v (asked m))) =
-      subst (λ q. ServesAt new (after_all first_rules v (writes first_rules v q))) is (serving v here) in
-      let one : writes first_rules v (asked m) ≡ writes first_rules v (asked m) ++ [] = sym (append-nil (writes first_rules v (asked m))) in
-      let same : (h : History) → v ≡ view first_rules h → writes first_rules (view first_rules h) request ≡ writes first_rules v (asked m) ++ [] =
-      λ h e. ap (λ q. writes first_rules (view first_rules h) q) is ∙ ap (λ x. writes first_rules x (asked m)) (sym e) ∙ one in
+  replied_to : (r : Reply) → serves old ≡ true → store.HasReplied first_rules old new (asked m) r → HasReplied old new v m (Some r)
+  replied_to r working said =
+      let a : Answered = served m said.specification in
+      let at : HasReplyAt first_rules old new v (asked_of a) r = said.shown v (shows working) in
+      let one : writes first_rules v (asked_of a) ≡ writes first_rules v (asked_of a) ++ [] = sym (append-nil (writes first_rules v (asked_of a))) in
       record {
-        reply = answer v here ∙ ap (reply first_rules v) is;
+        specification = said.specification;
+        reply = at.reply;
         store = record {
-          serving = after.working ∙ sym working;
-          shows = after.shows ∙ ap (after_all first_rules v) one;
+          serving = at.serving.working ∙ sym working;
+          shows = λ goes_on. subst (λ (w : List Write). ServesAt new (after_all first_rules v w)) one at.serving;
           failed = λ stopped. absurd (true≢false (sym working ∙ stopped));
-          settled = λ h e s. subst (λ (w : List Write). IsSettledAt first_rules new (h ++ w)) (same h e) (settled h s);
-          moments = λ h e s. subst (λ (w : List Write). LeavesSome first_rules old new h w) (same h e) (moments h s);
+          specified = ((λ is. said.read), tt);
+          admitted = subst (AreAdmitted first_rules v) one at.admitted;
+          settled = λ h e s. subst (λ (w : List Write). IsSettledAt first_rules new (h ++ w)) (same_writes said.specification h e) (said.settled h s).settled;
+          moments = λ h e s. subst (λ (w : List Write). LeavesSome first_rules old new h w) (same_writes said.specification h e) (said.settled h s).moments;
         };
       }
+
+  pub replied : (r : Reply) (request : Request) → request ≡ asked m → serves old ≡ true → store.HasReplied first_rules old new request r
+      → HasReplied old new v m (Some r)
+  replied r request is working said = replied_to r working (subst (λ q. store.HasReplied first_rules old new q r) is said)
 
   -- memory was refused to the request
   pub lacked_memory : serves old ≡ true → ((w : View) → ServesAt old w → ServesAt new w × (device_of new ≡ device_of old))
       → ((h : History) → IsSettledAt first_rules old h → IsSettledAt first_rules new h × LeavesSome first_rules old new h [])
       → HasReplied old new v m None
   lacked_memory working serving settled =
-      let after = serving v (record { working = working; shows = shows }) in
+      let after = serving v (shows working) in
       record {
+        specification = sound [];
         reply = refl;
         store = record {
           serving = after.0.working ∙ sym working;
-          shows = after.0.shows;
+          shows = λ goes_on. after.0;
           failed = λ stopped. absurd (true≢false (sym working ∙ stopped));
+          specified = ((λ is. absurd (true≢false (sym is))), tt);
+          admitted = tt;
           settled = λ h e s. subst (IsSettledAt first_rules new) (sym (append-nil h)) (settled h s).0;
           moments = λ h e s. (settled h s).1;
         };
       }
 
   -- the device failed
-  pub device_failed : (request : Request) → request ≡ asked m → serves old ≡ true → serves new ≡ false
-      → ((h : History) → IsSettledAt first_rules old h → IsLeftAt first_rules new h [] (writes first_rules (view first_rules h) request))
-      → ((h : History) → IsSettledAt first_rules old h → LeavesSome first_rules old new h (writes first_rules (view first_rules h) request))
-      → HasFailedAt old new v m Device
-  device_failed request is working stopped left moments =
-      let same : (h : History) → v ≡ view first_rules h → writes first_rules (view first_rules h) request ≡ writes first_rules v (asked m) =
-      λ h e. ap (λ q. writes first_rules (view first_rules h) q) is ∙ ap (λ x. writes first_rules x (asked m)) (sym e) in
+  failed_in : serves old ≡ true → serves new ≡ false → store.HasFailedAt first_rules old new (asked m) → HasFailedAt old new v m Device
+  failed_in working stopped at =
+      let a : Answered = served m at.specification in
       record {
+        failing = a;
+        is_of = refl;
+        tried = sym working;
         stopped = stopped;
         is = inl (refl, working);
-        left = λ h e s. subst (λ (w : List Write). IsLeftAt first_rules new h [] w) (same h e) (left h s);
-        moments = λ h e s. subst (λ (w : List Write). LeavesSome first_rules old new h w) (same h e) (moments h s);
+        specified = ((λ is. at.read), tt);
+        admitted = subst (AreAdmitted first_rules v) (sym (append-nil (writes first_rules v (asked_of a)))) (at.admitted v);
+        left = λ h e s. subst (λ (w : List Write). IsLeftAt first_rules new h [] w) (same_writes at.specification h e) (at.left h s).0;
+        moments = λ h e s. subst (λ (w : List Write). LeavesSome first_rules old new h w) (same_writes at.specification h e) (at.left h s).1;
       }
+
+  pub device_failed : (request : Request) → request ≡ asked m → serves old ≡ true → serves new ≡ false
+      → store.HasFailedAt first_rules old new request → HasFailedAt old new v m Device
+  device_failed request is working stopped at = failed_in working stopped (subst (λ q. store.HasFailedAt first_rules old new q) is at)
 
   -- it had failed before
   pub failed_before : serves old ≡ false → new ≡ old → HasFailedAt old new v m Failed
   failed_before stopped same = record {
+    failing = answered_by m (sound []) None;
+    is_of = refl;
+    tried = sym stopped;
     stopped = ap serves same ∙ stopped;
     is = inr (refl, stopped, same);
+    specified = ((λ is. absurd (true≢false (sym is))), tt);
+    admitted = tt;
     left = λ h e s. absurd (true≢false (sym s.working ∙ stopped));
     moments = λ h e s. absurd (true≢false (sym s.working ∙ stopped));
   }
 
 -- memory was refused before the store was asked
-pub not_asked : {D : Type 0} {g : Ghosts D} (store : Store D g) (v : View) (m : Message) → shown store ≡ v
+pub not_asked : {D : Type 0} {g : Ghosts D} (store : Store D g) (v : View) (m : Message) → ShowsAt store v
     → (g.disk.keeps (device_of store) → (c : List ℕ) → g.disk.since (device_of store) (g.disk.moment (device_of store)) c → g.disk.left (device_of store) c)
     → HasReplied store store v m None
 not_asked store v m shows only_now =
     let none = applied_none store v shows only_now in
     record {
+      specification = sound [];
       reply = refl;
       store = record {
         serving = refl;
         shows = shows;
         failed = λ stopped. (refl, (refl, tt));
+        specified = ((λ is. absurd (true≢false (sym is))), tt);
+        admitted = tt;
         settled = none.settled;
         moments = none.moments;
       };
@@ -117,14 +148,13 @@ pub stops_at_one : {O D : Type 0} {g : Ghosts D} {T E : Type 0} (took : O → O 
     → HasFailedAt old new v m stop → Stops took failures o p old new v (m ∷ []) stop
 stops_at_one took failures o p old new v m stop r writes cause at = on at.is
   where
+    failing : (serves old ≡ false → new ≡ old) → MeetsFailure took o p old new failures v (m ∷ [])
+    failing same =
+        subst (λ x. MeetsFailure took o p old new failures v (x ∷ [])) at.is_of
+        (fails_at_one took failures o p old new v at.failing at.tried (took_some_of took o p (closing_bytes false StorageFailed) r writes)
+        (took_whole took o p (closing_bytes false StorageFailed) r (failures o) (failures p) writes cause) at.stopped same at.specified at.admitted at.left at.moments)
+
     on : ((stop ≡ Device) × (serves old ≡ true)) ⊎ ((stop ≡ Failed) × (serves old ≡ false) × (new ≡ old)) → Stops took failures o p old new v (m ∷ []) stop
     on (inl is) =
-        subst (Stops took failures o p old new v (m ∷ [])) (sym is.0)
-        (fails_at_one took failures o p old new v m (took_some_of took o p (closing_bytes false StorageFailed) r writes)
-        (took_whole took o p (closing_bytes false StorageFailed) r (failures o) (failures p) writes cause) at.stopped
-        (λ stopped. absurd (true≢false (sym is.1 ∙ stopped))) at.left at.moments)
-    on (inr is) =
-        subst (Stops took failures o p old new v (m ∷ [])) (sym is.0)
-        (fails_at_one took failures o p old new v m (took_some_of took o p (closing_bytes false StorageFailed) r writes)
-        (took_whole took o p (closing_bytes false StorageFailed) r (failures o) (failures p) writes cause) at.stopped
-        (λ stopped. is.2) at.left at.moments)
+        subst (Stops took failures o p old new v (m ∷ [])) (sym is.0) (failing (λ stopped. absurd (true≢false (sym is.1 ∙ stopped))))
+    on (inr is) = subst (Stops took failures o p old new v (m ∷ [])) (sym is.0) (failing (λ stopped. is.2))

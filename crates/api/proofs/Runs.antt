@@ -5,7 +5,7 @@ use Rattle.device.specs.declared.device.Device.{Ghosts}
 use Rattle.requests.specs.declared.refusal.Refusal.TheVariants.{OutOfMemory}
 use Rattle.apicore.specs.Standing.{View}
 use Rattle.durable.specs.declared.store.Store.{Store}
-use Rattle.durable.specs.Settled.{device_of, shown}
+use Rattle.durable.specs.Settled.{device_of}
 use Rattle.httpmsg.specs.declared.head.End.{End}
 use Rattle.httpmsg.specs.Flow.{TookSome}
 use Rattle.httpmsg.specs.Stream.{Message, Progress, IsCut}
@@ -13,7 +13,7 @@ use Rattle.httpmsg.proofs.Cuts.{empty_unfinished}
 use Rattle.api.specs.declared.fault.ServeFault.{ServeFault}
 use Rattle.api.specs.declared.fault.ServeFault.TheVariants.{Read, Write, Device, Memory, Damaged, Failed}
 use Rattle.api.specs.ReplyBytes.{closing_bytes, end_bytes}
-use Rattle.api.specs.Answers.{messages, all_bytes, Answers, WritesSome, MeetsFailure}
+use Rattle.api.specs.Answers.{ShowsAt, messages, all_bytes, Answers, WritesSome, MeetsFailure}
 use Rattle.api.specs.Piece.{TellsMore, FailsAtMore, Breaks, StepsWrong, Finishes, FinishesInPart}
 use Rattle.api.specs.Serving.{Ends, IsClosing, HasEnded, HasReadSome, HasWrittenSome, HasFailed, HasLackedMemory, HasStopped, HasAllCauses, Exchanged}
 use Rattle.api.proofs.Folds.{seen, grown_after, answers_none, answers_then, writes_some_then, fails_then}
@@ -36,7 +36,7 @@ module _ {I O D : Type 0} {g : Ghosts D} (gave : I → I → List ℕ → Type 0
   -- before the first piece
   pub so_far_none : (i : I) (o : O) (store : Store D g) (v : View) → gave i i [] → took o o []
       → (g.disk.keeps (device_of store) → (c : List ℕ) → g.disk.since (device_of store) (g.disk.moment (device_of store)) c → g.disk.left (device_of store) c)
-      → shown store ≡ v → SoFar gave took i i o o store store v (record { pending = []; end = None }) []
+      → ShowsAt store v → SoFar gave took i i o o store store v (record { pending = []; end = None }) []
   so_far_none i o store v none_given none_taken only_now shows = record {
     read = [];
     ms = [];
@@ -262,6 +262,7 @@ module _ {I O D : Type 0} {g : Ghosts D} (gave : I → I → List ℕ → Type 0
           holds = record {
             answered = all.answered;
             failing = all.failing;
+            tried = all.tried;
             waiting = all.waiting;
             progress = now;
             stream = subst (λ xs. IsCut (so_far.read ++ piece) xs now) all.split fails.cut;
@@ -272,6 +273,8 @@ module _ {I O D : Type 0} {g : Ghosts D} (gave : I → I → List ℕ → Type 0
             text = refl;
             stopped = all.stopped;
             failed = all.failed;
+            specified = all.specified;
+            admitted = all.admitted;
             left = all.left;
             moments = all.moments;
           };
@@ -390,6 +393,7 @@ causes_err i j k o p q d e f s t u fault input output device same all = record {
   read = λ is. grown_after i j k input (all.read (retyped fault Read is));
   write = λ is. grown_after o p q output (all.write (retyped fault Write is));
   device = λ is. grown_after d e f device (all.device (retyped fault Device is));
+  never_damaged = λ damage is. all.never_damaged damage (retyped fault (Damaged damage) is);
   failed = λ is. sym same ∙ all.failed (retyped fault Failed is);
   goes_on = tt;
 }

@@ -5,7 +5,7 @@ use Rattle.device.specs.declared.device.Device.{Ghosts}
 use Rattle.requests.specs.declared.refusal.Refusal.TheVariants.{OutOfMemory}
 use Rattle.apicore.specs.Standing.{View}
 use Rattle.durable.specs.declared.store.Store.{Store}
-use Rattle.durable.specs.Settled.{device_of, shown}
+use Rattle.durable.specs.Settled.{device_of}
 use Rattle.httpmsg.specs.declared.cutter.CutFault.{CutFault}
 use Rattle.httpmsg.specs.declared.cutter.CutFault.TheVariants.{Broken as CutBroken, Memory as CutMemory}
 use Rattle.httpmsg.specs.declared.head.BrokenMessage.{BrokenMessage}
@@ -18,7 +18,7 @@ use Rattle.api.specs.declared.fault.ServeFault.TheVariants.{Read, Write, Device,
 use Rattle.api.specs.declared.piece.Told.{Told}
 use Rattle.api.specs.declared.piece.Told.TheVariants.{Messages, Nothing, Ends}
 use Rattle.api.specs.ReplyBytes.{closing_bytes, end_bytes}
-use Rattle.api.specs.Answers.{Answers, WritesSome, Stops}
+use Rattle.api.specs.Answers.{ShowsAt, Answers, WritesSome, Stops}
 use Rattle.api.specs.Piece.{TellsMore, Tells, Breaks}
 use Rattle.api.proofs.Folds.{applied_none}
 use Rattle.api.proofs.Streams.{open_end}
@@ -41,13 +41,13 @@ module _ {O D : Type 0} {g : Ghosts D} (took : O → O → List ℕ → Type 0) 
   -- bytes that answer no message
   pub answers_closing : (o p : O) (store : Store D g) (v : View) (closing : List ℕ) → took o p closing
       → (g.disk.keeps (device_of store) → (c : List ℕ) → g.disk.since (device_of store) (g.disk.moment (device_of store)) c → g.disk.left (device_of store) c)
-      → shown store ≡ v → Answers took o p store store v [] closing
+      → ShowsAt store v → Answers took o p store store v [] closing
   answers_closing o p store v closing written only_now shows =
       record { answered = []; answers = refl; written = written; store = applied_none store v shows only_now }
 
   pub some_closing : (o p : O) (store : Store D g) (v : View) (closing : List ℕ) → TookSome took o p closing
       → (g.disk.keeps (device_of store) → (c : List ℕ) → g.disk.since (device_of store) (g.disk.moment (device_of store)) c → g.disk.left (device_of store) c)
-      → shown store ≡ v → WritesSome took o p store store v [] closing
+      → ShowsAt store v → WritesSome took o p store store v [] closing
   some_closing o p store v closing written only_now shows =
       record { answered = []; waiting = []; split = refl; written = written; store = applied_none store v shows only_now }
 
@@ -55,7 +55,7 @@ module _ {O D : Type 0} {g : Ghosts D} (took : O → O → List ℕ → Type 0) 
   pub tells_broken : (o p : O) (store : Store D g) (v : View) (read : List ℕ) (ms : List Message) (before : Progress) (piece : List ℕ)
       (now : Progress) (b : BrokenMessage) → IsCut (read ++ piece) ms now × (now.end ≡ Some (Broken b)) → took o p (end_bytes (Broken b))
       → (g.disk.keeps (device_of store) → (c : List ℕ) → g.disk.since (device_of store) (g.disk.moment (device_of store)) c → g.disk.left (device_of store) c)
-      → shown store ≡ v → Tells took failures o p store store v read ms before piece now (Ends (Broken b))
+      → ShowsAt store v → Tells took failures o p store store v read ms before piece now (Ends (Broken b))
   tells_broken o p store v read ms before piece now b cut written only_now shows = (
     record {
       more = [];
@@ -68,7 +68,7 @@ module _ {O D : Type 0} {g : Ghosts D} (took : O → O → List ℕ → Type 0) 
   pub breaks_at_end : (o p : O) (store : Store D g) (v : View) (read : List ℕ) (ms : List Message) (before : Progress) (piece : List ℕ)
       (now : Progress) (b : BrokenMessage) → IsCut (read ++ piece) ms now × (now.end ≡ Some (Broken b)) → TookSome took o p (end_bytes (Broken b))
       → (g.disk.keeps (device_of store) → (c : List ℕ) → g.disk.since (device_of store) (g.disk.moment (device_of store)) c → g.disk.left (device_of store) c)
-      → shown store ≡ v → Breaks took failures o p store store v read ms before piece now Write
+      → ShowsAt store v → Breaks took failures o p store store v read ms before piece now Write
   breaks_at_end o p store v read ms before piece now b cut written only_now shows =
       inr (inl (record {
         end = Broken b;
@@ -98,7 +98,7 @@ module _ {O D : Type 0} {g : Ghosts D} (took : O → O → List ℕ → Type 0) 
       → (fault ≡ CutMemory → MatchResult r (λ told. ⊥) (λ stop. ((stop ≡ Memory) × took o p (closing_bytes false OutOfMemory))
       ⊎ ((stop ≡ Write) × TookSome took o p (closing_bytes false OutOfMemory))))
       → (g.disk.keeps (device_of store) → (c : List ℕ) → g.disk.since (device_of store) (g.disk.moment (device_of store)) c → g.disk.left (device_of store) c)
-      → shown store ≡ v
+      → ShowsAt store v
       → MatchResult r (Tells took failures o p store store v read ms before piece now) (Breaks took failures o p store store v read ms before piece now)
   unfed o p store v read ms before piece now (CutBroken b) (Ok told) cut same broken memory only_now shows =
       let all = broken b refl in

@@ -1,14 +1,19 @@
 -- What the answers to messages write, on the wire and to the store.
 use Rattle.std.specs.Prelude.{◌≡◌, ◌≢◌, ℕ, ◌<◌, ◌≤◌, ◌-◌, ◌^◌, ◌⊎◌, List, [], ◌∷◌, ◌++◌, map, Bool, true, false, if◌then◌else◌, Option, is_some, unwrap_or, Result, Err, IsErrOf, OnOk}
+use Rattle.std.specs.List.{AllByRecursion}
+use Rattle.celtree.specs.Tree.{Expr}
 use Rattle.device.specs.declared.device.Device.{Ghosts}
 use Rattle.requests.specs.declared.refusal.Refusal.TheVariants.{OutOfMemory, StorageFailed}
-use Rattle.apicore.specs.Standing.{Write, History, View}
+use Rattle.specification.specs.Specification.{Specification}
+use Rattle.apicore.specs.Standing.{Write, History, View, AreAdmitted}
 use Rattle.history.specs.Reply.{Reply, status}
-use Rattle.apicore.specs.Step.{writes, reply}
+use Rattle.apicore.specs.Step.{Asked, writes, reply}
+use Rattle.apicore.specs.Prepared.{IsReadOf}
 use Rattle.history.specs.View.{view, after_all}
+use Rattle.durable.specs.declared.fault.Damage.{Damage}
 use Rattle.durable.specs.declared.store.Store.{Store}
 use Rattle.durable.specs.Rules.{first_rules}
-use Rattle.durable.specs.Settled.{serves, shown, IsSettledAt, IsLeftAt, LeavesSome}
+use Rattle.durable.specs.Settled.{serves, ServesAt, IsSettledAt, IsLeftAt, LeavesSome}
 use Rattle.httpmsg.specs.Flow.{TookSome}
 use Rattle.httpmsg.specs.Stream.{Message}
 use Rattle.routes.specs.Asked.{asked}
@@ -16,31 +21,41 @@ use Rattle.api.specs.declared.fault.ServeFault.{ServeFault}
 use Rattle.api.specs.declared.fault.ServeFault.TheVariants as ServeFaults
 use Rattle.api.specs.ReplyBytes.{reply_bytes, closing_bytes}
 
--- a message that is answered, and whether memory was found for it
+-- A message that is answered, what stands in the document that it asks to be stored, and whether it was served: it was not where memory
+-- was refused to it, or where the store had failed before.
 pub record Answered : Type 0 where
   pub message : Message
+  pub specification : Specification Expr
   pub is_served : Bool
 
 -- the message was served
-abbrev pub served : Message → Answered
-served m = record { message = m; is_served = true }
+abbrev pub served : Message → Specification Expr → Answered
+served m s = record { message = m; specification = s; is_served = true }
 
 -- the message, served where a reply was found
-abbrev pub answered_by : Message → Option Reply → Answered
-answered_by m found = record { message = m; is_served = is_some found }
+abbrev pub answered_by : Message → Specification Expr → Option Reply → Answered
+answered_by m s found = record { message = m; specification = s; is_served = is_some found }
+
+-- its request, with what stands in its document
+abbrev pub asked_of : Answered → Asked
+asked_of a = record { request = asked a.message; specification = a.specification }
 
 abbrev pub messages : List Answered → List Message
 messages answered = map (λ a. a.message) answered
 
+-- in the document of each message that was served stands what is said, and no other trees
+abbrev pub AreRead : List Answered → Type 0
+AreRead answered = AllByRecursion (λ a. a.is_served ≡ true → IsReadOf (asked a.message) a.specification) answered
+
 -- ---- one message, where v is shown
 
--- the writes of its request: none where memory was refused to it
+-- the writes of its request: none where it was not served
 abbrev pub writes_of : View → Answered → List Write
-writes_of v a = if a.is_served then writes first_rules v (asked a.message) else []
+writes_of v a = if a.is_served then writes first_rules v (asked_of a) else []
 
 -- the reply to its request, or that memory was refused to it
 abbrev pub reply_of : View → Answered → Reply
-reply_of v a = if a.is_served then reply first_rules v (asked a.message) else status OutOfMemory
+reply_of v a = if a.is_served then reply first_rules v (asked_of a) else status OutOfMemory
 
 -- ---- messages, one after another
 
@@ -52,7 +67,7 @@ abbrev pub all_bytes : View → List Answered → List ℕ
 all_bytes v [] = []
 all_bytes v (a ∷ more) = reply_bytes a.message (reply_of v a) ++ all_bytes (after_all first_rules v (writes_of v a)) more
 
--- memory was refused to each of them
+-- none of them was served
 abbrev pub AllRefused : List Answered → Type 0
 AllRefused [] = Unit {0}
 AllRefused (a ∷ more) = (a.is_served ≡ false) × AllRefused more
@@ -63,30 +78,43 @@ HasGrown before now = (before < now) ⊎ (now ≡ 2 ^ 64 - 1)
 
 -- ---- what a call that answers messages leaves
 
+-- The store shows this view while it serves. Of one that has failed nothing is asked.
+abbrev pub ShowsAt : {D : Type 0} {g : Ghosts D} → Store D g → View → Type 0
+ShowsAt store v = serves store ≡ true → ServesAt store v
+
 -- Where old, which showed v, was settled at a history.
 abbrev pub WhereSettled : {D : Type 0} {g : Ghosts D} → Store D g → View → (History → Type 0) → Type 0
 WhereSettled old v P = (h : History) → v ≡ view first_rules h → IsSettledAt first_rules old h → P h
 
--- The store showed v, and shows what the answers leave. One that had failed is as it was. One that was settled at a history is
--- settled behind the writes of the answers, and at every moment since a crash leaves that history followed by some first ones of them.
+-- The store showed v, and shows what the answers leave; each of their writes was admitted by the policies, bindings and parameters just
+-- before it. A store that had failed is as it was. One that was settled at a history is settled behind the writes of the answers, and at
+-- every moment since a crash leaves that history followed by some first ones of them.
 pub record HasApplied {D : Type 0} {g : Ghosts D} (old new : Store D g) (v : View) (answered : List Answered) : Type 0 where
   pub serving : serves new ≡ serves old
-  pub shows : shown new ≡ after_all first_rules v (all_writes v answered)
+  pub shows : ShowsAt new (after_all first_rules v (all_writes v answered))
   pub failed : serves old ≡ false → (new ≡ old) × AllRefused answered
+  pub specified : AreRead answered
+  pub admitted : AreAdmitted first_rules v (all_writes v answered)
   pub settled : WhereSettled old v (λ h. IsSettledAt first_rules new (h ++ all_writes v answered))
   pub moments : WhereSettled old v (λ h. LeavesSome first_rules old new h (all_writes v answered))
 
 -- The store's reply to a message, none where memory was refused, is the model's, and its writes are in the store.
 pub record HasReplied {D : Type 0} {g : Ghosts D} (old new : Store D g) (v : View) (m : Message) (found : Option Reply) : Type 0 where
-  pub reply : unwrap_or found (status OutOfMemory) ≡ reply_of v (answered_by m found)
-  pub store : HasApplied old new v (answered_by m found ∷ [])
+  pub specification : Specification Expr
+  pub reply : unwrap_or found (status OutOfMemory) ≡ reply_of v (answered_by m specification found)
+  pub store : HasApplied old new v (answered_by m specification found ∷ [])
 
 -- The device failed at a message, whose writes stand or do not; or it had failed before, and nothing is done.
 pub record HasFailedAt {D : Type 0} {g : Ghosts D} (old new : Store D g) (v : View) (m : Message) (fault : ServeFault) : Type 0 where
+  pub failing : Answered
+  pub is_of : failing.message ≡ m
+  pub tried : failing.is_served ≡ serves old
   pub stopped : serves new ≡ false
   pub is : ((fault ≡ ServeFaults.Device) × (serves old ≡ true)) ⊎ ((fault ≡ ServeFaults.Failed) × (serves old ≡ false) × (new ≡ old))
-  pub left : WhereSettled old v (λ h. IsLeftAt first_rules new h [] (writes_of v (served m)))
-  pub moments : WhereSettled old v (λ h. LeavesSome first_rules old new h (writes_of v (served m)))
+  pub specified : AreRead (failing ∷ [])
+  pub admitted : AreAdmitted first_rules v (all_writes v (failing ∷ []))
+  pub left : WhereSettled old v (λ h. IsLeftAt first_rules new h [] (all_writes v (failing ∷ [])))
+  pub moments : WhereSettled old v (λ h. LeavesSome first_rules old new h (all_writes v (failing ∷ [])))
 
 module _ {O D : Type 0} {g : Ghosts D} (took : O → O → List ℕ → Type 0) (o p : O) (old new : Store D g) where
   -- The messages are answered, and behind the replies closing bytes are written.
@@ -106,12 +134,13 @@ module _ {O D : Type 0} {g : Ghosts D} (took : O → O → List ℕ → Type 0) 
 
   -- The device failed at a message, now or before: those before it are answered, and then a refusal that closes is written, the whole
   -- of it unless the output failed. What is found of a store that was settled has the writes that were answered, and perhaps that of
-  -- the message.
+  -- the message, which was admitted too. The message was served but where the store had failed before.
   pub record MeetsFailure (failures : O → ℕ) (v : View) (ms : List Message) : Type 0 where
     pub answered : List Answered
-    pub failing : Message
+    pub failing : Answered
+    pub tried : failing.is_served ≡ serves old
     pub waiting : List Message
-    pub split : ms ≡ messages answered ++ failing ∷ waiting
+    pub split : ms ≡ messages answered ++ failing.message ∷ waiting
     pub closing : List ℕ
     pub unwritten : List ℕ
     pub refusal : closing_bytes false StorageFailed ≡ closing ++ unwritten
@@ -119,8 +148,10 @@ module _ {O D : Type 0} {g : Ghosts D} (took : O → O → List ℕ → Type 0) 
     pub written : took o p (all_bytes v answered ++ closing)
     pub stopped : serves new ≡ false
     pub failed : serves old ≡ false → (new ≡ old) × AllRefused answered
-    pub left : WhereSettled old v (λ h. IsLeftAt first_rules new h (all_writes v answered) (all_writes v (answered ++ served failing ∷ [])))
-    pub moments : WhereSettled old v (λ h. LeavesSome first_rules old new h (all_writes v (answered ++ served failing ∷ [])))
+    pub specified : AreRead (answered ++ failing ∷ [])
+    pub admitted : AreAdmitted first_rules v (all_writes v (answered ++ failing ∷ []))
+    pub left : WhereSettled old v (λ h. IsLeftAt first_rules new h (all_writes v answered) (all_writes v (answered ++ failing ∷ [])))
+    pub moments : WhereSettled old v (λ h. LeavesSome first_rules old new h (all_writes v (answered ++ failing ∷ [])))
 
 -- ---- why answering ends early
 
@@ -141,5 +172,6 @@ pub record HasCauses {T : Type 0} (output_old output_new device_old device_new :
   pub write : IsErrOf result ServeFaults.Write → HasGrown output_old output_new
   pub device : IsErrOf result ServeFaults.Device → HasGrown device_old device_new
   pub never_read : result ≢ Err ServeFaults.Read
+  pub never_damaged : (damage : Damage) → result ≢ Err (ServeFaults.Damaged damage)
   pub failed : IsErrOf result ServeFaults.Failed → serves_old ≡ false
   pub goes_on : OnOk result (serves_new ≡ serves_old)

@@ -1,24 +1,40 @@
 -- The answers to messages are a run of their requests.
-use Rattle.std.specs.Prelude.{◌≡◌, ℕ, List, [], ◌∷◌, ◌++◌, map}
+use Rattle.std.specs.Prelude.{◌≡◌, ℕ, Bool, true, false, List, [], ◌∷◌, ◌++◌}
+use Rattle.requests.specs.declared.refusal.Refusal.TheVariants.{OutOfMemory}
 use Rattle.apicore.specs.Standing.{History}
-use Rattle.history.specs.Reply.{Reply}
-use Rattle.apicore.specs.Step.{runs}
+use Rattle.history.specs.Reply.{Reply, status}
+use Rattle.apicore.specs.Step.{Asked, runs}
 use Rattle.history.specs.View.{view}
 use Rattle.durable.specs.Rules.{first_rules}
 use Rattle.httpmsg.specs.Stream.{Message}
-use Rattle.routes.specs.Asked.{asked}
 use Rattle.api.specs.ReplyBytes.{reply_bytes}
-use Rattle.api.specs.Answers.{served, all_writes, all_bytes}
+use Rattle.api.specs.Answers.{Answered, asked_of, all_writes, all_bytes}
 
--- the bytes of these replies to these messages
-abbrev pub replies_bytes : List Message → List Reply → List ℕ
+-- one asked more, if it was served
+abbrev pub asked_if : Bool → Asked → List Asked → List Asked
+asked_if true a more = a ∷ more
+asked_if false a more = more
+
+-- what was asked in the messages that were served
+abbrev pub all_asked : List Answered → List Asked
+all_asked [] = []
+all_asked (a ∷ more) = asked_if a.is_served (asked_of a) (all_asked more)
+
+-- the bytes of the reply to a message, and of what stands behind it: a message that was not served has none of these replies
+abbrev pub bytes_if : Bool → Message → List Reply → (List Reply → List ℕ) → List ℕ
+bytes_if true m [] behind = []
+bytes_if true m (r ∷ replies) behind = reply_bytes m r ++ behind replies
+bytes_if false m replies behind = reply_bytes m (status OutOfMemory) ++ behind replies
+
+-- the bytes of these replies to the messages that were served, and of the refusals of the others
+abbrev pub replies_bytes : List Answered → List Reply → List ℕ
 replies_bytes [] replies = []
-replies_bytes (m ∷ ms) [] = []
-replies_bytes (m ∷ ms) (r ∷ replies) = reply_bytes m r ++ replies_bytes ms replies
+replies_bytes (a ∷ more) replies = bytes_if a.is_served a.message replies (replies_bytes more)
 
--- Where memory is refused to no message, the history after them and the replies to them are those of the run of their requests.
+-- The history after messages, and the replies to those that were served, are those of the run of their requests, with what stands in
+-- their documents.
 abbrev pub AnswersAreRuns : Type 0
 AnswersAreRuns =
-    (h : History) (ms : List Message) →
-    (h ++ all_writes (view first_rules h) (map served ms) ≡ (runs first_rules h (map asked ms)).0)
-    × (all_bytes (view first_rules h) (map served ms) ≡ replies_bytes ms (runs first_rules h (map asked ms)).1)
+    (h : History) (answered : List Answered) →
+    (h ++ all_writes (view first_rules h) answered ≡ (runs first_rules h (all_asked answered)).0)
+    × (all_bytes (view first_rules h) answered ≡ replies_bytes answered (runs first_rules h (all_asked answered)).1)

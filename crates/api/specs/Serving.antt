@@ -1,8 +1,9 @@
 -- What serving a connection leaves: the bytes read and written, and the store.
-use Rattle.std.specs.Prelude.{◌≡◌, ℕ, ◌≤◌, ◌⊎◌, List, [], ◌∷◌, ◌++◌, Bool, false, None, Result, IsErrOf, OnOk}
+use Rattle.std.specs.Prelude.{◌≡◌, ◌≢◌, ℕ, ◌≤◌, ◌⊎◌, List, [], ◌∷◌, ◌++◌, Bool, false, None, Result, Err, IsErrOf, OnOk}
 use Rattle.device.specs.declared.device.Device.{Ghosts}
 use Rattle.requests.specs.declared.refusal.Refusal.TheVariants.{OutOfMemory, StorageFailed}
-use Rattle.apicore.specs.Standing.{View}
+use Rattle.apicore.specs.Standing.{View, AreAdmitted}
+use Rattle.durable.specs.declared.fault.Damage.{Damage}
 use Rattle.durable.specs.declared.store.Store.{Store}
 use Rattle.durable.specs.Rules.{first_rules}
 use Rattle.durable.specs.Settled.{serves, IsLeftAt, LeavesSome}
@@ -11,7 +12,7 @@ use Rattle.httpmsg.specs.Stream.{Message, IsStream, Progress, IsCut}
 use Rattle.api.specs.declared.fault.ServeFault.{ServeFault}
 use Rattle.api.specs.declared.fault.ServeFault.TheVariants as ServeFaults
 use Rattle.api.specs.ReplyBytes.{closing_bytes, end_bytes}
-use Rattle.api.specs.Answers.{Answered, served, messages, all_writes, all_bytes, AllRefused, WhereSettled, HasApplied, HasGrown}
+use Rattle.api.specs.Answers.{Answered, messages, AreRead, all_writes, all_bytes, AllRefused, WhereSettled, HasApplied, HasGrown}
 
 -- The whole input was read and is this stream, or whatever follows what was read, the stream is this.
 abbrev pub Ends : (ended : Type 0) → (read : List ℕ) → List Message → End → Type 0
@@ -60,13 +61,14 @@ module _ {D : Type 0} {g : Ghosts D} (old new : Store D g) (v : View) (read writ
 
   -- The device failed at a message, now or before: those before it are answered, and then a refusal that closes is written, the whole
   -- of it unless the output failed. What is found of a store that was settled has the writes that were answered, and perhaps that of
-  -- the message.
+  -- the message, which was admitted too. The message was served but where the store had failed before.
   pub record HasFailed (output_old output_new : ℕ) : Type 0 where
     pub answered : List Answered
-    pub failing : Message
+    pub failing : Answered
+    pub tried : failing.is_served ≡ serves old
     pub waiting : List Message
     pub progress : Progress
-    pub stream : IsCut read (messages answered ++ failing ∷ waiting) progress
+    pub stream : IsCut read (messages answered ++ failing.message ∷ waiting) progress
     pub closing : List ℕ
     pub unwritten : List ℕ
     pub refusal : closing_bytes false StorageFailed ≡ closing ++ unwritten
@@ -74,8 +76,10 @@ module _ {D : Type 0} {g : Ghosts D} (old new : Store D g) (v : View) (read writ
     pub text : written ≡ all_bytes v answered ++ closing
     pub stopped : serves new ≡ false
     pub failed : serves old ≡ false → (new ≡ old) × AllRefused answered
-    pub left : WhereSettled old v (λ h. IsLeftAt first_rules new h (all_writes v answered) (all_writes v (answered ++ served failing ∷ [])))
-    pub moments : WhereSettled old v (λ h. LeavesSome first_rules old new h (all_writes v (answered ++ served failing ∷ [])))
+    pub specified : AreRead (answered ++ failing ∷ [])
+    pub admitted : AreAdmitted first_rules v (all_writes v (answered ++ failing ∷ []))
+    pub left : WhereSettled old v (λ h. IsLeftAt first_rules new h (all_writes v answered) (all_writes v (answered ++ failing ∷ [])))
+    pub moments : WhereSettled old v (λ h. LeavesSome first_rules old new h (all_writes v (answered ++ failing ∷ [])))
 
   -- Memory was refused to further bytes: the messages before them are answered, and then a refusal that closes is written.
   pub record HasLackedMemory : Type 0 where
@@ -114,5 +118,6 @@ pub record HasAllCauses {T : Type 0} (input_old input_new output_old output_new 
   pub read : IsErrOf result ServeFaults.Read → HasGrown input_old input_new
   pub write : IsErrOf result ServeFaults.Write → HasGrown output_old output_new
   pub device : IsErrOf result ServeFaults.Device → HasGrown device_old device_new
+  pub never_damaged : (damage : Damage) → result ≢ Err (ServeFaults.Damaged damage)
   pub failed : IsErrOf result ServeFaults.Failed → serves_old ≡ false
   pub goes_on : OnOk result (serves_new ≡ serves_old)

@@ -6,10 +6,11 @@ ghost use Rattle.requests.specs.RequestOf.{request_of};
 ghost use Rattle.apicore.specs.Standing.{View};
 ghost use Rattle.history.specs.Reply.{status};
 ghost use Rattle.device.specs.Disk.{HasFailed};
-ghost use Rattle.durable.specs.Settled.{device_of, serves, shown};
+ghost use Rattle.durable.specs.Settled.{device_of, serves};
+ghost use Rattle.durable.specs.declared.fault.Damage.{Damage as DamageData};
 ghost use Rattle.routes.specs.Asked.{asked};
 ghost use Rattle.api.specs.ReplyBytes.{allow_in};
-ghost use Rattle.api.specs.Answers.{HasReplied, HasFailedAt, Answers, Stops, HasCauses};
+ghost use Rattle.api.specs.Answers.{ShowsAt, HasReplied, HasFailedAt, Answers, Stops, HasCauses};
 
 use crate::fault::ServeFault;
 use crate::reply::{Answer, allow_in, write_found, write_storage_failed};
@@ -29,10 +30,11 @@ fn reply_to<D: Device>(
     store: &mut Store<D>,
 ) -> Result<Option<Reply>, ServeFault>
     requires { request_of request.now ≡ asked message.now }
-    ensures replied { (v : View) → shown store.old ≡ v → IfOk result (HasReplied store.old store.new v message.now) }
-    ensures stopped { (v : View) → shown store.old ≡ v → IfErr result (HasFailedAt store.old store.new v message.now) }
+    ensures replied { (v : View) → ShowsAt store.old v → IfOk result (HasReplied store.old store.new v message.now) }
+    ensures stopped { (v : View) → ShowsAt store.old v → IfErr result (HasFailedAt store.old store.new v message.now) }
     ensures never_read { result ≢ Err ServeFault.Read }
     ensures never_write { result ≢ Err ServeFault.Write }
+    ensures never_damaged { (damage : DamageData) → result ≢ Err (ServeFault.Damaged damage) }
     ensures failed { IsErrOf result ServeFault.Failed → serves store.old ≡ false }
     ensures goes_on { OnOk result (serves store.new ≡ serves store.old) }
     ensures cause { IsErrOf result ServeFault.Device → HasFailed D.disk (device_of store.old) (device_of store.new) }
@@ -54,11 +56,12 @@ fn answer_to<D: Device>(
     message: &Message,
     store: &mut Store<D>,
 ) -> Result<Answer, ServeFault>
-    ensures replied { (v : View) → shown store.old ≡ v → IfOk result (λ answer. HasReplied store.old store.new v message.now answer.reply) }
+    ensures replied { (v : View) → ShowsAt store.old v → IfOk result (λ answer. HasReplied store.old store.new v message.now answer.reply) }
     ensures allow { IfOk result (λ answer. option_map (λ methods. methods.now) answer.allow ≡ allow_in message.now (unwrap_or answer.reply (status OutOfMemory))) }
-    ensures stopped { (v : View) → shown store.old ≡ v → IfErr result (HasFailedAt store.old store.new v message.now) }
+    ensures stopped { (v : View) → ShowsAt store.old v → IfErr result (HasFailedAt store.old store.new v message.now) }
     ensures never_read { result ≢ Err ServeFault.Read }
     ensures never_write { result ≢ Err ServeFault.Write }
+    ensures never_damaged { (damage : DamageData) → result ≢ Err (ServeFault.Damaged damage) }
     ensures failed { IsErrOf result ServeFault.Failed → serves store.old ≡ false }
     ensures goes_on { OnOk result (serves store.new ≡ serves store.old) }
     ensures cause { IsErrOf result ServeFault.Device → HasFailed D.disk (device_of store.old) (device_of store.new) }
@@ -91,7 +94,7 @@ fn answer<O: Output, D: Device>(
     sheet: &mut Sheet,
     store: &mut Store<D>,
 ) -> Result<(), ServeFault>
-    ensures outcome { (v : View) → shown store.old ≡ v → MatchResult result
+    ensures outcome { (v : View) → ShowsAt store.old v → MatchResult result
         (λ _. Answers O.took output.old output.new store.old store.new v (message.now ∷ []) [])
         (Stops O.took O.failures output.old output.new store.old store.new v (message.now ∷ [])) }
     ensures causes { HasCauses (O.failures output.old) (O.failures output.new) (D.disk.failures (device_of store.old))
@@ -119,7 +122,7 @@ pub(crate) fn answer_all<O: Output, D: Device>(
     sheet: &mut Sheet,
     store: &mut Store<D>,
 ) -> Result<(), ServeFault>
-    ensures outcome { (v : View) → shown store.old ≡ v → MatchResult result
+    ensures outcome { (v : View) → ShowsAt store.old v → MatchResult result
         (λ _. Answers O.took output.old output.new store.old store.new v messages.now [])
         (Stops O.took O.failures output.old output.new store.old store.new v messages.now) }
     ensures causes { HasCauses (O.failures output.old) (O.failures output.new) (D.disk.failures (device_of store.old))

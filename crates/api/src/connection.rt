@@ -2,9 +2,9 @@
 
 ghost use Rattle.std.specs.Prelude.{◌≡◌, ◌≢◌, ◌<◌, ◌⊎◌, [], length, false, None, IfOk, IsErrOf, MatchResult};
 ghost use Rattle.apicore.specs.Standing.{View};
-ghost use Rattle.durable.specs.Settled.{device_of, serves, shown};
+ghost use Rattle.durable.specs.Settled.{device_of, serves};
 ghost use Rattle.durable.specs.declared.fault.Damage.{Damage as DamageData};
-ghost use Rattle.api.specs.Answers.{HasGrown};
+ghost use Rattle.api.specs.Answers.{ShowsAt, HasGrown};
 ghost use Rattle.api.specs.Serving.{HasEnded, HasReadSome, HasWrittenSome, HasFailed, HasLackedMemory, HasStopped, HasAllCauses, Exchanged};
 
 use crate::fault::ServeFault;
@@ -35,7 +35,7 @@ fn serve_pieces<I: Input, O: Output, D: Device>(
 ) -> Result<End, ServeFault>
     requires fresh { connection.cutter ≡ record { pending = []; end = None } }
     requires buffer { 0 < length buffer.old }
-    ensures outcome { (v : View) → shown store.old ≡ v → MatchResult result
+    ensures outcome { (v : View) → ShowsAt store.old v → MatchResult result
         (λ end. Exchanged I.gave O.took input.old input.new output.old output.new
         (λ read written. HasEnded store.old store.new v read written (I.has_ended input.new) end))
         (λ fault. Exchanged I.gave O.took input.old input.new output.old output.new
@@ -73,20 +73,20 @@ pub fn serve<I: Input, O: Output, D: Device>(
     output: &mut O,
     store: &mut Store<D>,
 ) -> Result<End, ServeFault>
-    ensures ended { (v : View) → shown store.old ≡ v → IfOk result (λ end. Exchanged I.gave O.took input.old input.new output.old output.new
+    ensures ended { (v : View) → ShowsAt store.old v → IfOk result (λ end. Exchanged I.gave O.took input.old input.new output.old output.new
         (λ read written. HasEnded store.old store.new v read written (I.has_ended input.new) end)) }
-    ensures read { (v : View) → shown store.old ≡ v → IsErrOf result ServeFault.Read
+    ensures read { (v : View) → ShowsAt store.old v → IsErrOf result ServeFault.Read
         → Exchanged I.gave O.took input.old input.new output.old output.new (HasReadSome store.old store.new v) }
-    ensures write { (v : View) → shown store.old ≡ v → IsErrOf result ServeFault.Write
+    ensures write { (v : View) → ShowsAt store.old v → IsErrOf result ServeFault.Write
         → Exchanged I.gave O.took input.old input.new output.old output.new (HasWrittenSome store.old store.new v) }
 
     // Also of a store that had failed.
-    ensures device { (v : View) → shown store.old ≡ v → IsErrOf result ServeFault.Device ⊎ IsErrOf result ServeFault.Failed
+    ensures device { (v : View) → ShowsAt store.old v → IsErrOf result ServeFault.Device ⊎ IsErrOf result ServeFault.Failed
         → Exchanged I.gave O.took input.old input.new output.old output.new
         (λ read written. HasFailed store.old store.new v read written (O.failures output.old) (O.failures output.new)) }
 
     // Nothing was read, written or changed, or memory was refused to further bytes.
-    ensures memory { (v : View) → shown store.old ≡ v → IsErrOf result ServeFault.Memory
+    ensures memory { (v : View) → ShowsAt store.old v → IsErrOf result ServeFault.Memory
         → ((input.new ≡ input.old) × (output.new ≡ output.old) × (store.new ≡ store.old))
         ⊎ Exchanged I.gave O.took input.old input.new output.old output.new (HasLackedMemory store.old store.new v) }
 

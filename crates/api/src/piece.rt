@@ -3,12 +3,12 @@
 ghost use Rattle.std.specs.Prelude.{◌≡◌, ◌≢◌, ◌<◌, ◌≤◌, ◌⊎◌, ℕ, List, [], length, take, false, Some, None, IfOk, IfErr, IsErrOf, MatchResult};
 ghost use Rattle.requests.specs.declared.refusal.Refusal.TheVariants as refusal;
 ghost use Rattle.apicore.specs.Standing.{View};
-ghost use Rattle.durable.specs.Settled.{device_of, serves, shown};
+ghost use Rattle.durable.specs.Settled.{device_of, serves};
 ghost use Rattle.httpmsg.specs.declared.head.BrokenMessage.{BrokenMessage as BrokenData};
 ghost use Rattle.httpmsg.specs.Flow.{TookSome};
 ghost use Rattle.httpmsg.specs.Stream.{Message as MessageData, IsCut};
 ghost use Rattle.httpmsg.specs.declared.head.End.{End as EndData};
-ghost use Rattle.api.specs.Answers.{HasCauses, HasGrown};
+ghost use Rattle.api.specs.Answers.{ShowsAt, HasCauses, HasGrown};
 ghost use Rattle.api.specs.ReplyBytes.{closing_bytes, end_bytes};
 ghost use Rattle.api.specs.Serving.{HasAllCauses};
 ghost use Rattle.api.specs.Piece.{Tells, Breaks, Steps, StepsWrong, Finishes, FinishesInPart};
@@ -64,7 +64,7 @@ impl Connection {
         output: &mut O,
         store: &mut Store<D>,
     ) -> Result<Told, ServeFault>
-        ensures outcome { (v : View) (read : List ℕ) (ms : List MessageData) → shown store.old ≡ v → IsCut read ms self.old.cutter
+        ensures outcome { (v : View) (read : List ℕ) (ms : List MessageData) → ShowsAt store.old v → IsCut read ms self.old.cutter
             → MatchResult result
             (Tells O.took O.failures output.old output.new store.old store.new v read ms self.old.cutter piece.now self.new.cutter)
             (Breaks O.took O.failures output.old output.new store.old store.new v read ms self.old.cutter piece.now self.new.cutter) }
@@ -173,7 +173,7 @@ pub(crate) fn next_step<I: Input, O: Output, D: Device>(
 ) -> Result<Step, ServeFault>
     requires count { count ≤ length buffer.old }
     requires room { 0 < length buffer.old }
-    ensures outcome { (v : View) (read : List ℕ) (ms : List MessageData) → shown store.old ≡ v → IsCut read ms connection.old.cutter
+    ensures outcome { (v : View) (read : List ℕ) (ms : List MessageData) → ShowsAt store.old v → IsCut read ms connection.old.cutter
         → MatchResult result
         (Steps I.gave O.took O.failures input.old input.new output.old output.new store.old store.new v read ms connection.old.cutter (take count buffer.old) connection.new.cutter
         buffer.new (I.has_ended input.new))

@@ -13,7 +13,7 @@ pub returns-in-Ok-write_found-clause-outcome : goal.returns-in-Ok-write_found-cl
 returns-in-Ok-write_found-clause-outcome g c v shows =
     let m = c.args.message.now in
     let found = c.in-Ok.ensures.replied v shows in
-    let a = answered_by m c.in-Ok.answer.reply in
+    let a = answered_by m found.specification c.in-Ok.answer.reply in
     let code = subst (λ (r : Reply). IsStatusCode r.code) (sym found.reply) (reply_code v a) in
     answers_one g.O.Output.took c.args.output.now c.write_found.new.output c.args.store.now c.answer_to.new.store v a
     (subst (λ (r : Reply). g.O.Output.took c.args.output.now c.write_found.new.output (reply_bytes m r)) found.reply
@@ -24,7 +24,7 @@ pub returns-in-Ok-clause-outcome : goal.returns-in-Ok-clause-outcome
 returns-in-Ok-clause-outcome g c v shows =
     let m = c.args.message.now in
     let found = c.in-Ok.ensures.replied v shows in
-    let a = answered_by m c.in-Ok.answer.reply in
+    let a = answered_by m found.specification c.in-Ok.answer.reply in
     let code = subst (λ (r : Reply). IsStatusCode r.code) (sym found.reply) (reply_code v a) in
     writes_some_one g.O.Output.took c.args.output.now c.write_found.new.output c.args.store.now c.answer_to.new.store v a
     (subst (λ (r : Reply). TookSome g.O.Output.took c.args.output.now c.write_found.new.output (reply_bytes m r)) found.reply

@@ -21,5 +21,4 @@ pub returns-clause-memory : goal.returns-clause-memory
 returns-clause-memory g c v shows is = inr (at_error c.serve_pieces.result _ _ Memory (c.serve_pieces.ensures.outcome v shows) is)
 
 pub returns-clause-never_damaged : goal.returns-clause-never_damaged
-returns-clause-never_damaged g c damage is =
-    (at_error c.serve_pieces.result _ _ (Damaged damage) (c.serve_pieces.ensures.outcome _ refl) is).holds
+returns-clause-never_damaged g c damage is = c.serve_pieces.ensures.causes.never_damaged damage is

@@ -1,12 +1,13 @@
 use Rattle.std.proofs.Common.{◌≡◌, ◌≤◌, ◌<◌, length, take}
 use Rattle.apicore.specs.Standing.{View}
-use Rattle.durable.specs.Settled.{device_of, serves, shown}
+use Rattle.durable.specs.Settled.{device_of, serves}
+use Rattle.api.specs.Answers.{ShowsAt}
 use Rattle.api.proofs.Runs.{SoFar}
 use Rattle.api.proofs.connection.serve_pieces.Given as goal
 
 abbrev pub invariant-loop : goal.invariant-loop
 invariant-loop g l =
-    ((v : View) → shown l.fn.store ≡ v
+    ((v : View) → ShowsAt l.fn.store v
     → SoFar g.I.Input.gave g.O.Output.took l.fn.input l.input l.fn.output l.output l.fn.store l.store v l.connection.cutter (take l.count l.buffer))
     × (l.count ≤ length l.buffer)
     × (0 < length l.buffer)

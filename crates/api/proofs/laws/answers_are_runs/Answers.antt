@@ -1,29 +1,45 @@
-use Rattle.std.proofs.Common.{◌≡◌, List, [], ◌∷◌, ◌++◌, map, refl, ap, sym, ◌∙◌, append_assoc}
+use Rattle.std.proofs.Common.{◌≡◌, Bool, true, false, List, [], ◌∷◌, ◌++◌, refl, ap}
+use Rattle.celtree.specs.Tree.{Expr}
+use Rattle.requests.specs.declared.refusal.Refusal.TheVariants.{OutOfMemory}
+use Rattle.specification.specs.Specification.{Specification}
 use Rattle.apicore.specs.Standing.{Write, View}
-use Rattle.apicore.specs.Step.{writes, reply}
+use Rattle.apicore.specs.Step.{Asked, writes, reply, accepted, replies}
+use Rattle.history.specs.Reply.{status}
 use Rattle.history.specs.View.{view, after_all}
-use Rattle.apicore.proofs.StepLemmas.{runs_are_steps}
-use Rattle.durable.proofs.Answering.{view-after}
 use Rattle.durable.specs.Rules.{first_rules}
-use Rattle.routes.specs.Asked.{asked}
+use Rattle.httpmsg.specs.Stream.{Message}
 use Rattle.api.specs.ReplyBytes.{reply_bytes}
-use Rattle.api.specs.Answers.{served, all_writes, all_bytes}
-use Rattle.api.specs.Laws.{replies_bytes, AnswersAreRuns}
+use Rattle.api.specs.Answers.{Answered, asked_of, all_writes, all_bytes}
+use Rattle.api.specs.Laws.{all_asked, replies_bytes, AnswersAreRuns}
 use Rattle.api.proofs.laws.answers_are_runs.Goals as goal
 
-runs_of : AnswersAreRuns
-runs_of h [] = (refl, refl)
-runs_of h (m ∷ ms) =
-    let v : View = view first_rules h in
-    let w : List Write = writes first_rules v (asked m) in
-    let same : after_all first_rules v w ≡ view first_rules (h ++ w) = view-after h w in
-    let rest = runs_of (h ++ w) ms in
-    let one = runs_are_steps first_rules h (asked m) (map asked ms) in (
-      sym (append_assoc h w (all_writes (after_all first_rules v w) (map served ms)))
-          ∙ ap (λ x. (h ++ w) ++ all_writes x (map served ms)) same ∙ rest.0 ∙ sym one.0,
-      ap (λ b. reply_bytes m (reply first_rules v (asked m)) ++ b) (ap (λ x. all_bytes x (map served ms)) same ∙ rest.1)
-          ∙ ap (replies_bytes (m ∷ ms)) (sym one.1),
-    )
+-- at any view
+writes_one : (v : View) (m : Message) (s : Specification Expr) (b : Bool) (more : List Answered)
+    → ((u : View) → all_writes u more ≡ accepted first_rules u (all_asked more))
+    → all_writes v (record { message = m; specification = s; is_served = b } ∷ more)
+    ≡ accepted first_rules v (all_asked (record { message = m; specification = s; is_served = b } ∷ more))
+writes_one v m s true more same =
+    let w : List Write = writes first_rules v (asked_of (record { message = m; specification = s; is_served = true })) in
+    ap (λ x. w ++ x) (same (after_all first_rules v w))
+writes_one v m s false more same = same v
+
+writes_are : (v : View) (answered : List Answered) → all_writes v answered ≡ accepted first_rules v (all_asked answered)
+writes_are v [] = refl
+writes_are v (a ∷ more) = writes_one v a.message a.specification a.is_served more (λ u. writes_are u more)
+
+bytes_one : (v : View) (m : Message) (s : Specification Expr) (b : Bool) (more : List Answered)
+    → ((u : View) → all_bytes u more ≡ replies_bytes more (replies first_rules u (all_asked more)))
+    → all_bytes v (record { message = m; specification = s; is_served = b } ∷ more)
+    ≡ replies_bytes (record { message = m; specification = s; is_served = b } ∷ more)
+    (replies first_rules v (all_asked (record { message = m; specification = s; is_served = b } ∷ more)))
+bytes_one v m s true more same =
+    let a : Asked = asked_of (record { message = m; specification = s; is_served = true }) in
+    ap (λ x. reply_bytes m (reply first_rules v a) ++ x) (same (after_all first_rules v (writes first_rules v a)))
+bytes_one v m s false more same = ap (λ x. reply_bytes m (status OutOfMemory) ++ x) (same v)
+
+bytes_are : (v : View) (answered : List Answered) → all_bytes v answered ≡ replies_bytes answered (replies first_rules v (all_asked answered))
+bytes_are v [] = refl
+bytes_are v (a ∷ more) = bytes_one v a.message a.specification a.is_served more (λ u. bytes_are u more)
 
 pub returns : goal.returns
-returns c = runs_of
+returns c h answered = (ap (λ ws. h ++ ws) (writes_are (view first_rules h) answered), bytes_are (view first_rules h) answered)
