@@ -122,16 +122,28 @@ impl Bench {
         short(alloc, answer.as_str())
     }
 
-    // `times N METHOD ..`: so many connections, each with this message, in which `%` stands for its number; the last reply.
+    // One of `times`: the reply to a message that is accepted, or `ok` where a write of a log is taken again.
+    fn one_of(&mut self, alloc: Global, question: &str) -> Result<String, Wrong> {
+        let (word, rest) = first_word(question);
+        if word == "replay" {
+            let taken = of_the_place(alloc, &mut self.place, word, rest)?;
+            wanted(taken.as_str() == "ok", "one of them is not allowed")?;
+            return Ok(taken);
+        }
+        let reply = self.request(alloc, question)?;
+        wanted(reply.starts_with("20"), "one of them is refused")?;
+        Ok(reply)
+    }
+
+    // `times N METHOD ..`, `times N replay ..`: so many of these, in which `%` stands for their number; the last answer.
     fn times(&mut self, alloc: Global, rest: &str) -> Result<String, Wrong> {
         let (count, question) = first_word(rest);
-        let mut reply = String::new(alloc);
+        let mut answer = String::new(alloc);
         for number in 1..=number(count)? {
             let question = question.replace(alloc, "%", shown(alloc, &number)?.as_str())?;
-            reply = self.request(alloc, question.as_str())?;
-            wanted(reply.starts_with("20"), "one of them is refused")?;
+            answer = self.one_of(alloc, question.as_str())?;
         }
-        Ok(reply)
+        Ok(answer)
     }
 
     // `lines METHOD ..`: the code of the reply, and the number of line feeds in its body.

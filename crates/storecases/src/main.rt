@@ -20,8 +20,8 @@ mod view;
 use crate::bench::Bench;
 use api::answers_are_runs;
 use apicore::{
-    events_are_last, key_has_last_write, objects_ascend, revision_counts, runs_are_steps,
-    view_decides, writes_follow,
+    accepted_are_admitted, events_are_last, histories_show, key_has_last_write, objects_ascend,
+    revision_counts, runs_are_steps, view_decides, writes_follow,
 };
 use cases::run_files;
 use std::process::ExitCode;
@@ -31,10 +31,13 @@ fn main(rt: HostRuntime) -> ExitCode {
     key_has_last_write();
     events_are_last();
     objects_ascend();
+    histories_show();
     writes_follow();
+    accepted_are_admitted();
     runs_are_steps();
     view_decides();
     durable::one_view();
+    durable::one_history();
     recovery::one_history();
     records::payload_has_one_write();
     answers_are_runs();

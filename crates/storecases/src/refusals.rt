@@ -8,7 +8,7 @@ use httpmsg::MessageFault;
 use requests::Refusal;
 use std::alloc::Global;
 
-const REFUSALS: [(&str, Refusal); 31] = [
+const REFUSALS: [(&str, Refusal); 32] = [
     ("MalformedRequest", Refusal::MalformedRequest),
     ("UnservedVersion", Refusal::UnservedVersion),
     ("TooManyFields", Refusal::TooManyFields),
@@ -35,6 +35,7 @@ const REFUSALS: [(&str, Refusal); 31] = [
     ("AlreadyExists", Refusal::AlreadyExists),
     ("NotFound", Refusal::NotFound),
     ("VersionNotCurrent", Refusal::VersionNotCurrent),
+    ("BadSpec", Refusal::BadSpec),
     ("ObjectTooLarge", Refusal::ObjectTooLarge),
     ("TooManyObjects", Refusal::TooManyObjects),
     ("RevisionExhausted", Refusal::RevisionExhausted),

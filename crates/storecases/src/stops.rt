@@ -11,7 +11,8 @@ use std::alloc::Global;
 
 const ROOM_SECTORS: u64 = 24;
 
-const LIST: &str = "GET /api/v1/configmaps HTTP/1.1\r\nHost: x\r\n\r\n";
+const LIST: &str =
+    "GET /api/v1/configmaps HTTP/1.1\r\nHost: x\r\n\r\nGET /apis/admissionregistration.k8s.io/v1/validatingadmissionpolicies HTTP/1.1\r\nHost: x\r\n\r\n";
 
 // What the two sectors that one sync leaves open become: both alike, or one of them as it was.
 const PICKS: [[Pick; 2]; 10] = [
@@ -49,7 +50,7 @@ fn told(alloc: Global, store: &mut Store<MemDevice>, writes: &[String]) -> Resul
     Ok(run(alloc, store, &requests)?.saturating_add(1))
 }
 
-// The list of all objects, with their contents and revisions, as it is shown.
+// The lists of the configmaps and of the policies, with their contents and revisions, as they are shown.
 fn listed(alloc: Global, place: &mut Place) -> Result<String, Wrong> {
     let list = place.serve(alloc, LIST)?;
     wanted(is_taken(list.as_str()), "the list is refused")?;

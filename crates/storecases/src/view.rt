@@ -10,6 +10,7 @@ use history::{PreparedWrite, Put, ReplayFault};
 use http::StatusCode;
 use httpmsg::{Cutter, Message, Response, Std};
 use names::{Format, Key, Rules};
+use plancode::Verified;
 use requests::Request;
 use routes::{Routes, route};
 use std::alloc::Global;
@@ -63,7 +64,7 @@ fn push_key(line: &mut TextBuilder, key: &Key) {
 }
 
 // A put: its key and its text, which is that of its document.
-fn push_put(alloc: Global, line: &mut TextBuilder, put: &Put<()>) -> Result<(), Wrong> {
+fn push_put(alloc: Global, line: &mut TextBuilder, put: &Put<Vec<Verified>>) -> Result<(), Wrong> {
     line.push("put");
     push_key(line, put.key());
     line.word(put.text());
@@ -78,7 +79,7 @@ fn taken_again(
     request: Request,
 ) -> Result<Result<(), ReplayFault>, Wrong> {
     match request {
-        Request::Replace(manifest) => Ok(core.replay_put(alloc, manifest, ())),
+        Request::Replace(manifest) => Ok(core.replay_put(alloc, manifest, Vec::new(alloc))),
         Request::Delete(key, None) => Ok(core.replay_delete(alloc, &key)),
         _ => Err(Wrong::Told("a put or a deletion is taken again")),
     }
