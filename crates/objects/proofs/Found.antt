@@ -48,7 +48,7 @@ module _ {X : Type 0} where
       let parts = and_parts (is_lt (key_cmp key entry.0)) (below_all key_cmp key entries) h in
       (less_from_test (key_cmp key entry.0) parts.0, AllAbove-from_test key entries parts.1)
 
-  AllAbove-at : (key : Key) (entries : List (Key × X)) (i : ℕ) (d : Key × X) → i < length entries → AllAbove key entries → key_cmp key (get_or entries i d).0 ≡ Less
+  pub AllAbove-at : (key : Key) (entries : List (Key × X)) (i : ℕ) (d : Key × X) → i < length entries → AllAbove key entries → key_cmp key (get_or entries i d).0 ≡ Less
   AllAbove-at key [] i d l h = absurd (omega arith)
   AllAbove-at key (entry ∷ entries) zero d l h = h.0
   AllAbove-at key (entry ∷ entries) (suc i) d l h = AllAbove-at key entries i d (omega arith) h.1
@@ -62,10 +62,10 @@ module _ {X : Type 0} where
   AllAbove-from_reads key (entry ∷ entries) h =
       (less_from_greater entry.0 key (h 0 entry (omega arith)), AllAbove-from_reads key entries (λ j d l. h (suc j) d (omega arith)))
 
-  first_above : (entry : Key × X) (entries : List (Key × X)) → is_sorted key_cmp (entry ∷ entries) ≡ true → AllAbove entry.0 entries
+  pub first_above : (entry : Key × X) (entries : List (Key × X)) → is_sorted key_cmp (entry ∷ entries) ≡ true → AllAbove entry.0 entries
   first_above entry entries h = AllAbove-from_test entry.0 entries (and_parts (below_all key_cmp entry.0 entries) (is_sorted key_cmp entries) h).0
 
-  rest_sorted : (entry : Key × X) (entries : List (Key × X)) → is_sorted key_cmp (entry ∷ entries) ≡ true → is_sorted key_cmp entries ≡ true
+  pub rest_sorted : (entry : Key × X) (entries : List (Key × X)) → is_sorted key_cmp (entry ∷ entries) ≡ true → is_sorted key_cmp entries ≡ true
   rest_sorted entry entries h = (and_parts (below_all key_cmp entry.0 entries) (is_sorted key_cmp entries) h).1
 
   -- an entry whose key ties with the key is the key's

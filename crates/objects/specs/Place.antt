@@ -1,8 +1,11 @@
 -- Where a key stands among ascending entries, or would stand.
-use Rattle.std.specs.Prelude.{◌≡◌, ℕ, List, ◌∷◌, ◌++◌, length}
+use Rattle.std.specs.Prelude.{◌≡◌, ℕ, ◌<◌, ◌≤◌, List, ◌∷◌, ◌++◌, length}
 use Rattle.std.specs.List.{AllByRecursion}
+use Rattle.std.specs.List.Sorted.{IsPartitionPoint}
 use Rattle.std.specs.declared.cmp.Ordering.TheVariants.{Less, Greater}
+use Rattle.names.specs.declared.resource.Resource.{Resource}
 use Rattle.names.specs.Key.{Key, key_cmp}
+use Rattle.names.specs.Resource.{row}
 
 module _ {X : Type 0} where
   -- all keys are below this one
@@ -31,3 +34,13 @@ pub record IsGap {X : Type 0} (entries : List (Key × X)) (key : Key) (place : �
   pub length_front : length front ≡ place
   pub below : AllBelow key front
   pub above : AllAbove key back
+
+-- the entries before this place are of resources before this one, those from it on are not
+abbrev pub IsBefore : {X : Type 0} → List (Key × X) → Resource → ℕ → Type 0
+IsBefore entries resource place =
+    IsPartitionPoint (λ entry. (row entry.0.resource).number < (row resource).number) (λ entry. (row resource).number ≤ (row entry.0.resource).number) entries place
+
+-- the entries before this place are of this resource or of those before, those from it on are not
+abbrev pub IsUpTo : {X : Type 0} → List (Key × X) → Resource → ℕ → Type 0
+IsUpTo entries resource place =
+    IsPartitionPoint (λ entry. (row entry.0.resource).number ≤ (row resource).number) (λ entry. (row resource).number < (row entry.0.resource).number) entries place

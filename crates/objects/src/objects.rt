@@ -23,6 +23,23 @@ fn is_key_of(key: &Key, resource: Resource, namespace: Option<&str>) -> bool
     }
 }
 
+// Those of the entries that are of this resource, and in this namespace if one is given.
+fn only_of<'a, T>(
+    alloc: Global,
+    entries: &'a [Entry<T>],
+    resource: Resource,
+    namespace: Option<&str>,
+) -> Result<Vec<&'a Entry<T>>, AllocError>
+    ensures { let text = option_map (λ text. text.now) namespace.entry in
+        IfOk result (λ listed. map (λ entry. entry.now) listed.items
+        ≡ filter (λ entry. is_of resource text entry.0) entries.now) }
+{
+    entries
+        .iter()
+        .filter(|entry| is_key_of(entry.key(), resource, namespace))
+        .collect(alloc)
+}
+
 /// What is stored, by key.
 #[derive(Drop)]
 pub struct Objects<T> {
@@ -47,7 +64,7 @@ impl<T> Model for Objects<T> {
 }
 
 impl<T> Objects<T> {
-    ghost use Rattle.objects.specs.Place.{StandsAt, IsGap};
+    ghost use Rattle.objects.specs.Place.{StandsAt, IsGap, IsBefore, IsUpTo};
 
     /// No objects. Takes no memory.
     pub fn new(alloc: Global) -> Objects<T>
@@ -130,7 +147,8 @@ impl<T> Objects<T> {
         }
     }
 
-    /// The entries of a resource, in one namespace or in all, ascending by key.
+    /// The entries of a resource, in one namespace or in all, ascending by key. They stand beside one
+    /// another: what is stored of other resources is not looked at, but for a search.
     pub fn list(
         &self,
         alloc: Global,
@@ -141,10 +159,34 @@ impl<T> Objects<T> {
             IfOk result (λ listed. map (λ entry. entry.now) listed.items
             ≡ filter (λ entry. is_of resource text entry.0) self.now.entries) }
     {
+        only_of(alloc, self.entries_of(resource), resource, namespace)
+    }
+
+    // The entries of a resource.
+    fn entries_of(&self, resource: Resource) -> &[Entry<T>]
+        ensures { result.now ≡ filter (λ entry. is_of resource None entry.0) self.now.entries }
+    {
+        &self.entries[self.count_before(resource)..self.count_up_to(resource)]
+    }
+
+    // How many entries are of resources before this one.
+    fn count_before(&self, resource: Resource) -> usize
+        ensures bound { result ≤ length self.now.entries }
+        ensures place { IsBefore self.now.entries resource result }
+    {
+        let number = resource.number();
         self.entries
-            .iter()
-            .filter(|entry| is_key_of(entry.key(), resource, namespace))
-            .collect(alloc)
+            .partition_point(|entry| entry.key().resource().number() < number)
+    }
+
+    // How many entries are of this resource, or of those before.
+    fn count_up_to(&self, resource: Resource) -> usize
+        ensures bound { result ≤ length self.now.entries }
+        ensures place { IsUpTo self.now.entries resource result }
+    {
+        let number = resource.number();
+        self.entries
+            .partition_point(|entry| entry.key().resource().number() <= number)
     }
 
     // Where the key stands, or would stand.
