@@ -1,7 +1,6 @@
-//! What a case stands on: a store on a device in memory, its device alone, or a view without one. The calls of a store stand here.
+//! What a case stands on: a store on a device in memory, or its device alone. The calls of a store stand here.
 
-use crate::replies::with_end;
-use crate::view::View;
+use crate::endings::with_end;
 use api::{ServeFault, serve};
 use cases::{Wrong, shown, text, wanted, yes_or_no};
 use device::{MemDevice, Pick};
@@ -17,8 +16,6 @@ pub enum Place {
     Open(Store<MemDevice>),
     /// The device of one that is not.
     Shut(MemDevice),
-    /// A view without a device.
-    View(View),
     /// Nothing, where a line failed.
     Nothing,
 }
@@ -88,10 +85,7 @@ impl Place {
 
     /// Serves a connection, and gives what was written, with its end behind it.
     pub fn serve(&mut self, alloc: Global, sent: &str) -> Result<String, Wrong> {
-        match self {
-            Place::View(view) => view.serve(alloc, sent),
-            _ => served(alloc, self.store()?, &mut Std::new(sent.as_bytes())),
-        }
+        served(alloc, self.store()?, &mut Std::new(sent.as_bytes()))
     }
 
     // The device, which is taken away.
@@ -99,7 +93,7 @@ impl Place {
         match std::mem::replace(self, Place::Nothing) {
             Place::Open(store) => Ok(store.into_device()),
             Place::Shut(device) => Ok(device),
-            _ => Err(Wrong::Told("there is no device")),
+            Place::Nothing => Err(Wrong::Told("there is no device")),
         }
     }
 

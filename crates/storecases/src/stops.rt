@@ -1,10 +1,10 @@
 //! Writes that are stopped at a call of the device, and the crash that follows.
 
 use crate::place::{Place, created, opened, run, served};
-use crate::view::first_request;
 use cases::{WordReader, Wrong, shown, wanted};
 use device::{MemDevice, Pick};
 use durable::Store;
+use exchanges::first_request;
 use httpmsg::Std;
 use routes::Routes;
 use std::alloc::Global;

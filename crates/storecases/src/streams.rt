@@ -1,8 +1,9 @@
 //! Streams that are read in parts, and readers and writers that fail, each on a new store.
 
+use crate::endings::with_end;
 use crate::place::{Place, serve_on, served};
-use crate::replies::{short, with_end};
 use cases::{TextBuilder, WordReader, Wrong, compare, text};
+use exchanges::short;
 use httpmsg::Std;
 use std::alloc::Global;
 use std::io;

@@ -3,12 +3,13 @@
 ghost use Rattle.std.specs.Prelude.{IfOk};
 ghost use Rattle.history.specs.Prepared.{AreReady};
 
-use crate::replies::message;
+use crate::refusals::status;
 use apicore::{Core, Prepared, prepare};
 use cases::{TextBuilder, WordReader, Wrong, text, wanted};
+use exchanges::{Service, first_request, message, messages};
 use history::{PreparedWrite, Put, ReplayFault};
 use http::StatusCode;
-use httpmsg::{Cutter, Message, Response, Std};
+use httpmsg::{Message, Response, Std};
 use names::{Format, Key, Rules};
 use plancode::Verified;
 use requests::Request;
@@ -37,23 +38,6 @@ fn rules_of(line: &str) -> Result<Rules, Wrong> {
     };
     words.end()?;
     Ok(rules)
-}
-
-/// The messages of a stream that ends between two of them.
-pub fn messages(alloc: Global, sent: &str) -> Result<Vec<Message>, Wrong> {
-    let mut cutter = Cutter::new(alloc)?;
-    match cutter.feed(alloc, sent.as_bytes()) {
-        Ok(messages) if cutter.finish().is_ok() => Ok(messages),
-        _ => Err(Wrong::Told("the stream has a fault")),
-    }
-}
-
-/// What the first message of a stream asks for.
-pub fn first_request(alloc: Global, routes: &Routes, sent: &str) -> Result<Request, Wrong> {
-    match messages(alloc, sent)?.first() {
-        Some(message) => Ok(route(alloc, routes, message)?.request),
-        None => Err(Wrong::Told("there is no message")),
-    }
 }
 
 fn push_key(line: &mut TextBuilder, key: &Key) {
@@ -85,9 +69,41 @@ fn taken_again(
     }
 }
 
+impl Service for View {
+    fn new(alloc: Global) -> Result<View, Wrong> {
+        View::with_limits(alloc, "")
+    }
+
+    fn serve(&mut self, alloc: Global, sent: &str) -> Result<String, Wrong> {
+        let mut output = Std::new(Vec::new(alloc));
+        for message in messages(alloc, sent)?.iter() {
+            self.reply(alloc, message, &mut output)?;
+        }
+        let mut line = TextBuilder::new(alloc);
+        line.push(str::from_utf8(&output.into_inner()).unwrap_or("no text"));
+        line.push("ends clean");
+        line.end()
+    }
+
+    fn answer(&mut self, alloc: Global, word: &str, rest: &str) -> Result<String, Wrong> {
+        match word {
+            "view" => {
+                *self = View::with_limits(alloc, rest)?;
+                text(alloc, "ok")
+            }
+            "prepare" => self.prepare(alloc, rest),
+            "replay" => self.replay(alloc, rest),
+            "counts" => self.counts(alloc),
+            "rules" => self.rules(alloc),
+            "status" => status(alloc, rest),
+            _ => Err(Wrong::Told("no such line on a view")),
+        }
+    }
+}
+
 impl View {
-    /// An empty view: `view [EVENTS TEXT BODY OBJECTS REVISION]`.
-    pub fn new(alloc: Global, line: &str) -> Result<View, Wrong> {
+    // An empty view: `view [EVENTS TEXT BODY OBJECTS REVISION]`.
+    fn with_limits(alloc: Global, line: &str) -> Result<View, Wrong> {
         Ok(View {
             core: Core::new(alloc, rules_of(line)?)?,
             routes: Routes::new(alloc)?,
@@ -125,29 +141,6 @@ impl View {
             response.write(output).is_ok(),
             "a reply could not be written",
         )
-    }
-
-    /// Answers a connection, and gives what is written, with its end behind it.
-    pub fn serve(&mut self, alloc: Global, sent: &str) -> Result<String, Wrong> {
-        let mut output = Std::new(Vec::new(alloc));
-        for message in messages(alloc, sent)?.iter() {
-            self.reply(alloc, message, &mut output)?;
-        }
-        let mut line = TextBuilder::new(alloc);
-        line.push(str::from_utf8(&output.into_inner()).unwrap_or("no text"));
-        line.push("ends clean");
-        line.end()
-    }
-
-    /// Answers a question on the view.
-    pub fn answer(&mut self, alloc: Global, word: &str, rest: &str) -> Result<String, Wrong> {
-        match word {
-            "prepare" => self.prepare(alloc, rest),
-            "replay" => self.replay(alloc, rest),
-            "counts" => self.counts(alloc),
-            "rules" => self.rules(alloc),
-            _ => Err(Wrong::Told("no such line on a view")),
-        }
     }
 
     // `prepare METHOD TARGET [BODY]`: the write that the message prepares, which is not taken.

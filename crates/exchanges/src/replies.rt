@@ -1,9 +1,6 @@
 //! Messages and replies, as lines have them.
 
-use crate::refusals::fault_word;
-use api::ServeFault;
 use cases::{TextBuilder, WordReader, Wrong, text};
-use httpmsg::End;
 use std::alloc::Global;
 
 /// The bytes of `METHOD TARGET [BODY]`, with one `Host`, and with the length of the body where there is one.
@@ -21,39 +18,6 @@ pub fn message(alloc: Global, text: &str) -> Result<String, Wrong> {
     }
     line.push("\r\n");
     line.push(body);
-    line.end()
-}
-
-fn serving_word(fault: ServeFault) -> &'static str {
-    match fault {
-        ServeFault::Read => "read",
-        ServeFault::Write => "write",
-        ServeFault::Device => "device",
-        ServeFault::Memory => "memory",
-        ServeFault::Damaged(_) => "damaged",
-        ServeFault::Failed => "failed",
-    }
-}
-
-/// What was written, with its end behind it: `ends WORD`.
-pub fn with_end(
-    alloc: Global,
-    written: &[u8],
-    end: Result<End, ServeFault>,
-) -> Result<String, Wrong> {
-    let mut line = TextBuilder::new(alloc);
-    line.push(str::from_utf8(written).unwrap_or("no text"));
-    line.push("ends ");
-    match end {
-        Ok(End::Clean) => line.push("clean"),
-        Ok(End::Closed) => line.push("closed"),
-        Ok(End::Broken(broken)) => {
-            line.push("broken ");
-            line.push(fault_word(broken.fault));
-            line.push(if broken.is_head { " head" } else { "" });
-        }
-        Err(fault) => line.push(serving_word(fault)),
-    }
     line.end()
 }
 
@@ -83,7 +47,7 @@ pub fn short(alloc: Global, answer: &str) -> Result<String, Wrong> {
 }
 
 /// What a line wants: `refused CODE REASON MESSAGE` stands for the reply whose body is the `Status` of these.
-pub fn spelled_out(alloc: Global, wanted: &str) -> Result<String, Wrong> {
+pub(crate) fn spelled_out(alloc: Global, wanted: &str) -> Result<String, Wrong> {
     let mut words = WordReader::new(wanted);
     if words.word() != "refused" {
         return text(alloc, wanted);

@@ -1,0 +1,157 @@
+//! Exchanges over a connection, and questions, by their words.
+
+use crate::replies::{message, short, spelled_out};
+use cases::{Bench, TextBuilder, Wrong, compare, first_word, number, shown, text, wanted};
+use std::alloc::Global;
+
+/// What connections are served by, and what is asked beside.
+pub trait Service: Drop + Sized {
+    /// A new one, for a case.
+    fn new(alloc: Global) -> Result<Self, Wrong>;
+
+    /// Serves a connection on which this was sent, and gives what is written, with its end behind it: `ends WORD`.
+    fn serve(&mut self, alloc: Global, sent: &str) -> Result<String, Wrong>;
+
+    /// Answers a question, by its first word and what stands behind that.
+    fn answer(&mut self, alloc: Global, word: &str, rest: &str) -> Result<String, Wrong>;
+}
+
+/// A service, and what was sent to it and written by it.
+#[derive(Drop)]
+pub struct Exchange<S: Service> {
+    service: S,
+    // what was sent and is not answered yet
+    sent: String,
+    // what of the last answer is not compared yet
+    rest: String,
+}
+
+impl<S: Service> Bench for Exchange<S> {
+    fn new(alloc: Global, _file: &str) -> Result<Exchange<S>, Wrong> {
+        Ok(Exchange {
+            service: S::new(alloc)?,
+            sent: String::new(alloc),
+            rest: String::new(alloc),
+        })
+    }
+
+    // A part of an exchange, or `QUESTION => ANSWER`, where no answer wants `ok`.
+    fn line(&mut self, alloc: Global, line: &str) -> Result<u64, Wrong> {
+        let (word, rest) = first_word(line);
+        match word {
+            ">" => self.send(rest, "\r\n"),
+            ">|" => self.send(rest, ""),
+            ">>" => self.send(message(alloc, rest)?.as_str(), ""),
+            "<" => self.next(alloc, rest, "\r\n"),
+            "<|" => self.next(alloc, rest, ""),
+            "<n" => self.next(alloc, "", "\n"),
+            "ends" => self.next(alloc, line, ""),
+            _ => self.row(alloc, line),
+        }
+    }
+
+    fn end(&mut self, _alloc: Global) -> Result<u64, Wrong> {
+        self.settle()?;
+        Ok(0)
+    }
+}
+
+impl<S: Service> Exchange<S> {
+    // Asks that all that was sent is answered, and all of the answer compared.
+    fn settle(&self) -> Result<(), Wrong> {
+        wanted(self.sent.is_empty(), "what was sent is not answered")?;
+        wanted(
+            self.rest.is_empty(),
+            "more was written than the lines before tell",
+        )
+    }
+
+    fn send(&mut self, text: &str, line_end: &str) -> Result<u64, Wrong> {
+        wanted(
+            self.rest.is_empty(),
+            "more was written than the lines before tell",
+        )?;
+        self.sent.push_str(text)?;
+        self.sent.push_str(line_end)?;
+        Ok(0)
+    }
+
+    // Compares what was written next.
+    fn next(&mut self, alloc: Global, text: &str, line_end: &str) -> Result<u64, Wrong> {
+        if !self.sent.is_empty() {
+            let sent = std::mem::replace(&mut self.sent, String::new(alloc));
+            self.rest = self.service.serve(alloc, sent.as_str())?;
+        }
+        let behind = match self.rest.strip_prefix(text) {
+            Some(rest) => rest.strip_prefix(line_end),
+            None => None,
+        };
+        match behind {
+            Some(behind) => {
+                self.rest = cases::text(alloc, behind)?;
+                Ok(1)
+            }
+            None => Err(Wrong::Found(self.rest.clone()?)),
+        }
+    }
+
+    fn row(&mut self, alloc: Global, line: &str) -> Result<u64, Wrong> {
+        self.settle()?;
+        let (question, wanted) = line.split_once(" => ").unwrap_or((line, "ok"));
+        let found = self.answer(alloc, question)?;
+        let wanted = spelled_out(alloc, wanted)?;
+        compare(alloc, found.as_str(), wanted.as_str())?;
+        Ok(1)
+    }
+
+    // Sends one message, and gives its reply.
+    fn request(&mut self, alloc: Global, question: &str) -> Result<String, Wrong> {
+        let sent = message(alloc, question)?;
+        let answer = self.service.serve(alloc, sent.as_str())?;
+        short(alloc, answer.as_str())
+    }
+
+    // One of `times`: the reply to a message that is accepted, or `ok` where a write of a log is taken again.
+    fn one_of(&mut self, alloc: Global, question: &str) -> Result<String, Wrong> {
+        let (word, rest) = first_word(question);
+        if word == "replay" {
+            let taken = self.service.answer(alloc, word, rest)?;
+            wanted(taken.as_str() == "ok", "one of them is not allowed")?;
+            return Ok(taken);
+        }
+        let reply = self.request(alloc, question)?;
+        wanted(reply.starts_with("20"), "one of them is refused")?;
+        Ok(reply)
+    }
+
+    // `times N METHOD ..`, `times N replay ..`: so many of these, in which `%` stands for their number; the last answer.
+    fn times(&mut self, alloc: Global, rest: &str) -> Result<String, Wrong> {
+        let (count, question) = first_word(rest);
+        let mut answer = String::new(alloc);
+        for number in 1..=number(count)? {
+            let question = question.replace(alloc, "%", shown(alloc, &number)?.as_str())?;
+            answer = self.one_of(alloc, question.as_str())?;
+        }
+        Ok(answer)
+    }
+
+    // `lines METHOD ..`: the code of the reply, and the number of line feeds in its body.
+    fn lines(&mut self, alloc: Global, question: &str) -> Result<String, Wrong> {
+        let reply = self.request(alloc, question)?;
+        let mut line = TextBuilder::new(alloc);
+        line.push(first_word(reply.as_str()).0);
+        line.word("");
+        line.show(&reply.matches("\n").count());
+        line.end()
+    }
+
+    fn answer(&mut self, alloc: Global, question: &str) -> Result<String, Wrong> {
+        let (word, rest) = first_word(question);
+        match word {
+            "GET" | "POST" | "PUT" | "DELETE" | "PATCH" => self.request(alloc, question),
+            "times" => self.times(alloc, rest),
+            "lines" => self.lines(alloc, rest),
+            _ => self.service.answer(alloc, word, rest),
+        }
+    }
+}

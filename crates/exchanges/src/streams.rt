@@ -1,0 +1,24 @@
+//! The messages of a stream, and what they ask for.
+
+use cases::Wrong;
+use httpmsg::{Cutter, Message};
+use requests::Request;
+use routes::{Routes, route};
+use std::alloc::Global;
+
+/// The messages of a stream that ends between two of them.
+pub fn messages(alloc: Global, sent: &str) -> Result<Vec<Message>, Wrong> {
+    let mut cutter = Cutter::new(alloc)?;
+    match cutter.feed(alloc, sent.as_bytes()) {
+        Ok(messages) if cutter.finish().is_ok() => Ok(messages),
+        _ => Err(Wrong::Told("the stream has a fault")),
+    }
+}
+
+/// What the first message of a stream asks for.
+pub fn first_request(alloc: Global, routes: &Routes, sent: &str) -> Result<Request, Wrong> {
+    match messages(alloc, sent)?.first() {
+        Some(message) => Ok(route(alloc, routes, message)?.request),
+        None => Err(Wrong::Told("there is no message")),
+    }
+}

@@ -1,0 +1,40 @@
+//! How a connection ended, as lines have it.
+
+use crate::refusals::fault_word;
+use api::ServeFault;
+use cases::{TextBuilder, Wrong};
+use httpmsg::End;
+use std::alloc::Global;
+
+fn serving_word(fault: ServeFault) -> &'static str {
+    match fault {
+        ServeFault::Read => "read",
+        ServeFault::Write => "write",
+        ServeFault::Device => "device",
+        ServeFault::Memory => "memory",
+        ServeFault::Damaged(_) => "damaged",
+        ServeFault::Failed => "failed",
+    }
+}
+
+/// What was written, with its end behind it: `ends WORD`.
+pub fn with_end(
+    alloc: Global,
+    written: &[u8],
+    end: Result<End, ServeFault>,
+) -> Result<String, Wrong> {
+    let mut line = TextBuilder::new(alloc);
+    line.push(str::from_utf8(written).unwrap_or("no text"));
+    line.push("ends ");
+    match end {
+        Ok(End::Clean) => line.push("clean"),
+        Ok(End::Closed) => line.push("closed"),
+        Ok(End::Broken(broken)) => {
+            line.push("broken ");
+            line.push(fault_word(broken.fault));
+            line.push(if broken.is_head { " head" } else { "" });
+        }
+        Err(fault) => line.push(serving_word(fault)),
+    }
+    line.end()
+}
