@@ -1,7 +1,7 @@
 //! The signs.
 
 /// A sign: an operator, a bracket or a separator.
-#[derive(Clone, Copy, Debug, PartialEq, Eq)]
+#[derive(Clone, Copy, PartialEq, Eq)]
 pub enum Sign {
     /// `?`
     Question,

@@ -1,7 +1,7 @@
 //! The tree of an expression.
 
 /// An operator before its operand.
-#[derive(Clone, Copy, Debug, PartialEq, Eq)]
+#[derive(Clone, Copy, Debug)]
 pub enum Prefix {
     /// `!`
     Not,
@@ -10,7 +10,7 @@ pub enum Prefix {
 }
 
 /// An operator between two operands.
-#[derive(Clone, Copy, Debug, PartialEq, Eq)]
+#[derive(Clone, Copy, Debug)]
 pub enum Operator {
     /// `*`
     Multiply,
@@ -43,7 +43,7 @@ pub enum Operator {
 }
 
 /// A call that binds a variable to each item of a list, or to each key of a map.
-#[derive(Clone, Copy, Debug, PartialEq, Eq)]
+#[derive(Clone, Copy, Debug)]
 pub enum Macro {
     /// Whether the body is true for all items.
     All,

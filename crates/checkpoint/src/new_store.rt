@@ -14,7 +14,7 @@ use device::{Device, DeviceFault, write_through};
 use gatelog::{OPEN, SECTOR};
 
 /// Why no new store could be made.
-#[derive(Clone, Copy, Debug, PartialEq, Eq)]
+#[derive(Clone, Copy)]
 pub enum StartFault {
     /// The device has sectors.
     NotEmpty,

@@ -12,7 +12,7 @@ use crate::roots::{counted, sector_at};
 use device::{Device, DeviceFault};
 
 /// Why a device shows no root.
-#[derive(Clone, Copy, Debug, PartialEq, Eq)]
+#[derive(Clone, Copy)]
 pub enum RootFault {
     /// The device failed in this call.
     Device,

@@ -10,7 +10,7 @@ pub(crate) const ROOT_MARK: &[u8; 8] = b"GATEROOT";
 pub(crate) const HEADER_MARK: &[u8; 8] = b"GATESTOR";
 
 /// The two places of a root, each with a gate behind it.
-#[derive(Clone, Copy, Debug, PartialEq, Eq)]
+#[derive(Clone, Copy)]
 pub enum Slot {
     /// Sector 1, with its gate in sector 2.
     A,
@@ -19,7 +19,7 @@ pub enum Slot {
 }
 
 /// A root: where a generation of a store lies.
-#[derive(Clone, Copy, Debug, PartialEq, Eq)]
+#[derive(Clone, Copy)]
 pub struct Root {
     /// Where the root itself stands.
     pub slot: Slot,

@@ -15,7 +15,7 @@ use std::{fmt, io};
 pub type FileDevice = SectorFile<HostFile>;
 
 /// Why a file device could not be made.
-#[derive(Clone, Copy, Debug, PartialEq, Eq)]
+#[derive(Clone, Copy)]
 pub enum CreateFault {
     /// Something has that name.
     Exists,
@@ -24,7 +24,7 @@ pub enum CreateFault {
 }
 
 /// Why a file device could not be opened.
-#[derive(Clone, Copy, Debug, PartialEq, Eq)]
+#[derive(Clone, Copy)]
 pub enum OpenFault {
     /// Nothing has that name.
     Missing,

@@ -9,7 +9,7 @@ const SECTOR: usize = 512;
 const MOST_SECTORS: u64 = 1 << 54;
 
 /// What a sector that may change becomes in a crash.
-#[derive(Clone, Copy, Debug, PartialEq, Eq)]
+#[derive(Clone, Copy)]
 pub enum Pick {
     /// What the last sync left; zeros past the end that it left.
     Old,

@@ -3,7 +3,7 @@
 use policy::Reason;
 
 /// Why a write is not admitted.
-#[derive(Debug, PartialEq, Eq, Drop)]
+#[derive(Drop)]
 pub struct Denial {
     /// The reason, which decides the status code.
     pub reason: Reason,
@@ -12,7 +12,7 @@ pub struct Denial {
 }
 
 /// What the match conditions of a policy say together.
-#[derive(Clone, Copy, Debug, PartialEq, Eq)]
+#[derive(Clone, Copy)]
 pub enum Conditions<'p> {
     /// Each is true.
     Met,

@@ -11,7 +11,7 @@ use std::alloc::{AllocError, Global};
 use thiserror::Error;
 
 /// Why a stored write cannot be taken again.
-#[derive(Clone, Copy, Debug, PartialEq, Eq, Drop, Error)]
+#[derive(Clone, Copy, Debug, Drop, Error)]
 pub enum ReplayFault {
     /// The write may not follow what is stored.
     #[error("a write that may not follow")]

@@ -131,7 +131,7 @@ fn joined(alloc: Global, front: &[u8], back: &[u8]) -> Result<Vec<u8>, AllocErro
 }
 
 /// Why the bytes fed give no messages.
-#[derive(Clone, Copy, Debug, PartialEq, Eq)]
+#[derive(Clone, Copy)]
 pub enum CutFault {
     /// The stream ends at a message with this fault; every later call answers so too.
     Broken(BrokenMessage),

@@ -23,7 +23,7 @@ pub const BODY_LIMIT: u64 = 16384;
 pub const FIELD_LIMIT: usize = 32;
 
 /// The method of a request (RFC 9110 section 9.3).
-#[derive(Clone, Copy, Debug, PartialEq, Eq)]
+#[derive(Clone, Copy)]
 pub enum Method {
     Get,
     Head,
@@ -35,7 +35,7 @@ pub enum Method {
 }
 
 /// What is wrong with a message, in the order in which it counts.
-#[derive(Clone, Copy, Debug, PartialEq, Eq)]
+#[derive(Clone, Copy)]
 pub enum MessageFault {
     /// No head of a request begins the bytes, or they end inside a message.
     Malformed,
@@ -58,14 +58,14 @@ pub enum MessageFault {
 }
 
 /// A message that ends its stream: what is wrong with it, and whether its method is HEAD, whose replies have no body.
-#[derive(Clone, Copy, Debug, PartialEq, Eq)]
+#[derive(Clone, Copy)]
 pub struct BrokenMessage {
     pub fault: MessageFault,
     pub is_head: bool,
 }
 
 /// How a stream of messages ends.
-#[derive(Clone, Copy, Debug, PartialEq, Eq)]
+#[derive(Clone, Copy)]
 pub enum End {
     /// Between two messages.
     Clean,

@@ -7,7 +7,7 @@ use std::fmt;
 use std::io::{Read, Write};
 
 /// Why a call of an [`Input`] or an [`Output`] fails.
-#[derive(Clone, Copy, Debug, PartialEq, Eq)]
+#[derive(Clone, Copy)]
 pub struct StreamFault;
 
 impl fmt::Display for StreamFault {

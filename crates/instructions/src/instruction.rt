@@ -3,7 +3,7 @@
 use celtree::{Macro, Prefix};
 
 /// A name that is declared for each expression.
-#[derive(Clone, Copy, Debug, PartialEq, Eq)]
+#[derive(Clone, Copy, Debug)]
 pub enum Name {
     /// `object`
     Object,
@@ -16,7 +16,7 @@ pub enum Name {
 }
 
 /// The variable of a macro: macros nest at most two deep.
-#[derive(Clone, Copy, Debug, PartialEq, Eq)]
+#[derive(Clone, Copy, Debug)]
 pub enum Slot {
     /// The variable of the macro that stands in no other.
     Outer,
@@ -25,7 +25,7 @@ pub enum Slot {
 }
 
 /// An operator between two operands that looks at both.
-#[derive(Clone, Copy, Debug, PartialEq, Eq)]
+#[derive(Clone, Copy, Debug)]
 pub enum Binary {
     /// `+`
     Add,
@@ -54,7 +54,7 @@ pub enum Binary {
 }
 
 /// A function: of one operand, or of two texts.
-#[derive(Clone, Copy, Debug, PartialEq, Eq)]
+#[derive(Clone, Copy, Debug)]
 pub enum Function {
     /// `size(e)`
     Size,

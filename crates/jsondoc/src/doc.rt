@@ -13,7 +13,7 @@ use std::marker::Model;
 use thiserror::Error;
 
 /// Why bytes are no document.
-#[derive(Clone, Copy, Debug, PartialEq, Eq, Drop, Error)]
+#[derive(Clone, Copy, Debug, Drop, Error)]
 pub enum ReadFault {
     /// They are no JSON: no UTF-8, against the grammar, nested above 127 deep, or with a number that no double holds.
     #[error("no JSON")]

@@ -1,7 +1,7 @@
 //! What rules ask of a write.
 
 /// What a write does to its object.
-#[derive(Clone, Copy, Debug, PartialEq, Eq, Hash)]
+#[derive(Clone, Copy, Debug, PartialEq, Eq)]
 pub enum Operation {
     Create,
     Update,
@@ -9,7 +9,7 @@ pub enum Operation {
 }
 
 /// The operations that an entry of a rule stands for.
-#[derive(Clone, Copy, Debug, PartialEq, Eq, Hash)]
+#[derive(Clone, Copy, Debug)]
 pub enum OperationEntry {
     /// Every operation, written `*`.
     Any,
@@ -18,7 +18,7 @@ pub enum OperationEntry {
 }
 
 /// The texts that an entry of a rule stands for.
-#[derive(Debug, PartialEq, Eq, Drop)]
+#[derive(Debug, Drop)]
 pub enum Entry {
     /// Every text, written `*`.
     Any,
@@ -27,7 +27,7 @@ pub enum Entry {
 }
 
 /// The resources that a rule is for.
-#[derive(Clone, Copy, Debug, PartialEq, Eq, Hash)]
+#[derive(Clone, Copy, Debug)]
 pub enum RuleScope {
     /// Those whose objects stand in no namespace.
     Cluster,
@@ -38,7 +38,7 @@ pub enum RuleScope {
 }
 
 /// What one part of a selector asks of the labels of an object. The first text is the key of a label.
-#[derive(Debug, PartialEq, Eq, Drop)]
+#[derive(Debug, Drop)]
 pub enum Requirement {
     /// The label is there, and has one of the values.
     IsOneOf(String, Vec<String>),
@@ -51,7 +51,7 @@ pub enum Requirement {
 }
 
 /// A rule on writes: each part of it must be met.
-#[derive(Debug, PartialEq, Eq, Drop)]
+#[derive(Debug, Drop)]
 pub struct Rule {
     /// What the write does is one of these.
     pub operations: Vec<OperationEntry>,
@@ -69,7 +69,7 @@ pub struct Rule {
 
 /// The writes that a policy, or a binding, is for. A policy without rules is for none, a binding without rules for all that the
 /// other members leave.
-#[derive(Debug, PartialEq, Eq, Drop)]
+#[derive(Debug, Drop)]
 pub struct MatchRules {
     /// One of these rules is met.
     pub rules: Vec<Rule>,

@@ -6,7 +6,7 @@ use std::alloc::{AllocError, Global};
 const MOST_BYTES: usize = 1 << 62;
 
 /// A change of the file, as far as a crash sees it. Offsets and sizes are in bytes.
-#[derive(Clone, Copy, Debug, PartialEq, Eq)]
+#[derive(Clone, Copy)]
 pub(crate) enum Change {
     Written { offset: usize, count: usize },
     Shortened { size: usize },

@@ -2,13 +2,13 @@ ghost use Rattle.std.specs.Prelude.{◌≡◌};
 ghost use Rattle.names.specs.Format.{rules_of};
 
 /// A format of the store's file, which fixes the numbers that the store keeps to.
-#[derive(Clone, Copy, Debug, PartialEq, Eq, Hash)]
+#[derive(Clone, Copy)]
 pub enum Format {
     First,
 }
 
 /// The numbers that a store of one format keeps to.
-#[derive(Clone, Copy, Debug, PartialEq, Eq, Hash)]
+#[derive(Clone, Copy)]
 pub struct Rules {
     /// How many of the last events a watch may still ask for.
     pub window_events: usize,

@@ -11,7 +11,7 @@ use std::fmt;
 use std::marker::Model;
 
 /// Why there is no key.
-#[derive(Clone, Copy, Debug, PartialEq, Eq, Hash)]
+#[derive(Clone, Copy, Debug)]
 pub enum KeyFault {
     /// What was given is no key.
     NoKey,
@@ -53,7 +53,7 @@ fn split_at_zero(bytes: &[u8]) -> Option<(&str, &str)>
 ///
 /// The namespace of a cluster-scoped resource's key is empty. Keys are ordered by the number of
 /// the resource, then by namespace, then by name, both by bytes.
-#[derive(Debug, Drop)]
+#[derive(Drop)]
 pub struct Key {
     resource: Resource,
     namespace: String,

@@ -2,7 +2,7 @@ ghost use Rattle.std.specs.Prelude.{◌≡◌, Option, IsTrue, ◌↔◌};
 ghost use Rattle.names.specs.Resource.{row, api_version, numbered, with_plural, with_kind};
 
 /// A kind of object that the store holds.
-#[derive(Clone, Copy, Debug, PartialEq, Eq, Hash)]
+#[derive(Clone, Copy, Debug, PartialEq, Eq)]
 pub enum Resource {
     ConfigMap,
     Node,
@@ -14,7 +14,7 @@ pub enum Resource {
 }
 
 /// Whether the objects of a resource stand in a namespace.
-#[derive(Clone, Copy, Debug, PartialEq, Eq, Hash)]
+#[derive(Clone, Copy, PartialEq, Eq)]
 pub enum Scope {
     Namespaced,
     Cluster,

@@ -16,7 +16,7 @@ use std::alloc::{AllocError, AllocFailed, Global};
 use thiserror::Error;
 
 /// Why bytes give no plans.
-#[derive(Clone, Copy, Debug, PartialEq, Eq, Drop, Error)]
+#[derive(Clone, Copy, Debug, Drop, Error)]
 pub enum ReadPlansFault {
     /// No well-formed plans for these places have the bytes.
     #[error("damaged plans")]

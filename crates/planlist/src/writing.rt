@@ -10,7 +10,7 @@ use std::alloc::{AllocError, AllocFailed, Global};
 use thiserror::Error;
 
 /// Why plans are not written.
-#[derive(Clone, Copy, Debug, PartialEq, Eq, Drop, Error)]
+#[derive(Clone, Copy, Debug, Drop, Error)]
 pub enum WritePlansFault {
     /// There are more than 65535 plans, or one has more than 4294967295 bytes.
     #[error("too many plans, or one that is too long")]

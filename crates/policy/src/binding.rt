@@ -16,7 +16,7 @@ use serde_json::Value as Json;
 use std::alloc::{AllocError, Global};
 
 /// What becomes of a write that a policy denies.
-#[derive(Clone, Copy, Debug, PartialEq, Eq, Hash)]
+#[derive(Clone, Copy, Debug)]
 pub enum Action {
     /// It is refused.
     Deny,
@@ -26,7 +26,7 @@ pub enum Action {
 
 /// A binding of a policy: where the policy is in force, and with which parameters (Kubernetes,
 /// `ValidatingAdmissionPolicyBindingSpec`).
-#[derive(Debug, PartialEq, Eq, Drop)]
+#[derive(Debug, Drop)]
 pub struct Binding {
     /// The name of the policy.
     pub policy: String,

@@ -17,7 +17,7 @@ use serde_json::Value as Json;
 use std::alloc::{AllocError, Global};
 
 /// What becomes of a write where a policy cannot be evaluated.
-#[derive(Clone, Copy, Debug, PartialEq, Eq, Hash)]
+#[derive(Clone, Copy, Debug)]
 pub enum FailurePolicy {
     /// It is denied.
     Fail,
@@ -26,7 +26,7 @@ pub enum FailurePolicy {
 }
 
 /// What a policy asks of writes (Kubernetes, `ValidatingAdmissionPolicySpec`).
-#[derive(Debug, PartialEq, Eq, Drop)]
+#[derive(Debug, Drop)]
 pub struct Policy {
     /// What becomes of a write where the policy cannot be evaluated.
     pub failure_policy: FailurePolicy,

@@ -18,7 +18,7 @@ use std::marker::Model;
 use thiserror::Error;
 
 /// Why a body is not taken.
-#[derive(Clone, Copy, Debug, PartialEq, Eq, Drop, Error)]
+#[derive(Clone, Copy, Debug, Drop, Error)]
 pub enum BodyFault {
     /// The body, or the path that it is sent to, is refused.
     #[error("{}", .0.message())]

@@ -2,7 +2,7 @@ ghost use Rattle.std.specs.Prelude.{◌≡◌};
 ghost use Rattle.requests.specs.Refusal.{answer};
 
 /// Why a request is refused, in the order in which refusals are looked for.
-#[derive(Clone, Copy, Debug, PartialEq, Eq, Hash)]
+#[derive(Clone, Copy, Debug)]
 pub enum Refusal {
     /// The input ends inside a message, or what it begins with is no head (RFC 9112 section 2.1).
     MalformedRequest,

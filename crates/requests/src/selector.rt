@@ -7,7 +7,7 @@ use documents::Document;
 use std::alloc::{AllocError, Global};
 
 /// What one part of a selector asks of the labels of an object: the texts are a label and, in the first two, a value.
-#[derive(Debug, PartialEq, Eq, Drop)]
+#[derive(Drop)]
 pub enum Requirement {
     /// The label has this value.
     Equals(String, String),
@@ -20,7 +20,7 @@ pub enum Requirement {
 }
 
 /// A label selector of equality-based requirements (Kubernetes, "Labels and Selectors"), each of which must be met.
-#[derive(Debug, PartialEq, Eq, Drop)]
+#[derive(Drop)]
 pub struct Selector {
     pub requirements: Vec<Requirement>,
 }

@@ -30,7 +30,7 @@ use std::alloc::{AllocError, Global};
 use std::marker::Model;
 
 /// Whether a write is admitted.
-#[derive(Debug, PartialEq, Eq, Drop)]
+#[derive(Drop)]
 pub enum Verdict {
     /// It is, with these warnings.
     Admitted(Vec<String>),

@@ -41,7 +41,7 @@ pub struct Listed<'a> {
 }
 
 /// Why a lookup gives no answer.
-#[derive(Clone, Copy, Debug, PartialEq, Eq, Error)]
+#[derive(Clone, Copy, Debug, Error)]
 pub enum LookupFault {
     /// No memory is left.
     #[error("out of memory")]

@@ -1,7 +1,7 @@
 use names::Key;
 
 /// How a write changed what is stored under its key.
-#[derive(Clone, Copy, Debug, PartialEq, Eq, Hash)]
+#[derive(Clone, Copy)]
 pub enum Change {
     /// The key had no object before.
     Added,
@@ -12,7 +12,7 @@ pub enum Change {
 }
 
 /// One write, as a watch tells it.
-#[derive(Debug, Drop)]
+#[derive(Drop)]
 pub struct Event<D> {
     /// The revision that the write made.
     pub revision: u64,

@@ -11,7 +11,7 @@ use std::fmt;
 use std::marker::Model;
 
 /// Why the events above a revision cannot be told.
-#[derive(Clone, Copy, Debug, PartialEq, Eq, Hash)]
+#[derive(Clone, Copy, Debug)]
 pub enum WindowFault {
     /// Some of them may have left the window.
     TooOld,
