@@ -1,13 +1,3 @@
-pub mod Literals
-pub mod CallTrees
-pub mod Ending
-pub mod Chains
-pub mod Prefixes
-pub mod Suffixes
-pub mod Primaries
-pub mod Conditionals
-pub mod Lists
-pub mod Refusals
 pub mod Weights
 pub mod Sizes
 pub mod Alone

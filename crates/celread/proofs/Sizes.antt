@@ -6,16 +6,15 @@ use Rattle.std.proofs.lemmas.Str.{encodes-chars}
 use Rattle.celtokens.specs.declared.sign.Sign.TheVariants as sign
 use Rattle.celtokens.specs.Terminal.{Terminal}
 use Rattle.celtokens.specs.Terminal as token
-use Rattle.celread.specs.declared.items.Closing.{Closing}
 use Rattle.celtree.specs.declared.tree.Macro.{Macro}
 use Rattle.celtree.specs.declared.tree.Macro.TheVariants as macro_of
 use Rattle.celtree.specs.declared.tree.Prefix.{Prefix}
 use Rattle.celtree.specs.declared.tree.Prefix.TheVariants as prefix_of
 use Rattle.celtree.specs.Tree.{Expr, Null, Truth, Int, Uint, Text, Field, Has, Call, Method, Over, Exprs, no_items, item, Pairs}
-use Rattle.celread.specs.Calls.{macro_named, selection, variable, has_of, macro_of_three, macro_over, unless_macro, method_or_macro, call_of, method_of}
-use Rattle.celread.specs.Operators.{begins_with_int, after_prefix, selector}
-use Rattle.celread.specs.Grammar as grammar
-use Rattle.celread.specs.Grammar.{literal_of, Literal, Level, Suffixes, Chain, close_sign, Ending, Spells, Items, MoreItems, Entries, MoreEntries}
+use Rattle.celcalls.specs.Calls.{macro_named, selection, variable, has_of, macro_of_three, macro_over, unless_macro, method_or_macro, call_of, method_of}
+use Rattle.celparse.specs.Operators.{begins_with_int, after_prefix, selector}
+use Rattle.celparse.specs.Grammar as grammar
+use Rattle.celparse.specs.Grammar.{literal_of, Literal, Level, Suffixes, Chain, close_sign, Ending, Spells, Items, MoreItems, Entries, MoreEntries}
 use Rattle.celread.specs.Reading.{IsReadAs}
 use Rattle.celtree.specs.Size.{nodes, nodes_of_items, nodes_of_pairs, text_bytes, text_bytes_of_items, text_bytes_of_pairs}
 use Rattle.celread.proofs.Weights.{bytes_are, weight, weights, lexed_weights}
@@ -123,7 +122,8 @@ prefix_weight prefix_of.Not (token.Mark sign.Bang ∷ i) m h = let same = same_S
 prefix_weight prefix_of.Negate (token.Mark sign.Minus ∷ i) m h = let le = prefix_weight_at (begins_with_int i) i m h in omega arith
 prefix_weight _ _ m h = absurd (cc)
 
-ending_weight : {c : Closing} {i r : List Terminal} → Ending c i r → weights r ≤ weights i
+-- (c is the kind of the closing sign, whose type celparse keeps to itself)
+ending_weight : {c : _} {i r : List Terminal} → Ending c i r → weights r ≤ weights i
 ending_weight grammar.close = omega arith
 ending_weight (grammar.trailing e) = omega arith
 
@@ -173,11 +173,11 @@ mutual
       let second = spelled_size b in
       omega arith
 
-  items_spelled_size : {c : Closing} {i : List Terminal} {ts : Exprs} {r : List Terminal} → Items c i ts r → items_size ts + weights r ≤ weights i
+  items_spelled_size : {c : _} {i : List Terminal} {ts : Exprs} {r : List Terminal} → Items c i ts r → items_size ts + weights r ≤ weights i
   items_spelled_size grammar.empty = omega arith
   items_spelled_size (grammar.some d rest) = let le = spelled_size d in let more = more_items_size rest in omega arith
 
-  more_items_size : {c : Closing} {i : List Terminal} {ts : Exprs} {r : List Terminal} → MoreItems c i ts r → items_size ts + weights r ≤ weights i
+  more_items_size : {c : _} {i : List Terminal} {ts : Exprs} {r : List Terminal} → MoreItems c i ts r → items_size ts + weights r ≤ weights i
   more_items_size (grammar.end ending) = let le = ending_weight ending in omega arith
   more_items_size (grammar.comma d rest) = let le = spelled_size d in let more = more_items_size rest in omega arith
 

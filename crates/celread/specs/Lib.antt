@@ -1,7 +1,3 @@
-pub mod Calls
-pub mod Operators
-pub mod Grammar
-pub mod Ends
-pub mod Ahead
 pub mod Limits
+pub mod Faults
 pub mod Reading

@@ -2,6 +2,7 @@
 
 ghost use Rattle.std.specs.Prelude.{◌≡◌};
 
+use celparse::ParseFault;
 use std::alloc::{AllocError, AllocFailed};
 use thiserror::Error;
 
@@ -39,5 +40,18 @@ impl<T: Drop> From<AllocFailed<T>> for ReadFault {
 
     fn from(_: AllocFailed<T>) -> Self {
         ReadFault::Memory
+    }
+}
+
+impl From<ParseFault> for ReadFault {
+    ghost use Rattle.celread.specs.Faults.{of_parse_fault};
+
+    ghost from_gives = { λ parse_fault e. e ≡ of_parse_fault parse_fault };
+
+    fn from(fault: ParseFault) -> Self {
+        match fault {
+            ParseFault::NotInGrammar => ReadFault::NotInGrammar,
+            ParseFault::Memory => ReadFault::Memory,
+        }
     }
 }

@@ -1,0 +1,4 @@
+pub mod Operators
+pub mod Grammar
+pub mod Ends
+pub mod Ahead

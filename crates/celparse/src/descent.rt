@@ -1,0 +1,340 @@
+//! One pass over the tokens, by recursive descent.
+
+ghost use Rattle.std.specs.Prelude.{◌≡◌, ◌<◌, length, encode_utf8_all, IfOk, IfErr};
+ghost use Rattle.celtokens.specs.Seen.{terminals};
+ghost use Rattle.celparse.specs.Grammar.{Member, Whole, Prefixed, Height};
+ghost use Rattle.celparse.specs.Ends.{Read, HasNoTree, ReadPrimary, HasNoPrimary, ReadComposite, HasNoComposite, ReadItems, HasNoItems, ReadEntry, HasNoEntry, ReadEntries, HasNoEntries, Refuses};
+ghost use Rattle.celtree.specs.Tree.{Conditional, Field, Index, Infix};
+ghost use Rattle.celtree.specs.View.{view, views, pair_views};
+
+use crate::ahead::{
+    Separator, Start, Suffix, after, after_prefix, operator_at, prefix_at, primary_at,
+    separator_at, suffix_at,
+};
+use crate::fault::ParseFault;
+use crate::items::{Closing, close_sign};
+use crate::literal::{literal, text_of};
+use celcalls::{call, method};
+use celtokens::{Sign, Token};
+use celtree::{Operator, Prefix, Tree};
+use std::alloc::{AllocError, Global};
+
+// Apart from `expression`, so that its boxes take no room on the stack of a long `a ? b : c ? d : ..`.
+fn conditional(alloc: Global, test: Tree, first: Tree, second: Tree) -> Result<Tree, AllocError>
+    ensures { IfOk result (λ t. view t ≡ Conditional (view test) (view first) (view second)) }
+{
+    let test = Box::new(alloc, test)?;
+    let first = Box::new(alloc, first)?;
+    let second = Box::new(alloc, second)?;
+    Ok(Tree::Conditional(test, first, second))
+}
+
+fn field(alloc: Global, of: Tree, name: &[char]) -> Result<Tree, AllocError>
+    ensures { IfOk result (λ t. view t ≡ Field (view of) (encode_utf8_all name.now)) }
+{
+    let of = Box::new(alloc, of)?;
+    let name = text_of(alloc, name)?;
+    Ok(Tree::Field(of, name))
+}
+
+fn indexed(alloc: Global, of: Tree, index: Tree) -> Result<Tree, AllocError>
+    ensures { IfOk result (λ t. view t ≡ Index (view of) (view index)) }
+{
+    let of = Box::new(alloc, of)?;
+    let index = Box::new(alloc, index)?;
+    Ok(Tree::Index(of, index))
+}
+
+fn joined(alloc: Global, operator: Operator, left: Tree, right: Tree) -> Result<Tree, AllocError>
+    ensures { IfOk result (λ t. view t ≡ Infix operator (view left) (view right)) }
+{
+    let left = Box::new(alloc, left)?;
+    let right = Box::new(alloc, right)?;
+    Ok(Tree::Infix(operator, left, right))
+}
+
+/// The tree of the expression in front, and what follows it: no token there would go on with the expression, and no other tree is spelled
+/// so.
+///
+/// # Errors
+///
+/// [`ParseFault::NotInGrammar`] where no tree is spelled so, [`ParseFault::Memory`] where no memory is left.
+#[cycle(expression)]
+pub fn expression<'a, 'b>(
+    alloc: Global,
+    tokens: &'b [Token<'a>],
+) -> Result<(Tree, &'b [Token<'a>]), ParseFault>
+    ensures tree { IfOk result (λ x. Read Whole (terminals tokens.now) (view x.0) (terminals x.1.now)) }
+    ensures none { IfErr result (λ e. Refuses e (HasNoTree Whole (terminals tokens.now))) }
+    ensures shorter { IfOk result (λ x. length x.1.now < length tokens.now) }
+{
+    let (test, rest) = infix(alloc, tokens, 5)?;
+    match after(rest, Sign::Question) {
+        Some(behind) => {
+            let (first, rest) = infix(alloc, behind, 5)?;
+            match after(rest, Sign::Colon) {
+                Some(behind) => {
+                    let (second, rest) = expression(alloc, behind)?;
+                    let tree = conditional(alloc, test, first, second)?;
+                    Ok((tree, rest))
+                }
+                None => Err(ParseFault::NotInGrammar),
+            }
+        }
+        None => Ok((test, rest)),
+    }
+}
+
+// A chain of operands between operators of the height.
+#[cycle(expression)]
+fn infix<'a, 'b>(
+    alloc: Global,
+    tokens: &'b [Token<'a>],
+    height: u8,
+) -> Result<(Tree, &'b [Token<'a>]), ParseFault>
+    ensures tree { IfOk result (λ x. Read (Height height) (terminals tokens.now) (view x.0) (terminals x.1.now)) }
+    ensures none { IfErr result (λ e. Refuses e (HasNoTree (Height height) (terminals tokens.now))) }
+    ensures shorter { IfOk result (λ x. length x.1.now < length tokens.now) }
+{
+    if height == 0 {
+        return unary(alloc, tokens);
+    }
+    let lower = height - 1;
+    let (mut left, mut rest) = infix(alloc, tokens, lower)?;
+    'operators: loop {
+        match operator_at(rest, lower) {
+            Some((operator, behind)) => {
+                let (right, after) = infix(alloc, behind, lower)?;
+                let tree = joined(alloc, operator, left, right)?;
+                left = tree;
+                rest = after;
+            }
+            None => return Ok((left, rest)),
+        }
+    }
+}
+
+#[cycle(expression)]
+fn unary<'a, 'b>(
+    alloc: Global,
+    tokens: &'b [Token<'a>],
+) -> Result<(Tree, &'b [Token<'a>]), ParseFault>
+    ensures tree { IfOk result (λ x. Read (Height 0) (terminals tokens.now) (view x.0) (terminals x.1.now)) }
+    ensures none { IfErr result (λ e. Refuses e (HasNoTree (Height 0) (terminals tokens.now))) }
+    ensures shorter { IfOk result (λ x. length x.1.now < length tokens.now) }
+{
+    match prefix_at(tokens) {
+        Some((prefix, behind)) => {
+            let (tree, rest) = prefixed(alloc, behind, prefix)?;
+            let of = Box::new(alloc, tree)?;
+            Ok((Tree::Unary(prefix, of), rest))
+        }
+        None => member(alloc, tokens),
+    }
+}
+
+// Behind a prefix operator: more of the same, or the operand.
+#[cycle(expression)]
+fn prefixed<'a, 'b>(
+    alloc: Global,
+    tokens: &'b [Token<'a>],
+    prefix: Prefix,
+) -> Result<(Tree, &'b [Token<'a>]), ParseFault>
+    ensures tree { IfOk result (λ x. Read (Prefixed prefix) (terminals tokens.now) (view x.0) (terminals x.1.now)) }
+    ensures none { IfErr result (λ e. Refuses e (HasNoTree (Prefixed prefix) (terminals tokens.now))) }
+    ensures shorter { IfOk result (λ x. length x.1.now < length tokens.now) }
+{
+    match after_prefix(tokens, prefix) {
+        Some(behind) => {
+            let (tree, rest) = prefixed(alloc, behind, prefix)?;
+            let of = Box::new(alloc, tree)?;
+            Ok((Tree::Unary(prefix, of), rest))
+        }
+        None => member(alloc, tokens),
+    }
+}
+
+// A primary expression and its suffixes.
+#[cycle(expression)]
+fn member<'a, 'b>(
+    alloc: Global,
+    tokens: &'b [Token<'a>],
+) -> Result<(Tree, &'b [Token<'a>]), ParseFault>
+    ensures tree { IfOk result (λ x. Read Member (terminals tokens.now) (view x.0) (terminals x.1.now)) }
+    ensures none { IfErr result (λ e. Refuses e (HasNoTree Member (terminals tokens.now))) }
+    ensures shorter { IfOk result (λ x. length x.1.now < length tokens.now) }
+{
+    let (mut of, mut rest) = primary(alloc, tokens)?;
+    'suffixes: loop {
+        match suffix_at(rest) {
+            Suffix::Field(name, behind) => {
+                let tree = field(alloc, of, name)?;
+                of = tree;
+                rest = behind;
+            }
+            Suffix::Method(name, behind) => {
+                let (arguments, after) = items(alloc, behind, Closing::Parenthesis)?;
+                let name = text_of(alloc, name)?;
+                match method(alloc, of, name, arguments)? {
+                    Some(tree) => {
+                        of = tree;
+                        rest = after;
+                    }
+                    None => return Err(ParseFault::NotInGrammar),
+                }
+            }
+            Suffix::Index(behind) => {
+                let (index, inside) = expression(alloc, behind)?;
+                match after(inside, Sign::CloseBracket) {
+                    Some(behind) => {
+                        let tree = indexed(alloc, of, index)?;
+                        of = tree;
+                        rest = behind;
+                    }
+                    None => return Err(ParseFault::NotInGrammar),
+                }
+            }
+            Suffix::Wrong => return Err(ParseFault::NotInGrammar),
+            Suffix::Nothing => return Ok((of, rest)),
+        }
+    }
+}
+
+#[cycle(expression)]
+fn primary<'a, 'b>(
+    alloc: Global,
+    tokens: &'b [Token<'a>],
+) -> Result<(Tree, &'b [Token<'a>]), ParseFault>
+    ensures tree { IfOk result (λ x. ReadPrimary (terminals tokens.now) (view x.0) (terminals x.1.now)) }
+    ensures none { IfErr result (λ e. Refuses e (HasNoPrimary (terminals tokens.now))) }
+    ensures shorter { IfOk result (λ x. length x.1.now < length tokens.now) }
+{
+    let (found, rest) = literal(alloc, tokens)?;
+    match found {
+        Some(tree) => Ok((tree, rest)),
+        None => composite(alloc, tokens),
+    }
+}
+
+// A primary expression that is no literal.
+#[cycle(expression)]
+fn composite<'a, 'b>(
+    alloc: Global,
+    tokens: &'b [Token<'a>],
+) -> Result<(Tree, &'b [Token<'a>]), ParseFault>
+    ensures tree { IfOk result (λ x. ReadComposite (terminals tokens.now) (view x.0) (terminals x.1.now)) }
+    ensures none { IfErr result (λ e. Refuses e (HasNoComposite (terminals tokens.now))) }
+    ensures shorter { IfOk result (λ x. length x.1.now < length tokens.now) }
+{
+    match primary_at(tokens) {
+        Start::Name(name, rest) => {
+            let name = text_of(alloc, name)?;
+            Ok((Tree::Name(name), rest))
+        }
+        Start::Call(name, inside) => {
+            let (arguments, rest) = items(alloc, inside, Closing::Parenthesis)?;
+            let name = text_of(alloc, name)?;
+            match call(name, arguments) {
+                Some(tree) => Ok((tree, rest)),
+                None => Err(ParseFault::NotInGrammar),
+            }
+        }
+        Start::Parenthesis(inside) => {
+            let (tree, behind) = expression(alloc, inside)?;
+            match after(behind, Sign::CloseParenthesis) {
+                Some(rest) => Ok((tree, rest)),
+                None => Err(ParseFault::NotInGrammar),
+            }
+        }
+        Start::Bracket(inside) => {
+            let (items, rest) = items(alloc, inside, Closing::Bracket)?;
+            Ok((Tree::List(items), rest))
+        }
+        Start::Brace(inside) => {
+            let (entries, rest) = entries(alloc, inside)?;
+            Ok((Tree::Map(entries), rest))
+        }
+        Start::Nothing => Err(ParseFault::NotInGrammar),
+    }
+}
+
+// Items up to the closing sign.
+#[cycle(expression)]
+fn items<'a, 'b>(
+    alloc: Global,
+    tokens: &'b [Token<'a>],
+    closing: Closing,
+) -> Result<(Vec<Tree>, &'b [Token<'a>]), ParseFault>
+    ensures items { IfOk result (λ x. ReadItems closing (terminals tokens.now) (views x.0.items) (terminals x.1.now)) }
+    ensures none { IfErr result (λ e. Refuses e (HasNoItems closing (terminals tokens.now))) }
+    ensures shorter { IfOk result (λ x. length x.1.now < length tokens.now) }
+{
+    let mut items = Vec::new(alloc);
+    match after(tokens, close_sign(closing)) {
+        Some(rest) => return Ok((items, rest)),
+        None => {}
+    }
+    let (first, mut rest) = expression(alloc, tokens)?;
+    items.push(first)?;
+    'more_items: loop {
+        match separator_at(rest, closing) {
+            Separator::End(behind) => return Ok((items, behind)),
+            Separator::Comma(behind) => {
+                let (next, after) = expression(alloc, behind)?;
+                items.push(next)?;
+                rest = after;
+            }
+            Separator::Wrong => return Err(ParseFault::NotInGrammar),
+        }
+    }
+}
+
+// A key, a colon and a value.
+#[cycle(expression)]
+fn entry<'a, 'b>(
+    alloc: Global,
+    tokens: &'b [Token<'a>],
+) -> Result<((Tree, Tree), &'b [Token<'a>]), ParseFault>
+    ensures entry { IfOk result (λ x. ReadEntry (terminals tokens.now) (view x.0.0) (view x.0.1) (terminals x.1.now)) }
+    ensures none { IfErr result (λ e. Refuses e (HasNoEntry (terminals tokens.now))) }
+    ensures shorter { IfOk result (λ x. length x.1.now < length tokens.now) }
+{
+    let (key, rest) = expression(alloc, tokens)?;
+    match after(rest, Sign::Colon) {
+        Some(behind) => {
+            let (value, rest) = expression(alloc, behind)?;
+            Ok(((key, value), rest))
+        }
+        None => Err(ParseFault::NotInGrammar),
+    }
+}
+
+// Entries of a map up to the closing brace.
+#[cycle(expression)]
+fn entries<'a, 'b>(
+    alloc: Global,
+    tokens: &'b [Token<'a>],
+) -> Result<(Vec<(Tree, Tree)>, &'b [Token<'a>]), ParseFault>
+    ensures entries { IfOk result (λ x. ReadEntries (terminals tokens.now) (pair_views x.0.items) (terminals x.1.now)) }
+    ensures none { IfErr result (λ e. Refuses e (HasNoEntries (terminals tokens.now))) }
+    ensures shorter { IfOk result (λ x. length x.1.now < length tokens.now) }
+{
+    let mut entries = Vec::new(alloc);
+    match after(tokens, Sign::CloseBrace) {
+        Some(rest) => return Ok((entries, rest)),
+        None => {}
+    }
+    let (first, mut rest) = entry(alloc, tokens)?;
+    entries.push(first)?;
+    'more_entries: loop {
+        match separator_at(rest, Closing::Brace) {
+            Separator::End(behind) => return Ok((entries, behind)),
+            Separator::Comma(behind) => {
+                let (next, after) = entry(alloc, behind)?;
+                entries.push(next)?;
+                rest = after;
+            }
+            Separator::Wrong => return Err(ParseFault::NotInGrammar),
+        }
+    }
+}

@@ -1,0 +1,38 @@
+//! The ends of lists of items.
+
+ghost use Rattle.std.specs.Prelude.{◌≡◌};
+ghost use Rattle.celparse.specs.Grammar.{close_sign, trails};
+
+use celtokens::Sign;
+
+/// The sign that ends a list of items.
+#[derive(Clone, Copy)]
+pub(crate) enum Closing {
+    /// `)`, behind a call's arguments.
+    Parenthesis,
+    /// `]`, behind the items of a list literal.
+    Bracket,
+    /// `}`, behind the entries of a map literal.
+    Brace,
+}
+
+/// The sign itself.
+pub(crate) fn close_sign(closing: Closing) -> Sign
+    ensures { result ≡ close_sign closing }
+{
+    match closing {
+        Closing::Parenthesis => Sign::CloseParenthesis,
+        Closing::Bracket => Sign::CloseBracket,
+        Closing::Brace => Sign::CloseBrace,
+    }
+}
+
+/// Whether a comma may stand behind the last item.
+pub(crate) fn trails(closing: Closing) -> bool
+    ensures { result ≡ trails closing }
+{
+    match closing {
+        Closing::Parenthesis => false,
+        Closing::Bracket | Closing::Brace => true,
+    }
+}

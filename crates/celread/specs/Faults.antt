@@ -1,0 +1,9 @@
+-- Why a text is not read whose tokens are not.
+use Rattle.celparse.specs.declared.fault.ParseFault.{ParseFault}
+use Rattle.celparse.specs.declared.fault.ParseFault.TheVariants as parse_fault
+use Rattle.celread.specs.declared.fault.ReadFault.{ReadFault}
+use Rattle.celread.specs.declared.fault.ReadFault.TheVariants as fault
+
+abbrev pub of_parse_fault : ParseFault → ReadFault
+of_parse_fault parse_fault.NotInGrammar = fault.NotInGrammar
+of_parse_fault parse_fault.Memory = fault.Memory
