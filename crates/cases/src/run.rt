@@ -1,9 +1,8 @@
-//! The files of a runner, line by line.
+//! Files of cases, line by line.
 
 use crate::report::Report;
 use crate::wrong::{Wrong, wanted};
 use std::alloc::Global;
-use std::process::ExitCode;
 use std::rt::{Env, Files};
 use std::{env, fs, io};
 
@@ -110,62 +109,61 @@ fn run_text<B: Bench, R: Print>(
     report.note(rt, file, last, done)
 }
 
-// The names of the files of the current folder, ascending, without those that tell of the others.
-fn files_of_folder<R: Files + Alloc<A = Global> + Clone + Drop>(
+/// Runs the lines of a file on a bench, and notes each in the report. A file that cannot be read is a line that fails.
+pub fn run_file<B: Bench, R: Files + Print + Alloc<A = Global> + Clone + Drop>(
     rt: &R,
     alloc: Global,
+    name: &str,
+    report: &mut Report,
+) -> io::Result<()> {
+    match fs::read_to_string(rt, name) {
+        Ok(text) => run_text::<B, R>(rt, alloc, name, text.as_str(), report),
+        Err(_) => {
+            let wrong = Wrong::Told("the file cannot be read");
+            report.note(rt, name, 1, Err(wrong))
+        }
+    }
+}
+
+// Adds the path of a file of a folder, unless it tells of the others.
+fn push_path(alloc: Global, folder: &str, name: &str, paths: &mut Vec<String>) -> io::Result<()> {
+    if !name.ends_with(".md") {
+        paths.push(format!(in alloc; "{folder}/{name}")?)?;
+    }
+    Ok(())
+}
+
+// Adds the paths of the files of a folder, ascending, without those that tell of the others.
+fn push_files<R: Files + Alloc<A = Global> + Clone + Drop>(
+    rt: &R,
+    alloc: Global,
+    folder: &str,
+    paths: &mut Vec<String>,
+) -> io::Result<()> {
+    let mut found = Vec::new(alloc);
+    for entry in fs::read_dir(rt, folder)? {
+        push_path(alloc, folder, entry?.file_name(), &mut found)?;
+    }
+    found.sort()?;
+    paths.append(&mut found)?;
+    Ok(())
+}
+
+/// The paths that the arguments name, or else those of the files of these folders, folder by folder, ascending, without those that end
+/// in `.md`.
+pub fn paths<R: Files + Env + Alloc<A = Global> + Clone + Drop>(
+    rt: &R,
+    alloc: Global,
+    folders: &[&str],
 ) -> io::Result<Vec<String>> {
-    let mut names = Vec::new(alloc);
-    for entry in fs::read_dir(rt, ".")? {
-        let entry = entry?;
-        if !entry.file_name().ends_with(".md") {
-            names.push(String::from_str(alloc, entry.file_name())?)?;
-        }
-    }
-    names.sort()?;
-    Ok(names)
-}
-
-// Runs the files that the arguments name, or else those of the current folder.
-fn run_all<B: Bench, R: Files + Env + Print + Alloc<A = Global> + Clone + Drop>(
-    rt: &R,
-    alloc: Global,
-) -> io::Result<Report> {
-    let mut report = Report {
-        passed: 0,
-        failed: 0,
-    };
-    let mut names = Vec::new(alloc);
+    let mut paths = Vec::new(alloc);
     for word in env::args(rt)?.skip(1) {
-        names.push(word)?;
+        paths.push(word)?;
     }
-    if names.is_empty() {
-        names = files_of_folder(rt, alloc)?;
-    }
-    for name in names.iter() {
-        match fs::read_to_string(rt, name.as_str()) {
-            Ok(text) => run_text::<B, R>(rt, alloc, name.as_str(), text.as_str(), &mut report)?,
-            Err(_) => {
-                let wrong = Wrong::Told("the file cannot be read");
-                report.note(rt, name.as_str(), 1, Err(wrong))?;
-            }
+    if paths.is_empty() {
+        for folder in folders.iter() {
+            push_files(rt, alloc, folder, &mut paths)?;
         }
     }
-    println!(rt; "{} passed, {} failed", report.passed, report.failed)?;
-    Ok(report)
-}
-
-/// Runs the files that the arguments name, or else those of the current folder, and prints how many comparisons hold.
-///
-/// The program then ends with 0 where each comparison holds and there was one, with 1 where one does not, and with 2 where nothing
-/// can be printed, no folder can be read, or memory is wanting.
-pub fn run_files<B: Bench, R: Files + Env + Print + Alloc<A = Global> + Clone + Drop>(
-    rt: &R,
-    alloc: Global,
-) -> ExitCode {
-    match run_all::<B, R>(rt, alloc) {
-        Ok(Report { passed, failed: 0 }) if passed > 0 => ExitCode::SUCCESS,
-        Ok(_) => ExitCode::FAILURE,
-        Err(_) => ExitCode::from(2),
-    }
+    Ok(paths)
 }

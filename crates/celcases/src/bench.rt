@@ -9,14 +9,14 @@ use crate::scope::{Scope, scope_named};
 use crate::tokens::{tokens_text, word_text};
 use crate::trees::tree_text;
 use crate::types::type_text;
-use cases::{Wrong, compare, first_word};
+use cases::{Bench, Wrong, compare, first_word};
 use instructions::Name;
 use jsondoc::Doc;
 use std::alloc::Global;
 
 /// What the rows of a file ask, and what the lines above a row settle.
 #[derive(Drop)]
-pub struct Bench {
+pub struct Expressions {
     // the ending of the file's name, which says what its rows ask
     asked: String,
     texts: Notation,
@@ -43,12 +43,12 @@ fn greatest_name(name: &str) -> Result<Name, Wrong> {
     }
 }
 
-impl cases::Bench for Bench {
-    fn new(alloc: Global, file: &str) -> Result<Bench, Wrong> {
+impl Bench for Expressions {
+    fn new(alloc: Global, file: &str) -> Result<Expressions, Wrong> {
         let Some((_, asked)) = file.rsplit_once('.') else {
             return Err(Wrong::Told("the file's ending is no kind of rows"));
         };
-        Ok(Bench {
+        Ok(Expressions {
             asked: String::from_str(alloc, asked)?,
             texts: Notation::Plain,
             object: Doc::null(),
@@ -82,20 +82,25 @@ impl cases::Bench for Bench {
     }
 }
 
-impl Bench {
+// Puts a value in its place, where there is one.
+fn set<T: Drop>(place: &mut T, value: Result<T, Wrong>) -> Result<(), Wrong> {
+    *place = value?;
+    Ok(())
+}
+
+impl Expressions {
     // Takes a line that is no row.
     fn settle(&mut self, alloc: Global, line: &str) -> Result<(), Wrong> {
         let (word, rest) = first_word(line);
         match word {
-            "texts" => self.texts = notation_named(rest)?,
-            "object" => self.object = written_document(alloc, rest)?,
-            "nested" => self.object = nested_document(alloc, rest)?,
-            "scope" => self.scope = scope_named(rest)?,
-            "variables" => self.variables = count(rest)?,
-            "names" => self.names = greatest_name(rest)?,
-            _ => return Err(Wrong::Told("neither a row nor a setting")),
+            "texts" => set(&mut self.texts, notation_named(rest)),
+            "object" => set(&mut self.object, written_document(alloc, rest)),
+            "nested" => set(&mut self.object, nested_document(alloc, rest)),
+            "scope" => set(&mut self.scope, scope_named(rest)),
+            "variables" => set(&mut self.variables, count(rest)),
+            "names" => set(&mut self.names, greatest_name(rest)),
+            _ => Err(Wrong::Told("neither a row nor a setting")),
         }
-        Ok(())
     }
 
     // What is found about a text.

@@ -1,12 +1,15 @@
 //! Code as rows have it.
 
 ghost use Rattle.std.specs.Prelude.{◌≤◌, length, IfOk, IfSome};
+ghost use Rattle.celtree.specs.View.{view};
 ghost use Rattle.instructions.specs.Seen.{plan_ops};
 ghost use Rattle.instructions.specs.Bytes.{HaveRoom};
+ghost use Rattle.plan.specs.Seen.{IsSmall};
 
 use crate::scope::{Scope, dyn_variable};
 use cases::{Wrong, shown, spelled};
 use celread::read;
+use celtree::Tree;
 use celtypes::{Env, check};
 use instructions::Plan;
 use plan::compile;
@@ -18,9 +21,19 @@ pub(crate) fn compiled_among(alloc: Global, text: &str, env: &Env<'_>) -> Option
     requires { length env.now.variables.now ≤ 65535 }
     ensures { IfSome result (λ p. HaveRoom (plan_ops p)) }
 {
-    let tree = read(alloc, text).ok()?;
-    match check(alloc, &tree, env) {
-        Ok(_) => compile(alloc, &tree, env).ok(),
+    match read(alloc, text) {
+        Ok(tree) => compiled_tree(alloc, &tree, env),
+        Err(_) => None,
+    }
+}
+
+fn compiled_tree(alloc: Global, tree: &Tree, env: &Env<'_>) -> Option<Plan>
+    requires few { length env.now.variables.now ≤ 65535 }
+    requires small { IsSmall (view tree.now) }
+    ensures { IfSome result (λ p. HaveRoom (plan_ops p)) }
+{
+    match check(alloc, tree, env) {
+        Ok(_) => compile(alloc, tree, env).ok(),
         Err(_) => None,
     }
 }

@@ -3,7 +3,7 @@
 use crate::notation::repeated;
 use cases::Wrong;
 use jsondoc::Doc;
-use std::alloc::{AllocError, Global};
+use std::alloc::Global;
 
 /// The document that a line writes as JSON.
 pub(crate) fn written_document(alloc: Global, written: &str) -> Result<Doc, Wrong> {
@@ -15,7 +15,7 @@ pub(crate) fn written_document(alloc: Global, written: &str) -> Result<Doc, Wron
 }
 
 // An object in an object, so many deep, each under `a`, and 7 in the last one.
-fn nested_objects(alloc: Global, depth: u64) -> Result<Doc, AllocError> {
+fn nested_objects(alloc: Global, depth: u64) -> Result<Doc, Wrong> {
     let mut inner = Doc::from(7);
     for _ in 0..depth {
         let mut outer = Doc::empty_object(alloc);
@@ -26,7 +26,7 @@ fn nested_objects(alloc: Global, depth: u64) -> Result<Doc, AllocError> {
 }
 
 // The same of lists.
-fn nested_lists(alloc: Global, depth: u64) -> Result<Doc, AllocError> {
+fn nested_lists(alloc: Global, depth: u64) -> Result<Doc, Wrong> {
     let mut inner = Doc::from(7);
     for _ in 0..depth {
         let mut outer = Doc::empty_list(alloc);
@@ -45,8 +45,8 @@ pub(crate) fn nested_document(alloc: Global, text: &str) -> Result<Doc, Wrong> {
         return Err(Wrong::Told("nested how deep?"));
     };
     match kind {
-        "objects" => Ok(nested_objects(alloc, depth)?),
-        "lists" => Ok(nested_lists(alloc, depth)?),
+        "objects" => nested_objects(alloc, depth),
+        "lists" => nested_lists(alloc, depth),
         _ => Err(Wrong::Told("nested are objects or lists, so many deep")),
     }
 }

@@ -95,11 +95,15 @@ fn filled(alloc: Global, written: &str) -> Result<String, Wrong> {
 
 fn json_text(alloc: Global, written: &str) -> Result<String, Wrong> {
     match Doc::read(alloc, written.as_bytes()) {
-        Ok(document) => match document.as_str() {
-            Some(text) => Ok(String::from_str(alloc, text)?),
-            None => Err(Wrong::Told("no JSON string")),
-        },
+        Ok(document) => string_of(alloc, &document),
         Err(_) => Err(Wrong::Told("no JSON string")),
+    }
+}
+
+fn string_of(alloc: Global, document: &Doc) -> Result<String, Wrong> {
+    match document.as_str() {
+        Some(text) => cases::text(alloc, text),
+        None => Err(Wrong::Told("no JSON string")),
     }
 }
 

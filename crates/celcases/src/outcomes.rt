@@ -5,7 +5,7 @@ ghost use Rattle.std.specs.Prelude.{◌≡◌, ◌≤◌, length, IfSome};
 use crate::codes::compiled_among;
 use crate::scope::dyn_variable;
 use crate::values::shown_outcome;
-use cases::Wrong;
+use cases::{TextBuilder, Wrong};
 use celmean::{Outcome, Value};
 use celplain::{Binding, Environment, evaluate};
 use celread::read;
@@ -23,8 +23,10 @@ const PARAMS: &[u8] = b"{\"limit\":5}";
 
 // What the expression means, if it is one.
 fn meant(alloc: Global, text: &str, environment: &Environment<'_>) -> Option<Outcome> {
-    let tree = read(alloc, text).ok()?;
-    evaluate(alloc, &tree, environment).ok()
+    match read(alloc, text) {
+        Ok(tree) => evaluate(alloc, &tree, environment).ok(),
+        Err(_) => None,
+    }
 }
 
 // The code of the expression, if it is an expression that has a type.
@@ -102,24 +104,52 @@ fn document(alloc: Global, text: &[u8]) -> Result<Doc, Wrong> {
     }
 }
 
+fn written_value(alloc: Global, text: &[u8]) -> Result<Value, Wrong> {
+    let document = document(alloc, text)?;
+    Ok(document_value(alloc, &document)?)
+}
+
 // What the expression means, as a row has it.
 //
 // `oldObject` is null, `variables.fine` is 7, `variables.broken` is the error, and `variables.last` is true.
 fn meaning_text(alloc: Global, text: &str, object: &Doc) -> Result<String, Wrong> {
     let object = document_value(alloc, object)?;
-    let request = document_value(alloc, &document(alloc, REQUEST)?)?;
-    let params = document_value(alloc, &document(alloc, PARAMS)?)?;
+    let request = written_value(alloc, REQUEST)?;
+    meaning_beside(alloc, text, &object, &request)
+}
+
+fn meaning_beside(
+    alloc: Global,
+    text: &str,
+    object: &Value,
+    request: &Value,
+) -> Result<String, Wrong> {
+    let params = written_value(alloc, PARAMS)?;
+    Ok(named_text(alloc, text, &names(object, &Value::Null, request, &params)))
+}
+
+fn named_text(alloc: Global, text: &str, names: &[Binding<'_>]) -> String {
     let environment = Environment {
-        names: &names(&object, &Value::Null, &request, &params),
+        names,
         variables: &variables(&Value::Int(7), &Value::Bool(true)),
     };
-    Ok(shown_outcome(alloc, &meant(alloc, text, &environment)))
+    shown_outcome(alloc, &meant(alloc, text, &environment))
 }
 
 /// What the expression's plan gives, as a row has it, where names stand for the same.
 pub(crate) fn plan_text(alloc: Global, text: &str, object: &Doc) -> Result<String, Wrong> {
     let request = document(alloc, REQUEST)?;
     let params = document(alloc, PARAMS)?;
+    plan_beside(alloc, text, object, &request, &params)
+}
+
+fn plan_beside(
+    alloc: Global,
+    text: &str,
+    object: &Doc,
+    request: &Doc,
+    params: &Doc,
+) -> Result<String, Wrong> {
     let none = Doc::null();
     let bindings = Bindings {
         object: object.value(),
@@ -132,6 +162,13 @@ pub(crate) fn plan_text(alloc: Global, text: &str, object: &Doc) -> Result<Strin
             Outcome::Gives(Value::Bool(true)),
         ],
     };
+    bound_text(alloc, text, &bindings)
+}
+
+// The same, where names stand for these.
+fn bound_text(alloc: Global, text: &str, bindings: &Bindings<'_>) -> Result<String, Wrong>
+    requires { length bindings.now.variables.now ≡ 3 }
+{
     let declared = [
         dyn_variable(alloc, "fine")?,
         dyn_variable(alloc, "broken")?,
@@ -141,17 +178,26 @@ pub(crate) fn plan_text(alloc: Global, text: &str, object: &Doc) -> Result<Strin
         has_params: true,
         variables: &declared,
     };
-    Ok(shown_outcome(alloc, &planned(alloc, text, &env, &bindings)))
+    Ok(shown_outcome(alloc, &planned(alloc, text, &env, bindings)))
 }
 
 /// What the expression gives both by its meaning and by its plan, or each where they differ.
 pub(crate) fn value_text(alloc: Global, text: &str, object: &Doc) -> Result<String, Wrong> {
     let meant = meaning_text(alloc, text, object)?;
     let planned = plan_text(alloc, text, object)?;
-    if meant.as_str() == planned.as_str() {
-        return Ok(meant);
+    both_text(alloc, meant.as_str(), planned.as_str())
+}
+
+fn both_text(alloc: Global, meant: &str, planned: &str) -> Result<String, Wrong> {
+    if meant == planned {
+        return cases::text(alloc, meant);
     }
-    Ok(format!(in alloc; "{meant} by its meaning, {planned} by its plan")?)
+    let mut line = TextBuilder::new(alloc);
+    line.push(meant);
+    line.push(" by its meaning, ");
+    line.push(planned);
+    line.push(" by its plan");
+    line.end()
 }
 
 /// What the expression means beside one object, which `variables.fine` stands for too; `variables.broken` is the error.

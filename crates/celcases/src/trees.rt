@@ -164,15 +164,21 @@ fn put_tree_and_copy(alloc: Global, out: &mut String, tree: &Tree) {
     }
 }
 
+fn fault_word(fault: &ReadFault) -> &'static str {
+    match fault {
+        ReadFault::TooLong => "too long",
+        ReadFault::TooDeep => "too deep",
+        ReadFault::NotInGrammar => "no",
+        ReadFault::Memory => "memory",
+    }
+}
+
 /// The tree of a text as it is written in a row, or why there is none.
 pub(crate) fn tree_text(alloc: Global, text: &str) -> String {
     let mut out = String::new(alloc);
     match read(alloc, text) {
         Ok(tree) => put_tree_and_copy(alloc, &mut out, &tree),
-        Err(ReadFault::TooLong) => put(&mut out, "too long"),
-        Err(ReadFault::TooDeep) => put(&mut out, "too deep"),
-        Err(ReadFault::NotInGrammar) => put(&mut out, "no"),
-        Err(ReadFault::Memory) => put(&mut out, "memory"),
+        Err(fault) => put(&mut out, fault_word(&fault)),
     }
     out
 }

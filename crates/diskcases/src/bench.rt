@@ -5,7 +5,7 @@ use crate::log_lines::LogLines;
 use crate::other_devices::{file_after_crash, remembered};
 use crate::record_lines::{answered, cuts, damage_word, reads, replay};
 use crate::root_lines::{log_start, new_store, root, write_sector};
-use cases::{Wrong, compare, first_word, number, shown, text};
+use cases::{Bench, Wrong, compare, first_word, number, shown, text};
 use device::{Device, MemDevice};
 use std::alloc::Global;
 use std::fmt::Display;
@@ -14,14 +14,14 @@ const ROOM_SECTORS: u64 = 32;
 
 /// A device in memory, and the log that a case opened on it.
 #[derive(Drop)]
-pub struct Bench {
+pub struct Disk {
     device: MemDevice,
     log: LogLines,
 }
 
-impl cases::Bench for Bench {
-    fn new(alloc: Global, _file: &str) -> Result<Bench, Wrong> {
-        Ok(Bench {
+impl Bench for Disk {
+    fn new(alloc: Global, _file: &str) -> Result<Disk, Wrong> {
+        Ok(Disk {
             device: MemDevice::new(alloc, ROOM_SECTORS)?,
             log: LogLines { log: None },
         })
@@ -49,7 +49,7 @@ pub fn ended<E: Display + Drop>(alloc: Global, done: Result<(), E>) -> Result<St
     }
 }
 
-impl Bench {
+impl Disk {
     // Answers a line on the device, and hands on the others.
     fn of_the_device(&mut self, alloc: Global, word: &str, rest: &str) -> Result<String, Wrong> {
         match word {

@@ -75,11 +75,11 @@ fn refuses<R: Files<File = File>>(rt: &R) -> bool {
 /// What they do otherwise.
 pub fn check_files<R: Files<File = File>>(rt: &R) -> Result<(), Wrong> {
     wanted(
-        keeps_its_sectors(rt) == Ok(true),
+        matches!(keeps_its_sectors(rt), Ok(true)),
         "a file does not keep its sectors",
     )?;
     wanted(
-        leaves_out_a_rest(rt) == Ok(true),
+        matches!(leaves_out_a_rest(rt), Ok(true)),
         "a rest is part of the device",
     )?;
     wanted(refuses(rt), "a file is taken that should not be")

@@ -86,8 +86,10 @@ fn reply_text(alloc: Global, reply: &Reply) -> Result<String, Wrong> {
     line.end()
 }
 
-fn reply_to(alloc: Global, core: &mut Core, request: &Request) -> Result<String, Wrong> {
-    match prepare(core, alloc, request) {
+// The reply to a GET of the configmap.
+fn reply_to_get(alloc: Global, core: &mut Core) -> Result<String, Wrong> {
+    let request = Request::Get(settings(alloc)?);
+    match prepare(core, alloc, &request) {
         Ok(prepared) => reply_text(alloc, &prepared.reply),
         Err(_) => Err(Wrong::Memory),
     }
@@ -95,9 +97,8 @@ fn reply_to(alloc: Global, core: &mut Core, request: &Request) -> Result<String,
 
 /// `answered LIMIT PAYLOAD ; ..`: the code and the body that a GET of the configmap is answered by.
 pub fn answered(alloc: Global, line: &str) -> Result<String, Wrong> {
-    let request = Request::Get(settings(alloc)?);
     match store(alloc, line)? {
-        Ok(mut core) => reply_to(alloc, &mut core, &request),
+        Ok(mut core) => reply_to_get(alloc, &mut core),
         Err(_) => Err(Wrong::Told("there is no store")),
     }
 }

@@ -9,4 +9,4 @@ mod streams;
 
 pub use exchange::{Exchange, Service};
 pub use replies::{message, short};
-pub use streams::{first_request, messages};
+pub use streams::{messages, routed_first};

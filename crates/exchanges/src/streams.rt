@@ -2,8 +2,7 @@
 
 use cases::Wrong;
 use httpmsg::{Cutter, Message};
-use requests::Request;
-use routes::{Routes, route};
+use routes::{Routed, Routes, route};
 use std::alloc::Global;
 
 /// The messages of a stream that ends between two of them.
@@ -16,9 +15,9 @@ pub fn messages(alloc: Global, sent: &str) -> Result<Vec<Message>, Wrong> {
 }
 
 /// What the first message of a stream asks for.
-pub fn first_request(alloc: Global, routes: &Routes, sent: &str) -> Result<Request, Wrong> {
+pub fn routed_first(alloc: Global, routes: &Routes, sent: &str) -> Result<Routed, Wrong> {
     match messages(alloc, sent)?.first() {
-        Some(message) => Ok(route(alloc, routes, message)?.request),
+        Some(message) => Ok(route(alloc, routes, message)?),
         None => Err(Wrong::Told("there is no message")),
     }
 }

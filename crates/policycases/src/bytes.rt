@@ -1,6 +1,7 @@
 //! Bytes as lines have them, and what they spell.
 
-use cases::{Wrong, first_word};
+use crate::texts::told;
+use cases::{TextBuilder, Wrong, first_word};
 use fields::{long_field, short_field};
 use plancode::Verified;
 use planlist::{ReadPlansFault, read_plans, write_plans};
@@ -45,32 +46,30 @@ pub fn read_bytes(alloc: Global, text: &str) -> Result<Vec<u8>, Wrong> {
     }
 }
 
-/// Adds bytes to a text, as lines have them.
+/// Bytes, as lines have them.
 ///
 /// # Errors
 ///
 /// Where no memory is left.
-pub fn put_bytes(text: &mut String, bytes: &[u8]) -> Result<(), AllocError> {
+pub fn spelled(alloc: Global, bytes: &[u8]) -> Result<String, AllocError> {
     if bytes.is_empty() {
-        return text.push_str(NONE);
+        return String::from_str(alloc, NONE);
     }
+    let mut text = String::new(alloc);
     for byte in bytes {
         write!(text, "{byte:02x}")?;
     }
-    Ok(())
+    Ok(text)
 }
 
 fn field_answer(alloc: Global, parts: Option<(&[u8], &[u8])>) -> Result<String, Wrong> {
-    let mut answer = String::new(alloc);
     match parts {
         Some((inside, behind)) => {
-            put_bytes(&mut answer, inside)?;
-            answer.push_str(" ")?;
-            put_bytes(&mut answer, behind)?;
+            let inside = spelled(alloc, inside)?;
+            told(alloc, &inside, &spelled(alloc, behind)?)
         }
-        None => answer.push_str("none")?,
+        None => cases::text(alloc, "none"),
     }
-    Ok(answer)
 }
 
 /// The field in front whose length stands in two bytes, and what stands behind it.
@@ -107,21 +106,16 @@ fn read_places(alloc: Global, text: &str) -> Result<Vec<u16>, Wrong> {
 }
 
 /// Adds for how many variables each plan is, as lines have it.
-///
-/// # Errors
-///
-/// Where no memory is left.
-pub fn put_places(text: &mut String, plans: &[Verified]) -> Result<(), AllocError> {
+pub fn push_places(line: &mut TextBuilder, plans: &[Verified]) {
     if plans.is_empty() {
-        return text.push_str(NONE);
+        line.push(NONE);
     }
     let mut separator = "";
     for plan in plans {
-        let place = plan.vars();
-        write!(text, "{separator}{place}")?;
+        line.push(separator);
+        line.show(&plan.vars());
         separator = ",";
     }
-    Ok(())
 }
 
 // For how many variables each of the plans is, and their bytes.
@@ -129,11 +123,11 @@ fn written_again(alloc: Global, plans: &[Verified]) -> Result<String, Wrong> {
     let Ok(bytes) = write_plans(alloc, plans) else {
         return Err(Wrong::Told("the plans are not written"));
     };
-    let mut answer = String::new(alloc);
-    put_places(&mut answer, plans)?;
-    answer.push_str(" ")?;
-    put_bytes(&mut answer, &bytes)?;
-    Ok(answer)
+    let spelled = spelled(alloc, &bytes)?;
+    let mut answer = TextBuilder::new(alloc);
+    push_places(&mut answer, plans);
+    answer.word(&spelled);
+    answer.end()
 }
 
 /// The plans for these places that the bytes spell, written again, or `damaged`.

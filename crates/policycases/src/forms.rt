@@ -1,18 +1,27 @@
 //! What documents spell.
 
-use crate::bytes::{put_bytes, put_places, read_bytes};
-use crate::expressed::plans_of;
+use crate::bytes::{push_places, read_bytes, spelled};
+use crate::expressed::plans_in;
+use crate::texts::{debugged, told};
 use crate::writes::{document, resource};
-use cases::{Wrong, first_word};
-use expressions::{PolicyFault, TypedPolicy};
+use cases::{TextBuilder, Wrong, first_word};
+use jsondoc::Doc;
 use names::Resource;
 use plancode::Verified;
 use planlist::ReadPlansFault;
 use policy::{Binding, Policy};
+use serde_json::Value;
 use specification::{Specification, plans_bytes, specification_of, stored_plans};
 use std::alloc::Global;
 
 const REFUSED: &str = "refused";
+
+fn policy_parts(alloc: Global, document: &Value) -> Result<String, Wrong> {
+    match Policy::of(alloc, document)? {
+        Some(policy) => debugged(alloc, &policy),
+        None => cases::text(alloc, REFUSED),
+    }
+}
 
 /// The policy that a document spells, with all its parts, or `refused`.
 ///
@@ -20,8 +29,12 @@ const REFUSED: &str = "refused";
 ///
 /// Where the text spells no document, or no memory is left.
 pub fn policy_answer(alloc: Global, text: &str) -> Result<String, Wrong> {
-    match Policy::of(alloc, document(alloc, text)?.value())? {
-        Some(policy) => Ok(format!(in alloc; "{policy:?}")?),
+    policy_parts(alloc, document(alloc, text)?.value())
+}
+
+fn binding_parts(alloc: Global, document: &Value) -> Result<String, Wrong> {
+    match Binding::of(alloc, document)? {
+        Some(binding) => debugged(alloc, &binding),
         None => cases::text(alloc, REFUSED),
     }
 }
@@ -32,9 +45,21 @@ pub fn policy_answer(alloc: Global, text: &str) -> Result<String, Wrong> {
 ///
 /// Where the text spells no document, or no memory is left.
 pub fn binding_answer(alloc: Global, text: &str) -> Result<String, Wrong> {
-    match Binding::of(alloc, document(alloc, text)?.value())? {
-        Some(binding) => Ok(format!(in alloc; "{binding:?}")?),
-        None => cases::text(alloc, REFUSED),
+    binding_parts(alloc, document(alloc, text)?.value())
+}
+
+fn places_answer(alloc: Global, plans: &[Verified]) -> Result<String, Wrong> {
+    let mut answer = TextBuilder::new(alloc);
+    answer.push("plans for ");
+    push_places(&mut answer, plans);
+    answer.end()
+}
+
+fn policy_places(alloc: Global, document: &Value) -> Result<String, Wrong> {
+    match plans_in(alloc, document) {
+        Ok(plans) => places_answer(alloc, &plans),
+        Err(Wrong::Found(fault)) => Ok(fault),
+        Err(wrong) => Err(wrong),
     }
 }
 
@@ -44,24 +69,22 @@ pub fn binding_answer(alloc: Global, text: &str) -> Result<String, Wrong> {
 ///
 /// Where the text spells no document, or no memory is left.
 pub fn expressions_answer(alloc: Global, text: &str) -> Result<String, Wrong> {
-    match TypedPolicy::read(alloc, document(alloc, text)?.value()) {
-        Ok(policy) => {
-            let mut answer = String::from_str(alloc, "plans for ")?;
-            put_places(&mut answer, &plans_of(alloc, &policy)?)?;
-            Ok(answer)
-        }
-        Err(PolicyFault::Memory) => Err(Wrong::Memory),
-        Err(fault) => Ok(format!(in alloc; "{fault}")?),
-    }
+    policy_places(alloc, document(alloc, text)?.value())
 }
 
 fn bytes_answer(alloc: Global, resource: Resource, plans: &[Verified]) -> Result<String, Wrong> {
     let Ok(bytes) = plans_bytes(alloc, resource, plans) else {
         return Err(Wrong::Told("the plans have no bytes"));
     };
-    let mut answer = String::from_str(alloc, "plans ")?;
-    put_bytes(&mut answer, &bytes)?;
-    Ok(answer)
+    told(alloc, "plans", &spelled(alloc, &bytes)?)
+}
+
+fn document_answer(alloc: Global, resource: Resource, document: &Doc) -> Result<String, Wrong> {
+    match specification_of(alloc, resource, document)? {
+        Specification::Sound(plans) => bytes_answer(alloc, resource, &plans),
+        Specification::BadSpec => cases::text(alloc, "bad spec"),
+        Specification::BadExpression(text) => told(alloc, "bad expression:", &text),
+    }
 }
 
 /// The bytes of the plans of a resource's object, or what is bad in it.
@@ -71,10 +94,26 @@ fn bytes_answer(alloc: Global, resource: Resource, plans: &[Verified]) -> Result
 /// Where there is no such resource, the text spells no document, or no memory is left.
 pub fn specification_answer(alloc: Global, plural: &str, text: &str) -> Result<String, Wrong> {
     let resource = resource(plural)?;
-    match specification_of(alloc, resource, &document(alloc, text)?)? {
-        Specification::Sound(plans) => bytes_answer(alloc, resource, &plans),
-        Specification::BadSpec => cases::text(alloc, "bad spec"),
-        Specification::BadExpression(text) => Ok(format!(in alloc; "bad expression: {text}")?),
+    document_answer(alloc, resource, &document(alloc, text)?)
+}
+
+fn count_answer(alloc: Global, count: usize) -> Result<String, Wrong> {
+    let mut answer = TextBuilder::new(alloc);
+    answer.show(&count);
+    answer.word("plans");
+    answer.end()
+}
+
+fn stored_count(
+    alloc: Global,
+    resource: Resource,
+    document: &Doc,
+    bytes: &[u8],
+) -> Result<String, Wrong> {
+    match stored_plans(alloc, resource, document, bytes) {
+        Ok(plans) => count_answer(alloc, plans.len()),
+        Err(ReadPlansFault::Damaged) => cases::text(alloc, "damaged"),
+        Err(ReadPlansFault::Memory) => Err(Wrong::Memory),
     }
 }
 
@@ -87,12 +126,5 @@ pub fn stored_answer(alloc: Global, words: &str, text: &str) -> Result<String, W
     let (plural, bytes) = first_word(words);
     let resource = resource(plural)?;
     let bytes = read_bytes(alloc, bytes)?;
-    match stored_plans(alloc, resource, &document(alloc, text)?, &bytes) {
-        Ok(plans) => {
-            let count = plans.len();
-            Ok(format!(in alloc; "{count} plans")?)
-        }
-        Err(ReadPlansFault::Damaged) => cases::text(alloc, "damaged"),
-        Err(ReadPlansFault::Memory) => Err(Wrong::Memory),
-    }
+    stored_count(alloc, resource, &document(alloc, text)?, &bytes)
 }

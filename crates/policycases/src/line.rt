@@ -1,6 +1,6 @@
 //! The parts of a line, and what stands around its text.
 
-use cases::{Wrong, first_word, wanted};
+use cases::{TextBuilder, Wrong, first_word, wanted};
 use std::alloc::Global;
 
 // How many words stand in front of the text of a line with this word, and whether there may be a text.
@@ -70,22 +70,28 @@ impl Frames {
         Ok(())
     }
 
+    // What stands around the text of a line with this word: in front of it, and behind it.
+    fn around(&self, word: &str) -> (&str, &str) {
+        let mut parts = ("", "");
+        for frame in self.all.iter() {
+            if frame.word.as_str() == word {
+                parts = frame.around.split_once('%').unwrap_or(("", ""));
+            }
+        }
+        parts
+    }
+
     /// The text of a line with this word, in its frame.
     ///
     /// # Errors
     ///
     /// Where no memory is left.
     pub fn framed(&self, alloc: Global, word: &str, text: &str) -> Result<String, Wrong> {
-        let last = self
-            .all
-            .iter()
-            .rev()
-            .find(|frame| frame.word.as_str() == word);
-        let parts = match last {
-            Some(frame) => frame.around.split_once('%'),
-            None => None,
-        };
-        let (front, back) = parts.unwrap_or(("", ""));
-        Ok(format!(in alloc; "{front}{text}{back}")?)
+        let (front, back) = self.around(word);
+        let mut framed = TextBuilder::new(alloc);
+        framed.push(front);
+        framed.push(text);
+        framed.push(back);
+        framed.end()
     }
 }

@@ -1,42 +1,43 @@
 //! What policies say of writes.
 
-use crate::expressed::plans_of;
+use crate::expressed::plans_in;
 use crate::shelf::{Shelf, Stored};
+use crate::texts::told;
 use crate::writes::{Write, document, key, value_of};
 use cases::{Wrong, first_word, shown};
 use documents::Document;
 use evaluation::{Conditions, Denial, conditions, evaluate, failure, request_document};
-use expressions::{PolicyFault, TypedPolicy};
 use jsondoc::Doc;
-use names::{Key, Resource};
+use names::Resource;
 use plancode::Verified;
 use policy::{FailurePolicy, Policy};
 use std::alloc::Global;
-use verdict::{LookupFault, denial_text};
+use verdict::denial_text;
 
 // The plans of a document's expressions, if it is a policy.
-fn plans_in(alloc: Global, resource: Resource, document: &Doc) -> Result<Vec<Verified>, Wrong> {
+fn plans_of(alloc: Global, resource: Resource, document: &Doc) -> Result<Vec<Verified>, Wrong> {
     match resource {
-        Resource::ValidatingAdmissionPolicy => {
-            match TypedPolicy::read(alloc, document.value()) {
-                Ok(policy) => plans_of(alloc, &policy),
-                Err(PolicyFault::Memory) => Err(Wrong::Memory),
-                Err(fault) => Err(Wrong::Found(shown(alloc, &fault)?)),
-            }
-        }
+        Resource::ValidatingAdmissionPolicy => plans_in(alloc, document.value()),
         _ => Ok(Vec::new(alloc)),
     }
 }
 
-/// Stores what a text spells, with the plans of its expressions if it is a policy.
+/// Stores what a text spells under a key, with the plans of its expressions if it is a policy.
 ///
 /// # Errors
 ///
-/// Where it spells no document, or a policy with a fault, or no memory is left.
-pub fn put(alloc: Global, shelf: &mut Shelf, key: Key, text: &str) -> Result<(), Wrong> {
+/// Where the key is none, the text spells no document or a policy with a fault, or no memory is left.
+pub fn put(
+    alloc: Global,
+    shelf: &mut Shelf,
+    resource: Resource,
+    key_text: &str,
+    text: &str,
+) -> Result<(), Wrong> {
+    let key = key(alloc, resource, key_text)?;
     let document = document(alloc, text)?;
     let stored = Stored {
-        plans: plans_in(alloc, key.resource(), &document)?,
+        plans: plans_of(alloc, resource, &document)?,
         document: Document::new(document),
         revision: 2,
     };
@@ -47,7 +48,7 @@ pub fn put(alloc: Global, shelf: &mut Shelf, key: Key, text: &str) -> Result<(),
 ///
 /// # Errors
 ///
-/// As those of [`put`], and where it has no key.
+/// As those of [`put`].
 pub fn put_spec(
     alloc: Global,
     shelf: &mut Shelf,
@@ -60,7 +61,7 @@ pub fn put_spec(
     let text = format!(in alloc;
         "{{\"apiVersion\":\"{api_version}\",\"kind\":\"{kind}\",\"metadata\":{{\"name\":\"{name}\"}},\"spec\":{spec}}}"
     )?;
-    put(alloc, shelf, key(alloc, resource, name)?, &text)
+    put(alloc, shelf, resource, name, &text)
 }
 
 fn denial_answer(alloc: Global, denial: Option<Denial>) -> Result<String, Wrong> {
@@ -87,13 +88,8 @@ fn policy_answer(
             denial_answer(alloc, denial)
         }
         Conditions::Unmet => cases::text(alloc, "unmet"),
-        Conditions::Neither(name) => Ok(format!(in alloc; "neither {name}")?),
+        Conditions::Neither(name) => told(alloc, "neither", name),
     }
-}
-
-/// Why a line fails where an object is not looked up.
-pub fn lookup_wrong(_: LookupFault) -> Wrong {
-    Wrong::Told("an object is not looked up")
 }
 
 /// What the policy of this name says of the write by itself.

@@ -53,13 +53,6 @@ pub fn resource(plural: &str) -> Result<Resource, Wrong> {
     Err(Wrong::Told("no such resource"))
 }
 
-fn key_wrong(fault: KeyFault) -> Wrong {
-    match fault {
-        KeyFault::NoKey => Wrong::Told("no key of an object"),
-        KeyFault::Memory => Wrong::Memory,
-    }
-}
-
 /// The key of `NAMESPACE/NAME`, or of `NAME` alone where objects stand in no namespace.
 ///
 /// # Errors
@@ -70,7 +63,11 @@ pub fn key(alloc: Global, resource: Resource, text: &str) -> Result<Key, Wrong> 
         Some(parts) => parts,
         None => ("", text),
     };
-    Key::new(alloc, resource, namespace, name).map_err(key_wrong)
+    match Key::new(alloc, resource, namespace, name) {
+        Ok(key) => Ok(key),
+        Err(KeyFault::NoKey) => Err(Wrong::Told("no key of an object")),
+        Err(KeyFault::Memory) => Err(Wrong::Memory),
+    }
 }
 
 fn operation(word: &str) -> Result<Operation, Wrong> {
@@ -124,19 +121,28 @@ impl Write {
     }
 }
 
+// A binding with the rules that a text spells.
+fn bound(alloc: Global, text: &str) -> Result<Doc, Wrong> {
+    let text = format!(in alloc;
+        "{{\"spec\":{{\"policyName\":\"p\",\"validationActions\":[\"Deny\"],\"matchResources\":{text}}}}}"
+    )?;
+    document(alloc, &text)
+}
+
+fn rules_of(alloc: Global, binding: &Value) -> Result<MatchRules, Wrong> {
+    match Binding::of(alloc, binding)? {
+        Some(binding) => Ok(binding.resources),
+        None => Err(Wrong::Told("no rules")),
+    }
+}
+
 /// The rules that a text spells, as a binding has them.
 ///
 /// # Errors
 ///
 /// Where it spells none, or no memory is left.
 pub fn rules(alloc: Global, text: &str) -> Result<MatchRules, Wrong> {
-    let text = format!(in alloc;
-        "{{\"spec\":{{\"policyName\":\"p\",\"validationActions\":[\"Deny\"],\"matchResources\":{text}}}}}"
-    )?;
-    match Binding::of(alloc, document(alloc, &text)?.value())? {
-        Some(binding) => Ok(binding.resources),
-        None => Err(Wrong::Told("no rules")),
-    }
+    rules_of(alloc, bound(alloc, text)?.value())
 }
 
 /// Whether a policy for the rules, bound for others, is asked for the write.

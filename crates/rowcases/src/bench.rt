@@ -1,32 +1,37 @@
 //! What the rows of a file are asked of, and the questions by their words.
 
-use crate::{documents_asked, edits, events, names_asked, stored};
-use cases::{Wrong, compare, first_word};
-use jsondoc::{Doc, text_escapes};
+use crate::{
+    bodies, documents_asked, edits, events, messages, names_asked, requested, responses, stored,
+};
+use cases::{Bench, TextBuilder, Wrong, compare, first_word, number, shown};
+use jsondoc::Doc;
 use objects::Objects;
+use routes::Routes;
 use std::alloc::Global;
 use window::Window;
 
-/// A document, objects and a window, which the rows change one after the other.
+/// A document, objects and a window, which the rows change one after the other, and the paths that are served.
 #[derive(Drop)]
-pub struct Bench {
+pub struct Rows {
+    window: Window<u64>,
+    routes: Routes,
     document: Doc,
     objects: Objects<u64>,
-    window: Window<u64>,
 }
 
-impl cases::Bench for Bench {
-    fn new(alloc: Global, _file: &str) -> Result<Bench, Wrong> {
-        text_escapes();
-        Ok(Bench {
+impl Bench for Rows {
+    fn new(alloc: Global, _file: &str) -> Result<Rows, Wrong> {
+        Ok(Rows {
+            window: events::empty(alloc)?,
+            routes: Routes::new(alloc)?,
             document: Doc::empty_object(alloc),
             objects: Objects::new(alloc),
-            window: events::empty(alloc)?,
         })
     }
 
     // A row: `QUESTION => ANSWER`.
     fn line(&mut self, alloc: Global, line: &str) -> Result<u64, Wrong> {
+        let line = unfolded(alloc, line)?;
         let Some((question, wanted)) = line.split_once(" => ") else {
             return Err(Wrong::Told("no row: QUESTION => ANSWER"));
         };
@@ -41,8 +46,22 @@ impl cases::Bench for Bench {
     }
 }
 
+// A line in which `«N TEXT»` is the text so many times, and `¶` the end of a line.
+fn unfolded(alloc: Global, line: &str) -> Result<String, Wrong> {
+    let mut made = TextBuilder::new(alloc);
+    for part in line.split('«') {
+        let (folded, behind) = part.split_once('»').unwrap_or(("1 ", part));
+        let (times, piece) = first_word(folded);
+        for _ in 0..number(times)? {
+            made.push(piece);
+        }
+        made.push(behind);
+    }
+    Ok(made.end()?.replace(alloc, "¶", "\r\n")?)
+}
+
 // Each of these answers the questions of its kind, and hands on the others.
-impl Bench {
+impl Rows {
     fn of_the_document(&mut self, alloc: Global, word: &str, rest: &str) -> Result<String, Wrong> {
         match word {
             "put" => edits::put(alloc, &mut self.document, rest),
@@ -66,6 +85,7 @@ impl Bench {
             "written" => events::written(alloc, &mut self.window, rest),
             "since" => events::since(alloc, &self.window, rest),
             "window-fault" => events::told(alloc, rest),
+            "route" => requested::routed(alloc, &self.routes, rest),
             _ => of_names(alloc, word, rest),
         }
     }
@@ -98,6 +118,22 @@ fn of_documents(alloc: Global, word: &str, rest: &str) -> Result<String, Wrong> 
         "has-metadata" => documents_asked::metadata(alloc, rest),
         "metadata" => documents_asked::text_in_metadata(alloc, rest),
         "copied-metadata" => documents_asked::copied_metadata(alloc, rest),
+        _ => of_messages(alloc, word, rest),
+    }
+}
+
+fn of_messages(alloc: Global, word: &str, rest: &str) -> Result<String, Wrong> {
+    match word {
+        "method" => messages::method(alloc, rest),
+        "length" => shown(alloc, &rest.len()),
+        "cut" => messages::cut(alloc, &[rest.as_bytes(), b"".as_slice()]),
+        "pieces" => messages::pieces(alloc, rest.as_bytes()),
+        "response" => responses::response(alloc, rest),
+        "response-length" => shown(alloc, &responses::response(alloc, rest)?.len()),
+        "full" => responses::full(alloc, rest),
+        "manifest" => bodies::manifest(alloc, rest),
+        "selector" => bodies::selector(alloc, rest),
+        "selects" => bodies::selects(alloc, rest),
         _ => Err(Wrong::Told("no such question")),
     }
 }

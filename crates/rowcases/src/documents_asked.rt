@@ -1,7 +1,8 @@
 //! Questions on JSON documents and on objects as documents.
 
 use crate::names_asked::resource;
-use cases::{TextBuilder, Wrong, bytes, first_word, number, text, wanted, yes_or_no};
+use crate::texts::document_text;
+use cases::{TextBuilder, Wrong, bytes, first_word, number, text, yes_or_no};
 use documents::{Document, has_kind, has_metadata, metadata_copy, metadata_text, shown_document};
 use jsondoc::{Doc, ReadFault};
 use std::alloc::Global;
@@ -24,11 +25,11 @@ pub fn read_bytes(alloc: Global, bytes: &[u8]) -> Result<String, Wrong> {
         Err(ReadFault::Number) => return text(alloc, "a number that is not taken"),
     };
     let again = document(alloc, written.as_str())?.text(alloc)?;
-    wanted(
-        again.as_str() == written.as_str(),
-        "its text reads to another document",
-    )?;
-    Ok(written)
+    if again.as_str() == written.as_str() {
+        Ok(written)
+    } else {
+        Err(Wrong::Told("its text reads to another document"))
+    }
 }
 
 /// `bytes of json HEX ..`: the same of bytes.
@@ -73,9 +74,20 @@ pub fn long_string(alloc: Global, text: &str) -> Result<String, Wrong> {
 /// `shown REVISION JSON`: the stored document as it is shown with a revision.
 pub fn shown(alloc: Global, text: &str) -> Result<String, Wrong> {
     let (revision, json) = first_word(text);
-    let stored = Document::new(document(alloc, json)?).clone()?;
-    let shown = shown_document(alloc, &stored, number(revision)?)?;
-    Ok(shown.text(alloc)?)
+    let stored = stored_copy(alloc, json)?;
+    shown_with(alloc, &stored, revision)
+}
+
+// A copy of the stored document that a text spells.
+fn stored_copy(alloc: Global, json: &str) -> Result<Document, Wrong> {
+    let stored = Document::new(document(alloc, json)?);
+    Ok(stored.clone()?)
+}
+
+fn shown_with(alloc: Global, stored: &Document, revision: &str) -> Result<String, Wrong> {
+    let revision = number(revision)?;
+    let shown = shown_document(alloc, stored, revision)?;
+    document_text(alloc, &shown)
 }
 
 /// `has kind RESOURCE JSON`: whether the document is of that kind.
@@ -99,5 +111,5 @@ pub fn text_in_metadata(alloc: Global, text: &str) -> Result<String, Wrong> {
 /// `copied metadata JSON`: the metadata, copied.
 pub fn copied_metadata(alloc: Global, text: &str) -> Result<String, Wrong> {
     let copy = metadata_copy(&document(alloc, text)?)?;
-    Ok(copy.text(alloc)?)
+    document_text(alloc, &copy)
 }

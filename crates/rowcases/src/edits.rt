@@ -1,6 +1,7 @@
 //! A document that is made by its calls, member by member.
 
-use cases::{Wrong, first_word, text};
+use crate::texts::document_text;
+use cases::{Wrong, first_word, shown, text};
 use jsondoc::Doc;
 use std::alloc::Global;
 
@@ -40,13 +41,16 @@ fn made_or_list(alloc: Global, text: &str) -> Result<Doc, Wrong> {
 pub fn put(alloc: Global, document: &mut Doc, text: &str) -> Result<String, Wrong> {
     let (member, value) = first_word(text);
     document.put(alloc, member, made_or_list(alloc, value)?)?;
-    Ok(document.text(alloc)?)
+    document_text(alloc, document)
 }
 
 /// `member NAME`: the member's text, found and copied.
 pub fn member(alloc: Global, document: &Doc, name: &str) -> Result<String, Wrong> {
     match document.get(name) {
-        Some(value) => Ok(Doc::copy_of(value)?.text(alloc)?),
+        Some(value) => {
+            let copy = Doc::copy_of(value)?;
+            document_text(alloc, &copy)
+        }
         None => self::text(alloc, "none"),
     }
 }
@@ -60,7 +64,7 @@ pub fn characters(alloc: Global, document: &Doc, name: &str) -> Result<String, W
 /// `remove NAME`: what was removed.
 pub fn remove(alloc: Global, document: &mut Doc, name: &str) -> Result<String, Wrong> {
     match document.remove(name) {
-        Some(removed) => Ok(removed.text(alloc)?),
+        Some(removed) => document_text(alloc, &removed),
         None => self::text(alloc, "none"),
     }
 }
@@ -68,25 +72,25 @@ pub fn remove(alloc: Global, document: &mut Doc, name: &str) -> Result<String, W
 /// `members`: how many the document has.
 pub fn members(alloc: Global, document: &Doc) -> Result<String, Wrong> {
     match document.as_object() {
-        Some(members) if document.value().is_object() => {
-            let count = members.len();
-            Ok(format!(in alloc; "{count}")?)
-        }
+        Some(members) if document.value().is_object() => shown(alloc, &members.len()),
         _ => Err(Wrong::Told("no object")),
     }
 }
 
 /// `items NAME`: how many the list has that is this member.
 pub fn items(alloc: Global, document: &Doc, name: &str) -> Result<String, Wrong> {
-    let Some(value) = document.get(name) else {
-        return text(alloc, "none");
-    };
-    let list = Doc::copy_of(value)?;
-    match list.as_array() {
-        Some(items) => {
-            let count = items.len();
-            Ok(format!(in alloc; "{count}")?)
+    match document.get(name) {
+        Some(value) => {
+            let list = Doc::copy_of(value)?;
+            length_text(alloc, &list)
         }
-        None => self::text(alloc, "none"),
+        None => text(alloc, "none"),
+    }
+}
+
+fn length_text(alloc: Global, list: &Doc) -> Result<String, Wrong> {
+    match list.as_array() {
+        Some(items) => shown(alloc, &items.len()),
+        None => text(alloc, "none"),
     }
 }

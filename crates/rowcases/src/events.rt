@@ -1,10 +1,10 @@
 //! A window of events, each of which tells its revision.
 
 use crate::names_asked::no_key;
-use cases::{Wrong, number, shown};
+use cases::{TextBuilder, Wrong, number, shown};
 use names::{Format, Key, Resource};
 use std::alloc::Global;
-use window::{Change, Window, WindowFault};
+use window::{Change, Events, Window, WindowFault};
 
 fn key(alloc: Global) -> Result<Key, Wrong> {
     Key::new(alloc, Resource::ConfigMap, "default", "a").map_err(no_key)
@@ -40,28 +40,50 @@ fn change_word(change: &Change) -> &'static str {
 
 /// `since REVISION`: how many events there are above it, and the first and the last: what was done and which revision it made.
 pub fn since(alloc: Global, window: &Window<u64>, text: &str) -> Result<String, Wrong> {
-    let events = match window.since(number(text)?) {
-        Ok(events) => events,
-        Err(fault) => return shown(alloc, &fault),
-    };
+    match window.since(number(text)?) {
+        Ok(events) => events_text(alloc, events),
+        Err(fault) => shown(alloc, &fault),
+    }
+}
+
+fn events_text(alloc: Global, events: Events<'_, u64>) -> Result<String, Wrong> {
     let mut count = 0_u64;
-    let mut first = String::new(alloc);
-    let mut last = String::new(alloc);
+    let mut first = ("", 0);
+    let mut last = ("", 0);
     for event in events {
-        let (change, revision) = (change_word(&event.change), event.revision);
-        if event.document != revision {
+        if event.document != event.revision {
             return Err(Wrong::Told("an event has another's document"));
         }
-        last = format!(in alloc; "{change} {revision}")?;
+        last = (change_word(&event.change), event.revision);
         if count == 0 {
-            first = last.clone()?;
+            first = last;
         }
         count = count.saturating_add(1);
     }
     if count == 0 {
         return cases::text(alloc, "none");
     }
-    Ok(format!(in alloc; "{count}, {first} to {last}")?)
+    span_text(alloc, count, first, last)
+}
+
+// How many events there are, and the first and the last.
+fn span_text(
+    alloc: Global,
+    count: u64,
+    first: (&str, u64),
+    last: (&str, u64),
+) -> Result<String, Wrong> {
+    let mut line = TextBuilder::new(alloc);
+    line.show(&count);
+    line.push(",");
+    line.word(first.0);
+    line.word("");
+    line.show(&first.1);
+    line.word("to");
+    line.word(last.0);
+    line.word("");
+    line.show(&last.1);
+    line.end()
 }
 
 /// `window fault FAULT`: what is told of it.

@@ -63,8 +63,11 @@ pub fn key_bytes(alloc: Global, text: &str) -> Result<String, Wrong> {
     let (key, _) = key(alloc, text)?;
     let bytes = key.bytes(alloc)?;
     let read = Key::read(alloc, bytes.as_slice()).map_err(no_key)?;
-    wanted(read == key, "its bytes read to another key")?;
-    spelled(alloc, bytes.as_slice())
+    if read == key {
+        spelled(alloc, bytes.as_slice())
+    } else {
+        Err(Wrong::Told("its bytes read to another key"))
+    }
 }
 
 /// `bytes HEX ..`: the key that they spell, copied.

@@ -85,7 +85,9 @@ pub fn fill(alloc: Global, objects: &mut Objects<u64>, text: &str) -> Result<Str
     for number in (1..count).chain(0..1) {
         objects.reserve(1)?;
         let entry = Entry::new(alloc, numbered_key(alloc, number)?, number)?;
-        wanted(objects.put(entry).is_none(), "there was one")?;
+        if objects.put(entry).is_some() {
+            return Err(Wrong::Told("there was one"));
+        }
     }
     self::count(alloc, objects)
 }

@@ -1,7 +1,13 @@
 //! Quoted texts of a row.
 
 use cases::{TextBuilder, Wrong, number};
+use jsondoc::Doc;
 use std::alloc::Global;
+
+/// A document's text.
+pub fn document_text(alloc: Global, document: &Doc) -> Result<String, Wrong> {
+    Ok(document.text(alloc)?)
+}
 
 /// A text between quotes, in which `\0` is the character 0; with ` xN` behind it, N times.
 pub fn quoted(alloc: Global, text: &str) -> Result<String, Wrong> {

@@ -4,8 +4,9 @@ use crate::place::{Place, created, opened, run, served};
 use cases::{WordReader, Wrong, shown, wanted};
 use device::{MemDevice, Pick};
 use durable::Store;
-use exchanges::first_request;
+use exchanges::routed_first;
 use httpmsg::Std;
+use requests::Request;
 use routes::Routes;
 use std::alloc::Global;
 
@@ -32,6 +33,16 @@ fn is_taken(written: &str) -> bool {
     written.starts_with("HTTP/1.1 20")
 }
 
+fn requests_of(alloc: Global, writes: &[String]) -> Result<Vec<Request>, Wrong> {
+    let routes = Routes::new(alloc)?;
+    let mut requests = Vec::new(alloc);
+    for write in writes {
+        let request = routed_first(alloc, &routes, write.as_str())?.request;
+        requests.push(request)?;
+    }
+    Ok(requests)
+}
+
 // Makes the writes as far as they are taken, the first in a connection and the others in one run: how many are.
 fn told(alloc: Global, store: &mut Store<MemDevice>, writes: &[String]) -> Result<usize, Wrong> {
     let Some((first, others)) = writes.split_first() else {
@@ -41,12 +52,7 @@ fn told(alloc: Global, store: &mut Store<MemDevice>, writes: &[String]) -> Resul
     if !is_taken(written.as_str()) {
         return Ok(0);
     }
-    let routes = Routes::new(alloc)?;
-    let mut requests = Vec::new(alloc);
-    for write in others {
-        let request = first_request(alloc, &routes, write.as_str())?;
-        requests.push(request)?;
-    }
+    let requests = requests_of(alloc, others)?;
     Ok(run(alloc, store, &requests)?.saturating_add(1))
 }
 
@@ -57,15 +63,25 @@ fn listed(alloc: Global, place: &mut Place) -> Result<String, Wrong> {
     Ok(list)
 }
 
+fn push_listed(alloc: Global, place: &mut Place, lists: &mut Vec<String>) -> Result<(), Wrong> {
+    lists.push(listed(alloc, place)?)?;
+    Ok(())
+}
+
+// Makes a write, which must be taken.
+fn make(alloc: Global, place: &mut Place, write: &str) -> Result<(), Wrong> {
+    let written = place.serve(alloc, write)?;
+    wanted(is_taken(written.as_str()), "a write is refused")
+}
+
 // The lists that are shown before the first write and behind each, where nothing fails.
 fn shown_lists(alloc: Global, writes: &[String]) -> Result<Vec<String>, Wrong> {
     let mut place = Place::new(alloc, ROOM_SECTORS)?;
     let mut lists = Vec::new(alloc);
-    lists.push(listed(alloc, &mut place)?)?;
+    push_listed(alloc, &mut place, &mut lists)?;
     for write in writes {
-        let written = place.serve(alloc, write.as_str())?;
-        wanted(is_taken(written.as_str()), "a write is refused")?;
-        lists.push(listed(alloc, &mut place)?)?;
+        make(alloc, &mut place, write.as_str())?;
+        push_listed(alloc, &mut place, &mut lists)?;
     }
     Ok(lists)
 }
@@ -87,6 +103,15 @@ fn found_behind(
     place.crash(picks, length)?;
     place.open(alloc)?;
     listed(alloc, place)
+}
+
+// Asks that a second crash leaves the same list.
+fn is_left_again(alloc: Global, place: &mut Place, first: &str) -> Result<(), Wrong> {
+    let second = found_behind(alloc, place, &[Pick::Fill(0xA5)], u64::MAX)?;
+    wanted(
+        first == second.as_str(),
+        "a second crash leaves something else",
+    )
 }
 
 // One stop and one crash: what is found is what was told or one write more, and the same after a second crash.
@@ -111,11 +136,7 @@ fn stopped(
             || is_list(lists, count.saturating_add(1), first.as_str()),
         "a stop leaves neither what was told nor one write more",
     )?;
-    let second = found_behind(alloc, &mut place, &[Pick::Fill(0xA5)], u64::MAX)?;
-    wanted(
-        first.as_str() == second.as_str(),
-        "a second crash leaves something else",
-    )
+    is_left_again(alloc, &mut place, first.as_str())
 }
 
 /// `stops A B`: stops the writes, on a new store each time, at each call from the A-th to the B-th, an opening's first being 1, and

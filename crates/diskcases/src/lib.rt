@@ -1,0 +1,25 @@
+//! The cases of devices, logs, roots and records.
+//!
+//! [`Disk`] is the bench of their files; `README.md` beside the files has their lines. [`check_files`] looks at devices over files of the
+//! operating system.
+#![tactic(auto)]
+
+mod bench;
+mod device_lines;
+mod file_devices;
+mod log_lines;
+mod other_devices;
+mod payloads;
+mod record_lines;
+mod root_lines;
+
+pub use bench::Disk;
+pub use file_devices::check_files;
+use records::payload_has_one_write;
+use recovery::one_history;
+
+/// The laws of records.
+pub fn laws_of_records() {
+    payload_has_one_write();
+    one_history();
+}

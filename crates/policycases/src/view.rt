@@ -1,0 +1,235 @@
+//! A view without a device: what is stored in memory alone, with limits of its own. The calls of a view stand here.
+
+ghost use Rattle.std.specs.Prelude.{IfOk};
+ghost use Rattle.history.specs.Prepared.{AreReady};
+
+use crate::refusals::status;
+use apicore::{Core, Prepared, prepare};
+use cases::{TextBuilder, WordReader, Wrong, text, wanted};
+use exchanges::{Service, message, messages, routed_first};
+use history::{PreparedWrite, Put, ReplayFault, Reply};
+use http::StatusCode;
+use httpmsg::{Message, Response, Std};
+use names::{Format, Key, Rules};
+use plancode::Verified;
+use requests::Request;
+use routes::{Routes, route};
+use std::alloc::Global;
+
+/// A view without a device, and the paths that it serves.
+#[derive(Drop)]
+pub struct View {
+    core: Core,
+    routes: Routes,
+}
+
+// The limits of a line: the events of the window, the bytes of a text and of a body, the objects, and the greatest revision.
+fn rules_of(line: &str) -> Result<Rules, Wrong> {
+    if line.is_empty() {
+        return Ok(Format::First.rules());
+    }
+    let mut words = WordReader::new(line);
+    let rules = Rules {
+        window_events: words.number() as usize,
+        text_limit_bytes: words.number() as usize,
+        body_limit_bytes: words.number() as usize,
+        object_limit: words.number() as usize,
+        greatest_revision: words.number(),
+    };
+    words.end()?;
+    Ok(rules)
+}
+
+fn push_key(line: &mut TextBuilder, key: &Key) {
+    line.word(key.resource().kind());
+    line.word(key.namespace());
+    line.push("/");
+    line.push(key.name());
+}
+
+// A put: its key and its text, which is that of its document.
+fn push_put(alloc: Global, line: &mut TextBuilder, put: &Put<Vec<Verified>>) -> Result<(), Wrong> {
+    line.push("put");
+    push_key(line, put.key());
+    line.word(put.text());
+    let own = put.document().json().text(alloc)?;
+    wanted(own.as_str() == put.text(), "its text is another document's")
+}
+
+// A write that is prepared.
+fn write_text(
+    alloc: Global,
+    write: &Option<PreparedWrite<Vec<Verified>>>,
+) -> Result<String, Wrong> {
+    let mut line = TextBuilder::new(alloc);
+    match write {
+        Some(PreparedWrite::Put(put)) => push_put(alloc, &mut line, put)?,
+        Some(PreparedWrite::Delete(key, _)) => {
+            line.push("delete");
+            push_key(&mut line, key);
+        }
+        None => line.push("no write"),
+    }
+    line.end()
+}
+
+fn write_reply(reply: &Reply, output: &mut Std<Vec<u8>>) -> Result<(), Wrong> {
+    let Ok(status) = StatusCode::from_u16(reply.code()) else {
+        return Err(Wrong::Told("no status has this code"));
+    };
+    let response = Response::new(status, reply.body().as_bytes()).warning(reply.warnings());
+    wanted(
+        response.write(output).is_ok(),
+        "a reply could not be written",
+    )
+}
+
+// What was written on a connection, with its end behind it.
+fn ended(alloc: Global, written: &[u8]) -> Result<String, Wrong> {
+    let mut line = TextBuilder::new(alloc);
+    line.push(str::from_utf8(written).unwrap_or("no text"));
+    line.push("ends clean");
+    line.end()
+}
+
+// Takes the write of a request again, as one that was stored.
+fn taken_again(
+    alloc: Global,
+    core: &mut Core,
+    request: Request,
+) -> Result<Result<(), ReplayFault>, Wrong> {
+    match request {
+        Request::Replace(manifest) => Ok(core.replay_put(alloc, manifest, Vec::new(alloc))),
+        Request::Delete(key, None) => Ok(core.replay_delete(alloc, &key)),
+        _ => Err(Wrong::Told("a put or a deletion is taken again")),
+    }
+}
+
+impl Service for View {
+    fn new(alloc: Global) -> Result<View, Wrong> {
+        View::with_limits(alloc, "")
+    }
+
+    fn serve(&mut self, alloc: Global, sent: &str) -> Result<String, Wrong> {
+        let mut output = Std::new(Vec::new(alloc));
+        self.serve_messages(alloc, sent, &mut output)?;
+        ended(alloc, &output.into_inner())
+    }
+
+    fn answer(&mut self, alloc: Global, word: &str, rest: &str) -> Result<String, Wrong> {
+        match word {
+            "view" => {
+                *self = View::with_limits(alloc, rest)?;
+                text(alloc, "ok")
+            }
+            "prepare" => self.prepare(alloc, rest),
+            "replay" => self.replay(alloc, rest),
+            "counts" => self.counts(alloc),
+            "rules" => self.rules(alloc),
+            "status" => status(alloc, rest),
+            _ => Err(Wrong::Told("no such line on a view")),
+        }
+    }
+}
+
+impl View {
+    // An empty view: `view [EVENTS TEXT BODY OBJECTS REVISION]`.
+    fn with_limits(alloc: Global, line: &str) -> Result<View, Wrong> {
+        Ok(View {
+            core: Core::new(alloc, rules_of(line)?)?,
+            routes: Routes::new(alloc)?,
+        })
+    }
+
+    // What a message asks for.
+    fn request(&self, alloc: Global, line: &str) -> Result<Request, Wrong> {
+        let sent = message(alloc, line)?;
+        Ok(routed_first(alloc, &self.routes, sent.as_str())?.request)
+    }
+
+    fn prepared(&mut self, alloc: Global, request: &Request) -> Result<Prepared, Wrong>
+        ensures { IfOk result (λ p. AreReady self.new.core p.write) }
+    {
+        Ok(prepare(&mut self.core, alloc, request)?)
+    }
+
+    // The step of a request, which is dropped here, and so in no function that drops its step too.
+    fn step(&mut self, alloc: Global, request: Request) -> Result<Prepared, Wrong>
+        ensures { IfOk result (λ p. AreReady self.new.core p.write) }
+    {
+        self.prepared(alloc, &request)
+    }
+
+    // Takes the step of a request, and gives the reply to it.
+    fn reply(&mut self, alloc: Global, request: Request) -> Result<Reply, Wrong> {
+        let prepared = self.step(alloc, request)?;
+        self.core.take(prepared.write);
+        Ok(prepared.reply)
+    }
+
+    fn serve_message(
+        &mut self,
+        alloc: Global,
+        message: &Message,
+        output: &mut Std<Vec<u8>>,
+    ) -> Result<(), Wrong> {
+        let request = route(alloc, &self.routes, message)?.request;
+        write_reply(&self.reply(alloc, request)?, output)
+    }
+
+    // Takes each message that was sent, and writes the replies.
+    fn serve_messages(
+        &mut self,
+        alloc: Global,
+        sent: &str,
+        output: &mut Std<Vec<u8>>,
+    ) -> Result<(), Wrong> {
+        for message in messages(alloc, sent)?.iter() {
+            self.serve_message(alloc, message, output)?;
+        }
+        Ok(())
+    }
+
+    // `prepare METHOD TARGET [BODY]`: the write that the message prepares, which is not taken.
+    fn prepare(&mut self, alloc: Global, line: &str) -> Result<String, Wrong> {
+        let request = self.request(alloc, line)?;
+        let prepared = self.step(alloc, request)?;
+        write_text(alloc, &prepared.write)
+    }
+
+    // `replay METHOD TARGET [BODY]`: takes a PUT or a DELETE again, as one that was stored, and says how that went.
+    fn replay(&mut self, alloc: Global, line: &str) -> Result<String, Wrong> {
+        let request = self.request(alloc, line)?;
+        match taken_again(alloc, &mut self.core, request)? {
+            Ok(()) => text(alloc, "ok"),
+            Err(ReplayFault::NotAllowed) => text(alloc, "not allowed"),
+            Err(ReplayFault::Memory) => Err(Wrong::Memory),
+        }
+    }
+
+    // `counts`: the revision and the number of objects.
+    fn counts(&self, alloc: Global) -> Result<String, Wrong> {
+        let mut line = TextBuilder::new(alloc);
+        line.show(&self.core.revision());
+        line.word("");
+        line.show(&self.core.object_count());
+        line.end()
+    }
+
+    // `rules`: the limits, in the order of `view`.
+    fn rules(&self, alloc: Global) -> Result<String, Wrong> {
+        let rules = self.core.rules();
+        let mut line = TextBuilder::new(alloc);
+        for limit in [
+            rules.window_events,
+            rules.text_limit_bytes,
+            rules.body_limit_bytes,
+            rules.object_limit,
+        ] {
+            line.show(&limit);
+            line.push(" ");
+        }
+        line.show(&rules.greatest_revision);
+        line.end()
+    }
+}

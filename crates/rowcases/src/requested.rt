@@ -1,0 +1,133 @@
+//! What a message asks for.
+
+use cases::{TextBuilder, Wrong, wanted};
+use exchanges::{message, routed_first};
+use names::Key;
+use requests::{Collection, Manifest, Refusal, Request, Requirement, Selector};
+use routes::{Routed, Routes};
+use std::alloc::Global;
+
+fn push_key(line: &mut TextBuilder, key: &Key) {
+    line.word(key.resource().kind());
+    line.word(key.namespace());
+    line.push("/");
+    line.push(key.name());
+}
+
+fn push_version(line: &mut TextBuilder, version: Option<&str>) {
+    if let Some(version) = version {
+        line.word("at");
+        line.word(version);
+    }
+}
+
+/// Adds a manifest: its key, the revision that it asks for, and its text, which must be that of its document.
+pub fn push_manifest(
+    alloc: Global,
+    line: &mut TextBuilder,
+    manifest: &Manifest,
+) -> Result<(), Wrong> {
+    push_key(line, manifest.key());
+    push_version(line, manifest.version());
+    line.word(manifest.text());
+    let own = manifest.document().json().text(alloc)?;
+    wanted(
+        own.as_str() == manifest.text(),
+        "its text is another document's",
+    )
+}
+
+/// Adds a refusal: its code, reason and message.
+pub fn push_refusal(line: &mut TextBuilder, refusal: Refusal) {
+    line.word("refused ");
+    line.show(&refusal.code());
+    line.word(refusal.reason());
+    line.word(refusal.message());
+}
+
+fn push_requirement(line: &mut TextBuilder, requirement: &Requirement) {
+    let (before, label, between, value) = match requirement {
+        Requirement::Equals(label, value) => ("", label, "=", value.as_str()),
+        Requirement::Differs(label, value) => ("", label, "!=", value.as_str()),
+        Requirement::Has(label) => ("", label, "", ""),
+        Requirement::Lacks(label) => ("!", label, "", ""),
+    };
+    line.word(before);
+    line.push(label.as_str());
+    line.push(between);
+    line.push(value);
+}
+
+/// Adds how many requirements a selector has, and which.
+pub fn push_selector(line: &mut TextBuilder, selector: &Selector) {
+    line.word("");
+    line.show(&selector.requirements.len());
+    for requirement in selector.requirements.iter() {
+        push_requirement(line, requirement);
+    }
+}
+
+fn push_collection(line: &mut TextBuilder, collection: &Collection) {
+    line.word(collection.resource.kind());
+    match collection.namespace() {
+        Some(namespace) => {
+            line.word(namespace);
+            line.push("/");
+        }
+        None => line.word("everywhere"),
+    }
+}
+
+fn push_request(alloc: Global, line: &mut TextBuilder, request: &Request) -> Result<(), Wrong> {
+    match request {
+        Request::Get(key) => {
+            line.word("get");
+            push_key(line, key);
+        }
+        Request::List(collection, selector) => {
+            line.word("list");
+            push_collection(line, collection);
+            push_selector(line, selector);
+        }
+        Request::Watch(collection, revision) => {
+            line.word("watch");
+            push_collection(line, collection);
+            line.word("behind ");
+            line.show(revision);
+        }
+        Request::Create(manifest) => {
+            line.word("create");
+            return push_manifest(alloc, line, manifest);
+        }
+        Request::Replace(manifest) => {
+            line.word("replace");
+            return push_manifest(alloc, line, manifest);
+        }
+        Request::Delete(key, version) => {
+            line.word("delete");
+            push_key(line, key);
+            push_version(line, version.as_deref());
+        }
+        Request::Refused(refusal) => push_refusal(line, *refusal),
+    }
+    Ok(())
+}
+
+/// `route METHOD TARGET [BODY]`: what the message asks for, and the methods that its path allows where its own is refused.
+pub fn routed(alloc: Global, routes: &Routes, text: &str) -> Result<String, Wrong> {
+    let stream = message(alloc, text)?;
+    match routed_first(alloc, routes, stream.as_str()) {
+        Ok(routed) => routed_text(alloc, &routed),
+        Err(wrong) => Err(wrong),
+    }
+}
+
+fn routed_text(alloc: Global, routed: &Routed) -> Result<String, Wrong> {
+    let mut line = TextBuilder::new(alloc);
+    push_request(alloc, &mut line, &routed.request)?;
+    if let Some(methods) = routed.allow {
+        line.push(", allowed: ");
+        line.push(methods);
+    }
+    line.end()
+}
