@@ -4,3 +4,4 @@ pub mod Staying
 pub mod Showing
 pub mod Finding
 pub mod Deciding
+pub mod Histories

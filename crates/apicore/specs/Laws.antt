@@ -1,5 +1,5 @@
--- Laws of histories and steps.
-use Rattle.std.specs.Prelude.{◌≡◌, ◌+◌, ◌≤◌, ◌^◌, List, ◌∷◌, length, IsTrue}
+-- Laws of histories, steps and logs.
+use Rattle.std.specs.Prelude.{◌≡◌, ℕ, ◌+◌, ◌≤◌, ◌^◌, List, ◌∷◌, length, IsTrue}
 use Rattle.std.specs.FinMap.{is_sorted}
 use Rattle.circular_buffer.specs.Buffer.{keep_last}
 use Rattle.names.specs.declared.format.Rules.{Rules}
@@ -11,6 +11,7 @@ use Rattle.history.specs.View.{stored_at, view, empty}
 use Rattle.apicore.specs.Prepared.{IsReadOf}
 use Rattle.apicore.specs.Standing.{View, History, IsHistory, IsView, AreAdmitted}
 use Rattle.apicore.specs.Step.{Asked, accepted, step, runs}
+use Rattle.apicore.specs.Written as written
 
 -- The revision is one more than the number of writes.
 abbrev pub RevisionCounts : Type 0
@@ -55,3 +56,8 @@ abbrev pub ViewDecides : Type 0
 ViewDecides =
     (rules : Rules) (g h : History) (a : Asked) → view rules g ≡ view rules h
     → ((step rules g a).1 ≡ (step rules h a).1) × (view rules (step rules g a).0 ≡ view rules (step rules h a).0)
+
+-- At most one history with plans has these payloads.
+abbrev pub AtMostOneHistory : Type 0
+AtMostOneHistory =
+    (rules : Rules) (g h : written.History) (payloads : List (List ℕ)) → written.IsWritten rules g payloads → written.IsWritten rules h payloads → g ≡ h

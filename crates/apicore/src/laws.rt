@@ -1,5 +1,5 @@
 // The laws of the definitions, each the contract of a function.
-ghost use Rattle.apicore.specs.Laws.{RevisionCounts, KeyHasLastWrite, EventsAreLast, ObjectsAscend, HistoriesShow, WritesFollow, AcceptedAreAdmitted, RunsAreSteps, ViewDecides};
+ghost use Rattle.apicore.specs.Laws.{AtMostOneHistory, RevisionCounts, KeyHasLastWrite, EventsAreLast, ObjectsAscend, HistoriesShow, WritesFollow, AcceptedAreAdmitted, RunsAreSteps, ViewDecides};
 
 /// The revision is one more than the number of writes.
 pub fn revision_counts()
@@ -44,4 +44,9 @@ pub fn runs_are_steps()
 /// Equal views give equal replies, and equal views after.
 pub fn view_decides()
     ensures { ViewDecides }
+{}
+
+/// At most one history has the payloads of a log.
+pub fn one_history()
+    ensures { AtMostOneHistory }
 {}

@@ -9,20 +9,32 @@
 //! write is asked of the policies and bindings that are stored just before it: one that they deny is refused, and stands nowhere.
 //! `prepare` takes all the memory of a step and changes nothing that is seen, `Core::take` takes none, and together they are one step.
 //! Beside each document the model has the trees of its expressions, and the core the plans of those trees.
+//!
+//! ```text
+//! let payloads = log.records(alloc, &mut device)?;
+//! let core = replayed(alloc, rules, &payloads)?;
+//! ```
+//!
+//! `replayed` gives what is seen of the history whose writes have these payloads, in order, and answers `Damaged` only where no
+//! history has them. At most one history has them.
 #![tactic(auto)]
 
 mod conflicts;
+mod fault;
 mod judging;
 mod laws;
 mod prepared;
 mod preparing;
 mod reading;
 mod refusing;
+mod replay;
 mod sight;
 
+pub use fault::RecoveryFault;
 pub use laws::{
     accepted_are_admitted, events_are_last, histories_show, key_has_last_write, objects_ascend,
-    revision_counts, runs_are_steps, view_decides, writes_follow,
+    one_history, revision_counts, runs_are_steps, view_decides, writes_follow,
 };
 pub use prepared::{Core, Prepared};
 pub use preparing::prepare;
+pub use replay::replayed;

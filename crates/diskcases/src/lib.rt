@@ -13,10 +13,10 @@ mod payloads;
 mod record_lines;
 mod root_lines;
 
+use apicore::one_history;
 pub use bench::Disk;
 pub use file_devices::check_files;
 use records::payload_has_one_write;
-use recovery::one_history;
 
 /// The laws of records.
 pub fn laws_of_records() {

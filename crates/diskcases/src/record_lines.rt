@@ -2,12 +2,11 @@
 
 use crate::log_lines::settings;
 use crate::payloads::{payload, payloads};
-use apicore::{Core, prepare};
+use apicore::{Core, RecoveryFault, prepare, replayed};
 use cases::{TextBuilder, Wrong, first_word, number, shown, spelled, text, wanted};
 use history::Reply;
 use names::{Format, Key, Rules};
 use records::{RecordFault, StoredWrite, read_write};
-use recovery::{RecoveryFault, replayed};
 use requests::Request;
 use std::alloc::Global;
 

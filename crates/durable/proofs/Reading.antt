@@ -17,9 +17,9 @@ use Rattle.history.specs.Mapped.{mapped}
 use Rattle.history.proofs.Mapping.{all_mapped, all_follow_mapped}
 use Rattle.plancode.specs.Plans.{Judged}
 use Rattle.apicore.specs.Standing.{Write, History, View, PutsTrees, HasTrees, AllMayFollow, IsHistory, plans_beside, with_plans, write_with_plans}
-use Rattle.recovery.specs.Written as written
-use Rattle.recovery.specs.Written.{IsWritten}
-use Rattle.recovery.proofs.Histories.{one_history as payloads_one}
+use Rattle.apicore.specs.Written as written
+use Rattle.apicore.specs.Written.{IsWritten}
+use Rattle.apicore.proofs.Histories.{one_history as payloads_one}
 use Rattle.durable.specs.Recorded.{payload, AllStorable}
 use Rattle.apicore.proofs.Staying.{histories_show}
 use Rattle.durable.specs.Laws.{AtMostOneHistory, AtMostOneView, ReplayedIsShown}

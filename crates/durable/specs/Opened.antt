@@ -7,7 +7,7 @@ use Rattle.history.specs.View as seen
 use Rattle.history.specs.View.{AllFollow, view}
 use Rattle.plancode.specs.Plans.{Judged}
 use Rattle.apicore.specs.Prepared.{plans_held}
-use Rattle.recovery.specs.Written.{History, AllStorable}
+use Rattle.apicore.specs.Written.{History, AllStorable}
 use Rattle.gatelog.specs.declared.gate_log.Log.{Log}
 use Rattle.checkpoint.specs.declared.root.Root.{Root}
 use Rattle.checkpoint.specs.Root.{log_start, HoldsRoot}

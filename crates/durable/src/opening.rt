@@ -16,12 +16,11 @@ ghost use Rattle.durable.specs.Rules.{first_rules};
 ghost use Rattle.durable.specs.Stands.{StandsFor};
 
 use crate::fault::{Damage, Fault};
-use apicore::Core;
+use apicore::{Core, RecoveryFault, replayed};
 use checkpoint::{Root, counted_root};
 use device::Device;
 use gatelog::Log;
 use names::{Format, Rules};
-use recovery::{RecoveryFault, replayed};
 use std::alloc::Global;
 
 /// What is shown of a history, and the log that it was read from.

@@ -5,14 +5,25 @@
 //! runner policies/verdicts.case ..     these files
 //! ```
 //!
-//! The folder of a file says which bench its lines are given to, and the `README.md` there tells them. Each line that fails is told by its
-//! file, its number and what differs. The status is 0 where none failed and some passed. Devices over files of the operating system are
+//! The folder of a file says which bench its lines are given to, and the `README.md` there tells them. The bench of the store and of what is
+//! served stands here, the others in crates of their own. Each line that fails is told by its file, its number and what differs. The status is 0 where none failed and some passed. Devices over files of the operating system are
 //! looked at first; where they do otherwise than they say, it is 3.
 #![tactic(auto)]
 
+mod bench;
+mod device_lines;
+mod endings;
+mod place;
+mod refusals;
+mod stops;
+mod streams;
+
+use api::answers_are_runs;
+use bench::Stand;
 use cases::{Report, Wrong, paths, run_file};
 use celcases::{Expressions, laws_of_expressions};
 use diskcases::{Disk, check_files, laws_of_records};
+use durable::{one_history, one_view};
 use exchanges::Exchange;
 use policycases::{Policies, View, laws_of_policies, laws_of_views};
 use rowcases::{Rows, laws_of_requests};
@@ -20,7 +31,6 @@ use std::alloc::Global;
 use std::io;
 use std::process::ExitCode;
 use std::rt::{Env, Files};
-use storecases::{Stand, laws_of_stores};
 
 const FOLDERS: [&str; 6] = ["rows", "expressions", "policies", "views", "disk", "store"];
 
@@ -60,6 +70,13 @@ fn run_all<R: Files + Env + Print + Alloc<A = Global> + Clone + Drop>(
         run(rt, alloc, path.as_str(), &mut report)?;
     }
     report.end(rt)
+}
+
+// The laws of a store and of what it is served by.
+fn laws_of_stores() {
+    one_view();
+    one_history();
+    answers_are_runs();
 }
 
 fn main(rt: HostRuntime) -> ExitCode {

@@ -6,7 +6,7 @@ use Rattle.apicore.specs.Standing.{write_with_plans}
 use Rattle.apicore.specs.Prepared.{plans_held}
 use Rattle.history.specs.Mapped.{mapped}
 use Rattle.history.specs.View.{view}
-use Rattle.recovery.specs.Written.{History, IsWritten}
+use Rattle.apicore.specs.Written.{History, IsWritten}
 use Rattle.durable.specs.declared.fault.Fault.TheVariants as Fault
 use Rattle.durable.specs.Rules.{first_rules}
 use Rattle.durable.proofs.Reading.{no_log_here, written_here, shows_here}

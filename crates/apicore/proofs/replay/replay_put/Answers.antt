@@ -11,8 +11,8 @@ use Rattle.history.specs.Mapped.{mapped}
 use Rattle.history.proofs.Mapping.{follows_mapped, follows_back, after_mapped}
 use Rattle.specification.specs.Specification.{plans_bytes, MayHavePlans}
 use Rattle.apicore.specs.Prepared.{plans_held}
-use Rattle.recovery.proofs.Histories.{put_of_recorded}
-use Rattle.recovery.proofs.replay.replay_put.Goals as goal
+use Rattle.apicore.proofs.Histories.{put_of_recorded}
+use Rattle.apicore.proofs.replay.replay_put.Goals as goal
 
 pub returns-in_err-replay_put-clause-damaged : goal.returns-in_err-replay_put-clause-damaged
 returns-in_err-replay_put-clause-damaged c is_damaged w has is may =

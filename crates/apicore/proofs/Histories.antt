@@ -15,7 +15,7 @@ use Rattle.plancode.specs.Plans.{Judged}
 use Rattle.specification.specs.Specification.{MayHavePlans, plans_bytes}
 use Rattle.apicore.specs.Standing.{recorded}
 use Rattle.specification.proofs.Listed.{one_stored_list}
-use Rattle.recovery.specs.Written.{Write, History, payload, HasPlans, IsStorable, AllStorable, IsWritten}
+use Rattle.apicore.specs.Written.{Write, History, payload, HasPlans, IsStorable, AllStorable, IsWritten}
 
 abbrev View : Type 0
 View = seen.View (List Judged)

@@ -26,7 +26,7 @@ impl Display for RecoveryFault {
 }
 
 impl From<AllocError> for RecoveryFault {
-    ghost use Rattle.recovery.specs.declared.fault.RecoveryFault.TheVariants.{Memory};
+    ghost use Rattle.apicore.specs.declared.fault.RecoveryFault.TheVariants.{Memory};
 
     ghost from_gives = { λ _ fault. fault ≡ Memory };
 
@@ -36,7 +36,7 @@ impl From<AllocError> for RecoveryFault {
 }
 
 impl From<RecordFault> for RecoveryFault {
-    ghost use Rattle.recovery.specs.Faults.{of_record_fault};
+    ghost use Rattle.apicore.specs.Faults.{of_record_fault};
 
     ghost from_gives = { λ record_fault fault. fault ≡ of_record_fault record_fault };
 
@@ -49,7 +49,7 @@ impl From<RecordFault> for RecoveryFault {
 }
 
 impl From<ReplayFault> for RecoveryFault {
-    ghost use Rattle.recovery.specs.Faults.{of_replay_fault};
+    ghost use Rattle.apicore.specs.Faults.{of_replay_fault};
 
     ghost from_gives = { λ replay_fault fault. fault ≡ of_replay_fault replay_fault };
 
@@ -62,7 +62,7 @@ impl From<ReplayFault> for RecoveryFault {
 }
 
 impl From<ReadPlansFault> for RecoveryFault {
-    ghost use Rattle.recovery.specs.Faults.{of_plans_fault};
+    ghost use Rattle.apicore.specs.Faults.{of_plans_fault};
 
     ghost from_gives = { λ plans_fault fault. fault ≡ of_plans_fault plans_fault };
 

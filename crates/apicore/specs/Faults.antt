@@ -5,8 +5,8 @@ use Rattle.records.specs.declared.fault.RecordFault as record_of
 use Rattle.records.specs.declared.fault.RecordFault.TheVariants as record_fault
 use Rattle.planlist.specs.declared.reading.ReadPlansFault as plans_of
 use Rattle.planlist.specs.declared.reading.ReadPlansFault.TheVariants as plans_fault
-use Rattle.recovery.specs.declared.fault.RecoveryFault.{RecoveryFault}
-use Rattle.recovery.specs.declared.fault.RecoveryFault.TheVariants.{Damaged, Memory}
+use Rattle.apicore.specs.declared.fault.RecoveryFault.{RecoveryFault}
+use Rattle.apicore.specs.declared.fault.RecoveryFault.TheVariants.{Damaged, Memory}
 
 -- A payload that no write has is damage.
 abbrev pub of_record_fault : record_of.RecordFault → RecoveryFault

@@ -5,11 +5,11 @@ ghost use Rattle.requests.specs.Codes.{document_in};
 ghost use Rattle.history.specs.History.{put, delete};
 ghost use Rattle.apicore.specs.Standing.{recorded};
 ghost use Rattle.apicore.specs.Prepared.{plans_held};
-ghost use Rattle.recovery.specs.declared.fault.RecoveryFault.TheVariants as RecoveryFault;
-ghost use Rattle.recovery.specs.Written.{Write, History, payload, HasPlans, IsStorable, IsWritten};
+ghost use Rattle.apicore.specs.declared.fault.RecoveryFault.TheVariants as RecoveryFault;
+ghost use Rattle.apicore.specs.Written.{Write, History, payload, HasPlans, IsStorable, IsWritten};
 
-use crate::RecoveryFault;
-use apicore::Core;
+use crate::fault::RecoveryFault;
+use crate::prepared::Core;
 use names::{Key, Rules};
 use records::{StoredWrite, read_write};
 use requests::Manifest;
