@@ -38,6 +38,7 @@ use Rattle.specification.specs.Specification.{Specification, IsCompiled, AreShor
 use Rattle.specification.specs.Specification as stands
 use Rattle.verdict.specs.Admission.{verdict}
 use Rattle.verdict.specs.Verdict.{Verdict, admitted, denied}
+use Rattle.apicore.specs.Beside.{Beside, spelled}
 use Rattle.apicore.specs.Judged.{IsRefused, IsJudged}
 use Rattle.apicore.specs.Prepared.{plans_held, Shows, AreHeld, IsRead, IsReadOf, IsStepOf, IsPrepared}
 use Rattle.apicore.specs.Standing.{Write, View, IsView, objects_of, attempt_of, shown_at, write_with_plans, verdict_on}
@@ -139,7 +140,7 @@ abbrev at : Request → Specification Expr → Asked
 at r s = record { request = r; specification = s }
 
 -- what is prepared at each view that is shown is prepared
-pub prepared_of : (core : State (Vec Judged Global)) (r : Request) (s : Specification Expr) (read : IsReadOf r s) {E : Type 0} (result : Result Prepared E)
+pub prepared_of : (core : State Beside) (r : Request) (s : Specification Expr) (read : IsReadOf r s) {E : Type 0} (result : Result Prepared E)
     → ((v : View) → Shows core.view v → IsView v → IfOk result (IsStepOf core.rules v (at r s))) → IfOk result (IsPrepared core r)
 prepared_of core r s read (Ok p) steps = record { specification = s; read = read; step = steps }
 prepared_of core r s read (Err e) steps = tt
@@ -150,14 +151,14 @@ get_reply : (v : View) (k : Key) (o : Option (Stored (List Expr))) → stored_at
 get_reply v k None is = refl
 get_reply v k (Some s) is = refl
 
-pub get_prepared : (core : State (Vec Judged Global)) (k : Key) (p : Prepared) → p.reply ≡ getting core.view k → p.write ≡ None → IsPrepared core (get k) p
+pub get_prepared : (core : State Beside) (k : Key) (p : Prepared) → p.reply ≡ getting core.view k → p.write ≡ None → IsPrepared core (get k) p
 get_prepared core k p is none = record {
   specification = stands.bad_spec;
   read = tt;
   step = λ v shows _. read_step core.rules v (at (get k) stands.bad_spec) p refl (is ∙ getting_shown core.view v k shows ∙ get_reply v k (stored_at v k) refl) none;
 }
 
-pub list_prepared : (core : State (Vec Judged Global)) (c : Collection) (s : List Requirement) (p : Prepared) → p.reply ≡ listing core.view c s → p.write ≡ None → IsPrepared core (list c s) p
+pub list_prepared : (core : State Beside) (c : Collection) (s : List Requirement) (p : Prepared) → p.reply ≡ listing core.view c s → p.write ≡ None → IsPrepared core (list c s) p
 list_prepared core c s p is none = record {
   specification = stands.bad_spec;
   read = tt;
@@ -177,14 +178,14 @@ watch_reply rules v c n =
     seen_conditions : List table.Condition
     seen_conditions = watch_conditions rules v n
 
-pub watch_prepared : (core : State (Vec Judged Global)) (c : Collection) (n : ℕ) (p : Prepared) → p.reply ≡ telling core.rules core.view c n → p.write ≡ None → IsPrepared core (watch c n) p
+pub watch_prepared : (core : State Beside) (c : Collection) (n : ℕ) (p : Prepared) → p.reply ≡ telling core.rules core.view c n → p.write ≡ None → IsPrepared core (watch c n) p
 watch_prepared core c n p is none = record {
   specification = stands.bad_spec;
   read = tt;
   step = λ v shows _. read_step core.rules v (at (watch c n) stands.bad_spec) p refl (is ∙ telling_shown core.rules core.view v c n shows ∙ watch_reply core.rules v c n) none;
 }
 
-pub refused_prepared : (core : State (Vec Judged Global)) (r : code_refusal.Refusal) (p : Prepared) → p.reply ≡ plain.status r → p.write ≡ None → IsPrepared core (refused r) p
+pub refused_prepared : (core : State Beside) (r : code_refusal.Refusal) (p : Prepared) → p.reply ≡ plain.status r → p.write ≡ None → IsPrepared core (refused r) p
 refused_prepared core r p is none = record {
   specification = stands.bad_spec;
   read = tt;
@@ -233,9 +234,9 @@ pub denied_judged : (shows : List (List ℕ) → Reply) (w : Write) (j : Verdict
 denied_judged shows w j policy binding reason message p is told = subst (λ x. IsJudged shows w x p) (sym is) told
 
 -- the put of a core's plans is that of its trees, with plans
-pub put_planned : (k : Key) (d : Document) (plans : Vec Judged Global) (trees : List Expr) (p : Prepared) → writes_of p.write ≡ put k d plans ∷ []
-    → plans.items ≡ plans_in d.json trees → map (mapped_write plans_held) (writes_of p.write) ≡ write_with_plans (put k d trees) ∷ []
-put_planned k d plans trees p is same = ap (λ ws. map (mapped_write plans_held) ws) is ∙ (λ i. put k d (same i) ∷ [])
+pub put_planned : (k : Key) (d : Document) (plans : List Judged) (trees : List Expr) (p : Prepared) → writes_of p.write ≡ put k d (spelled d.json plans) ∷ []
+    → plans ≡ plans_in d.json trees → map (mapped_write plans_held) (writes_of p.write) ≡ write_with_plans (put k d trees) ∷ []
+put_planned k d plans trees p is same = ap (λ ws. map (mapped_write plans_held) ws) is ∙ (λ i. put k d (spelled d.json (same i)) ∷ [])
 
 -- ---- writes
 
@@ -276,7 +277,7 @@ rest_of rules v m s = form_conditions s ++ create_limits rules v (document_in m.
 abbrev last_of : View → Request → Specification Expr → List Condition
 last_of v r s = verdict_conditions (verdict_of v (asks_for r s))
 
-module _ (rules : Rules) (core : seen.View (Vec Judged Global)) (m : Manifest) (v : View) (shows : Shows core v) (p : Prepared) where
+module _ (rules : Rules) (core : seen.View Beside) (m : Manifest) (v : View) (shows : Shows core v) (p : Prepared) where
   -- a creation where there is an object
   pub create_there : (s : Specification Expr) → exists core m.key ≡ true → IsRefused (known AlreadyExists) p → IsStepOf rules v (at (create m) s) p
   create_there s there told =
@@ -386,7 +387,7 @@ module _ (rules : Rules) (core : seen.View (Vec Judged Global)) (m : Manifest) (
 
 -- ---- deletions
 
-module _ (core : State (Vec Judged Global)) (k : Key) (version : Option (List ℕ)) (p : Prepared) where
+module _ (core : State Beside) (k : Key) (version : Option (List ℕ)) (p : Prepared) where
   deleted : {x : Option Refusal} (v : View) → Shows core.view v → first_of (delete_conditions core.rules core.view k version) ≡ x → first_of (delete_conditions core.rules v k version) ≡ x
   deleted v shows is = sym (ap first_of (delete_shown core.rules core.view v k version shows)) ∙ is
 
@@ -422,7 +423,7 @@ module _ (core : State (Vec Judged Global)) (k : Key) (version : Option (List �
         record { reply = both.0; writes = both.1 };
   }
 
-pub delete_steps : (core : State (Vec Judged Global)) (k : Key) (version : Option (List ℕ)) (old : Data) → first_of (delete_conditions core.rules core.view k version) ≡ None
+pub delete_steps : (core : State Beside) (k : Key) (version : Option (List ℕ)) (old : Data) → first_of (delete_conditions core.rules core.view k version) ≡ None
     → Some old ≡ shown_at core.view k → {E : Type 0} (result : Result Prepared E)
     → ((v : View) → Shows core.view v → IsView v
     → IfOk result (IsJudged (λ warnings. showing 200 warnings (document_at core.view k) (core.view.revision + 1)) (write.delete k)
@@ -436,5 +437,5 @@ held_there true rest none = refl
 held_there false rest none = absurd (let never : ◌≡◌ {A = Option Refusal} (Some (known NotFound)) None = none in cc)
 
 -- an update that the object at its key does not refuse finds one there
-pub held_at : (v : seen.View (Vec Judged Global)) (k : Key) (asked : Option (List ℕ)) → first_of (replace_conditions v k asked) ≡ None → exists v k ≡ true
+pub held_at : (v : seen.View Beside) (k : Key) (asked : Option (List ℕ)) → first_of (replace_conditions v k asked) ≡ None → exists v k ≡ true
 held_at v k asked none = held_there (exists v k) ((known VersionNotCurrent, update_conflicts v k asked) ∷ []) none

@@ -26,12 +26,13 @@ use Rattle.verdict.specs.Objects.{Held, Object, Objects, all_held, shown_objects
 use Rattle.verdict.specs.Parameters.{listed, wanted_of}
 use Rattle.verdict.specs.Seen.{shown_held}
 use Rattle.verdict.proofs.Standing.{listed-map, value_at-map, shown_listed}
+use Rattle.apicore.specs.Beside.{Beside}
 use Rattle.apicore.specs.Prepared.{plans_held, Shows}
 use Rattle.apicore.specs.Sights.{held_of, entry_held}
 use Rattle.apicore.specs.Standing.{View, IsView, HasTrees, plans_beside, object_of, objects_of}
 
 abbrev Stands : Type 0
-Stands = Stored (Vec Judged Global)
+Stands = Stored Beside
 
 -- ---- looking up
 
@@ -51,10 +52,10 @@ parameters_found w r n os objects hs ds wanted lent shows =
 
 -- ---- what a core shows it has
 
-abbrev planned : Stored (List Judged) → Held
-planned s = record { document = s.document; plans = s.beside; revision = s.revision }
+abbrev planned : Stored Beside → Held
+planned s = held_of s
 
-abbrev all_planned : List (Key × Stored (List Judged)) → List (Key × Held)
+abbrev all_planned : List (Key × Stored Beside) → List (Key × Held)
 all_planned os = map (λ o. (o.0, planned o.1)) os
 
 held_planned : (os : List (Key × Stands)) → all_planned (each plans_held os) ≡ map entry_held os
@@ -65,9 +66,9 @@ beside_planned : (os : List (Key × Stored (List Expr))) → all_planned (each p
 beside_planned [] = refl
 beside_planned (o ∷ os) = ap (λ (rest : List (Key × Held)). (o.0, asked.held (object_of o.1)) ∷ rest) (beside_planned os)
 
-held_shown : (core : seen.View (Vec Judged Global)) (v : View) → Shows core v → map entry_held core.objects ≡ all_held (objects_of v)
+held_shown : (core : seen.View Beside) (v : View) → Shows core v → map entry_held core.objects ≡ all_held (objects_of v)
 held_shown core v shows =
-    sym (held_planned core.objects) ∙ ap (λ (u : seen.View (List Judged)). all_planned u.objects) shows ∙ beside_planned v.objects
+    sym (held_planned core.objects) ∙ ap (λ (u : seen.View Beside). all_planned u.objects) shows ∙ beside_planned v.objects
 
 module _ {A B : Type 0} (f : A → B) where
   below_map : (key : Key) (os : List (Key × A)) → below_all key_cmp key (map (λ o. (o.0, f o.1)) os) ≡ below_all key_cmp key os
@@ -81,7 +82,7 @@ module _ {A B : Type 0} (f : A → B) where
       ap (λ (b : Bool). b && is_sorted key_cmp (map (λ p. (p.0, f p.1)) os)) (below_map o.0 os)
       ∙ ap (λ (b : Bool). below_all key_cmp o.0 os && b) (sorted_map os)
 
-pub sees_shown : (core : seen.View (Vec Judged Global)) (v : View) → Shows core v → IsView v
+pub sees_shown : (core : seen.View Beside) (v : View) → Shows core v → IsView v
     → (map entry_held core.objects ≡ all_held (objects_of v)) × IsTrue (is_sorted key_cmp (objects_of v))
 sees_shown core v shows is_view = (held_shown core v shows, sorted_map object_of v.objects ∙ is_view.ascends)
 

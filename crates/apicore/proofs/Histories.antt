@@ -13,26 +13,28 @@ use Rattle.records.proofs.Writes as bytes
 use Rattle.records.specs.Payload as bytes_form
 use Rattle.plancode.specs.Plans.{Judged}
 use Rattle.specification.specs.Specification.{MayHavePlans, plans_bytes}
+use Rattle.apicore.specs.Beside.{Beside, spelled}
 use Rattle.apicore.specs.Standing.{recorded}
 use Rattle.specification.proofs.Listed.{one_stored_list}
 use Rattle.apicore.specs.Written.{Write, History, payload, HasPlans, IsStorable, AllStorable, IsWritten}
 
 abbrev View : Type 0
-View = seen.View (List Judged)
+View = seen.View Beside
 
 -- a write with plans has its payload alone
 pub one_write : (v w : Write) → IsStorable v → IsStorable w → payload v ≡ payload w → v ≡ w
 one_write (put k d p) (put l e q) a b same =
-    let raw : ◌≡◌ {A = plain.Write (List ℕ)} (put k d (plans_bytes k.resource p)) (put l e (plans_bytes l.resource q)) = bytes.one_write (recorded (put k d p)) (recorded (put l e q)) a.0 b.0 same in
+    let raw : ◌≡◌ {A = plain.Write (List ℕ)} (put k d (plans_bytes k.resource p.plans)) (put l e (plans_bytes l.resource q.plans)) = bytes.one_write (recorded (put k d p)) (recorded (put l e q)) a.0 b.0 same in
     let key : k ≡ l = cc in
     let document : d ≡ e = cc in
-    let plans : plans_bytes k.resource p ≡ plans_bytes l.resource q = cc in
-    let Has : Key → Document → Type 0 = λ x y. MayHavePlans x.resource y.json p in
-    let Same : Key → Type 0 = λ x. plans_bytes x.resource p ≡ plans_bytes l.resource q in
-    let alike : p ≡ q = one_stored_list l.resource e.json p q (subst (Has l) document (subst (λ x. Has x d) key a.1)) b.1 (subst Same key plans) in
+    let plans : plans_bytes k.resource p.plans ≡ plans_bytes l.resource q.plans = cc in
+    let Has : Key → Document → Type 0 = λ x y. MayHavePlans x.resource y.json p.plans in
+    let Same : Key → Type 0 = λ x. plans_bytes x.resource p.plans ≡ plans_bytes l.resource q.plans in
+    let listed : p.plans ≡ q.plans = one_stored_list l.resource e.json p.plans q.plans (subst (Has l) document (subst (λ x. Has x d) key a.1.0)) b.1.0 (subst Same key plans) in
+    let alike : p ≡ q = a.1.1 ∙ (λ i. spelled (document i).json (listed i)) ∙ sym b.1.1 in
     λ i. put (key i) (document i) (alike i)
-one_write (put k d p) (delete l) a b same = let raw : ◌≡◌ {A = plain.Write (List ℕ)} (put k d (plans_bytes k.resource p)) (delete l) = bytes.one_write (recorded (put k d p)) (recorded (delete l)) a.0 b.0 same in cc
-one_write (delete k) (put l e q) a b same = let raw : ◌≡◌ {A = plain.Write (List ℕ)} (delete k) (put l e (plans_bytes l.resource q)) = bytes.one_write (recorded (delete k)) (recorded (put l e q)) a.0 b.0 same in cc
+one_write (put k d p) (delete l) a b same = let raw : ◌≡◌ {A = plain.Write (List ℕ)} (put k d (plans_bytes k.resource p.plans)) (delete l) = bytes.one_write (recorded (put k d p)) (recorded (delete l)) a.0 b.0 same in cc
+one_write (delete k) (put l e q) a b same = let raw : ◌≡◌ {A = plain.Write (List ℕ)} (delete k) (put l e (plans_bytes l.resource q.plans)) = bytes.one_write (recorded (delete k)) (recorded (put l e q)) a.0 b.0 same in cc
 one_write (delete k) (delete l) a b same = let raw : ◌≡◌ {A = plain.Write (List ℕ)} (delete k) (delete l) = bytes.one_write (recorded (delete k)) (recorded (delete l)) a.0 b.0 same in let key : k ≡ l = cc in λ i. delete (key i)
 
 AllStorable-append : (g h : List Write) → AllStorable g → AllStorable h → AllStorable (g ++ h)

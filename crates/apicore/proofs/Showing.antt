@@ -23,15 +23,16 @@ use Rattle.history.specs.View as seen
 use Rattle.history.specs.View.{exists, stored_at, document_at, is_too_large, is_full, is_exhausted}
 use Rattle.history.proofs.Mapping.{value_each, there_mapped}
 use Rattle.plancode.specs.Plans.{Judged}
+use Rattle.apicore.specs.Beside.{Beside}
 use Rattle.apicore.specs.Prepared.{plans_held, Shows}
 use Rattle.apicore.specs.Standing.{View, plans_beside, shown_at}
 use Rattle.apicore.specs.Step.{known, is_current, update_conflicts, deletion_conflicts, replace_conditions, delete_conditions, create_limits, replace_limits}
 
 abbrev Held : Type 0
-Held = seen.View (Vec Judged Global)
+Held = seen.View Beside
 
 abbrev Planned : Type 0
-Planned = seen.View (List Judged)
+Planned = seen.View Beside
 
 pub revision_shown : (core : Held) (v : View) → Shows core v → core.revision ≡ v.revision
 revision_shown core v shows = ap (λ (u : Planned). u.revision) shows
@@ -86,9 +87,9 @@ getting_shown core v k shows =
 
 pub count_shown : (core : Held) (v : View) → Shows core v → length core.objects ≡ length v.objects
 count_shown core v shows =
-    sym (length-map {B = Key × Stored (List Judged)} core.objects (λ o. (o.0, one plans_held o.1)))
+    sym (length-map {B = Key × Stored Beside} core.objects (λ o. (o.0, one plans_held o.1)))
     ∙ ap (λ (u : Planned). length u.objects) shows
-    ∙ length-map {B = Key × Stored (List Judged)} v.objects (λ o. (o.0, one plans_beside o.1))
+    ∙ length-map {B = Key × Stored Beside} v.objects (λ o. (o.0, one plans_beside o.1))
 
 full_shown : (rules : Rules) (core : Held) (v : View) → Shows core v → is_full rules core ≡ is_full rules v
 full_shown rules core v shows = ap (λ (n : ℕ). nat_le rules.object_limit n) (count_shown core v shows)

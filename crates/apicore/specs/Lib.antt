@@ -1,3 +1,4 @@
+pub mod Beside
 pub mod Standing
 pub mod Step
 pub mod Prepared

@@ -1,6 +1,5 @@
 -- What the core shows, and a step of a request that has all its memory.
-use Rattle.std.specs.Prelude.{◌≡◌, ◌+◌, ◌*◌, ◌≤◌, ◌^◌, List, map, length, Vec}
-use Rattle.std.specs.declared.alloc.Global.{Global}
+use Rattle.std.specs.Prelude.{◌≡◌, ◌+◌, ◌*◌, ◌≤◌, ◌^◌, List, map, length}
 use Rattle.serde_json.specs.Data.{Data}
 use Rattle.celtree.specs.Tree.{Expr}
 use Rattle.jsondoc.specs.Document.{text}
@@ -13,19 +12,20 @@ use Rattle.history.specs.Mapped.{mapped, mapped_write}
 use Rattle.history.specs.Prepared.{writes_of}
 use Rattle.history.specs.State.{State}
 use Rattle.history.specs.View as seen
-use Rattle.plancode.specs.Plans.{Judged}
 use Rattle.specification.specs.Specification.{Specification, IsSpecification, sound, bad_spec, bad_expression, plans_in, plans_bytes, MayHavePlans}
+use Rattle.apicore.specs.Beside.{Beside}
 use Rattle.apicore.specs.Standing.{View, IsView, with_plans, write_with_plans}
 use Rattle.apicore.specs.Step.{Asked, reply, writes}
 use Rattle.apicore.specs.declared.prepared.Prepared.{Prepared}
 
 -- ---- what the core shows
 
-abbrev pub plans_held : Document → Vec Judged Global → List Judged
-plans_held d plans = plans.items
+-- what the core holds beside a document stands as it is
+abbrev pub plans_held : Document → Beside → Beside
+plans_held d beside = beside
 
--- The core shows a view: it has the plans of its trees.
-abbrev pub Shows : seen.View (Vec Judged Global) → View → Type 0
+-- The core shows a view: it has the plans of its trees, and what its documents spell.
+abbrev pub Shows : seen.View Beside → View → Type 0
 Shows held v = mapped plans_held held ≡ with_plans v
 
 -- ---- what stands in a document
@@ -60,7 +60,7 @@ pub record IsStepOf (rules : Rules) (v : View) (a : Asked) (p : Prepared) : Type
   pub writes : map (mapped_write plans_held) (writes_of p.write) ≡ map write_with_plans (writes rules v a)
 
 -- Something stands in the document of the request, by which the prepared step is the model's at what the core shows.
-pub record IsPrepared (core : State (Vec Judged Global)) (r : Request) (p : Prepared) : Type 0 where
+pub record IsPrepared (core : State Beside) (r : Request) (p : Prepared) : Type 0 where
   pub specification : Specification Expr
   pub read : IsReadOf r specification
   pub step : (v : View) → Shows core.view v → IsView v → IsStepOf core.rules v (record { request = r; specification = specification }) p

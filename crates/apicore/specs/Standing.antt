@@ -17,11 +17,11 @@ use Rattle.history.specs.View as seen
 use Rattle.history.specs.View.{stored_at, exists, after, empty}
 use Rattle.matching.specs.Rules.{Attempt}
 use Rattle.matching.specs.declared.rules.Operation.TheVariants.{Create, Update, Delete}
-use Rattle.plancode.specs.Plans.{Judged}
 use Rattle.specification.specs.Specification.{IsSpecification, sound, plans_in, plans_bytes, MayHavePlans}
 use Rattle.verdict.specs.Admission.{verdict}
 use Rattle.verdict.specs.Objects.{Object, Objects}
 use Rattle.verdict.specs.Verdict.{Verdict, admitted, denied}
+use Rattle.apicore.specs.Beside.{Beside, beside_of}
 
 -- A write puts a document with the trees of its expressions, or deletes.
 abbrev pub Write : Type 0
@@ -98,16 +98,16 @@ AreAdmitted rules v (w ∷ ws) = IsAdmitted (verdict_on v w) × AreAdmitted rule
 
 -- ---- with plans for trees, as the code holds them and as a record does
 
-abbrev pub plans_beside : Document → List Expr → List Judged
-plans_beside d trees = plans_in d.json trees
+abbrev pub plans_beside : Document → List Expr → Beside
+plans_beside d trees = beside_of d.json trees
 
-abbrev pub with_plans : View → seen.View (List Judged)
+abbrev pub with_plans : View → seen.View Beside
 with_plans v = mapped plans_beside v
 
-abbrev pub write_with_plans : Write → plain.Write (List Judged)
+abbrev pub write_with_plans : Write → plain.Write Beside
 write_with_plans w = mapped_write plans_beside w
 
 -- a put as a record holds it: with the bytes of its plans
-abbrev pub recorded : plain.Write (List Judged) → plain.Write (List ℕ)
-recorded (put k d plans) = put k d (plans_bytes k.resource plans)
+abbrev pub recorded : plain.Write Beside → plain.Write (List ℕ)
+recorded (put k d b) = put k d (plans_bytes k.resource b.plans)
 recorded (delete k) = delete k

@@ -6,13 +6,13 @@ use Rattle.history.specs.History as plain
 use Rattle.history.specs.History.{put, delete}
 use Rattle.history.specs.View.{AllFollow}
 use Rattle.records.specs.Payload as bytes
-use Rattle.plancode.specs.Plans.{Judged}
 use Rattle.specification.specs.Specification.{MayHavePlans}
+use Rattle.apicore.specs.Beside.{Beside, spelled}
 use Rattle.apicore.specs.Standing.{recorded}
 
 -- a put of a document with plans, or a deletion
 abbrev pub Write : Type 0
-Write = plain.Write (List Judged)
+Write = plain.Write Beside
 
 abbrev pub History : Type 0
 History = List Write
@@ -21,9 +21,9 @@ History = List Write
 abbrev pub payload : Write → List ℕ
 payload w = bytes.payload (recorded w)
 
--- a put has such plans as its document may have
+-- a put has such plans as its document may have, beside what that spells
 abbrev pub HasPlans : Write → Type 0
-HasPlans (put k d plans) = MayHavePlans k.resource d.json plans
+HasPlans (put k d b) = MayHavePlans k.resource d.json b.plans × (b ≡ spelled d.json b.plans)
 HasPlans (delete k) = Unit {0}
 
 -- A record can hold the write.

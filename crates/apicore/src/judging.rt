@@ -13,10 +13,12 @@ ghost use Rattle.history.specs.View.{exists, document_at};
 ghost use Rattle.specification.specs.Specification.{plans_in};
 ghost use Rattle.verdict.specs.Admission.{verdict};
 ghost use Rattle.verdict.specs.Seen.{verdict_seen};
+ghost use Rattle.apicore.specs.Beside.{spelled};
 ghost use Rattle.apicore.specs.Judged.{IsJudged};
 ghost use Rattle.apicore.specs.Prepared.{Shows};
 ghost use Rattle.apicore.specs.Standing.{View, IsView, objects_of};
 
+use crate::beside::Beside;
 use crate::prepared::{Core, Prepared};
 use crate::refusing::denied;
 use crate::sight::Sight;
@@ -59,10 +61,11 @@ fn admitted_put(
     ensures view { core.new.view ≡ core.old.view }
     ensures reply { IfOk result
         (λ p. p.reply ≡ showing code (map string_bytes warnings.items) (document_in manifest.now.body) (core.old.view.revision + 1)) }
-    ensures write { IfOk result (λ p. writes_of p.write ≡ put manifest.now.key (document_in manifest.now.body) plans ∷ []) }
+    ensures write { IfOk result (λ p. writes_of p.write ≡ put manifest.now.key (document_in manifest.now.body) (spelled (document_in manifest.now.body).json plans.items) ∷ []) }
     ensures ready { IfOk result (λ p. AreReady core.new p.write) }
 {
-    let put = core.prepare_put(alloc, manifest, plans)?;
+    let beside = Beside::of(alloc, manifest.document().json(), plans)?;
+    let put = core.prepare_put(alloc, manifest, beside)?;
     let reply = Reply::showing(alloc, code, warnings, put.document(), put.revision())?;
     Ok(Prepared {
         reply,

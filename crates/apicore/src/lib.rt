@@ -8,7 +8,8 @@
 //! A step takes a history and a request, with what stands in the document that it asks to be stored, to a history and a reply. Each
 //! write is asked of the policies and bindings that are stored just before it: one that they deny is refused, and stands nowhere.
 //! `prepare` takes all the memory of a step and changes nothing that is seen, `Core::take` takes none, and together they are one step.
-//! Beside each document the model has the trees of its expressions, and the core the plans of those trees.
+//! Beside each document the model has the trees of its expressions, and the core the plans of those trees, with what the document
+//! spells as a policy and as a binding.
 //!
 //! ```text
 //! let payloads = log.records(alloc, &mut device)?;
@@ -19,6 +20,7 @@
 //! history has them. At most one history has them.
 #![tactic(auto)]
 
+mod beside;
 mod conflicts;
 mod fault;
 mod judging;
@@ -30,6 +32,7 @@ mod refusing;
 mod replay;
 mod sight;
 
+pub use beside::Beside;
 pub use fault::RecoveryFault;
 pub use laws::{
     accepted_are_admitted, events_are_last, histories_show, key_has_last_write, objects_ascend,

@@ -1,16 +1,16 @@
 ghost use Rattle.std.specs.Prelude.{◌≡◌, None};
 
+use crate::beside::Beside;
 use history::{PreparedWrite, Reply};
-use plancode::Verified;
 
-/// What is stored, with the plans of each policy's expressions beside its document.
-pub type Core = history::Core<Vec<Verified>>;
+/// What is stored, with what each document spells beside it.
+pub type Core = history::Core<Beside>;
 
 /// A step that has all its memory: the reply, and the write that it makes if it makes one.
 #[derive(Drop)]
 pub struct Prepared {
     pub reply: Reply,
-    pub write: Option<PreparedWrite<Vec<Verified>>>,
+    pub write: Option<PreparedWrite<Beside>>,
 }
 
 impl Prepared {

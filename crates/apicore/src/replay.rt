@@ -8,6 +8,7 @@ ghost use Rattle.apicore.specs.Prepared.{plans_held};
 ghost use Rattle.apicore.specs.declared.fault.RecoveryFault.TheVariants as RecoveryFault;
 ghost use Rattle.apicore.specs.Written.{Write, History, payload, HasPlans, IsStorable, IsWritten};
 
+use crate::beside::Beside;
 use crate::fault::RecoveryFault;
 use crate::prepared::Core;
 use names::{Key, Rules};
@@ -64,7 +65,8 @@ fn replay_put(
         manifest.document().json(),
         plans,
     )?;
-    core.replay_put(alloc, manifest, plans)?;
+    let beside = Beside::of(alloc, manifest.document().json(), plans)?;
+    core.replay_put(alloc, manifest, beside)?;
     Ok(())
 }
 

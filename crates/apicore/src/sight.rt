@@ -4,12 +4,12 @@ ghost use Rattle.std.specs.Prelude.{◌≡◌, map, IfOk};
 ghost use Rattle.verdict.specs.Seen.{held_by, listed_seen};
 ghost use Rattle.apicore.specs.Sights.{held_of, entry_held};
 
+use crate::beside::Beside;
 use crate::prepared::Core;
 use history::Stored;
 use jsondoc::Doc;
 use names::{Key, Resource};
 use objects::Entry;
-use plancode::Verified;
 use policy::Wanted;
 use std::alloc::{AllocError, Global};
 use verdict::{Found, Listed, Lookup, LookupFault, wanted_among};
@@ -70,20 +70,16 @@ impl<'a> Lookup<'a> for Sight<'a> {
 }
 
 // What is stored, lent.
-fn lent(stored: &Stored<Vec<Verified>>) -> Found<'_>
+fn lent(stored: &Stored<Beside>) -> Found<'_>
     ensures { held_by result ≡ held_of stored.now }
 {
-    Found {
-        document: &stored.document,
-        plans: &stored.beside,
-        revision: stored.revision,
-    }
+    stored.beside.found(&stored.document, stored.revision)
 }
 
 // The entries, lent.
 fn all_lent<'a>(
     alloc: Global,
-    entries: &[&'a Entry<Stored<Vec<Verified>>>],
+    entries: &[&'a Entry<Stored<Beside>>],
 ) -> Result<Vec<Listed<'a>>, AllocError>
     ensures { IfOk result (λ v. map listed_seen v.items ≡ map entry_held (map (λ entry. entry.now) entries.now)) }
 {

@@ -1,7 +1,6 @@
 -- What a prepared step makes of a store.
-use Rattle.std.proofs.Common.{arith, ◌≡◌, ◌∙◌, sym, ap, subst, map, ◌≤◌, ◌<◌, ◌^◌, ◌++◌, ℕ, List, [], ◌∷◌, refl, true, false, Option, Some, None, Result, Ok, Err, IfOk, OnOk, IsErrOf, is_ok, true≢false, Vec}
+use Rattle.std.proofs.Common.{arith, ◌≡◌, ◌∙◌, sym, ap, subst, map, ◌≤◌, ◌<◌, ◌^◌, ◌++◌, ℕ, List, [], ◌∷◌, refl, true, false, Option, Some, None, Result, Ok, Err, IfOk, OnOk, IsErrOf, is_ok, true≢false}
 use Rattle.std.proofs.lemmas.List.{append-nil}
-use Rattle.std.specs.declared.alloc.Global.{Global}
 use Rattle.device.specs.declared.device.Device.{Ghosts}
 use Rattle.device.specs.Disk.{LeavesOnly}
 use Rattle.device.specs.Run.{Stands}
@@ -19,7 +18,7 @@ use Rattle.history.specs.View.{view, empty, after_all}
 use Rattle.history.proofs.Mapping.{all_mapped}
 use Rattle.history.proofs.ViewLemmas.{after_all-append, objects_ascend}
 use Rattle.records.specs.Payload as bytes
-use Rattle.plancode.specs.Plans.{Judged}
+use Rattle.apicore.specs.Beside.{Beside}
 use Rattle.apicore.specs.declared.prepared.Prepared.{Prepared}
 use Rattle.apicore.specs.Standing.{Write, History, View, IsView, MayFollow, AllMayFollow, plans_beside, with_plans, write_with_plans, recorded}
 use Rattle.apicore.specs.Step.{Asked, writes}
@@ -76,12 +75,12 @@ settled_after store h ws serving holds =
     settled_from store (h ++ ws) serving.working (subst Shown (view-after h ws) serving.shows) holds
 
 -- what is shown after writes that are held with the plans of these
-shown_after : (held : seen.View (Vec Judged Global)) (v : View) (ws : List (plain.Write (Vec Judged Global))) (us : List Write) → Shows held v
+shown_after : (held : seen.View Beside) (v : View) (ws : List (plain.Write Beside)) (us : List Write) → Shows held v
     → map (mapped_write plans_held) ws ≡ map write_with_plans us → Shows (after_all first_rules held ws) (after_all first_rules v us)
 shown_after held v ws us shows same =
     all_mapped plans_held first_rules held ws
-    ∙ ap (λ (x : seen.View (List Judged)). after_all first_rules x (map (mapped_write plans_held) ws)) shows
-    ∙ ap (λ (xs : List (plain.Write (List Judged))). after_all first_rules (with_plans v) xs) same
+    ∙ ap (λ (x : seen.View Beside). after_all first_rules x (map (mapped_write plans_held) ws)) shows
+    ∙ ap (λ (xs : List (plain.Write Beside)). after_all first_rules (with_plans v) xs) same
     ∙ sym (all_mapped plans_beside first_rules v us)
 
 small : first_rules.text_limit_bytes ≤ 2 ^ 24
@@ -107,7 +106,7 @@ step_at : {D : Type 0} {g : Ghosts D} (old : Store D g) (r : Request) (p : Prepa
 step_at old r p is v serving =
     at_first_rules old.core.rules v (record { request = r; specification = is.specification }) p old.rules (is.step v serving.shows serving.seen)
 
-no_record : (asked : Option (PreparedWrite (Vec Judged Global))) → IsRecordOf asked None → writes_of asked ≡ []
+no_record : (asked : Option (PreparedWrite Beside)) → IsRecordOf asked None → writes_of asked ≡ []
 no_record None is = refl
 no_record (Some p) is = absurd is
 
@@ -115,7 +114,7 @@ none_of : (ws : List Write) → [] ≡ map write_with_plans ws → ws ≡ []
 none_of [] is = refl
 none_of (w ∷ ws) is = cc
 
-one_of : (ws : List Write) (x : plain.Write (List Judged)) → x ∷ [] ≡ map write_with_plans ws → (w : Write) × (ws ≡ w ∷ []) × (x ≡ write_with_plans w)
+one_of : (ws : List Write) (x : plain.Write Beside) → x ∷ [] ≡ map write_with_plans ws → (w : Write) × (ws ≡ w ∷ []) × (x ≡ write_with_plans w)
 one_of [] x is = cc
 one_of (w ∷ []) x is = (w, refl, let same : x ≡ write_with_plans w = cc in same)
 one_of (v ∷ w ∷ ws) x is = cc
@@ -123,15 +122,15 @@ one_of (v ∷ w ∷ ws) x is = cc
 -- without a record nothing is written
 nothing_written : (v : View) (a : Asked) (p : Prepared) → IsStepOf first_rules v a p → IsRecordOf p.write None → writes first_rules v a ≡ []
 nothing_written v a p step without =
-    none_of (writes first_rules v a) (ap (λ (xs : List (plain.Write (Vec Judged Global))). map (mapped_write plans_held) xs) (sym (no_record p.write without)) ∙ step.writes)
+    none_of (writes first_rules v a) (ap (λ (xs : List (plain.Write Beside)). map (mapped_write plans_held) xs) (sym (no_record p.write without)) ∙ step.writes)
 
 -- and with one something is
 something_written : (v : View) (a : Asked) (p : Prepared) (body : Body) → IsStepOf first_rules v a p → IsRecordOf p.write (Some body) → writes first_rules v a ≡ [] → ⊥
 something_written v a p body step is none = go p.write (step.writes ∙ ap (λ (ws : List Write). map write_with_plans ws) none) is
   where
-    go : (asked : Option (PreparedWrite (Vec Judged Global))) → map (mapped_write plans_held) (writes_of asked) ≡ [] → IsRecordOf asked (Some body) → ⊥
+    go : (asked : Option (PreparedWrite Beside)) → map (mapped_write plans_held) (writes_of asked) ≡ [] → IsRecordOf asked (Some body) → ⊥
     go None are is = is
-    go (Some q) are is = let never : ◌≡◌ {A = List (plain.Write (List Judged))} (mapped_write plans_held (write_of q) ∷ []) [] = are in cc
+    go (Some q) are is = let never : ◌≡◌ {A = List (plain.Write Beside)} (mapped_write plans_held (write_of q) ∷ []) [] = are in cc
 
 -- The one write of a request that writes.
 pub record OneWrite (h : History) (a : Asked) (body : Body) : Type 0 where
@@ -149,7 +148,7 @@ one_write : (h : History) (a : Asked) (p : Prepared) (body : Body) → IsStepOf 
     → IsRecordOf p.write (Some body) → OneWrite h a body
 one_write h a p body step form read is = go p.write step.writes is
   where
-    go : (asked : Option (PreparedWrite (Vec Judged Global))) → map (mapped_write plans_held) (writes_of asked) ≡ map write_with_plans (writes first_rules (view first_rules h) a)
+    go : (asked : Option (PreparedWrite Beside)) → map (mapped_write plans_held) (writes_of asked) ≡ map write_with_plans (writes first_rules (view first_rules h) a)
         → IsRecordOf asked (Some body) → OneWrite h a body
     go None are is = absurd is
     go (Some q) are is =

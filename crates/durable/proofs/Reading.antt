@@ -15,7 +15,7 @@ use Rattle.history.specs.View as seen
 use Rattle.history.specs.View.{view, after, after_all, empty}
 use Rattle.history.specs.Mapped.{mapped}
 use Rattle.history.proofs.Mapping.{all_mapped, all_follow_mapped}
-use Rattle.plancode.specs.Plans.{Judged}
+use Rattle.apicore.specs.Beside.{Beside}
 use Rattle.apicore.specs.Standing.{Write, History, View, PutsTrees, HasTrees, AllMayFollow, IsHistory, plans_beside, with_plans, write_with_plans}
 use Rattle.apicore.specs.Written as written
 use Rattle.apicore.specs.Written.{IsWritten}
@@ -36,7 +36,7 @@ follow_plainly rules v [] all = tt
 follow_plainly rules v (w ∷ ws) all = (all.0.0, follow_plainly rules (after rules v w) ws all.1)
 
 has_plans : (w : Write) → PutsTrees w → written.HasPlans (write_with_plans w)
-has_plans (put k d trees) puts = puts.held
+has_plans (put k d trees) puts = (puts.held, refl)
 has_plans (delete k) puts = tt
 
 storable_with : (rules : Rules) (v : View) (ws : List Write) → AllStorable ws → AllMayFollow rules v ws → written.AllStorable (map write_with_plans ws)
@@ -94,7 +94,7 @@ module _ (rules : Rules) (content : List ℕ) (h : History) (stands : StandsFor 
   }
 
   -- what was read of them shows the history
-  pub shows_here : (payloads : List (List ℕ)) (last : ℕ) (held : seen.View (List Judged)) → HoldsLog (log_start root) payloads last content
+  pub shows_here : (payloads : List (List ℕ)) (last : ℕ) (held : seen.View Beside) → HoldsLog (log_start root) payloads last content
       → (g : written.History) × IsWritten rules g payloads × (held ≡ view rules g) → held ≡ with_plans (view rules h)
   shows_here payloads last held log found =
       let same : found.0 ≡ map write_with_plans stands.later = payloads_one rules found.0 (map write_with_plans stands.later) payloads found.1 (written_here payloads last log) in
@@ -120,6 +120,6 @@ one_view rules content g h first second = ap (view rules) (one_history rules con
 -- what the writes of a history left, with the plans of its trees, shows the view of that history
 pub replayed_is_shown : ReplayedIsShown
 replayed_is_shown rules held h history is same = (
-  is.shows ∙ ap (λ (ws : List (plain.Write (List Judged))). view rules ws) same ∙ sym (all_mapped plans_beside rules empty h),
+  is.shows ∙ ap (λ (ws : List (plain.Write Beside)). view rules ws) same ∙ sym (all_mapped plans_beside rules empty h),
   histories_show rules h history,
 )

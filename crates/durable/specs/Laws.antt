@@ -1,12 +1,11 @@
 -- Laws of contents.
-use Rattle.std.specs.Prelude.{◌≡◌, ℕ, List, [], map, Vec}
-use Rattle.std.specs.declared.alloc.Global.{Global}
+use Rattle.std.specs.Prelude.{◌≡◌, ℕ, List, [], map}
 use Rattle.names.specs.declared.format.Rules.{Rules}
+use Rattle.apicore.specs.Beside.{Beside}
 use Rattle.apicore.specs.Prepared.{Shows}
 use Rattle.apicore.specs.Standing.{History, IsHistory, IsView, write_with_plans}
 use Rattle.history.specs.View as seen
 use Rattle.history.specs.View.{view}
-use Rattle.plancode.specs.Plans.{Judged}
 use Rattle.checkpoint.specs.NewStore.{new_content}
 use Rattle.durable.specs.Opened.{IsReplayed}
 use Rattle.durable.specs.Stands.{StandsFor}
@@ -26,5 +25,5 @@ NewStandsForNothing = (rules : Rules) → StandsFor rules new_content []
 -- What the writes of a history left, with the plans of its trees, shows the view of that history.
 abbrev pub ReplayedIsShown : Type 0
 ReplayedIsShown =
-    (rules : Rules) (held : seen.View (Vec Judged Global)) (h : History) → IsHistory rules h → (is : IsReplayed rules held) → is.history ≡ map write_with_plans h
+    (rules : Rules) (held : seen.View Beside) (h : History) → IsHistory rules h → (is : IsReplayed rules held) → is.history ≡ map write_with_plans h
     → Shows held (view rules h) × IsView (view rules h)

@@ -1,11 +1,10 @@
 -- What is found on a device that is opened.
-use Rattle.std.specs.Prelude.{◌≡◌, ℕ, List, Vec}
-use Rattle.std.specs.declared.alloc.Global.{Global}
+use Rattle.std.specs.Prelude.{◌≡◌, ℕ, List}
 use Rattle.names.specs.declared.format.Rules.{Rules}
 use Rattle.history.specs.Mapped.{mapped}
 use Rattle.history.specs.View as seen
 use Rattle.history.specs.View.{AllFollow, view}
-use Rattle.plancode.specs.Plans.{Judged}
+use Rattle.apicore.specs.Beside.{Beside}
 use Rattle.apicore.specs.Prepared.{plans_held}
 use Rattle.apicore.specs.Written.{History, AllStorable}
 use Rattle.gatelog.specs.declared.gate_log.Log.{Log}
@@ -22,7 +21,7 @@ pub record IsLogOf (content : List ℕ) (log : Log) : Type 0 where
   pub holds : HoldsLog log.start payloads log.last content
 
 -- What is held is what the writes of a history with plans left, each of which a record can hold. Nothing is said of a device.
-pub record IsReplayed (rules : Rules) (held : seen.View (Vec Judged Global)) : Type 0 where
+pub record IsReplayed (rules : Rules) (held : seen.View Beside) : Type 0 where
   pub history : History
   pub storable : AllStorable history
   pub follows : AllFollow rules history

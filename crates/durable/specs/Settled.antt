@@ -1,7 +1,6 @@
 -- A store that serves a view, or is settled at a history, and what requests leave of it.
-use Rattle.std.specs.Prelude.{◌≡◌, ℕ, List, [], ◌∷◌, ◌++◌, map, Bool, true, false, Vec}
+use Rattle.std.specs.Prelude.{◌≡◌, ℕ, List, [], ◌∷◌, ◌++◌, map, Bool, true, false}
 use Rattle.std.specs.List.{AllByRecursion}
-use Rattle.std.specs.declared.alloc.Global.{Global}
 use Rattle.device.specs.declared.device.Device.{Ghosts}
 use Rattle.device.specs.Disk.{LeavesOnly}
 use Rattle.names.specs.declared.format.Rules.{Rules}
@@ -10,8 +9,8 @@ use Rattle.history.specs.Reply.{Reply}
 use Rattle.history.specs.View as seen
 use Rattle.history.specs.View.{view, after_all}
 use Rattle.celtree.specs.Tree.{Expr}
-use Rattle.plancode.specs.Plans.{Judged}
 use Rattle.specification.specs.Specification.{Specification}
+use Rattle.apicore.specs.Beside.{Beside}
 use Rattle.apicore.specs.Standing.{Write, History, View, IsView, AreAdmitted}
 use Rattle.apicore.specs.Step.{Asked, writes, reply, accepted, replies}
 use Rattle.apicore.specs.Prepared.{Shows, IsReadOf}
@@ -44,7 +43,7 @@ module _ {D : Type 0} {g : Ghosts D} where
   serves store = store.serves
 
   -- what a store holds of its objects, with their plans
-  abbrev pub shown : Store D g → seen.View (Vec Judged Global)
+  abbrev pub shown : Store D g → seen.View Beside
   shown store = store.core.view
 
   -- At every moment since old a crash leaves the history, followed by some first ones of the writes.

@@ -11,9 +11,9 @@ ghost use Rattle.durable.specs.declared.fault.Fault.TheVariants as Fault;
 ghost use Rattle.durable.specs.RecordOf.{IsRecordOf};
 
 use crate::Fault;
+use apicore::Beside;
 use gatelog::{Body, LogFault};
 use history::PreparedWrite;
-use plancode::Verified;
 use records::{delete_payload, put_payload};
 use specification::plans_bytes;
 use std::alloc::Global;
@@ -21,7 +21,7 @@ use std::alloc::Global;
 /// The body of the record of a write, if there is one.
 pub(crate) fn record_of(
     alloc: Global,
-    write: &Option<PreparedWrite<Vec<Verified>>>,
+    write: &Option<PreparedWrite<Beside>>,
 ) -> Result<Option<Body>, Fault>
     ensures record { IfOk result (λ body. IsRecordOf write.now body) }
     ensures refusal { OnErr result (result ≡ Err Fault.Memory) }
@@ -37,12 +37,12 @@ pub(crate) fn record_of(
 }
 
 // The body that holds the payload of a write.
-fn body_of(alloc: Global, write: &PreparedWrite<Vec<Verified>>) -> Result<Body, LogFault>
+fn body_of(alloc: Global, write: &PreparedWrite<Beside>) -> Result<Body, LogFault>
     ensures { IfOk result (λ body. payload_of body ≡ payload (recorded (mapped_write plans_held (write_of write.now)))) }
 {
     match write {
         PreparedWrite::Put(put) => {
-            let plans = match plans_bytes(alloc, put.key().resource(), put.beside()) {
+            let plans = match plans_bytes(alloc, put.key().resource(), put.beside().plans()) {
                 Ok(plans) => plans,
                 // Plans that may be held are never too long, so memory was wanting.
                 Err(_) => return Err(LogFault::Memory),

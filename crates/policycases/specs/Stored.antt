@@ -1,10 +1,11 @@
 -- Objects in memory, as a lookup finds them.
 use Rattle.names.specs.Key.{Key}
+use Rattle.apicore.specs.Beside.{found_with}
 use Rattle.policycases.specs.declared.shelf.Stored.{Stored}
 use Rattle.verdict.specs.Objects.{Held}
 
 abbrev pub held : Stored → Held
-held s = record { document = s.document; plans = s.plans.items; revision = s.revision }
+held s = found_with s.document s.beside s.revision
 
 abbrev pub entry_held : Key × Stored → Key × Held
 entry_held o = (o.0, held o.1)

@@ -6,11 +6,11 @@ ghost use Rattle.names.specs.Key.{key_cmp};
 ghost use Rattle.verdict.specs.Seen.{listed_seen};
 ghost use Rattle.policycases.specs.Stored.{entry_held};
 
+use apicore::Beside;
 use documents::Document;
 use jsondoc::Doc;
 use names::{Key, Resource};
 use objects::{Entry, Objects};
-use plancode::Verified;
 use policy::Wanted;
 use std::alloc::{AllocError, Global};
 use verdict::{Found, Listed, Lookup, LookupFault, wanted_among};
@@ -20,8 +20,8 @@ use verdict::{Found, Listed, Lookup, LookupFault, wanted_among};
 pub struct Stored {
     /// What is stored.
     pub document: Document,
-    /// If it is a policy, the plans of its expressions, in order.
-    pub plans: Vec<Verified>,
+    /// What it spells, and the plans of a policy's expressions.
+    pub beside: Beside,
     /// The revision of its last write.
     pub revision: u64,
 }
@@ -33,11 +33,7 @@ impl Stored {
     fn lent(&self) -> Found<'_>
         ensures { held_by result ≡ held self.now }
     {
-        Found {
-            document: &self.document,
-            plans: &self.plans,
-            revision: self.revision,
-        }
+        self.beside.found(&self.document, self.revision)
     }
 }
 

@@ -4,6 +4,7 @@ use crate::expressed::plans_in;
 use crate::shelf::{Shelf, Stored};
 use crate::texts::told;
 use crate::writes::{Write, document, key, value_of};
+use apicore::Beside;
 use cases::{Wrong, first_word, shown};
 use documents::Document;
 use evaluation::{Conditions, Denial, conditions, evaluate, failure, request_document};
@@ -36,8 +37,9 @@ pub fn put(
 ) -> Result<(), Wrong> {
     let key = key(alloc, resource, key_text)?;
     let document = document(alloc, text)?;
+    let plans = plans_of(alloc, resource, &document)?;
     let stored = Stored {
-        plans: plans_of(alloc, resource, &document)?,
+        beside: Beside::of(alloc, &document, plans)?,
         document: Document::new(document),
         revision: 2,
     };
@@ -109,7 +111,7 @@ pub fn evaluation_answer(
         return Err(Wrong::Told("no such policy"));
     };
     match Policy::of(alloc, stored.document.json().value())? {
-        Some(policy) => policy_answer(alloc, &policy, &stored.plans, write, param),
+        Some(policy) => policy_answer(alloc, &policy, stored.beside.plans(), write, param),
         None => Err(Wrong::Told("no policy")),
     }
 }

@@ -4,14 +4,13 @@ ghost use Rattle.std.specs.Prelude.{IfOk};
 ghost use Rattle.history.specs.Prepared.{AreReady};
 
 use crate::refusals::status;
-use apicore::{Core, Prepared, prepare};
+use apicore::{Beside, Core, Prepared, prepare};
 use cases::{TextBuilder, WordReader, Wrong, text, wanted};
 use exchanges::{Service, message, messages, routed_first};
 use history::{PreparedWrite, Put, ReplayFault, Reply};
 use http::StatusCode;
 use httpmsg::{Message, Response, Std};
 use names::{Format, Key, Rules};
-use plancode::Verified;
 use requests::Request;
 use routes::{Routes, route};
 use std::alloc::Global;
@@ -48,7 +47,7 @@ fn push_key(line: &mut TextBuilder, key: &Key) {
 }
 
 // A put: its key and its text, which is that of its document.
-fn push_put(alloc: Global, line: &mut TextBuilder, put: &Put<Vec<Verified>>) -> Result<(), Wrong> {
+fn push_put(alloc: Global, line: &mut TextBuilder, put: &Put<Beside>) -> Result<(), Wrong> {
     line.push("put");
     push_key(line, put.key());
     line.word(put.text());
@@ -57,10 +56,7 @@ fn push_put(alloc: Global, line: &mut TextBuilder, put: &Put<Vec<Verified>>) -> 
 }
 
 // A write that is prepared.
-fn write_text(
-    alloc: Global,
-    write: &Option<PreparedWrite<Vec<Verified>>>,
-) -> Result<String, Wrong> {
+fn write_text(alloc: Global, write: &Option<PreparedWrite<Beside>>) -> Result<String, Wrong> {
     let mut line = TextBuilder::new(alloc);
     match write {
         Some(PreparedWrite::Put(put)) => push_put(alloc, &mut line, put)?,
@@ -99,7 +95,10 @@ fn taken_again(
     request: Request,
 ) -> Result<Result<(), ReplayFault>, Wrong> {
     match request {
-        Request::Replace(manifest) => Ok(core.replay_put(alloc, manifest, Vec::new(alloc))),
+        Request::Replace(manifest) => {
+            let beside = Beside::of(alloc, manifest.document().json(), Vec::new(alloc))?;
+            Ok(core.replay_put(alloc, manifest, beside))
+        }
         Request::Delete(key, None) => Ok(core.replay_delete(alloc, &key)),
         _ => Err(Wrong::Told("a put or a deletion is taken again")),
     }

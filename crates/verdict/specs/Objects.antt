@@ -1,5 +1,5 @@
 -- Objects with the trees of their expressions, and with their plans, as they are held.
-use Rattle.std.specs.Prelude.{◌≡◌, ℕ, List, [], map, Some}
+use Rattle.std.specs.Prelude.{◌≡◌, ℕ, List, [], map, Option, Some}
 use Rattle.std.specs.List.{AllByRecursion}
 use Rattle.std.specs.Option.{option_map_or}
 use Rattle.names.specs.Key.{Key}
@@ -8,8 +8,9 @@ use Rattle.names.specs.declared.resource.Resource.TheVariants.{ConfigMap, Node, 
 use Rattle.celtree.specs.Tree.{Expr}
 use Rattle.documents.specs.Document.{Document, shown}
 use Rattle.plancode.specs.Plans.{Judged}
+use Rattle.policy.specs.Bindings.{binding_of}
 use Rattle.policy.specs.Policies.{policy_of}
-use Rattle.policy.specs.Spec.{Policy}
+use Rattle.policy.specs.Spec.{Policy, Binding}
 use Rattle.expressions.specs.Expressions.{sources}
 use Rattle.expressions.specs.Typed.{AreTyped}
 use Rattle.expressions.specs.Plans.{plans_of}
@@ -27,17 +28,25 @@ Objects = List (Key × Object)
 abbrev pub shown_objects : Objects → Shown
 shown_objects objects = map (λ o. (o.0, shown o.1.document o.1.revision)) objects
 
--- the same with plans for trees
+-- the same with plans for trees, and what the document spells
 pub record Held : Type 0 where
   pub document : Document
+  pub policy : Option Policy
   pub plans : List Judged
+  pub binding : Option Binding
   pub revision : ℕ
 
 abbrev pub plans_in : Document → List Expr → List Judged
 plans_in d trees = option_map_or (λ p. plans_of p trees) (policy_of d.json) []
 
 abbrev pub held : Object → Held
-held o = record { document = o.document; plans = plans_in o.document o.trees; revision = o.revision }
+held o = record {
+  document = o.document;
+  policy = policy_of o.document.json;
+  plans = plans_in o.document o.trees;
+  binding = binding_of o.document.json;
+  revision = o.revision;
+}
 
 -- the objects as they are held
 abbrev pub all_held : Objects → List (Key × Held)

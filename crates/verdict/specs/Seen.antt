@@ -1,5 +1,5 @@
 -- What the program's answers stand for.
-use Rattle.std.specs.Prelude.{◌∷◌, [], map, string_bytes, Some, None}
+use Rattle.std.specs.Prelude.{◌∷◌, [], map, string_bytes, option_map, Some, None}
 use Rattle.serde_json.specs.Data.{Data}
 use Rattle.names.specs.Key.{Key}
 use Rattle.documents.specs.Document.{shown}
@@ -9,12 +9,19 @@ use Rattle.verdict.specs.declared.parameters.Parameters as code_parameters
 use Rattle.verdict.specs.declared.parameters.Parameters.TheVariants as parameters
 use Rattle.verdict.specs.declared.admission.Verdict as code_verdict
 use Rattle.verdict.specs.declared.admission.Verdict.TheVariants as verdict
+use Rattle.policy.specs.Spec.{policy_seen}
 use Rattle.verdict.specs.Objects.{Held}
 use Rattle.verdict.specs.Parameters.{Parameters}
 use Rattle.verdict.specs.Verdict.{Verdict}
 
 abbrev pub held_by : code_found.Found → Held
-held_by f = record { document = f.document.now; plans = f.plans.now.items; revision = f.revision }
+held_by f = record {
+  document = f.document.now;
+  policy = option_map (λ p. policy_seen p.now) f.policy;
+  plans = f.plans.now.items;
+  binding = option_map (λ b. b.now) f.bound;
+  revision = f.revision;
+}
 
 -- what was listed
 abbrev pub listed_seen : code_listed.Listed → Key × Held

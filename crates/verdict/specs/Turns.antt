@@ -3,7 +3,6 @@ use Rattle.std.specs.Prelude.{◌++◌, List, option_map, option_and_then, Optio
 use Rattle.serde_json.specs.Data.{Data}
 use Rattle.names.specs.Key.{Key}
 use Rattle.matching.specs.Rules.{Attempt}
-use Rattle.policy.specs.Bindings.{binding_of}
 use Rattle.policy.specs.Policies.{policy_of}
 use Rattle.evaluation.specs.Denials.{Denial}
 use Rattle.policy.specs.Forms.{Text}
@@ -19,7 +18,7 @@ if_wanted wanted o = if is_wanted wanted (shown_held o) then Some (shown_held o)
 
 -- the binding with its name
 abbrev pub held_binding : Key × Held → Option (Text × Binding)
-held_binding o = option_map (λ b. (o.0.name, b)) (binding_of o.1.document.json)
+held_binding o = option_map (λ b. (o.0.name, b)) o.1.binding
 
 -- the denial by a binding of a policy that is there
 abbrev pub denial_by_policy : Objects → Attempt → Binding → Object → Option Denial

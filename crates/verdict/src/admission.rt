@@ -7,24 +7,22 @@ ghost use Rattle.serde_json.specs.View.{view};
 ghost use Rattle.matching.specs.Rules.{attempt_seen};
 ghost use Rattle.evaluation.specs.Environment.{request_of};
 ghost use Rattle.evaluation.specs.Seen.{denial_seen};
-ghost use Rattle.verdict.specs.Admission.{policy_key, bindings, denial_by, finding, verdict};
+ghost use Rattle.verdict.specs.Admission.{bindings, denial_by, finding, verdict};
 ghost use Rattle.verdict.specs.Objects.{Object, Objects, HasTrees, HaveTrees, held};
 ghost use Rattle.verdict.specs.Verdict as model;
 ghost use Rattle.verdict.specs.Seen.{held_by, listed_seen, verdict_seen};
 ghost use Rattle.verdict.specs.Turns.{after_warnings, held_binding, denial_by_policy};
-ghost use Rattle.names.specs.declared.key.KeyFault.TheVariants as KeyFault;
 ghost use Rattle.names.specs.declared.resource.Resource.TheVariants.{ValidatingAdmissionPolicy};
 ghost use Rattle.verdict.specs.Causes.{HasGrown};
 ghost use Rattle.verdict.specs.declared.lookup.LookupFault.TheVariants as LookupFault;
 
+use crate::bound::Bound;
 use crate::lookup::{Found, Listed, Lookup, LookupFault};
 use crate::one_binding::denial;
-use crate::parameters::add;
 use crate::texts::warning;
 use evaluation::{Denial, request_document};
 use matching::Attempt;
-use names::{Key, KeyFault, Resource};
-use policy::{Action, Binding, Policy, Reason};
+use policy::{Action, Reason};
 use serde_json::Value as Json;
 use std::alloc::{AllocError, Global};
 use std::marker::Model;
@@ -47,54 +45,40 @@ pub enum Verdict {
     },
 }
 
-// A binding with its name, which binds a policy by a well-formed name.
+// A binding with its name, lent.
 #[derive(Drop)]
-struct Bound {
-    name: String,
-    binding: Binding,
+struct Named<'a> {
+    name: &'a str,
+    bound: &'a Bound,
 }
 
-impl Model for Bound {
-    ghost use Rattle.std.specs.Prelude.{string_bytes, IsTrue};
-    ghost use Rattle.names.specs.Name.{is_name};
+impl<'a> Model for Named<'a> {
     ghost use Rattle.policy.specs.Forms.{Text};
     ghost use Rattle.policy.specs.Spec as spec;
-    ghost use Rattle.policy.specs.Spec.{binding_seen};
 
     ghost Value = { Text × spec.Binding };
 
-    ghost view = { λ b. (string_bytes b.name, binding_seen b.binding) };
-
-    ghost invariant = { λ b. IsTrue (is_name (string_bytes b.binding.policy)) };
+    ghost view = { λ b. (b.name.now, b.bound.now) };
 }
 
-// The binding that an object is, if it has the form of one.
-fn binding_of(alloc: Global, listed: &Listed<'_>) -> Result<Option<Bound>, AllocError>
-    ensures { IfOk result (λ o. o ≡ held_binding (listed_seen listed.now)) }
-{
-    match Binding::of(alloc, listed.found.document.json().value())? {
-        Some(binding) => {
-            let name = String::from_str(alloc, listed.key.name())?;
-            Ok(Some(Bound { name, binding }))
-        }
-        None => Ok(None),
-    }
-}
-
-fn bindings_among(alloc: Global, listed: &[Listed<'_>]) -> Result<Vec<Bound>, AllocError>
+// The bindings among what was listed, with their names.
+fn bindings_among<'a>(alloc: Global, listed: &[Listed<'a>]) -> Result<Vec<Named<'a>>, AllocError>
     ensures { IfOk result (λ v. v.items ≡ filter_map held_binding (map listed_seen listed.now)) }
 {
     let mut bindings = Vec::new(alloc);
     for entry in listed {
-        let binding = binding_of(alloc, entry)?;
-        add(&mut bindings, binding)?;
+        let found = entry.found;
+        if let Some(bound) = found.bound {
+            let name = entry.key.name();
+            bindings.push(Named { name, bound })?;
+        }
     }
     Ok(bindings)
 }
 
 // The bindings, ascending by name.
 #[tactic(auto, using(crate::proofs::Standing::bindings_held))]
-fn bindings<'a, L: Lookup<'a>>(alloc: Global, lookup: &mut L) -> Result<Vec<Bound>, LookupFault>
+fn bindings<'a, L: Lookup<'a>>(alloc: Global, lookup: &mut L) -> Result<Vec<Named<'a>>, LookupFault>
     ensures found { (objects : Objects) → L.shows lookup.old objects → IfOk result (λ v. v.items ≡ bindings objects) }
     ensures kept { (objects : Objects) → L.shows lookup.old objects → L.shows lookup.new objects }
     ensures goes { L.goes_to lookup.old lookup.new }
@@ -118,38 +102,28 @@ fn denial_of<'a, L: Lookup<'a>>(
 ) -> Result<Option<Denial>, LookupFault>
     requires told { view request.now ≡ request_of (attempt_seen attempt.now) }
     ensures found { (objects : Objects) (object : Object) → L.shows lookup.old objects → HasTrees ValidatingAdmissionPolicy object → held_by found.now ≡ held object
-        → IfOk result (λ o. option_map denial_seen o ≡ denial_by_policy objects (attempt_seen attempt.now) bound.now.1 object) }
+        → IfOk result (λ o. option_map denial_seen o ≡ denial_by_policy objects (attempt_seen attempt.now) bound.now object) }
     ensures kept { (objects : Objects) → L.shows lookup.old objects → L.shows lookup.new objects }
     ensures goes { L.goes_to lookup.old lookup.new }
     ensures counts { L.failures lookup.old ≤ L.failures lookup.new }
     ensures device { IsErrOf result LookupFault.Device → HasGrown (L.failures lookup.old) (L.failures lookup.new) }
     ensures damaged { IsErrOf result LookupFault.Damaged → L.is_damaged lookup.new }
 {
-    match Policy::of(alloc, found.document.json().value())? {
-        Some(policy) => denial(
-            alloc,
-            lookup,
-            &policy,
-            found.plans,
-            &bound.binding,
-            attempt,
-            request,
-        ),
+    match found.policy {
+        Some(policy) => {
+            let binding = bound.binding();
+            denial(
+                alloc,
+                lookup,
+                policy,
+                found.plans,
+                binding,
+                attempt,
+                request,
+            )
+        }
         None => Ok(None),
     }
-}
-
-// The key of the policy that is bound, of which the name is well-formed.
-fn policy_key(alloc: Global, bound: &Bound) -> Result<Key, KeyFault>
-    ensures key { IfOk result (λ k. k ≡ policy_key bound.now.1.policy) }
-    ensures well_formed { IsErrOf result KeyFault.NoKey → ⊥ }
-{
-    Key::new(
-        alloc,
-        Resource::ValidatingAdmissionPolicy,
-        "",
-        bound.binding.policy.as_str(),
-    )
 }
 
 // The denial of the write by a binding: none where its policy is not there.
@@ -162,19 +136,14 @@ fn denial_by<'a, L: Lookup<'a>>(
 ) -> Result<Option<Denial>, LookupFault>
     requires told { view request.now ≡ request_of (attempt_seen attempt.now) }
     ensures found { (objects : Objects) → L.shows lookup.old objects → HaveTrees objects
-        → IfOk result (λ o. option_map denial_seen o ≡ denial_by objects (attempt_seen attempt.now) bound.now.1) }
+        → IfOk result (λ o. option_map denial_seen o ≡ denial_by objects (attempt_seen attempt.now) bound.now) }
     ensures kept { (objects : Objects) → L.shows lookup.old objects → L.shows lookup.new objects }
     ensures goes { L.goes_to lookup.old lookup.new }
     ensures counts { L.failures lookup.old ≤ L.failures lookup.new }
     ensures device { IsErrOf result LookupFault.Device → HasGrown (L.failures lookup.old) (L.failures lookup.new) }
     ensures damaged { IsErrOf result LookupFault.Damaged → L.is_damaged lookup.new }
 {
-    let key = match policy_key(alloc, bound) {
-        Ok(key) => key,
-        Err(KeyFault::NoKey) => unreachable!("a bound policy has a well-formed name"),
-        Err(KeyFault::Memory) => return Err(LookupFault::Memory),
-    };
-    let found = match lookup.policy(alloc, &key)? {
+    let found = match lookup.policy(alloc, bound.policy_key())? {
         Some(found) => found,
         None => return Ok(None),
     };
@@ -186,24 +155,25 @@ fn denial_by<'a, L: Lookup<'a>>(
 fn decide(
     alloc: Global,
     warnings: &mut Vec<String>,
-    bound: &Bound,
+    named: &Named<'_>,
     denial: Denial,
 ) -> Result<Option<Verdict>, AllocError>
     ensures { (rest : model.Verdict) → IfOk result (λ o.
-        after_warnings (map string_bytes warnings.old.items) (model.decide bound.now.0 bound.now.1 (Some (denial_seen denial)) rest)
+        after_warnings (map string_bytes warnings.old.items) (model.decide named.now.0 named.now.1 (Some (denial_seen denial)) rest)
         ≡ option_map_or verdict_seen o (after_warnings (map string_bytes warnings.new.items) rest)) }
 {
     let Denial { reason, message } = denial;
-    let policy = bound.binding.policy.as_str();
-    match bound.binding.action {
+    let binding = named.bound.binding();
+    let policy = binding.policy.as_str();
+    match binding.action {
         Action::Deny => Ok(Some(Verdict::Denied {
             policy: String::from_str(alloc, policy)?,
-            binding: bound.name.clone()?,
+            binding: String::from_str(alloc, named.name)?,
             reason,
             message,
         })),
         Action::Warn => {
-            warnings.push(warning(alloc, policy, bound.name.as_str(), message.as_str())?)?;
+            warnings.push(warning(alloc, policy, named.name, message.as_str())?)?;
             Ok(None)
         }
     }
@@ -213,7 +183,7 @@ fn decide(
 fn verdict_of<'a, L: Lookup<'a>>(
     alloc: Global,
     lookup: &mut L,
-    bindings: &[Bound],
+    bindings: &[Named<'_>],
     attempt: &Attempt<'_>,
     request: &Json,
 ) -> Result<Verdict, LookupFault>
@@ -227,9 +197,9 @@ fn verdict_of<'a, L: Lookup<'a>>(
     ensures damaged { IsErrOf result LookupFault.Damaged → L.is_damaged lookup.new }
 {
     let mut warnings = Vec::new(alloc);
-    for bound in bindings {
-        if let Some(denial) = denial_by(alloc, lookup, bound, attempt, request)? {
-            if let Some(verdict) = decide(alloc, &mut warnings, bound, denial)? {
+    for named in bindings {
+        if let Some(denial) = denial_by(alloc, lookup, named.bound, attempt, request)? {
+            if let Some(verdict) = decide(alloc, &mut warnings, named, denial)? {
                 return Ok(verdict);
             }
         }

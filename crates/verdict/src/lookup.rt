@@ -12,11 +12,12 @@ ghost use Rattle.verdict.specs.Parameters.{listed, wanted_of};
 ghost use Rattle.verdict.specs.Seen.{held_by, listed_seen};
 ghost use Rattle.verdict.specs.declared.lookup.LookupFault.TheVariants as LookupFault;
 
+use crate::bound::Bound;
 use documents::Document;
 use jsondoc::Doc;
 use names::{Key, Resource};
 use plancode::Verified;
-use policy::Wanted;
+use policy::{Policy, Wanted};
 use std::alloc::{AllocError, AllocFailed, Global};
 use thiserror::Error;
 
@@ -25,8 +26,12 @@ use thiserror::Error;
 pub struct Found<'a> {
     /// What is stored.
     pub document: &'a Document,
+    /// The policy that it spells, if it has the form of one.
+    pub policy: Option<&'a Policy>,
     /// If it is a policy, the plans of its expressions, in order.
     pub plans: &'a Vec<Verified>,
+    /// The binding that it spells, if it has the form of one.
+    pub bound: Option<&'a Bound>,
     /// The revision of its last write.
     pub revision: u64,
 }

@@ -10,6 +10,8 @@ use Rattle.history.specs.History.{put}
 use Rattle.history.specs.Mapped.{mapped}
 use Rattle.history.proofs.Mapping.{follows_mapped, follows_back, after_mapped}
 use Rattle.specification.specs.Specification.{plans_bytes, MayHavePlans}
+use Rattle.plancode.specs.Plans.{Judged}
+use Rattle.apicore.specs.Beside.{Beside, spelled}
 use Rattle.apicore.specs.Prepared.{plans_held}
 use Rattle.apicore.proofs.Histories.{put_of_recorded}
 use Rattle.apicore.proofs.replay.replay_put.Goals as goal
@@ -20,7 +22,7 @@ returns-in_err-replay_put-clause-damaged c is_damaged w has is may =
     let m = c.args.manifest in
     let core = c.args.core.now in
     c.replay_put.ensures.not_allowed told
-    (follows_back plans_held core.rules core.view (put m.key (document_in m.body) c.in_ok-plans.plans)
+    (follows_back plans_held core.rules core.view (put m.key (document_in m.body) c.in_ok-beside.beside)
     (put_of_recorded core.rules (mapped plans_held core.view) w m.key (document_in m.body) c.args.plans.now is may))
 
 pub returns-clause-taken : goal.returns-clause-taken
@@ -29,13 +31,20 @@ returns-clause-taken c =
     let core = c.args.core.now in
     let taken = c.in_ok-replay_put.ensures.taken in
     let vec = c.in_ok-plans.plans in
+    let beside = c.in_ok-beside.beside in
+    let again : c.json-2.result.now ≡ (document_in m.body).json = c.json-2.ensures ∙ sym (ap (λ b. (document_in b).json) c.document-2.ensures.body) in
+    let alone : beside ≡ spelled (document_in m.body).json vec.items = c.in_ok-beside.ensures ∙ ap (λ (d : Data). spelled d vec.items) again in
+    let listed : beside.plans ≡ vec.items = ap (λ (b : Beside). b.plans) alone in
     let resource : c.resource.result ≡ m.key.resource = c.resource.ensures.value ∙ ap (λ (k : Key). k.resource) c.key.ensures in
     let json : c.json.result.now ≡ (document_in m.body).json = c.json.ensures ∙ sym (ap (λ b. (document_in b).json) c.document.ensures.body) in
     let Has : Resource → Data → Type 0 = λ r d. MayHavePlans r d vec.items in
     let Bytes : Resource → Type 0 = λ r. plans_bytes r vec.items ≡ c.args.plans.now in (
-      put m.key (document_in m.body) vec.items,
-      subst (Has m.key.resource) json (subst (λ r. Has r c.json.result.now) resource c.in_ok-plans.ensures.fits),
-      ap (λ (x : List ℕ). put m.key (document_in m.body) x) (subst Bytes resource c.in_ok-plans.ensures.found),
-      follows_mapped plans_held core.rules core.view (put m.key (document_in m.body) vec) taken.0,
-      ap (mapped plans_held) taken.1 ∙ after_mapped plans_held core.rules core.view (put m.key (document_in m.body) vec),
+      put m.key (document_in m.body) beside,
+      (
+        subst (λ (ps : List Judged). MayHavePlans m.key.resource (document_in m.body).json ps) (sym listed) (subst (Has m.key.resource) json (subst (λ r. Has r c.json.result.now) resource c.in_ok-plans.ensures.fits)),
+        alone ∙ ap (λ (ps : List Judged). spelled (document_in m.body).json ps) (sym listed),
+      ),
+      ap (λ (x : List ℕ). put m.key (document_in m.body) x) (ap (λ (ps : List Judged). plans_bytes m.key.resource ps) listed ∙ subst Bytes resource c.in_ok-plans.ensures.found),
+      follows_mapped plans_held core.rules core.view (put m.key (document_in m.body) beside) taken.0,
+      ap (mapped plans_held) taken.1 ∙ after_mapped plans_held core.rules core.view (put m.key (document_in m.body) beside),
     )

@@ -14,7 +14,7 @@ use Rattle.verdict.proofs.admission.denial_by.Goals as goal
 
 pub returns-clause-found : goal.returns-clause-found
 returns-clause-found g c = λ objects shows trees.
-    let b = c.args.bound.now.1 in
+    let b = c.args.bound.now in
     let w = attempt_seen c.args.attempt.now in
     let told = c.policy.ensures.found objects shows in
     let is : Some (held_by c.in-Some.found) ≡ value_at (policy_key b.policy) (all_held objects) = search rules in
@@ -27,9 +27,8 @@ returns-clause-found g c = λ objects shows trees.
 
 pub returns-in-None-clause-found : goal.returns-in-None-clause-found
 returns-in-None-clause-found g c = λ objects shows trees.
-    let b = c.args.bound.now.1 in
+    let b = c.args.bound.now in
     let w = attempt_seen c.args.attempt.now in
     let is : None ≡ option_map held_by c.in_ok-found.field-0 = search rules in
-    let key : c.in-Ok.key ≡ policy_key b.policy = search rules in
-    let none = is ∙ c.in_ok-found.ensures.found objects shows ∙ ap (λ (k : Key). value_at k (all_held objects)) key in
+    let none : None ≡ value_at (policy_key b.policy) (all_held objects) = is ∙ c.in_ok-found.ensures.found objects shows ∙ ap (λ (k : Key). value_at k (all_held objects)) c.policy_key.ensures in
     sym (ap (λ (x : Option Object). option_and_then (λ y. denial_by_policy objects w b y) x) (no_policy objects b.policy none))

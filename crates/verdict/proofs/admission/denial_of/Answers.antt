@@ -15,18 +15,18 @@ use Rattle.verdict.proofs.admission.denial_of.Goals as goal
 
 pub returns-in-Some-clause-found : goal.returns-in-Some-clause-found
 returns-in-Some-clause-found g c = λ objects object shows trees same.
-    let p = policy_seen c.in-Some.policy in
-    let b = c.args.bound.now.1 in
+    let p = policy_seen c.in-Some.policy.now in
+    let b = c.args.bound.now in
     let w = attempt_seen c.args.attempt.now in
-    let read : policy_of c.args.found.now.document.now.json ≡ Some p = search rules in
-    let is : policy_of object.document.json ≡ Some p = ap (λ (h : Held). policy_of h.document.json) (sym same) ∙ read in
+    let read : option_map (λ q. policy_seen q.now) c.args.found.now.policy ≡ Some p = search rules in
+    let is : policy_of object.document.json ≡ Some p = ap (λ (h : Held). h.policy) (sym same) ∙ read in
     let ready : AreReady p object.trees c.deref.result.now = record {
       typed = trees p is;
       compiled = c.deref.ensures.value ∙ ap (λ (h : Held). h.plans) same ∙ ap (λ (o : Option Policy). option_map_or (λ q. plans_of q object.trees) o []) is;
     } in
-    let bound : binding_seen c.bound.inside.binding ≡ b = search rules in
+    let bound : binding_seen c.binding-binding.result.now ≡ b = c.binding-binding.ensures in
     IfOk-weaker c.denial.result
-    (λ o. option_map denial_seen o ≡ denial (shown_objects objects) p object.trees (binding_seen c.bound.inside.binding) w)
+    (λ o. option_map denial_seen o ≡ denial (shown_objects objects) p object.trees (binding_seen c.binding-binding.result.now) w)
     (λ o. option_map denial_seen o ≡ denial_by_policy objects w b object)
     (λ o given. given ∙ ap (λ (x : Binding). denial (shown_objects objects) p object.trees x w) bound
     ∙ sym (ap (λ (x : Option Policy). option_and_then (λ q. denial (shown_objects objects) q object.trees b w) x) is))

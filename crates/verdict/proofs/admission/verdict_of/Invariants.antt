@@ -7,11 +7,11 @@ use Rattle.verdict.specs.Turns.{after_warnings}
 use Rattle.verdict.proofs.admission.verdict_of.Given as goal
 
 -- the warnings so far, and then the verdict of the bindings that are left
-abbrev pub invariant-loop-bound : goal.invariant-loop-bound
-invariant-loop-bound g l =
+abbrev pub invariant-loop-named : goal.invariant-loop-named
+invariant-loop-named g l =
     ((objects : Objects) → g.L.Lookup.shows l.fn.lookup objects → HaveTrees objects
     → verdict_of (map (finding objects (attempt_seen l.attempt)) l.bindings)
-    ≡ after_warnings (map string_bytes l.warnings.items) (verdict_of (map (finding objects (attempt_seen l.attempt)) (drop l.bound-index l.bindings))))
+    ≡ after_warnings (map string_bytes l.warnings.items) (verdict_of (map (finding objects (attempt_seen l.attempt)) (drop l.named-index l.bindings))))
     × ((objects : Objects) → g.L.Lookup.shows l.fn.lookup objects → g.L.Lookup.shows l.lookup objects)
     × g.L.Lookup.goes_to l.fn.lookup l.lookup
     × (g.L.Lookup.failures l.fn.lookup ≤ g.L.Lookup.failures l.lookup)
