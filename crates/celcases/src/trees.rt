@@ -1,6 +1,6 @@
 //! Trees as rows have them.
 
-use crate::texts::{put, put_copy};
+use crate::texts::put;
 use celread::{ReadFault, read};
 use celtree::{Macro, Operator, Prefix, Tree};
 use std::alloc::Global;
@@ -151,19 +151,6 @@ fn put_entries(out: &mut String, entries: &Vec<(Tree, Tree)>) {
     put(out, " }");
 }
 
-// A tree that was read, and its copy where that looks otherwise.
-fn put_tree_and_copy(alloc: Global, out: &mut String, tree: &Tree) {
-    put_tree(out, tree);
-    match tree.clone() {
-        Ok(copy) => {
-            let mut copied = String::new(alloc);
-            put_tree(&mut copied, &copy);
-            put_copy(out, &copied);
-        }
-        Err(_) => put(out, ", which is not copied"),
-    }
-}
-
 fn fault_word(fault: &ReadFault) -> &'static str {
     match fault {
         ReadFault::TooLong => "too long",
@@ -177,7 +164,7 @@ fn fault_word(fault: &ReadFault) -> &'static str {
 pub(crate) fn tree_text(alloc: Global, text: &str) -> String {
     let mut out = String::new(alloc);
     match read(alloc, text) {
-        Ok(tree) => put_tree_and_copy(alloc, &mut out, &tree),
+        Ok(tree) => put_tree(&mut out, &tree),
         Err(fault) => put(&mut out, fault_word(&fault)),
     }
     out

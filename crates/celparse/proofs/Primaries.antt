@@ -6,7 +6,7 @@ use Rattle.celtokens.specs.Terminal.{Terminal}
 use Rattle.celtokens.specs.Terminal as token
 use Rattle.celparse.specs.declared.items.Closing.TheVariants as closing
 use Rattle.celtree.specs.Tree.{Expr, Exprs, Pairs, Name, Sequence, Mapping}
-use Rattle.celcalls.specs.Calls.{call_of}
+use Rattle.celtree.specs.Calls.{call_of}
 use Rattle.celparse.specs.Grammar.{Primary, Whole, Literal, one_token, negative_int, Spells, literal, name, call, brackets, list, map, Items}
 use Rattle.celparse.specs.Ends.{Ends, Read, HasNoTree, ReadPrimary, HasNoPrimary, ReadComposite, HasNoComposite, ReadItems, HasNoItems, ReadEntries, HasNoEntries}
 use Rattle.celparse.specs.Ahead.{IsNotNext, HasNoName, HasNoLiteral}

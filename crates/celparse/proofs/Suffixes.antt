@@ -6,7 +6,7 @@ use Rattle.celtokens.specs.Terminal.{Terminal}
 use Rattle.celtokens.specs.Terminal as token
 use Rattle.celparse.specs.declared.items.Closing.TheVariants as closing
 use Rattle.celtree.specs.Tree.{Expr, Exprs, Field, Index}
-use Rattle.celcalls.specs.Calls.{method_of}
+use Rattle.celtree.specs.Calls.{method_of}
 use Rattle.celparse.specs.Operators.{selector}
 use Rattle.celparse.specs.Grammar.{Primary, Member, Whole, Suffixes, Spells, member, no_suffix, field, method, index, Items}
 use Rattle.celparse.specs.Ends.{Ends, Read, HasNoTree, ReadPrimary, HasNoPrimary, ReadItems, HasNoItems}

@@ -9,7 +9,7 @@ use Rattle.celtree.specs.declared.tree.Operator.{Operator}
 use Rattle.celparse.specs.declared.items.Closing.{Closing}
 use Rattle.celparse.specs.declared.items.Closing.TheVariants as closing
 use Rattle.celtree.specs.Tree.{Expr, Null, Truth, Int, Uint, Text, Name, Field, Index, Sequence, Mapping, Unary, Infix, Conditional, Exprs, no_items, item, Pairs, no_pairs, pair}
-use Rattle.celcalls.specs.Calls.{call_of, method_of}
+use Rattle.celtree.specs.Calls.{call_of, method_of}
 use Rattle.celparse.specs.Operators.{infix_of, after_prefix, selector}
 
 -- the tree of a literal of one token: a signed one lies in 64 bits, and so does an unsigned one

@@ -14,9 +14,8 @@ use crate::ahead::{
 use crate::fault::ParseFault;
 use crate::items::{Closing, close_sign};
 use crate::literal::{literal, text_of};
-use celcalls::{call, method};
 use celtokens::{Sign, Token};
-use celtree::{Operator, Prefix, Tree};
+use celtree::{Operator, Prefix, Tree, call, method};
 use std::alloc::{AllocError, Global};
 
 // Apart from `expression`, so that its boxes take no room on the stack of a long `a ? b : c ? d : ..`.

@@ -11,7 +11,7 @@ use Rattle.celtree.specs.declared.tree.Macro.TheVariants as macro_of
 use Rattle.celtree.specs.declared.tree.Prefix.{Prefix}
 use Rattle.celtree.specs.declared.tree.Prefix.TheVariants as prefix_of
 use Rattle.celtree.specs.Tree.{Expr, Null, Truth, Int, Uint, Text, Field, Has, Call, Method, Over, Exprs, no_items, item, Pairs}
-use Rattle.celcalls.specs.Calls.{macro_named, selection, variable, has_of, macro_of_three, macro_over, unless_macro, method_or_macro, call_of, method_of}
+use Rattle.celtree.specs.Calls.{macro_named, selection, variable, has_of, macro_of_three, macro_over, unless_macro, method_or_macro, call_of, method_of}
 use Rattle.celparse.specs.Operators.{begins_with_int, after_prefix, selector}
 use Rattle.celparse.specs.Grammar as grammar
 use Rattle.celparse.specs.Grammar.{literal_of, Literal, Level, Suffixes, Chain, close_sign, Ending, Spells, Items, MoreItems, Entries, MoreEntries}

@@ -3,3 +3,4 @@ pub mod View
 pub mod Size
 pub mod Nesting
 pub mod Digits
+pub mod Calls

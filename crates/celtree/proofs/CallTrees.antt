@@ -3,7 +3,7 @@ use Rattle.std.proofs.Common.{◌≡◌, ◌≢◌, List, [], ◌∷◌, length,
 use Rattle.celtree.specs.declared.tree.Macro.{Macro}
 use Rattle.celtree.specs.declared.tree.Tree.{Tree}
 use Rattle.celtree.specs.Tree.{Expr}
-use Rattle.celcalls.specs.Calls.{has_of, macro_over}
+use Rattle.celtree.specs.Calls.{has_of, macro_over}
 use Rattle.celtree.specs.View.{views}
 
 pub has_of_other : (ts : List Tree) → length ts ≢ 1 → ◌≡◌ {A = Option Expr} None (has_of (views ts))

@@ -1,12 +1,12 @@
 //! Which calls are macros, and which have no tree.
 
 ghost use Rattle.std.specs.Prelude.{◌≡◌, ◌≢◌, ◌∷◌, [], length, option_map, string_bytes, IfOk, MatchOption};
-ghost use Rattle.celcalls.specs.Calls.{macro_named, selection, variable, has_of, macro_of_three, macro_over, call_of, method_of};
+ghost use Rattle.celtree.specs.Calls.{macro_named, selection, variable, has_of, macro_of_three, macro_over, call_of, method_of};
 ghost use Rattle.celtree.specs.Tree.{Over};
 ghost use Rattle.celtree.specs.View.{view, views};
 ghost use Rattle.celtree.specs.declared.tree.Macro.TheVariants as macro_of;
 
-use celtree::{Macro, Tree};
+use crate::tree::{Macro, Tree};
 use std::alloc::{AllocError, Global};
 
 fn macro_named(name: &str) -> Option<Macro>

@@ -1,7 +1,7 @@
 use Rattle.std.proofs.Common.{arith}
 use Rattle.celtree.specs.View.{view}
-use Rattle.celcalls.proofs.CallTrees.{macro_over_other}
-use Rattle.celcalls.proofs.calls.over.Goals as goal
+use Rattle.celtree.proofs.CallTrees.{macro_over_other}
+use Rattle.celtree.proofs.calls.over.Goals as goal
 
 pub returns-else-count-eq3 : goal.returns-else-count-eq3
 returns-else-count-eq3 c =
