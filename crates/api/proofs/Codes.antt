@@ -12,7 +12,7 @@ use Rattle.history.specs.Reply.{Reply, showing}
 use Rattle.history.specs.View.{stored_at}
 use Rattle.policy.specs.declared.validation.Reason.{Reason}
 use Rattle.policy.specs.declared.validation.Reason.TheVariants.{Unauthorized, Forbidden, Invalid, RequestEntityTooLarge}
-use Rattle.specification.specs.Specification.{Specification}
+use Rattle.expressions.specs.Specification.{Specification}
 use Rattle.apicore.specs.Step.{Asked, Refusal, known, with_bad_expression, denied_by, reason_code, status, refusal, success, warnings_of, verdict_of, asks_for, reply}
 use Rattle.apicore.specs.Standing.{View}
 use Rattle.durable.specs.Rules.{first_rules}

@@ -5,7 +5,7 @@ use Rattle.device.specs.declared.device.Device.{Ghosts}
 use Rattle.requests.specs.declared.refusal.Refusal.TheVariants.{StorageFailed}
 use Rattle.requests.specs.Request.{Request}
 use Rattle.celtree.specs.Tree.{Expr}
-use Rattle.specification.specs.Specification.{Specification, sound}
+use Rattle.expressions.specs.Specification.{Specification, sound}
 use Rattle.apicore.specs.Standing.{Write, History, View, AreAdmitted}
 use Rattle.history.specs.Reply.{Reply}
 use Rattle.apicore.specs.Step.{writes}

@@ -4,7 +4,7 @@ use Rattle.std.specs.List.{AllByRecursion}
 use Rattle.celtree.specs.Tree.{Expr}
 use Rattle.device.specs.declared.device.Device.{Ghosts}
 use Rattle.requests.specs.declared.refusal.Refusal.TheVariants.{OutOfMemory, StorageFailed}
-use Rattle.specification.specs.Specification.{Specification}
+use Rattle.expressions.specs.Specification.{Specification}
 use Rattle.apicore.specs.Standing.{Write, History, View, AreAdmitted}
 use Rattle.history.specs.Reply.{Reply, status}
 use Rattle.apicore.specs.Step.{Asked, writes, reply}

@@ -5,7 +5,7 @@ use Rattle.requests.specs.Request.{Request, get, list, watch, create, replace, d
 use Rattle.history.specs.History as write
 use Rattle.history.specs.View.{after, after_all}
 use Rattle.celtree.specs.Tree.{Expr}
-use Rattle.specification.specs.Specification.{Specification}
+use Rattle.expressions.specs.Specification.{Specification}
 use Rattle.verdict.specs.Verdict.{Verdict, admitted, denied}
 use Rattle.apicore.specs.Standing.{Write, View, IsAdmitted, AreAdmitted, verdict_on}
 use Rattle.apicore.specs.Step.{Asked, Condition, first_of, verdict_conditions, verdict_of, own_conditions, refusal, asks_for, put_of, writes, accepted}

@@ -34,8 +34,8 @@ use Rattle.history.specs.View.{exists, document_at, stored_at}
 use Rattle.plancode.specs.Plans.{Judged}
 use Rattle.policy.specs.declared.validation.Reason.{Reason}
 use Rattle.planlist.specs.Plans.{list_bytes}
-use Rattle.specification.specs.Specification.{Specification, IsCompiled, AreShort, MayBeHeld, compiled, plans_in, plans_bytes}
-use Rattle.specification.specs.Specification as stands
+use Rattle.expressions.specs.Specification.{Specification, IsCompiled, AreShort, MayBeHeld, compiled, plans_in, plans_bytes}
+use Rattle.expressions.specs.Specification as stands
 use Rattle.verdict.specs.Admission.{verdict}
 use Rattle.verdict.specs.Verdict.{Verdict, admitted, denied}
 use Rattle.apicore.specs.Beside.{Beside, spelled}

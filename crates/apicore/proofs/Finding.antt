@@ -20,7 +20,7 @@ use Rattle.policy.specs.Policies.{policy_of}
 use Rattle.policy.specs.Spec.{Policy, Wanted}
 use Rattle.expressions.specs.Expressions.{sources}
 use Rattle.expressions.specs.Typed.{AreTyped}
-use Rattle.specification.specs.Places.{policy_in}
+use Rattle.expressions.specs.Places.{policy_in}
 use Rattle.verdict.specs.Objects as asked
 use Rattle.verdict.specs.Objects.{Held, Object, Objects, all_held, shown_objects}
 use Rattle.verdict.specs.Parameters.{listed, wanted_of}

@@ -15,8 +15,8 @@ use Rattle.history.specs.History.{put}
 use Rattle.history.specs.View.{exists, is_too_large, is_full, is_exhausted, after, after_all, empty, view}
 use Rattle.history.proofs.ViewLemmas.{after_all-append}
 use Rattle.celtree.specs.Tree.{Expr}
-use Rattle.specification.specs.Specification.{Specification, bad_spec, bad_expression}
-use Rattle.specification.specs.Specification as beside
+use Rattle.expressions.specs.Specification.{Specification, bad_spec, bad_expression}
+use Rattle.expressions.specs.Specification as beside
 use Rattle.apicore.specs.Standing.{Write, History, View, HasTrees, AllMayFollow, IsHistory}
 use Rattle.apicore.specs.Step.{Asked, Condition, Refusal, known, with_bad_expression, first_of, verdict_conditions, verdict_of, asks_for, put_of, writes, refusal, reply, accepted, replies, step, runs, update_conflicts, deletion_conflicts}
 use Rattle.apicore.specs.Prepared.{IsRead, IsReadOf}

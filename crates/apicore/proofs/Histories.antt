@@ -12,10 +12,10 @@ use Rattle.history.proofs.ViewLemmas.{after_all-append, AllMayFollow-append}
 use Rattle.records.proofs.Writes as bytes
 use Rattle.records.specs.Payload as bytes_form
 use Rattle.plancode.specs.Plans.{Judged}
-use Rattle.specification.specs.Specification.{MayHavePlans, plans_bytes}
+use Rattle.expressions.specs.Specification.{MayHavePlans, plans_bytes}
 use Rattle.apicore.specs.Beside.{Beside, spelled}
 use Rattle.apicore.specs.Standing.{recorded}
-use Rattle.specification.proofs.Listed.{one_stored_list}
+use Rattle.expressions.proofs.Listed.{one_stored_list}
 use Rattle.apicore.specs.Written.{Write, History, payload, HasPlans, IsStorable, AllStorable, IsWritten}
 
 abbrev View : Type 0

@@ -7,7 +7,7 @@ use Rattle.policy.specs.Bindings.{binding_of}
 use Rattle.policy.specs.Policies.{policy_of}
 use Rattle.policy.specs.Spec.{Policy, Binding}
 use Rattle.documents.specs.Document.{Document}
-use Rattle.specification.specs.Specification.{plans_in}
+use Rattle.expressions.specs.Specification.{plans_in}
 use Rattle.verdict.specs.Objects.{Held}
 
 pub record Beside : Type 0 where

@@ -12,7 +12,7 @@ use Rattle.history.specs.Mapped.{mapped, mapped_write}
 use Rattle.history.specs.Prepared.{writes_of}
 use Rattle.history.specs.State.{State}
 use Rattle.history.specs.View as seen
-use Rattle.specification.specs.Specification.{Specification, IsSpecification, sound, bad_spec, bad_expression, plans_in, plans_bytes, MayHavePlans}
+use Rattle.expressions.specs.Specification.{Specification, IsSpecification, sound, bad_spec, bad_expression, plans_in, plans_bytes, MayHavePlans}
 use Rattle.apicore.specs.Beside.{Beside}
 use Rattle.apicore.specs.Standing.{View, IsView, with_plans, write_with_plans}
 use Rattle.apicore.specs.Step.{Asked, reply, writes}

@@ -17,7 +17,7 @@ use Rattle.history.specs.View as seen
 use Rattle.history.specs.View.{stored_at, exists, after, empty}
 use Rattle.matching.specs.Rules.{Attempt}
 use Rattle.matching.specs.declared.rules.Operation.TheVariants.{Create, Update, Delete}
-use Rattle.specification.specs.Specification.{IsSpecification, sound, plans_in, plans_bytes, MayHavePlans}
+use Rattle.expressions.specs.Specification.{IsSpecification, sound, plans_in, plans_bytes, MayHavePlans}
 use Rattle.verdict.specs.Admission.{verdict}
 use Rattle.verdict.specs.Objects.{Object, Objects}
 use Rattle.verdict.specs.Verdict.{Verdict, admitted, denied}

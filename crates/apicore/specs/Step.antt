@@ -20,7 +20,7 @@ use Rattle.history.specs.View as seen
 use Rattle.history.specs.View.{stored_at, exists, document_at, is_too_large, is_full, is_exhausted, after_all, view}
 use Rattle.policy.specs.declared.validation.Reason.{Reason}
 use Rattle.policy.specs.declared.validation.Reason.TheVariants.{Unauthorized, Forbidden, Invalid, RequestEntityTooLarge}
-use Rattle.specification.specs.Specification.{Specification, sound, bad_spec, bad_expression}
+use Rattle.expressions.specs.Specification.{Specification, sound, bad_spec, bad_expression}
 use Rattle.verdict.specs.Verdict.{Verdict, admitted, denied, denial_text}
 use Rattle.apicore.specs.Standing.{Write, History, View, verdict_on}
 

@@ -6,7 +6,7 @@ use Rattle.history.specs.History as plain
 use Rattle.history.specs.History.{put, delete}
 use Rattle.history.specs.View.{AllFollow}
 use Rattle.records.specs.Payload as bytes
-use Rattle.specification.specs.Specification.{MayHavePlans}
+use Rattle.expressions.specs.Specification.{MayHavePlans}
 use Rattle.apicore.specs.Beside.{Beside, spelled}
 use Rattle.apicore.specs.Standing.{recorded}
 

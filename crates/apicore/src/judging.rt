@@ -10,7 +10,7 @@ ghost use Rattle.history.specs.History.{put, delete};
 ghost use Rattle.history.specs.Prepared.{AreReady, writes_of};
 ghost use Rattle.history.specs.Reply.{showing};
 ghost use Rattle.history.specs.View.{exists, document_at};
-ghost use Rattle.specification.specs.Specification.{plans_in};
+ghost use Rattle.expressions.specs.Specification.{plans_in};
 ghost use Rattle.verdict.specs.Admission.{verdict};
 ghost use Rattle.verdict.specs.Seen.{verdict_seen};
 ghost use Rattle.apicore.specs.Beside.{spelled};

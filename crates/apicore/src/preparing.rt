@@ -8,7 +8,7 @@ ghost use Rattle.requests.specs.Request.{create, replace, delete, RequestHasForm
 ghost use Rattle.requests.specs.RequestOf.{request_of};
 ghost use Rattle.history.specs.Prepared.{AreReady};
 ghost use Rattle.history.specs.View.{exists};
-ghost use Rattle.specification.specs.Specification.{Specification as SpecificationOf, sound, compiled, plans_in, specification_seen};
+ghost use Rattle.expressions.specs.Specification.{Specification as SpecificationOf, sound, compiled, plans_in, specification_seen};
 ghost use Rattle.apicore.specs.Prepared.{IsPrepared, IsRead, IsStepOf, Shows};
 ghost use Rattle.apicore.specs.Standing.{View, IsView, shown_at};
 ghost use Rattle.apicore.specs.Step.{first_of, replace_conditions, replace_limits, delete_conditions};
@@ -25,7 +25,7 @@ use matching::Operation;
 use names::Key;
 use plancode::Verified;
 use requests::{Manifest, Refusal, Request};
-use specification::{Specification, specification_of};
+use expressions::{Specification, specification_of};
 use std::alloc::{AllocError, Global};
 
 /// Prepares the step of a request: takes all its memory, and leaves what is seen as it was, also where there is none.

@@ -14,7 +14,7 @@ use crate::prepared::Core;
 use names::{Key, Rules};
 use records::{StoredWrite, read_write};
 use requests::Manifest;
-use specification::stored_plans;
+use expressions::stored_plans;
 use std::alloc::Global;
 
 /// The store that took the writes of a log with these payloads. `Damaged` where no history has them.

@@ -3,8 +3,7 @@
 use crate::device_lines::read_sector;
 use cases::{Wrong, number, shown};
 use device::write_through;
-use memoryfile::found_after_crash;
-use recorded::Recorded;
+use diskmodels::{Recorded, found_after_crash};
 use std::alloc::Global;
 
 fn byte(line: &str) -> Result<u8, Wrong> {

@@ -9,7 +9,7 @@ use Rattle.history.specs.Reply.{Reply}
 use Rattle.history.specs.View as seen
 use Rattle.history.specs.View.{view, after_all}
 use Rattle.celtree.specs.Tree.{Expr}
-use Rattle.specification.specs.Specification.{Specification}
+use Rattle.expressions.specs.Specification.{Specification}
 use Rattle.apicore.specs.Beside.{Beside}
 use Rattle.apicore.specs.Standing.{Write, History, View, IsView, AreAdmitted}
 use Rattle.apicore.specs.Step.{Asked, writes, reply, accepted, replies}

@@ -15,7 +15,7 @@ use apicore::Beside;
 use gatelog::{Body, LogFault};
 use history::PreparedWrite;
 use records::{delete_payload, put_payload};
-use specification::plans_bytes;
+use expressions::plans_bytes;
 use std::alloc::Global;
 
 /// The body of the record of a write, if there is one.

@@ -6,3 +6,6 @@ pub mod Trees
 pub mod Variables
 pub mod ExprCode
 pub mod PolicyTrees
+pub mod Places
+pub mod Specification
+pub mod Laws

@@ -11,7 +11,7 @@ use plancode::Verified;
 use planlist::ReadPlansFault;
 use policy::{Binding, Policy};
 use serde_json::Value;
-use specification::{Specification, plans_bytes, specification_of, stored_plans};
+use expressions::{Specification, plans_bytes, specification_of, stored_plans};
 use std::alloc::Global;
 
 const REFUSED: &str = "refused";

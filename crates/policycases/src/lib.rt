@@ -22,7 +22,7 @@ use apicore::{
 };
 use planlist::one_list;
 pub use policies::Policies;
-use specification::{expressions_fit_the_text, one_stored_list};
+use expressions::{expressions_fit_the_text, one_stored_list};
 use verdict::bindings_ascend;
 pub use view::View;
 

@@ -1,7 +1,7 @@
 use Rattle.std.proofs.Common.{◌≡◌, Bool, true, false, List, [], ◌∷◌, ◌++◌, refl, ap}
 use Rattle.celtree.specs.Tree.{Expr}
 use Rattle.requests.specs.declared.refusal.Refusal.TheVariants.{OutOfMemory}
-use Rattle.specification.specs.Specification.{Specification}
+use Rattle.expressions.specs.Specification.{Specification}
 use Rattle.apicore.specs.Standing.{Write, View}
 use Rattle.apicore.specs.Step.{Asked, writes, reply, accepted, replies}
 use Rattle.history.specs.Reply.{status}

@@ -1,7 +1,7 @@
 use Rattle.std.proofs.Common.{◌∙◌, sym, ap, IfOk, string_bytes}
 use Rattle.requests.specs.Codes.{document_in}
 use Rattle.requests.specs.Request.{replace}
-use Rattle.specification.specs.Specification.{specification_seen}
+use Rattle.expressions.specs.Specification.{specification_seen}
 use Rattle.apicore.specs.Prepared.{IsStepOf}
 use Rattle.apicore.proofs.Deciding.{if_ok, sound_found, bad_spec_found, bad_expression_found, replace_bad_spec, replace_bad_expression}
 use Rattle.apicore.proofs.preparing.replace_as.Goals as goal

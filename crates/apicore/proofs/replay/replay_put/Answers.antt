@@ -9,7 +9,7 @@ use Rattle.history.specs.History as plain
 use Rattle.history.specs.History.{put}
 use Rattle.history.specs.Mapped.{mapped}
 use Rattle.history.proofs.Mapping.{follows_mapped, follows_back, after_mapped}
-use Rattle.specification.specs.Specification.{plans_bytes, MayHavePlans}
+use Rattle.expressions.specs.Specification.{plans_bytes, MayHavePlans}
 use Rattle.plancode.specs.Plans.{Judged}
 use Rattle.apicore.specs.Beside.{Beside, spelled}
 use Rattle.apicore.specs.Prepared.{plans_held}

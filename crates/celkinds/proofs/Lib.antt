@@ -1,4 +1,0 @@
-pub mod KindLists
-pub mod KindMacros
-pub mod KindTables
-pub mod KindOfMeaning

@@ -1,0 +1,9 @@
+pub mod KindLists
+pub mod KindTables
+pub mod KindMacros
+pub mod KindOfMeaning
+pub mod Places
+pub mod Heights
+pub mod Going
+pub mod Answering
+pub mod FirstFault

@@ -1,0 +1,6 @@
+use Rattle.std.proofs.Common.{refl, arith}
+use Rattle.diskmodels.proofs.Pasts.{ran_idle}
+use Rattle.diskmodels.proofs.recorded.RecordedDevice.read.Goals as goal
+
+pub returns-clause-ran : goal.returns-clause-ran
+returns-clause-ran c = ran_idle _ _ _ (λ x. refl) refl refl (omega arith)

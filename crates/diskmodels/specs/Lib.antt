@@ -1,0 +1,4 @@
+pub mod Moments
+pub mod PastLaws
+pub mod Changes
+pub mod ChangeLaws

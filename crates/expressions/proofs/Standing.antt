@@ -1,0 +1,128 @@
+-- What stands in an object.
+use Rattle.std.proofs.Common.{◌≡◌, ◌∙◌, sym, ap, subst, refl, ℕ, ◌≤◌, List, [], ◌∷◌, length, Bool, true, false, nat_le, cond, Option, Some, None, IsTrue, arith}
+use Rattle.std.proofs.lemmas.Bool.Decides.{nat_tests}
+use Rattle.std.specs.Prelude.{is_some, if◌then◌else◌, option_and_then}
+use Rattle.std.specs.Option.{option_map_or}
+use Rattle.serde_json.specs.Data.{Data}
+use Rattle.celtree.specs.Tree.{Expr}
+use Rattle.names.specs.declared.resource.Resource.{Resource}
+use Rattle.names.specs.declared.resource.Resource.TheVariants.{ConfigMap, Node, Pod, Service, Deployment, ValidatingAdmissionPolicy, ValidatingAdmissionPolicyBinding}
+use Rattle.plancode.specs.Plans.{Judged}
+use Rattle.policy.specs.Bindings.{binding_of}
+use Rattle.policy.specs.Policies.{policy_of}
+use Rattle.policy.specs.Forms.{Text}
+use Rattle.policy.specs.Spec.{Policy}
+use Rattle.expressions.specs.Expressions.{Source, sources}
+use Rattle.expressions.specs.Plans.{each_plan, plans_of}
+use Rattle.expressions.specs.Typed.{AreTyped, IsFirstBad}
+use Rattle.expressions.specs.Places.{policy_in}
+use Rattle.expressions.specs.Specification.{Specification, sound, bad_spec, bad_expression, IsSpecification, IsCompiled}
+
+no_plans : (ss : List Source) → each_plan [] ss [] ≡ []
+no_plans [] = refl
+no_plans (s ∷ ss) = refl
+
+no_plans_in : (p : Option Policy) → option_map_or (λ q. plans_of q []) p [] ≡ []
+no_plans_in None = refl
+no_plans_in (Some p) = no_plans (sources p)
+
+abbrev trees_in : Specification Expr → List Expr
+trees_in (sound trees) = trees
+trees_in bad_spec = []
+trees_in (bad_expression text) = []
+
+-- ---- bindings
+
+pub sound_binding : (d : Data) → IsTrue (is_some (binding_of d)) → IsCompiled ValidatingAdmissionPolicyBinding d (sound [])
+sound_binding d is = record {
+  meant = sound [];
+  stands = (is, refl);
+  plans = ap sound (sym (no_plans_in (policy_of d)));
+  alone = λ trees other same also. also.1 ∙ ap trees_in same;
+}
+
+pub bad_binding : (d : Data) → binding_of d ≡ None → IsCompiled ValidatingAdmissionPolicyBinding d bad_spec
+bad_binding d is = record { meant = bad_spec; stands = is; plans = refl; alone = λ trees other same also. cc }
+
+-- ---- other resources
+
+other : (r : Resource) (d : Data) → ((s : Specification Expr) → IsSpecification r d s → s ≡ sound []) → IsSpecification r d (sound []) → IsCompiled r d (sound [])
+other r d only is = record {
+  meant = sound [];
+  stands = is;
+  plans = ap sound (sym (no_plans_in (policy_of d)));
+  alone = λ trees more same also. ap trees_in (only (sound more) also) ∙ ap trees_in same;
+}
+
+pub config_map : (d : Data) → IsCompiled ConfigMap d (sound [])
+config_map d = other ConfigMap d (λ s is. is) refl
+
+pub node : (d : Data) → IsCompiled Node d (sound [])
+node d = other Node d (λ s is. is) refl
+
+pub pod : (d : Data) → IsCompiled Pod d (sound [])
+pod d = other Pod d (λ s is. is) refl
+
+pub service : (d : Data) → IsCompiled Service d (sound [])
+service d = other Service d (λ s is. is) refl
+
+pub deployment : (d : Data) → IsCompiled Deployment d (sound [])
+deployment d = other Deployment d (λ s is. is) refl
+
+-- ---- policies
+
+if_few : (b : Bool) (p q : Policy) → cond b (Some p) None ≡ Some q → (b ≡ true) × (p ≡ q)
+if_few true p q is = (refl, let same : Some p ≡ Some q = is in cc)
+if_few false p q is = cc
+
+few_of : (o : Option Policy) (p q : Policy) → o ≡ Some p → option_and_then (λ x. if nat_le (length (sources x)) 65535 then Some x else None) o ≡ Some q → (nat_le (length (sources p)) 65535 ≡ true) × (p ≡ q)
+few_of None p q is counted = cc
+few_of (Some x) p q is counted =
+    let same : x ≡ p = cc in
+    let P : Policy → Type 0 = λ y. (nat_le (length (sources y)) 65535 ≡ true) × (y ≡ q) in
+    subst P same (if_few (nat_le (length (sources x)) 65535) x q counted)
+
+at_most : (n m : ℕ) → nat_le n m ≡ true → n ≤ m
+at_most n m h = grind (arith, nat_tests)
+
+spelled_if : (b : Bool) (p q : Policy) → cond b (Some p) None ≡ Some q → Some p ≡ Some q
+spelled_if true p q is = is
+spelled_if false p q is = cc
+
+spelled_of : (o : Option Policy) (q : Policy) → option_and_then (λ x. if nat_le (length (sources x)) 65535 then Some x else None) o ≡ Some q → o ≡ Some q
+spelled_of None q counted = cc
+spelled_of (Some x) q counted = spelled_if (nat_le (length (sources x)) 65535) x q counted
+
+-- a policy that is counted is spelled
+pub spelled_policy : (d : Data) (q : Policy) → policy_in d ≡ Some q → policy_of d ≡ Some q
+spelled_policy d q counted = spelled_of (policy_of d) q counted
+
+-- a policy that is counted has few expressions
+pub few_sources : (d : Data) (p : Policy) → policy_in d ≡ Some p → length (sources p) ≤ 65535
+few_sources d p counted = at_most (length (sources p)) 65535 (few_of (policy_of d) p p (spelled_policy d p counted) counted).0
+
+-- the policy that was counted is the one that is spelled
+pub same_policy : (d : Data) (p q : Policy) → policy_of d ≡ Some p → policy_in d ≡ Some q → p ≡ q
+same_policy d p q is counted = (few_of (policy_of d) p q is counted).1
+
+pub bad_policy : (d : Data) → policy_in d ≡ None → IsCompiled ValidatingAdmissionPolicy d bad_spec
+bad_policy d is = record { meant = bad_spec; stands = is; plans = refl; alone = λ trees other same also. cc }
+
+pub bad_expression_in : (d : Data) (p : Policy) (text : Text) → policy_in d ≡ Some p → IsFirstBad p [] (sources p) text → IsCompiled ValidatingAdmissionPolicy d (bad_expression text)
+bad_expression_in d p text is bad = record { meant = bad_expression text; stands = (p, is, bad); plans = refl; alone = λ trees other same also. cc }
+
+the_trees : (d : Data) (p : Policy) (trees other : List Expr) → policy_in d ≡ Some p → ((more : List Expr) → AreTyped p [] (sources p) more → more ≡ trees)
+    → (q : Policy) → policy_in d ≡ Some q → AreTyped q [] (sources q) other → other ≡ trees
+the_trees d p trees other is alone q also typed =
+    let same : q ≡ p = cc in
+    let P : Policy → Type 0 = λ x. AreTyped x [] (sources x) other in
+    alone other (subst P same typed)
+
+pub sound_policy : (d : Data) (p : Policy) (trees : List Expr) (plans : List Judged) → policy_in d ≡ Some p → AreTyped p [] (sources p) trees
+    → ((more : List Expr) → AreTyped p [] (sources p) more → more ≡ trees) → plans ≡ plans_of p trees → IsCompiled ValidatingAdmissionPolicy d (sound plans)
+sound_policy d p trees plans is typed alone same = record {
+  meant = sound trees;
+  stands = (p, is, typed);
+  plans = ap sound (same ∙ ap (λ o. option_map_or (λ q. plans_of q trees) o []) (sym (spelled_policy d p is)));
+  alone = λ these other meant also. the_trees d p trees other is alone also.0 also.1 also.2 ∙ ap trees_in meant;
+}

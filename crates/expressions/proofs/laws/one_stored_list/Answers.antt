@@ -1,0 +1,5 @@
+use Rattle.expressions.proofs.Listed.{one_stored_list}
+use Rattle.expressions.proofs.laws.one_stored_list.Goals as goal
+
+pub returns : goal.returns
+returns c = one_stored_list

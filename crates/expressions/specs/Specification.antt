@@ -1,0 +1,106 @@
+-- What stands in the `spec` of an object: those of policies and bindings have a form, and the expressions of a policy spell trees.
+use Rattle.std.specs.Prelude.{◌≡◌, ℕ, ◌+◌, ◌*◌, ◌^◌, ◌≤◌, List, [], length, Some, None, IsTrue, is_some, string_bytes}
+use Rattle.std.specs.Option.{option_map_or}
+use Rattle.serde_json.specs.Data.{Data}
+use Rattle.celtree.specs.Tree.{Expr}
+use Rattle.jsondoc.specs.Document.{text}
+use Rattle.names.specs.declared.resource.Resource.{Resource}
+use Rattle.names.specs.declared.resource.Resource.TheVariants.{ConfigMap, Node, Pod, Service, Deployment, ValidatingAdmissionPolicy, ValidatingAdmissionPolicyBinding}
+use Rattle.plancode.specs.Plans.{Judged}
+use Rattle.planlist.specs.Plans.{list_bytes, IsListFor}
+use Rattle.policy.specs.Bindings.{binding_of}
+use Rattle.policy.specs.Forms.{Text}
+use Rattle.policy.specs.Policies.{policy_of}
+use Rattle.policy.specs.Spec.{Policy}
+use Rattle.expressions.specs.Expressions.{sources}
+use Rattle.expressions.specs.Plans.{plans_of}
+use Rattle.expressions.specs.Typed.{AreTyped, IsFirstBad}
+use Rattle.expressions.specs.Places.{places_of, policy_in}
+use Rattle.expressions.specs.declared.specification.Specification as code
+use Rattle.expressions.specs.declared.specification.Specification.TheVariants as specification
+
+-- what stands there, with each expression of a policy as its tree, or compiled
+pub data Specification (T : Type 0) : Type 0 where
+  sound : (expressions : List T) → Specification T
+  bad_spec : Specification T
+  -- the first expression that is bad
+  bad_expression : Text → Specification T
+
+-- ---- with trees
+
+abbrev pub OfPolicy : Data → Specification Expr → Type 0
+OfPolicy d (sound trees) = (p : Policy) × (policy_in d ≡ Some p) × AreTyped p [] (sources p) trees
+OfPolicy d bad_spec = policy_in d ≡ None
+OfPolicy d (bad_expression text) = (p : Policy) × (policy_in d ≡ Some p) × IsFirstBad p [] (sources p) text
+
+abbrev pub OfBinding : Data → Specification Expr → Type 0
+OfBinding d (sound trees) = IsTrue (is_some (binding_of d)) × (trees ≡ [])
+OfBinding d bad_spec = binding_of d ≡ None
+OfBinding d (bad_expression text) = ⊥
+
+-- this stands in the object of a resource; those of other resources have no form
+abbrev pub IsSpecification : Resource → Data → Specification Expr → Type 0
+IsSpecification ValidatingAdmissionPolicy d s = OfPolicy d s
+IsSpecification ValidatingAdmissionPolicyBinding d s = OfBinding d s
+IsSpecification ConfigMap d s = s ≡ sound []
+IsSpecification Node d s = s ≡ sound []
+IsSpecification Pod d s = s ≡ sound []
+IsSpecification Service d s = s ≡ sound []
+IsSpecification Deployment d s = s ≡ sound []
+
+-- ---- compiled
+
+-- the plans of the trees of a document's expressions
+abbrev pub plans_in : Data → List Expr → List Judged
+plans_in d trees = option_map_or (λ p. plans_of p trees) (policy_of d) []
+
+abbrev pub compiled : Data → Specification Expr → Specification Judged
+compiled d (sound trees) = sound (plans_in d trees)
+compiled d bad_spec = bad_spec
+compiled d (bad_expression text) = bad_expression text
+
+-- It is what stands in the object, compiled. The expressions spell no other trees.
+pub record IsCompiled (r : Resource) (d : Data) (s : Specification Judged) : Type 0 where
+  pub meant : Specification Expr
+  pub stands : IsSpecification r d meant
+  pub plans : s ≡ compiled d meant
+  pub alone : (trees other : List Expr) → meant ≡ sound trees → IsSpecification r d (sound other) → other ≡ trees
+
+-- the list of the plans has at most 22 bytes for each byte of the document's text, and two for their number
+abbrev pub AreShort : Data → Specification Judged → Type 0
+AreShort d (sound plans) = length (list_bytes plans) ≤ 2 + 22 * length (text d)
+AreShort d bad_spec = Unit {0}
+AreShort d (bad_expression t) = Unit {0}
+
+abbrev pub specification_seen : code.Specification → Specification Judged
+specification_seen (specification.Sound plans) = sound plans.items
+specification_seen specification.BadSpec = bad_spec
+specification_seen (specification.BadExpression text) = bad_expression (string_bytes text)
+
+-- ---- stored
+
+-- the bytes of an object's plans: none but for a policy
+abbrev pub plans_bytes : Resource → List Judged → List ℕ
+plans_bytes ValidatingAdmissionPolicy plans = list_bytes plans
+plans_bytes ValidatingAdmissionPolicyBinding plans = []
+plans_bytes ConfigMap plans = []
+plans_bytes Node plans = []
+plans_bytes Pod plans = []
+plans_bytes Service plans = []
+plans_bytes Deployment plans = []
+
+-- plans that an object may have: a policy one for each expression, others none
+abbrev pub MayHavePlans : Resource → Data → List Judged → Type 0
+MayHavePlans ValidatingAdmissionPolicy d plans = (p : Policy) × (policy_in d ≡ Some p) × IsListFor (places_of p) plans
+MayHavePlans ValidatingAdmissionPolicyBinding d plans = plans ≡ []
+MayHavePlans ConfigMap d plans = plans ≡ []
+MayHavePlans Node d plans = plans ≡ []
+MayHavePlans Pod d plans = plans ≡ []
+MayHavePlans Service d plans = plans ≡ []
+MayHavePlans Deployment d plans = plans ≡ []
+
+-- sound plans may be held, where the document's text has at most 2^24 bytes
+abbrev pub MayBeHeld : Resource → Data → Specification Judged → Type 0
+MayBeHeld r d (sound plans) = length (text d) ≤ 2 ^ 24 → MayHavePlans r d plans
+MayBeHeld r d bad_spec = Unit {0}
+MayBeHeld r d (bad_expression t) = Unit {0}

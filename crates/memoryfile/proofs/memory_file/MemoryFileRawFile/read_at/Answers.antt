@@ -1,6 +1,0 @@
-use Rattle.std.proofs.Common.{refl, arith}
-use Rattle.memoryfile.proofs.Changing.{ran_idle}
-use Rattle.memoryfile.proofs.memory_file.MemoryFileRawFile.read_at.Goals as goal
-
-pub returns-clause-ran : goal.returns-clause-ran
-returns-clause-ran c = ran_idle _ _ _ (λ x. refl) refl refl refl (omega arith)

@@ -1,5 +1,0 @@
-pub mod Heights
-pub mod Places
-pub mod Going
-pub mod Answering
-pub mod FirstFault
