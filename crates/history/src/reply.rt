@@ -1,4 +1,5 @@
-ghost use Rattle.std.specs.Prelude.{◌≡◌, [], map, string_bytes, IfOk};
+ghost use Rattle.std.specs.Prelude.{◌≡◌, [], map, string_bytes, IfOk, OnOk};
+ghost use Rattle.serde_json.specs.Data.{object, no_members};
 ghost use Rattle.history.specs.Listing.{served};
 ghost use Rattle.history.specs.Reply.{saying, status, showing, status_document};
 
@@ -115,11 +116,17 @@ impl Reply {
     }
 }
 
-// The `Status` of a refusal.
-fn status_document(alloc: Global, code: u16, reason: &str, message: &str) -> Result<Doc, AllocError>
-    ensures { IfOk result (λ d. d ≡ status_document (record { code = code; reason = reason.now; message = message.now })) }
+// Adds the members of the `Status` of a refusal. Apart from `status_document`, so that no document has to be let go where one fails.
+fn put_status(
+    document: &mut Doc,
+    alloc: Global,
+    code: u16,
+    reason: &str,
+    message: &str,
+) -> Result<(), AllocError>
+    requires empty { document.old ≡ object no_members }
+    ensures { OnOk result (document.new ≡ status_document (record { code = code; reason = reason.now; message = message.now })) }
 {
-    let mut document = Doc::empty_object(alloc);
     document.put(
         alloc,
         "status",
@@ -137,6 +144,14 @@ fn status_document(alloc: Global, code: u16, reason: &str, message: &str) -> Res
         alloc,
         "apiVersion",
         Doc::from(String::from_str(alloc, "v1")?),
-    )?;
+    )
+}
+
+// The `Status` of a refusal.
+fn status_document(alloc: Global, code: u16, reason: &str, message: &str) -> Result<Doc, AllocError>
+    ensures { IfOk result (λ d. d ≡ status_document (record { code = code; reason = reason.now; message = message.now })) }
+{
+    let mut document = Doc::empty_object(alloc);
+    put_status(&mut document, alloc, code, reason, message)?;
     Ok(document)
 }

@@ -1,6 +1,6 @@
 //! The table of routes.
 
-ghost use Rattle.std.specs.Prelude.{◌≡◌, IfOk, option_map, ◌||◌, string_bytes};
+ghost use Rattle.std.specs.Prelude.{◌≡◌, [], IfOk, OnOk, option_map, ◌||◌, string_bytes};
 ghost use Rattle.matchit.specs.declared.router.Router.{Router};
 ghost use Rattle.requests.specs.Manifest.{namespace_at};
 ghost use Rattle.routes.specs.Path.{resource_at, in_scope, place_of, place_at, parts_of};
@@ -76,11 +76,11 @@ pub struct Routes {
     ghost answers: { AnswersTable router },
 }
 
-// The path of each resource that is served.
-fn router_of_resources(alloc: Global) -> Result<Router<Resource>, InsertError>
-    ensures { IfOk result AnswersTable }
+// Adds the path of each resource that is served. Apart from `router_of_resources`, so that no table has to be let go where one fails.
+fn add_resources(router: &mut Router<Resource>) -> Result<(), InsertError>
+    requires empty { router.old ≡ [] }
+    ensures { OnOk result (AnswersTable router.new) }
 {
-    let mut router = Router::new(alloc);
     router.insert("/api/v1/configmaps", Resource::ConfigMap)?;
     router.insert("/api/v1/nodes", Resource::Node)?;
     router.insert("/api/v1/pods", Resource::Pod)?;
@@ -94,6 +94,15 @@ fn router_of_resources(alloc: Global) -> Result<Router<Resource>, InsertError>
         Resource::ValidatingAdmissionPolicyBinding,
     )?;
     router.insert("/apis/apps/v1/deployments", Resource::Deployment)?;
+    Ok(())
+}
+
+// The path of each resource that is served.
+fn router_of_resources(alloc: Global) -> Result<Router<Resource>, InsertError>
+    ensures { IfOk result AnswersTable }
+{
+    let mut router = Router::new(alloc);
+    add_resources(&mut router)?;
     Ok(router)
 }
 
