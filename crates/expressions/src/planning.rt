@@ -25,6 +25,13 @@ use plancode::{Verified, decode, encode};
 use policy::Policy;
 use std::alloc::{AllocError, Global};
 
+// What the fault of the bytes of a well-formed plan is.
+fn of_memory(_fault: CodeFault) -> AllocError
+    requires { _fault ≡ CodeFault.Memory }
+{
+    AllocError
+}
+
 // The plan of a tree. It is taken through its bytes, since only what is decoded is verified.
 fn verified(alloc: Global, tree: &Tree, env: &Env<'_>) -> Result<Verified, AllocError>
     requires typed { HasSomeType (declared env.now) (view tree.now) }
@@ -37,14 +44,7 @@ fn verified(alloc: Global, tree: &Tree, env: &Env<'_>) -> Result<Verified, Alloc
     let vars = env.variables.len() as u16;
     match decode(alloc, &bytes, vars, Name::Params) {
         Ok(verified) => Ok(verified),
-        Err(CodeFault::Memory) => Err(AllocError),
-        Err(CodeFault::Truncated) => unreachable!(),
-        Err(CodeFault::BadOperand) => unreachable!(),
-        Err(CodeFault::TextNotUtf8) => unreachable!(),
-        Err(CodeFault::TrailingBytes) => unreachable!(),
-        Err(CodeFault::BadJump) => unreachable!(),
-        Err(CodeFault::BadName) => unreachable!(),
-        Err(CodeFault::BadStack) => unreachable!(),
+        Err(fault) => Err(of_memory(fault)),
     }
 }
 

@@ -1,5 +1,6 @@
 ghost use Rattle.std.specs.Prelude.{◌≡◌, [], map, string_bytes, IfOk, OnOk};
-ghost use Rattle.serde_json.specs.Data.{object, no_members};
+ghost use Rattle.serde_json.specs.Data.{object, no_members, string};
+ghost use Rattle.jsondoc.specs.Document.{with_member};
 ghost use Rattle.history.specs.Listing.{served};
 ghost use Rattle.history.specs.Reply.{saying, status, showing, status_document};
 
@@ -116,6 +117,19 @@ impl Reply {
     }
 }
 
+/// Puts a text as a member.
+pub(crate) fn put_text(
+    document: &mut Doc,
+    alloc: Global,
+    name: &str,
+    text: &str,
+) -> Result<(), AllocError>
+    ensures { OnOk result (document.new ≡ with_member name.now (string text.now) document.old) }
+{
+    let text = String::from_str(alloc, text)?;
+    document.put(alloc, name, Doc::from(text))
+}
+
 // Adds the members of the `Status` of a refusal. Apart from `status_document`, so that no document has to be let go where one fails.
 fn put_status(
     document: &mut Doc,
@@ -127,24 +141,12 @@ fn put_status(
     requires empty { document.old ≡ object no_members }
     ensures { OnOk result (document.new ≡ status_document (record { code = code; reason = reason.now; message = message.now })) }
 {
-    document.put(
-        alloc,
-        "status",
-        Doc::from(String::from_str(alloc, "Failure")?),
-    )?;
-    document.put(alloc, "reason", Doc::from(String::from_str(alloc, reason)?))?;
-    document.put(
-        alloc,
-        "message",
-        Doc::from(String::from_str(alloc, message)?),
-    )?;
-    document.put(alloc, "kind", Doc::from(String::from_str(alloc, "Status")?))?;
+    put_text(document, alloc, "status", "Failure")?;
+    put_text(document, alloc, "reason", reason)?;
+    put_text(document, alloc, "message", message)?;
+    put_text(document, alloc, "kind", "Status")?;
     document.put(alloc, "code", Doc::from(code as i64))?;
-    document.put(
-        alloc,
-        "apiVersion",
-        Doc::from(String::from_str(alloc, "v1")?),
-    )
+    put_text(document, alloc, "apiVersion", "v1")
 }
 
 // The `Status` of a refusal.

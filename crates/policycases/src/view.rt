@@ -6,7 +6,7 @@ ghost use Rattle.history.specs.Prepared.{AreReady};
 use crate::refusals::status;
 use apicore::{Beside, Core, Prepared, prepare};
 use cases::{TextBuilder, WordReader, Wrong, text, wanted};
-use exchanges::{Service, message, messages, routed_first};
+use rowcases::{Service, message, messages, routed_first};
 use history::{PreparedWrite, Put, ReplayFault, Reply};
 use http::StatusCode;
 use httpmsg::{Message, Response, Std};

@@ -1,6 +1,8 @@
 //! The rows of what needs no policy and no device: keys, documents, objects, events, and messages, what they ask for and their responses.
 //!
-//! [`Rows`] is the bench of their files, lines `QUESTION => ANSWER`; the questions are told in `README.md` beside the files.
+//! [`Rows`] is the bench of their files, lines `QUESTION => ANSWER`; the questions are told in `README.md` beside the files. Beside it stands
+//! what the benches of requests and replies do alike: [`Exchange`] is the bench of exchanges over a connection, line by line, with a
+//! [`Service`] that serves the connection and is asked beside.
 #![tactic(auto)]
 
 mod bench;
@@ -8,17 +10,23 @@ mod bodies;
 mod documents_asked;
 mod edits;
 mod events;
+mod exchange;
 mod messages;
 mod names_asked;
+mod replies;
 mod requested;
 mod responses;
 mod stored;
+mod streams;
 mod texts;
 
 pub use bench::Rows;
+pub use exchange::{Exchange, Service};
 use httpmsg::one_stream;
 use jsondoc::text_escapes;
+pub use replies::{message, short};
 use requests::{parts_are_spelled, stored_is_read};
+pub use streams::{messages, routed_first};
 
 /// The laws of what the rows are asked of.
 pub fn laws_of_requests() {

@@ -1,7 +1,8 @@
 //! What a message asks for.
 
+use crate::replies::message;
+use crate::streams::routed_first;
 use cases::{TextBuilder, Wrong, wanted};
-use exchanges::{message, routed_first};
 use names::Key;
 use requests::{Collection, Manifest, Refusal, Request, Requirement, Selector};
 use routes::{Routed, Routes};

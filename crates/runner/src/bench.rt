@@ -6,7 +6,7 @@ use crate::refusals::{at_hand, fault};
 use crate::stops::stops;
 use crate::streams::{cuts, readers, writers};
 use cases::{Wrong, shown, text};
-use exchanges::Service;
+use rowcases::Service;
 use std::alloc::Global;
 
 const ROOM_SECTORS: u64 = 64;

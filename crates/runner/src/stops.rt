@@ -4,7 +4,7 @@ use crate::place::{Place, created, opened, run, served};
 use cases::{WordReader, Wrong, shown, wanted};
 use device::{MemDevice, Pick};
 use durable::Store;
-use exchanges::routed_first;
+use rowcases::routed_first;
 use httpmsg::Std;
 use requests::Request;
 use routes::Routes;

@@ -3,7 +3,7 @@
 use crate::endings::with_end;
 use crate::place::{Place, serve_on, served};
 use cases::{TextBuilder, WordReader, Wrong, compare, text};
-use exchanges::short;
+use rowcases::short;
 use httpmsg::Std;
 use std::alloc::Global;
 use std::io;
