@@ -20,12 +20,12 @@ use crate::refusing::{
     bad_expression, create_limit, delete_refusal, refused, replace_limit, replace_refusal,
 };
 use documents::shown_document;
+use expressions::{Specification, specification_of};
 use jsondoc::Doc;
 use matching::Operation;
 use names::Key;
 use plancode::Verified;
 use requests::{Manifest, Refusal, Request};
-use expressions::{Specification, specification_of};
 use std::alloc::{AllocError, Global};
 
 /// Prepares the step of a request: takes all its memory, and leaves what is seen as it was, also where there is none.

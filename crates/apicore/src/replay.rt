@@ -11,10 +11,10 @@ ghost use Rattle.apicore.specs.Written.{Write, History, payload, HasPlans, IsSto
 use crate::beside::Beside;
 use crate::fault::RecoveryFault;
 use crate::prepared::Core;
+use expressions::stored_plans;
 use names::{Key, Rules};
 use records::{StoredWrite, read_write};
 use requests::Manifest;
-use expressions::stored_plans;
 use std::alloc::Global;
 
 /// The store that took the writes of a log with these payloads. `Damaged` where no history has them.

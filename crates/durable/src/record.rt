@@ -12,10 +12,10 @@ ghost use Rattle.durable.specs.RecordOf.{IsRecordOf};
 
 use crate::Fault;
 use apicore::Beside;
+use expressions::plans_bytes;
 use gatelog::{Body, LogFault};
 use history::PreparedWrite;
 use records::{delete_payload, put_payload};
-use expressions::plans_bytes;
 use std::alloc::Global;
 
 /// The body of the record of a write, if there is one.

@@ -5,13 +5,13 @@ use crate::expressed::plans_in;
 use crate::texts::{debugged, told};
 use crate::writes::{document, resource};
 use cases::{TextBuilder, Wrong, first_word};
+use expressions::{Specification, plans_bytes, specification_of, stored_plans};
 use jsondoc::Doc;
 use names::Resource;
 use plancode::Verified;
 use planlist::ReadPlansFault;
 use policy::{Binding, Policy};
 use serde_json::Value;
-use expressions::{Specification, plans_bytes, specification_of, stored_plans};
 use std::alloc::Global;
 
 const REFUSED: &str = "refused";

@@ -6,13 +6,13 @@ ghost use Rattle.history.specs.Prepared.{AreReady};
 use crate::refusals::status;
 use apicore::{Beside, Core, Prepared, prepare};
 use cases::{TextBuilder, WordReader, Wrong, text, wanted};
-use rowcases::{Service, message, messages, routed_first};
 use history::{PreparedWrite, Put, ReplayFault, Reply};
 use http::StatusCode;
 use httpmsg::{Message, Response, Std};
 use names::{Format, Key, Rules};
 use requests::Request;
 use routes::{Routes, route};
+use rowcases::{Service, message, messages_of, routed_first};
 use std::alloc::Global;
 
 /// A view without a device, and the paths that it serves.
@@ -183,7 +183,7 @@ impl View {
         sent: &str,
         output: &mut Std<Vec<u8>>,
     ) -> Result<(), Wrong> {
-        for message in messages(alloc, sent)?.iter() {
+        for message in messages_of(alloc, sent)?.iter() {
             self.serve_message(alloc, message, output)?;
         }
         Ok(())

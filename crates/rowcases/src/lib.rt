@@ -26,7 +26,7 @@ use httpmsg::one_stream;
 use jsondoc::text_escapes;
 pub use replies::{message, short};
 use requests::{parts_are_spelled, stored_is_read};
-pub use streams::{messages, routed_first};
+pub use streams::{messages_of, routed_first};
 
 /// The laws of what the rows are asked of.
 pub fn laws_of_requests() {

@@ -6,7 +6,7 @@ use routes::{Routed, Routes, route};
 use std::alloc::Global;
 
 /// The messages of a stream that ends between two of them.
-pub fn messages(alloc: Global, sent: &str) -> Result<Vec<Message>, Wrong> {
+pub fn messages_of(alloc: Global, sent: &str) -> Result<Vec<Message>, Wrong> {
     let mut cutter = Cutter::new(alloc)?;
     match cutter.feed(alloc, sent.as_bytes()) {
         Ok(messages) if cutter.finish().is_ok() => Ok(messages),
@@ -16,7 +16,7 @@ pub fn messages(alloc: Global, sent: &str) -> Result<Vec<Message>, Wrong> {
 
 /// What the first message of a stream asks for.
 pub fn routed_first(alloc: Global, routes: &Routes, sent: &str) -> Result<Routed, Wrong> {
-    match messages(alloc, sent)?.first() {
+    match messages_of(alloc, sent)?.first() {
         Some(message) => Ok(route(alloc, routes, message)?),
         None => Err(Wrong::Told("there is no message")),
     }

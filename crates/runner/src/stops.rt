@@ -4,10 +4,10 @@ use crate::place::{Place, created, opened, run, served};
 use cases::{WordReader, Wrong, shown, wanted};
 use device::{MemDevice, Pick};
 use durable::Store;
-use rowcases::routed_first;
 use httpmsg::Std;
 use requests::Request;
 use routes::Routes;
+use rowcases::routed_first;
 use std::alloc::Global;
 
 const ROOM_SECTORS: u64 = 24;

@@ -3,8 +3,8 @@
 use crate::endings::with_end;
 use crate::place::{Place, serve_on, served};
 use cases::{TextBuilder, WordReader, Wrong, compare, text};
-use rowcases::short;
 use httpmsg::Std;
+use rowcases::short;
 use std::alloc::Global;
 use std::io;
 use std::io::{Read, Write};
