@@ -1,5 +1,5 @@
 -- The outcomes of several trees, one by one, and a macro over few items.
-use Rattle.std.proofs.Common.{◌≡◌, ◌≤◌, false, nat_lt, List, [], ◌∷◌, map, length, Some, Box, String, Global, string_bytes, refl, ap, sym, ◌∙◌, arith, rules}
+use Rattle.std.proofs.Common.{◌≡◌, ◌≤◌, false, nat_lt, List, [], ◌∷◌, map, length, Option, Some, Box, String, Global, string_bytes, refl, ap, sym, arith, rules}
 use Rattle.std.proofs.lemmas.Bool.Decides.{nat_tests}
 use Rattle.celtree.specs.declared.tree.Tree as tree
 use Rattle.celtree.specs.declared.tree.Tree.{Tree, the_lemmas}
@@ -18,14 +18,12 @@ pub pair_means-map : (ps : List (Tree × Tree)) (env : Environment) → pair_mea
 pair_means-map [] env = refl
 pair_means-map (p ∷ ps) env = ap (λ os. (mean (view p.0) env, mean (view p.1) env) ∷ os) (pair_means-map ps env)
 
-pub view-Macro : (m : Macro) (e : Box Tree Global) (x : String Global) (b : Box Tree Global) → view (tree.Macro m e x b) ≡ expr.Over m (view e.value) (string_bytes x) (view b.value)
-view-Macro m e x b = search (rules, the_lemmas)
-
 pub over_few : (m : Macro) (f : Value → Outcome) (vs : List Value) → length vs ≤ 1024 → over_items m f (Some vs) ≡ reduced m vs (map f vs)
 over_few m f vs few = let e : nat_lt 1024 (length vs) ≡ false = grind (arith, nat_tests) in rw e refl
 
-pub mean-Over : (m : Macro) (e : Box Tree Global) (x : String Global) (b : Box Tree Global) (env : Environment) (vs : List Value) → length vs ≤ 1024 → Some vs ≡ range_of (mean (view e.value) env)
-    → mean (view (tree.Macro m e x b)) env ≡ reduced m vs (map (λ v. mean (view b.value) (bind (string_bytes x) v env)) vs)
-mean-Over m e x b env vs few range =
-    let f = λ (v : Value). mean (view b.value) (bind (string_bytes x) v env) in
-    rw (view-Macro m e x b) (ap (over_items m f) (sym range) ∙ over_few m f vs few)
+view-Macro : (m : Macro) (e : Box Tree Global) (x : String Global) (b : Box Tree Global) → view (tree.Macro m e x b) ≡ expr.Over m (view e.value) (string_bytes x) (view b.value)
+view-Macro m e x b = search (rules, the_lemmas)
+
+pub mean-Macro : (m : Macro) (e : Box Tree Global) (x : String Global) (b : Box Tree Global) (env : Environment) (range : Option (List Value)) → range ≡ range_of (mean (view e.value) env)
+    → mean (view (tree.Macro m e x b)) env ≡ over_items m (λ v. mean (view b.value) (bind (string_bytes x) v env)) range
+mean-Macro m e x b env range is = rw (view-Macro m e x b) (ap (over_items m (λ (v : Value). mean (view b.value) (bind (string_bytes x) v env))) (sym is))
