@@ -4,7 +4,7 @@ ghost use Rattle.std.specs.Prelude.{◌≡◌, ◌<◌, length, encode_utf8_all,
 ghost use Rattle.celtokens.specs.Seen.{terminals};
 ghost use Rattle.celparse.specs.Grammar.{Member, Whole, Prefixed, Height};
 ghost use Rattle.celparse.specs.Ends.{Read, HasNoTree, ReadPrimary, HasNoPrimary, ReadComposite, HasNoComposite, ReadItems, HasNoItems, ReadEntry, HasNoEntry, ReadEntries, HasNoEntries, Refuses};
-ghost use Rattle.celtree.specs.Tree.{Conditional, Field, Index, Infix};
+ghost use Rattle.celtree.specs.Tree.{Conditional, Field, Index, Infix, Mapping, Name, Sequence, Unary};
 ghost use Rattle.celtree.specs.View.{view, views, pair_views};
 
 use crate::ahead::{
@@ -19,37 +19,73 @@ use celtree::{Operator, Prefix, Tree, call, method};
 use std::alloc::{AllocError, Global};
 
 // Apart from `expression`, so that its boxes take no room on the stack of a long `a ? b : c ? d : ..`.
-fn conditional(alloc: Global, test: Tree, first: Tree, second: Tree) -> Result<Tree, AllocError>
-    ensures { IfOk result (λ t. view t ≡ Conditional (view test) (view first) (view second)) }
+fn conditional(
+    alloc: Global,
+    test: Box<Tree>,
+    first: Box<Tree>,
+    second: Box<Tree>,
+) -> Result<Box<Tree>, AllocError>
+    ensures { IfOk result (λ t. view t.value ≡ Conditional (view test.value) (view first.value) (view second.value)) }
 {
-    let test = Box::new(alloc, test)?;
-    let first = Box::new(alloc, first)?;
-    let second = Box::new(alloc, second)?;
-    Ok(Tree::Conditional(test, first, second))
+    let tree = Box::new(alloc, Tree::Conditional(test, first, second))?;
+    Ok(tree)
 }
 
-fn field(alloc: Global, of: Tree, name: &[char]) -> Result<Tree, AllocError>
-    ensures { IfOk result (λ t. view t ≡ Field (view of) (encode_utf8_all name.now)) }
+fn field(alloc: Global, of: Box<Tree>, name: &[char]) -> Result<Box<Tree>, AllocError>
+    ensures { IfOk result (λ t. view t.value ≡ Field (view of.value) (encode_utf8_all name.now)) }
 {
-    let of = Box::new(alloc, of)?;
     let name = text_of(alloc, name)?;
-    Ok(Tree::Field(of, name))
+    let tree = Box::new(alloc, Tree::Field(of, name))?;
+    Ok(tree)
 }
 
-fn indexed(alloc: Global, of: Tree, index: Tree) -> Result<Tree, AllocError>
-    ensures { IfOk result (λ t. view t ≡ Index (view of) (view index)) }
+fn indexed(alloc: Global, of: Box<Tree>, index: Box<Tree>) -> Result<Box<Tree>, AllocError>
+    ensures { IfOk result (λ t. view t.value ≡ Index (view of.value) (view index.value)) }
 {
-    let of = Box::new(alloc, of)?;
-    let index = Box::new(alloc, index)?;
-    Ok(Tree::Index(of, index))
+    let tree = Box::new(alloc, Tree::Index(of, index))?;
+    Ok(tree)
 }
 
-fn joined(alloc: Global, operator: Operator, left: Tree, right: Tree) -> Result<Tree, AllocError>
-    ensures { IfOk result (λ t. view t ≡ Infix operator (view left) (view right)) }
+fn unary_of(alloc: Global, prefix: Prefix, of: Box<Tree>) -> Result<Box<Tree>, AllocError>
+    ensures { IfOk result (λ t. view t.value ≡ Unary prefix (view of.value)) }
 {
-    let left = Box::new(alloc, left)?;
-    let right = Box::new(alloc, right)?;
-    Ok(Tree::Infix(operator, left, right))
+    let tree = Box::new(alloc, Tree::Unary(prefix, of))?;
+    Ok(tree)
+}
+
+fn joined(
+    alloc: Global,
+    operator: Operator,
+    left: Box<Tree>,
+    right: Box<Tree>,
+) -> Result<Box<Tree>, AllocError>
+    ensures { IfOk result (λ t. view t.value ≡ Infix operator (view left.value) (view right.value)) }
+{
+    let tree = Box::new(alloc, Tree::Infix(operator, left, right))?;
+    Ok(tree)
+}
+
+// A name as an expression.
+fn named(alloc: Global, name: &[char]) -> Result<Box<Tree>, AllocError>
+    ensures { IfOk result (λ t. view t.value ≡ Name (encode_utf8_all name.now)) }
+{
+    let name = text_of(alloc, name)?;
+    let tree = Box::new(alloc, Tree::Name(name))?;
+    Ok(tree)
+}
+
+fn list_of(alloc: Global, items: Vec<Tree>) -> Result<Box<Tree>, AllocError>
+    ensures { IfOk result (λ t. view t.value ≡ Sequence (views items.items)) }
+{
+    let tree = Box::new(alloc, Tree::List(items))?;
+    Ok(tree)
+}
+
+fn map_of(alloc: Global, entries: Vec<(Tree, Tree)>) -> Result<Box<Tree>, AllocError>
+    ensures { IfOk result (λ t. view t.value ≡ Mapping (pair_views entries.items)) }
+{
+    let tree = Box::new(alloc, Tree::Map(entries))?;
+    Ok(tree)
 }
 
 /// The tree of the expression in front, and what follows it: no token there would go on with the expression, and no other tree is spelled
@@ -62,8 +98,8 @@ fn joined(alloc: Global, operator: Operator, left: Tree, right: Tree) -> Result<
 pub fn expression<'a, 'b>(
     alloc: Global,
     tokens: &'b [Token<'a>],
-) -> Result<(Tree, &'b [Token<'a>]), ParseFault>
-    ensures tree { IfOk result (λ x. Read Whole (terminals tokens.now) (view x.0) (terminals x.1.now)) }
+) -> Result<(Box<Tree>, &'b [Token<'a>]), ParseFault>
+    ensures tree { IfOk result (λ x. Read Whole (terminals tokens.now) (view x.0.value) (terminals x.1.now)) }
     ensures none { IfErr result (λ e. Refuses e (HasNoTree Whole (terminals tokens.now))) }
     ensures shorter { IfOk result (λ x. length x.1.now < length tokens.now) }
 {
@@ -90,8 +126,8 @@ fn infix<'a, 'b>(
     alloc: Global,
     tokens: &'b [Token<'a>],
     height: u8,
-) -> Result<(Tree, &'b [Token<'a>]), ParseFault>
-    ensures tree { IfOk result (λ x. Read (Height height) (terminals tokens.now) (view x.0) (terminals x.1.now)) }
+) -> Result<(Box<Tree>, &'b [Token<'a>]), ParseFault>
+    ensures tree { IfOk result (λ x. Read (Height height) (terminals tokens.now) (view x.0.value) (terminals x.1.now)) }
     ensures none { IfErr result (λ e. Refuses e (HasNoTree (Height height) (terminals tokens.now))) }
     ensures shorter { IfOk result (λ x. length x.1.now < length tokens.now) }
 {
@@ -117,16 +153,16 @@ fn infix<'a, 'b>(
 fn unary<'a, 'b>(
     alloc: Global,
     tokens: &'b [Token<'a>],
-) -> Result<(Tree, &'b [Token<'a>]), ParseFault>
-    ensures tree { IfOk result (λ x. Read (Height 0) (terminals tokens.now) (view x.0) (terminals x.1.now)) }
+) -> Result<(Box<Tree>, &'b [Token<'a>]), ParseFault>
+    ensures tree { IfOk result (λ x. Read (Height 0) (terminals tokens.now) (view x.0.value) (terminals x.1.now)) }
     ensures none { IfErr result (λ e. Refuses e (HasNoTree (Height 0) (terminals tokens.now))) }
     ensures shorter { IfOk result (λ x. length x.1.now < length tokens.now) }
 {
     match prefix_at(tokens) {
         Some((prefix, behind)) => {
-            let (tree, rest) = prefixed(alloc, behind, prefix)?;
-            let of = Box::new(alloc, tree)?;
-            Ok((Tree::Unary(prefix, of), rest))
+            let (of, rest) = prefixed(alloc, behind, prefix)?;
+            let tree = unary_of(alloc, prefix, of)?;
+            Ok((tree, rest))
         }
         None => member(alloc, tokens),
     }
@@ -138,16 +174,16 @@ fn prefixed<'a, 'b>(
     alloc: Global,
     tokens: &'b [Token<'a>],
     prefix: Prefix,
-) -> Result<(Tree, &'b [Token<'a>]), ParseFault>
-    ensures tree { IfOk result (λ x. Read (Prefixed prefix) (terminals tokens.now) (view x.0) (terminals x.1.now)) }
+) -> Result<(Box<Tree>, &'b [Token<'a>]), ParseFault>
+    ensures tree { IfOk result (λ x. Read (Prefixed prefix) (terminals tokens.now) (view x.0.value) (terminals x.1.now)) }
     ensures none { IfErr result (λ e. Refuses e (HasNoTree (Prefixed prefix) (terminals tokens.now))) }
     ensures shorter { IfOk result (λ x. length x.1.now < length tokens.now) }
 {
     match after_prefix(tokens, prefix) {
         Some(behind) => {
-            let (tree, rest) = prefixed(alloc, behind, prefix)?;
-            let of = Box::new(alloc, tree)?;
-            Ok((Tree::Unary(prefix, of), rest))
+            let (of, rest) = prefixed(alloc, behind, prefix)?;
+            let tree = unary_of(alloc, prefix, of)?;
+            Ok((tree, rest))
         }
         None => member(alloc, tokens),
     }
@@ -158,8 +194,8 @@ fn prefixed<'a, 'b>(
 fn member<'a, 'b>(
     alloc: Global,
     tokens: &'b [Token<'a>],
-) -> Result<(Tree, &'b [Token<'a>]), ParseFault>
-    ensures tree { IfOk result (λ x. Read Member (terminals tokens.now) (view x.0) (terminals x.1.now)) }
+) -> Result<(Box<Tree>, &'b [Token<'a>]), ParseFault>
+    ensures tree { IfOk result (λ x. Read Member (terminals tokens.now) (view x.0.value) (terminals x.1.now)) }
     ensures none { IfErr result (λ e. Refuses e (HasNoTree Member (terminals tokens.now))) }
     ensures shorter { IfOk result (λ x. length x.1.now < length tokens.now) }
 {
@@ -203,8 +239,8 @@ fn member<'a, 'b>(
 fn primary<'a, 'b>(
     alloc: Global,
     tokens: &'b [Token<'a>],
-) -> Result<(Tree, &'b [Token<'a>]), ParseFault>
-    ensures tree { IfOk result (λ x. ReadPrimary (terminals tokens.now) (view x.0) (terminals x.1.now)) }
+) -> Result<(Box<Tree>, &'b [Token<'a>]), ParseFault>
+    ensures tree { IfOk result (λ x. ReadPrimary (terminals tokens.now) (view x.0.value) (terminals x.1.now)) }
     ensures none { IfErr result (λ e. Refuses e (HasNoPrimary (terminals tokens.now))) }
     ensures shorter { IfOk result (λ x. length x.1.now < length tokens.now) }
 {
@@ -220,20 +256,20 @@ fn primary<'a, 'b>(
 fn composite<'a, 'b>(
     alloc: Global,
     tokens: &'b [Token<'a>],
-) -> Result<(Tree, &'b [Token<'a>]), ParseFault>
-    ensures tree { IfOk result (λ x. ReadComposite (terminals tokens.now) (view x.0) (terminals x.1.now)) }
+) -> Result<(Box<Tree>, &'b [Token<'a>]), ParseFault>
+    ensures tree { IfOk result (λ x. ReadComposite (terminals tokens.now) (view x.0.value) (terminals x.1.now)) }
     ensures none { IfErr result (λ e. Refuses e (HasNoComposite (terminals tokens.now))) }
     ensures shorter { IfOk result (λ x. length x.1.now < length tokens.now) }
 {
     match primary_at(tokens) {
         Start::Name(name, rest) => {
-            let name = text_of(alloc, name)?;
-            Ok((Tree::Name(name), rest))
+            let tree = named(alloc, name)?;
+            Ok((tree, rest))
         }
         Start::Call(name, inside) => {
             let (arguments, rest) = items(alloc, inside, Closing::Parenthesis)?;
             let name = text_of(alloc, name)?;
-            match call(name, arguments) {
+            match call(alloc, name, arguments)? {
                 Some(tree) => Ok((tree, rest)),
                 None => Err(ParseFault::NotInGrammar),
             }
@@ -247,11 +283,13 @@ fn composite<'a, 'b>(
         }
         Start::Bracket(inside) => {
             let (items, rest) = items(alloc, inside, Closing::Bracket)?;
-            Ok((Tree::List(items), rest))
+            let tree = list_of(alloc, items)?;
+            Ok((tree, rest))
         }
         Start::Brace(inside) => {
             let (entries, rest) = entries(alloc, inside)?;
-            Ok((Tree::Map(entries), rest))
+            let tree = map_of(alloc, entries)?;
+            Ok((tree, rest))
         }
         Start::Nothing => Err(ParseFault::NotInGrammar),
     }
@@ -274,13 +312,13 @@ fn items<'a, 'b>(
         None => {}
     }
     let (first, mut rest) = expression(alloc, tokens)?;
-    items.push(first)?;
+    items.push(Box::into_inner(first))?;
     'more_items: loop {
         match separator_at(rest, closing) {
             Separator::End(behind) => return Ok((items, behind)),
             Separator::Comma(behind) => {
                 let (next, after) = expression(alloc, behind)?;
-                items.push(next)?;
+                items.push(Box::into_inner(next))?;
                 rest = after;
             }
             Separator::Wrong => return Err(ParseFault::NotInGrammar),
@@ -302,7 +340,7 @@ fn entry<'a, 'b>(
     match after(rest, Sign::Colon) {
         Some(behind) => {
             let (value, rest) = expression(alloc, behind)?;
-            Ok(((key, value), rest))
+            Ok(((Box::into_inner(key), Box::into_inner(value)), rest))
         }
         None => Err(ParseFault::NotInGrammar),
     }

@@ -34,27 +34,29 @@ pub(crate) fn text_of(alloc: Global, chars: &[char]) -> Result<String, AllocErro
 }
 
 // The tree of a literal of one token.
-fn one_token(alloc: Global, token: &Token<'_>) -> Result<Option<Tree>, AllocError>
-    ensures { IfOk result (λ o. option_map view o ≡ literal_of (terminal token.now)) }
+fn one_token(alloc: Global, token: &Token<'_>) -> Result<Option<Box<Tree>>, AllocError>
+    ensures { IfOk result (λ o. option_map (λ t. view t.value) o ≡ literal_of (terminal token.now)) }
 {
-    match token {
+    let tree = match token {
         Token::Int(digits) => match signed(*digits) {
-            Some(value) => Ok(Some(Tree::Int(value))),
-            None => Ok(None),
+            Some(value) => Tree::Int(value),
+            None => return Ok(None),
         },
         Token::Uint(digits) => match digits.value() {
-            Some(value) => Ok(Some(Tree::Uint(value))),
-            None => Ok(None),
+            Some(value) => Tree::Uint(value),
+            None => return Ok(None),
         },
         Token::Text(text) => {
             let text = text_of(alloc, text)?;
-            Ok(Some(Tree::Text(text)))
+            Tree::Text(text)
         }
-        Token::True => Ok(Some(Tree::Bool(true))),
-        Token::False => Ok(Some(Tree::Bool(false))),
-        Token::Null => Ok(Some(Tree::Null)),
-        Token::Ident(_) | Token::Reserved(_) | Token::In | Token::Sign(_) => Ok(None),
-    }
+        Token::True => Tree::Bool(true),
+        Token::False => Tree::Bool(false),
+        Token::Null => Tree::Null,
+        Token::Ident(_) | Token::Reserved(_) | Token::In | Token::Sign(_) => return Ok(None),
+    };
+    let tree = Box::new(alloc, tree)?;
+    Ok(Some(tree))
 }
 
 fn negative_int(token: &Token<'_>) -> Option<i64>
@@ -88,15 +90,18 @@ fn negative_literal<'a, 'b>(tokens: &'b [Token<'a>]) -> Option<(i64, &'b [Token<
 pub(crate) fn literal<'a, 'b>(
     alloc: Global,
     tokens: &'b [Token<'a>],
-) -> Result<(Option<Tree>, &'b [Token<'a>]), AllocError>
-    ensures value { IfOk result (λ x. MatchOption x.0 (HasNoLiteral (terminals tokens.now)) (λ t. Literal (terminals tokens.now) (view t) (terminals x.1.now))) }
+) -> Result<(Option<Box<Tree>>, &'b [Token<'a>]), AllocError>
+    ensures value { IfOk result (λ x. MatchOption x.0 (HasNoLiteral (terminals tokens.now)) (λ t. Literal (terminals tokens.now) (view t.value) (terminals x.1.now))) }
     ensures shorter { IfOk result (λ x. OnSome x.0 (length x.1.now < length tokens.now)) }
 {
     match first(tokens) {
         Some((token, rest)) => match one_token(alloc, token)? {
             Some(tree) => Ok((Some(tree), rest)),
             None => match negative_literal(tokens) {
-                Some((value, behind)) => Ok((Some(Tree::Int(value)), behind)),
+                Some((value, behind)) => {
+                    let tree = Box::new(alloc, Tree::Int(value))?;
+                    Ok((Some(tree), behind))
+                }
                 None => Ok((None, tokens)),
             },
         },

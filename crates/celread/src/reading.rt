@@ -16,10 +16,10 @@ use std::alloc::Global;
 /// The longest text that is read, in bytes.
 pub const TEXT_LIMIT: usize = 4096;
 
-fn parse(alloc: Global, tokens: &[Token<'_>]) -> Result<Tree, ReadFault>
-    ensures tree { IfOk result (λ t. IsParse (terminals tokens.now) (view t)) }
+fn parse(alloc: Global, tokens: &[Token<'_>]) -> Result<Box<Tree>, ReadFault>
+    ensures tree { IfOk result (λ t. IsParse (terminals tokens.now) (view t.value)) }
     ensures fault { IfErr result (IsParseFault (terminals tokens.now)) }
-    ensures alone { IfOk result (λ t. IsParseAlone (terminals tokens.now) (view t)) }
+    ensures alone { IfOk result (λ t. IsParseAlone (terminals tokens.now) (view t.value)) }
     ensures none { IfErr result (λ e. UnlessMemory e (IsNoParse (terminals tokens.now))) }
 {
     if opens_too_many(tokens) {
@@ -44,11 +44,11 @@ fn parse(alloc: Global, tokens: &[Token<'_>]) -> Result<Tree, ReadFault>
 /// The first that applies: [`ReadFault::TooLong`] for a text of more than 4096 bytes, [`ReadFault::NotInGrammar`] for one without
 /// tokens, [`ReadFault::TooDeep`] for more than 32 open brackets, [`ReadFault::NotInGrammar`] where the tokens spell no tree,
 /// [`ReadFault::TooDeep`] for macros that nest three deep. [`ReadFault::Memory`] where no memory is left.
-pub fn read(alloc: Global, text: &str) -> Result<Tree, ReadFault>
-    ensures tree { IfOk result (λ t. IsReadAs text.now (view t)) }
-    ensures small { IfOk result (λ t. nodes (view t) + text_bytes (view t) ≤ length text.now) }
+pub fn read(alloc: Global, text: &str) -> Result<Box<Tree>, ReadFault>
+    ensures tree { IfOk result (λ t. IsReadAs text.now (view t.value)) }
+    ensures small { IfOk result (λ t. nodes (view t.value) + text_bytes (view t.value) ≤ length text.now) }
     // It spells no other tree.
-    ensures alone { IfOk result (λ t. IsReadAlone text.now (view t)) }
+    ensures alone { IfOk result (λ t. IsReadAlone text.now (view t.value)) }
     ensures fault { IfErr result (IsRefusedBy text.now) }
     // A text that is refused spells no tree within the limits.
     ensures none { IfErr result (λ e. UnlessMemory e (IsNotRead text.now)) }

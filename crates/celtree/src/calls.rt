@@ -28,10 +28,10 @@ fn macro_named(name: &str) -> Option<Macro>
 }
 
 // `e.f` as the argument of `has`.
-fn selection(tree: Tree) -> Option<Tree>
-    ensures { option_map view result ≡ selection (view tree) }
+fn selection(tree: Box<Tree>) -> Option<Tree>
+    ensures { option_map view result ≡ selection (view tree.value) }
 {
-    match tree {
+    match Box::into_inner(tree) {
         Tree::Field(of, name) => Some(Tree::Has(of, name)),
         Tree::Null | Tree::Bool(_) | Tree::Int(_) | Tree::Uint(_) | Tree::Text(_) | Tree::Name(_) =>
             None,
@@ -62,60 +62,83 @@ fn variable(tree: Tree) -> Option<String>
 }
 
 // The one argument.
-fn one(mut arguments: Vec<Tree>) -> Option<Tree>
-    ensures { MatchOption result (length arguments.items ≢ 1) (λ x. arguments.items ≡ x ∷ []) }
+fn one(alloc: Global, mut arguments: Vec<Tree>) -> Result<Option<Box<Tree>>, AllocError>
+    ensures { IfOk result (λ o. MatchOption o (length arguments.items ≢ 1) (λ x. arguments.items ≡ x.value ∷ [])) }
 {
-    let first = arguments.pop()?;
-    if arguments.is_empty() {
-        Some(first)
-    } else {
-        None
+    if arguments.len() != 1 {
+        return Ok(None);
+    }
+    match arguments.pop() {
+        Some(first) => {
+            let first = Box::new(alloc, first)?;
+            Ok(Some(first))
+        }
+        None => Ok(None),
     }
 }
 
 // The two arguments.
-fn two(mut arguments: Vec<Tree>) -> Option<(Tree, Tree)>
-    ensures { MatchOption result (length arguments.items ≢ 2) (λ x. arguments.items ≡ x.0 ∷ x.1 ∷ []) }
+fn two(
+    alloc: Global,
+    mut arguments: Vec<Tree>,
+) -> Result<Option<(Box<Tree>, Box<Tree>)>, AllocError>
+    ensures { IfOk result (λ o. MatchOption o (length arguments.items ≢ 2) (λ x. arguments.items ≡ x.0.value ∷ x.1.value ∷ [])) }
 {
-    let second = arguments.pop()?;
-    let first = one(arguments)?;
-    Some((first, second))
+    match arguments.pop() {
+        Some(second) => {
+            let second = Box::new(alloc, second)?;
+            match one(alloc, arguments)? {
+                Some(first) => Ok(Some((first, second))),
+                None => Ok(None),
+            }
+        }
+        None => Ok(None),
+    }
 }
 
 // The three arguments.
-fn three(mut arguments: Vec<Tree>) -> Option<(Tree, Tree, Tree)>
-    ensures { MatchOption result (length arguments.items ≢ 3) (λ x. arguments.items ≡ x.0 ∷ x.1 ∷ x.2 ∷ []) }
+fn three(
+    alloc: Global,
+    mut arguments: Vec<Tree>,
+) -> Result<Option<(Box<Tree>, Box<Tree>, Box<Tree>)>, AllocError>
+    ensures { IfOk result (λ o. MatchOption o (length arguments.items ≢ 3) (λ x. arguments.items ≡ x.0.value ∷ x.1.value ∷ x.2.value ∷ [])) }
 {
-    let third = arguments.pop()?;
-    let (first, second) = two(arguments)?;
-    Some((first, second, third))
+    match arguments.pop() {
+        Some(third) => {
+            let third = Box::new(alloc, third)?;
+            match two(alloc, arguments)? {
+                Some((first, second)) => Ok(Some((first, second, third))),
+                None => Ok(None),
+            }
+        }
+        None => Ok(None),
+    }
 }
 
 // A macro over a tree, with its variable and its body.
 fn with_variable(
     alloc: Global,
     kind: Macro,
-    of: Tree,
+    of: Box<Tree>,
     variable: String,
-    body: Tree,
-) -> Result<Tree, AllocError>
-    ensures { IfOk result (λ t. view t ≡ Over kind (view of) (string_bytes variable) (view body)) }
+    body: Box<Tree>,
+) -> Result<Box<Tree>, AllocError>
+    ensures { IfOk result (λ t. view t.value ≡ Over kind (view of.value) (string_bytes variable) (view body.value)) }
 {
-    let of = Box::new(alloc, of)?;
-    let body = Box::new(alloc, body)?;
-    Ok(Tree::Macro(kind, of, variable, body))
+    let tree = Box::new(alloc, Tree::Macro(kind, of, variable, body))?;
+    Ok(tree)
 }
 
 fn plain_macro(
     alloc: Global,
     kind: Macro,
-    of: Tree,
-    name: Tree,
-    body: Tree,
-) -> Result<Option<Tree>, AllocError>
-    ensures { IfOk result (λ o. option_map view o ≡ option_map (λ x. Over kind (view of) x (view body)) (variable (view name))) }
+    of: Box<Tree>,
+    name: Box<Tree>,
+    body: Box<Tree>,
+) -> Result<Option<Box<Tree>>, AllocError>
+    ensures { IfOk result (λ o. option_map (λ t. view t.value) o ≡ option_map (λ x. Over kind (view of.value) x (view body.value)) (variable (view name.value))) }
 {
-    match variable(name) {
+    match variable(Box::into_inner(name)) {
         Some(variable) => {
             let tree = with_variable(alloc, kind, of, variable, body)?;
             Ok(Some(tree))
@@ -127,14 +150,14 @@ fn plain_macro(
 // `of.map(name, test, body)`, which is `of.filter(name, test).map(name, body)`.
 fn filtered_map(
     alloc: Global,
-    of: Tree,
-    name: Tree,
-    test: Tree,
-    body: Tree,
-) -> Result<Option<Tree>, AllocError>
-    ensures { IfOk result (λ o. option_map view o ≡ macro_of_three macro_of.Map (view of) (view name) (view test) (view body)) }
+    of: Box<Tree>,
+    name: Box<Tree>,
+    test: Box<Tree>,
+    body: Box<Tree>,
+) -> Result<Option<Box<Tree>>, AllocError>
+    ensures { IfOk result (λ o. option_map (λ t. view t.value) o ≡ macro_of_three macro_of.Map (view of.value) (view name.value) (view test.value) (view body.value)) }
 {
-    match variable(name) {
+    match variable(Box::into_inner(name)) {
         Some(variable) => {
             let copy = variable.clone()?;
             let filter = with_variable(alloc, Macro::Filter, of, copy, test)?;
@@ -148,12 +171,12 @@ fn filtered_map(
 fn macro_of_three(
     alloc: Global,
     kind: Macro,
-    of: Tree,
-    name: Tree,
-    test: Tree,
-    body: Tree,
-) -> Result<Option<Tree>, AllocError>
-    ensures { IfOk result (λ o. option_map view o ≡ macro_of_three kind (view of) (view name) (view test) (view body)) }
+    of: Box<Tree>,
+    name: Box<Tree>,
+    test: Box<Tree>,
+    body: Box<Tree>,
+) -> Result<Option<Box<Tree>>, AllocError>
+    ensures { IfOk result (λ o. option_map (λ t. view t.value) o ≡ macro_of_three kind (view of.value) (view name.value) (view test.value) (view body.value)) }
 {
     match kind {
         Macro::Map => filtered_map(alloc, of, name, test, body),
@@ -165,19 +188,19 @@ fn macro_of_three(
 fn over(
     alloc: Global,
     kind: Macro,
-    of: Tree,
+    of: Box<Tree>,
     arguments: Vec<Tree>,
-) -> Result<Option<Tree>, AllocError>
-    ensures { IfOk result (λ o. option_map view o ≡ macro_over kind (view of) (views arguments.items)) }
+) -> Result<Option<Box<Tree>>, AllocError>
+    ensures { IfOk result (λ o. option_map (λ t. view t.value) o ≡ macro_over kind (view of.value) (views arguments.items)) }
 {
     let count = arguments.len();
     if count == 2 {
-        match two(arguments) {
+        match two(alloc, arguments)? {
             Some((name, body)) => plain_macro(alloc, kind, of, name, body),
             None => Ok(None),
         }
     } else if count == 3 {
-        match three(arguments) {
+        match three(alloc, arguments)? {
             Some((name, test, body)) => macro_of_three(alloc, kind, of, name, test, body),
             None => Ok(None),
         }
@@ -187,25 +210,45 @@ fn over(
 }
 
 // `has(e.f)`.
-fn has(arguments: Vec<Tree>) -> Option<Tree>
-    ensures { option_map view result ≡ has_of (views arguments.items) }
+fn has(alloc: Global, arguments: Vec<Tree>) -> Result<Option<Box<Tree>>, AllocError>
+    ensures { IfOk result (λ o. option_map (λ t. view t.value) o ≡ has_of (views arguments.items)) }
 {
-    match one(arguments) {
-        Some(argument) => selection(argument),
-        None => None,
+    let count = arguments.len();
+    if count != 1 {
+        return Ok(None);
+    }
+    match one(alloc, arguments)? {
+        Some(argument) => match selection(argument) {
+            Some(tree) => {
+                let tree = Box::new(alloc, tree)?;
+                Ok(Some(tree))
+            }
+            None => Ok(None),
+        },
+        None => Ok(None),
     }
 }
 
 /// The tree of `name(arguments)`, if it has one: `has` is called of one selection `e.f`, and a macro only behind an operand.
-pub fn call(name: String, arguments: Vec<Tree>) -> Option<Tree>
-    ensures { option_map view result ≡ call_of (string_bytes name) (views arguments.items) }
+///
+/// # Errors
+///
+/// [`AllocError`] where no memory is left.
+pub fn call(
+    alloc: Global,
+    name: String,
+    arguments: Vec<Tree>,
+) -> Result<Option<Box<Tree>>, AllocError>
+    ensures { IfOk result (λ o. option_map (λ t. view t.value) o ≡ call_of (string_bytes name) (views arguments.items)) }
 {
     if name.as_str() == "has" {
-        has(arguments)
-    } else {
-        match macro_named(name.as_str()) {
-            Some(_) => None,
-            None => Some(Tree::Call(name, arguments)),
+        return has(alloc, arguments);
+    }
+    match macro_named(name.as_str()) {
+        Some(_) => Ok(None),
+        None => {
+            let tree = Box::new(alloc, Tree::Call(name, arguments))?;
+            Ok(Some(tree))
         }
     }
 }
@@ -218,11 +261,11 @@ pub fn call(name: String, arguments: Vec<Tree>) -> Option<Tree>
 /// [`AllocError`] where no memory is left.
 pub fn method(
     alloc: Global,
-    of: Tree,
+    of: Box<Tree>,
     name: String,
     arguments: Vec<Tree>,
-) -> Result<Option<Tree>, AllocError>
-    ensures { IfOk result (λ o. option_map view o ≡ method_of (view of) (string_bytes name) (views arguments.items)) }
+) -> Result<Option<Box<Tree>>, AllocError>
+    ensures { IfOk result (λ o. option_map (λ t. view t.value) o ≡ method_of (view of.value) (string_bytes name) (views arguments.items)) }
 {
     match macro_named(name.as_str()) {
         Some(kind) => over(alloc, kind, of, arguments),
@@ -230,8 +273,8 @@ pub fn method(
             if name.as_str() == "has" {
                 Ok(None)
             } else {
-                let of = Box::new(alloc, of)?;
-                Ok(Some(Tree::Method(of, name, arguments)))
+                let tree = Box::new(alloc, Tree::Method(of, name, arguments))?;
+                Ok(Some(tree))
             }
         }
     }

@@ -29,7 +29,7 @@ fn trees(alloc: Global, policy: &Policy, sources: &[Source<'_>]) -> Result<Vec<T
     let mut trees = Vec::new(alloc);
     for source in sources {
         match typed(alloc, policy, &mut variables, source)? {
-            Some(tree) => trees.push(tree)?,
+            Some(tree) => trees.push(Box::into_inner(tree))?,
             None => {
                 let text = String::from_str(alloc, source.text)?;
                 return Err(PolicyFault::BadExpression(text));

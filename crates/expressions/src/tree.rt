@@ -10,8 +10,8 @@ use celtree::Tree;
 use std::alloc::{AllocError, Global};
 
 /// The tree that the text spells, if it spells one within the limits on length and depth.
-pub(crate) fn tree_of(alloc: Global, text: &str) -> Result<Option<Tree>, AllocError>
-    ensures { IfOk result (λ o. MatchOption o (IsNotRead text.now) (λ t. IsTreeOf text.now (view t))) }
+pub(crate) fn tree_of(alloc: Global, text: &str) -> Result<Option<Box<Tree>>, AllocError>
+    ensures { IfOk result (λ o. MatchOption o (IsNotRead text.now) (λ t. IsTreeOf text.now (view t.value))) }
 {
     match read(alloc, text) {
         Ok(tree) => Ok(Some(tree)),

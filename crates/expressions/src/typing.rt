@@ -141,8 +141,8 @@ pub(crate) fn typed(
     policy: &Policy,
     variables: &mut Vec<Variable>,
     source: &Source<'_>,
-) -> Result<Option<Tree>, AllocError>
-    ensures { IfOk result (λ o. MatchOption o (IsBad (policy_seen policy.now) (variables_seen variables.old.items) (source_seen source.now)) (λ t. IsNext (policy_seen policy.now) (variables_seen variables.old.items) (source_seen source.now) (view t) (variables_seen variables.new.items))) }
+) -> Result<Option<Box<Tree>>, AllocError>
+    ensures { IfOk result (λ o. MatchOption o (IsBad (policy_seen policy.now) (variables_seen variables.old.items) (source_seen source.now)) (λ t. IsNext (policy_seen policy.now) (variables_seen variables.old.items) (source_seen source.now) (view t.value) (variables_seen variables.new.items))) }
 {
     let tree = match tree_of(alloc, source.text)? {
         Some(tree) => tree,

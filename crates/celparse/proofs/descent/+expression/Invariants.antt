@@ -38,13 +38,13 @@ abbrev pub decreases-entries : goal.decreases-entries
 decreases-entries l = 30 * length l.tokens.now + 22
 
 abbrev pub invariant-infix-operators : goal.invariant-infix-operators
-invariant-infix-operators l = record { going : Going l.lower (terminals l.tokens) (view l.left) (terminals l.rest); shorter : length l.rest < length l.tokens }
+invariant-infix-operators l = record { going : Going l.lower (terminals l.tokens) (view l.left.value) (terminals l.rest); shorter : length l.rest < length l.tokens }
 
 abbrev pub decreases-infix-operators : goal.decreases-infix-operators
 decreases-infix-operators l = length l.rest
 
 abbrev pub invariant-member-suffixes : goal.invariant-member-suffixes
-invariant-member-suffixes l = record { going : GoingMember (terminals l.tokens) (view l.of) (terminals l.rest); shorter : length l.rest < length l.tokens }
+invariant-member-suffixes l = record { going : GoingMember (terminals l.tokens) (view l.of.value) (terminals l.rest); shorter : length l.rest < length l.tokens }
 
 abbrev pub decreases-member-suffixes : goal.decreases-member-suffixes
 decreases-member-suffixes l = length l.rest

@@ -14,8 +14,8 @@ view-Int v = search (rules, the_lemmas)
 pub returns-in-Some-2-clause-value : goal.returns-in-Some-2-clause-value
 returns-in-Some-2-clause-value c = rw c.in-Some.ensures.value (one_token (sym (rw c.in-Some-2.is at c.in_ok-tree-in-Some.ensures)))
 
-pub returns-in-Some-negative_literal-clause-value : goal.returns-in-Some-negative_literal-clause-value
-returns-in-Some-negative_literal-clause-value c =
+pub returns-in_ok-tree-in-Some-negative_literal-clause-value : goal.returns-in_ok-tree-in-Some-negative_literal-clause-value
+returns-in_ok-tree-in-Some-negative_literal-clause-value c =
     let v = c.in-Some-negative_literal.value in
     let fits : SFits w64 v = search rules in
-    rw (to_z-of_z w64 v fits, view-Int v) (negative_literal (terminals c.args.tokens.now) v (terminals c.in-Some-negative_literal.behind.now) c.in-Some-negative_literal.ensures.value)
+    rw (c.in_ok-tree-in-Some-negative_literal.ensures.ok, to_z-of_z w64 v fits, view-Int v) (negative_literal (terminals c.args.tokens.now) v (terminals c.in-Some-negative_literal.behind.now) c.in-Some-negative_literal.ensures.value)

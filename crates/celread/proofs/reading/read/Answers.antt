@@ -13,8 +13,8 @@ use Rattle.celread.proofs.reading.read.Goals as goal
 pub returns-in-Some-clause-small : goal.returns-in-Some-clause-small
 returns-in-Some-clause-small c =
     let s = c.args.text.now in
-    let tree : IfOk c.parse.result (λ t. IsReadAs s (view t)) = search rules in
-    IfOk-weaker c.parse.result (λ t. IsReadAs s (view t)) (λ t. nodes (view t) + text_bytes (view t) ≤ length s) (λ t h. read_size s (view t) c.utf8.text h) tree
+    let tree : IfOk c.parse.result (λ t. IsReadAs s (view t.value)) = search rules in
+    IfOk-weaker c.parse.result (λ t. IsReadAs s (view t.value)) (λ t. nodes (view t.value) + text_bytes (view t.value) ≤ length s) (λ t h. read_size s (view t.value) c.utf8.text h) tree
 
 pub returns-in-Some-clause-alone : goal.returns-in-Some-clause-alone
 returns-in-Some-clause-alone c =
@@ -22,8 +22,8 @@ returns-in-Some-clause-alone c =
     let ws = terminals c.in-Some.tokens.items in
     let one : OneReading = search rules in
     let lexed : Lexes (chars s) ws = search rules in
-    let alone : IfOk c.parse.result (λ t. IsParseAlone ws (view t)) = search rules in
-    IfOk-weaker c.parse.result (λ t. IsParseAlone ws (view t)) (λ t. IsReadAlone s (view t)) (λ t h. read_alone one s ws lexed (view t) h) alone
+    let alone : IfOk c.parse.result (λ t. IsParseAlone ws (view t.value)) = search rules in
+    IfOk-weaker c.parse.result (λ t. IsParseAlone ws (view t.value)) (λ t. IsReadAlone s (view t.value)) (λ t h. read_alone one s ws lexed (view t.value) h) alone
 
 pub returns-in-Some-clause-none : goal.returns-in-Some-clause-none
 returns-in-Some-clause-none c =

@@ -9,10 +9,10 @@ returns-in-None c = unread_is_bad _ _ (source_seen c.args.source.now) (rw c.in-N
 
 pub returns-in_ok-declare-in-Some-2 : goal.returns-in_ok-declare-in-Some-2
 returns-in_ok-declare-in-Some-2 c =
-    is_next _ _ _ (source_seen c.args.source.now) (view c.in-Some.tree) (type_seen c.in-Some-2.found) (rw c.in-Some.is at c.in_ok-tree.ensures)
-    (rw (c.in-Some-2.is, c.deref.ensures.value) at c.in_ok-found.ensures) c.in_ok-declare-in-Some-2.ensures
+    is_next _ _ _ (source_seen c.args.source.now) (view c.in-Some.tree.value) (type_seen c.in-Some-2.found) (rw c.in-Some.is at c.in_ok-tree.ensures)
+    (rw (c.in-Some-2.is, c.deref.ensures.value, c.deref-2.ensures) at c.in_ok-found.ensures) c.in_ok-declare-in-Some-2.ensures
 
 pub returns-in-None-2 : goal.returns-in-None-2
 returns-in-None-2 c =
-    unsuited_is_bad _ _ (source_seen c.args.source.now) (view c.in-Some.tree) (rw c.in-Some.is at c.in_ok-tree.ensures)
-    (rw (c.in-None-2.is, c.deref.ensures.value) at c.in_ok-found.ensures)
+    unsuited_is_bad _ _ (source_seen c.args.source.now) (view c.in-Some.tree.value) (rw c.in-Some.is at c.in_ok-tree.ensures)
+    (rw (c.in-None-2.is, c.deref.ensures.value, c.deref-2.ensures) at c.in_ok-found.ensures)
