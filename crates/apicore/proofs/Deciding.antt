@@ -17,7 +17,7 @@ use Rattle.requests.specs.Collection.{Collection}
 use Rattle.requests.specs.Manifest.{Manifest}
 use Rattle.requests.specs.Refusal as table
 use Rattle.requests.specs.Request.{Request, get, list, watch, create, replace, delete, refused}
-use Rattle.requests.specs.Selector.{Requirement}
+use Rattle.labels.specs.Requirement.{Requirement}
 use Rattle.requests.specs.declared.refusal.Refusal as code_refusal
 use Rattle.requests.specs.declared.refusal.Refusal.TheVariants.{AlreadyExists, NotFound, VersionNotCurrent, BadSpec}
 use Rattle.history.specs.History as write

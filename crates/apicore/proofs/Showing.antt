@@ -13,7 +13,8 @@ use Rattle.objects.specs.Objects.{value_at}
 use Rattle.documents.specs.Document.{Document, shown}
 use Rattle.requests.specs.Collection.{Collection, has_key}
 use Rattle.requests.specs.Refusal as table
-use Rattle.requests.specs.Selector.{Requirement, selects}
+use Rattle.labels.specs.Requirement.{Requirement}
+use Rattle.requests.specs.Selector.{selects}
 use Rattle.requests.specs.declared.refusal.Refusal.TheVariants.{NotFound, VersionNotCurrent, ObjectTooLarge, TooManyObjects, RevisionExhausted}
 use Rattle.history.specs.declared.state.Stored.{Stored}
 use Rattle.history.specs.Listing.{shown_items, list_of, served, listing, watching, watch_conditions}

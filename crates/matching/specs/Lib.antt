@@ -1,3 +1,2 @@
 pub mod Matching
 pub mod Rules
-pub mod Selecting

@@ -15,8 +15,9 @@ use Rattle.matching.specs.declared.rules.OperationEntry.{OperationEntry}
 use Rattle.matching.specs.declared.rules.OperationEntry.TheVariants.{Any, Exactly}
 use Rattle.matching.specs.declared.rules.RuleScope.{RuleScope}
 use Rattle.matching.specs.declared.rules.RuleScope.TheVariants.{Cluster, Namespaced, Every}
-use Rattle.matching.specs.Rules.{Entry, any, exactly, Requirement, Rule, MatchRules, Attempt}
-use Rattle.matching.specs.Selecting.{is_among, selects}
+use Rattle.labels.specs.Requirement.{Requirement}
+use Rattle.matching.specs.Rules.{Entry, any, exactly, Rule, MatchRules, Attempt}
+use Rattle.labels.specs.Selecting.{is_among, selects}
 
 -- ---- the parts of a rule
 

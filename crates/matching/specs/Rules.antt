@@ -1,16 +1,15 @@
--- What rules ask of a write (Kubernetes, ValidatingAdmissionPolicy: MatchResources, NamedRuleWithOperations, LabelSelector).
+-- What rules ask of a write (Kubernetes, ValidatingAdmissionPolicy: MatchResources, NamedRuleWithOperations).
 use Rattle.std.specs.Prelude.{ℕ, List, Option, map, option_map, string_bytes}
 use Rattle.serde_json.specs.Data.{Data}
 use Rattle.serde_json.specs.View.{view}
 use Rattle.names.specs.Key.{Key}
+use Rattle.labels.specs.Requirement.{Requirement, requirement_seen}
 use Rattle.matching.specs.declared.attempt.Attempt as code_attempt
 use Rattle.matching.specs.declared.rules.Entry as code_entry
 use Rattle.matching.specs.declared.rules.Entry.TheVariants.{Any, Exactly}
 use Rattle.matching.specs.declared.rules.MatchRules as code_match_rules
 use Rattle.matching.specs.declared.rules.Operation.{Operation}
 use Rattle.matching.specs.declared.rules.OperationEntry.{OperationEntry}
-use Rattle.matching.specs.declared.rules.Requirement as code_requirement
-use Rattle.matching.specs.declared.rules.Requirement.TheVariants.{IsOneOf, IsNoneOf, IsThere, IsAbsent}
 use Rattle.matching.specs.declared.rules.Rule as code_rule
 use Rattle.matching.specs.declared.rules.RuleScope.{RuleScope}
 
@@ -20,15 +19,6 @@ pub data Entry : Type 0 where
   any : Entry
   -- this one
   exactly : (value : List ℕ) → Entry
-
--- what one part of a selector asks of the label with this key
-pub data Requirement : Type 0 where
-  -- it is there, and has one of the values
-  is_one_of : (key : List ℕ) (values : List (List ℕ)) → Requirement
-  -- it is not there, or has none of the values
-  is_none_of : (key : List ℕ) (values : List (List ℕ)) → Requirement
-  is_there : (key : List ℕ) → Requirement
-  is_absent : (key : List ℕ) → Requirement
 
 -- a rule on writes: the operations, the resources by group, version and plural, the names of objects, and the scope
 pub record Rule : Type 0 where
@@ -57,12 +47,6 @@ pub record Attempt : Type 0 where
 abbrev pub entry_seen : code_entry.Entry → Entry
 entry_seen Any = any
 entry_seen (Exactly value) = exactly (string_bytes value)
-
-abbrev pub requirement_seen : code_requirement.Requirement → Requirement
-requirement_seen (IsOneOf key values) = is_one_of (string_bytes key) (map string_bytes values.items)
-requirement_seen (IsNoneOf key values) = is_none_of (string_bytes key) (map string_bytes values.items)
-requirement_seen (IsThere key) = is_there (string_bytes key)
-requirement_seen (IsAbsent key) = is_absent (string_bytes key)
 
 abbrev pub rule_seen : code_rule.Rule → Rule
 rule_seen r = record {

@@ -5,11 +5,12 @@ ghost use Rattle.std.specs.List.{list_any};
 ghost use Rattle.std.specs.Option.{option_map_or};
 ghost use Rattle.serde_json.specs.View.{view};
 ghost use Rattle.matching.specs.Matching.{is_guarded, holds_operation, holds_text, is_text, allows_name, fits, has_resource, has_object, meets_rule, selects_either, takes, is_constrained, is_bound, is_matched};
-ghost use Rattle.matching.specs.Rules.{attempt_seen, entry_seen, match_rules_seen, requirement_seen, rule_seen};
-ghost use Rattle.matching.specs.Selecting.{selects};
+ghost use Rattle.matching.specs.Rules.{attempt_seen, entry_seen, match_rules_seen, rule_seen};
+ghost use Rattle.labels.specs.Requirement.{requirement_seen};
+ghost use Rattle.labels.specs.Selecting.{selects};
 
-use crate::rules::{Entry, MatchRules, Operation, OperationEntry, Requirement, Rule, RuleScope};
-use crate::selector::{is_among, selects};
+use crate::rules::{Entry, MatchRules, Operation, OperationEntry, Rule, RuleScope};
+use labels::{Requirement, is_among, selects};
 use names::{Key, Resource, Scope};
 use serde_json::Value;
 

@@ -1,5 +1,7 @@
 //! What rules ask of a write.
 
+use labels::Requirement;
+
 /// What a write does to its object.
 #[derive(Clone, Copy, Debug, PartialEq, Eq)]
 pub enum Operation {
@@ -35,19 +37,6 @@ pub enum RuleScope {
     Namespaced,
     /// All of them, written `*`.
     Every,
-}
-
-/// What one part of a selector asks of the labels of an object. The first text is the key of a label.
-#[derive(Debug, Drop)]
-pub enum Requirement {
-    /// The label is there, and has one of the values.
-    IsOneOf(String, Vec<String>),
-    /// The label is not there, or has none of the values.
-    IsNoneOf(String, Vec<String>),
-    /// The label is there.
-    IsThere(String),
-    /// The label is not there.
-    IsAbsent(String),
 }
 
 /// A rule on writes: each part of it must be met.

@@ -4,7 +4,8 @@ use Rattle.std.specs.List.{list_all}
 use Rattle.std.specs.Str.{bytes_eq}
 use Rattle.serde_json.specs.Data.{Data, Members, no_members, member}
 use Rattle.serde_json.specs.Find.{as_str, as_object}
-use Rattle.matching.specs.Rules.{Entry, any, exactly, Requirement, is_one_of, is_none_of, is_there, is_absent, Rule, MatchRules}
+use Rattle.labels.specs.Requirement.{Requirement, is_one_of, is_none_of, is_there, is_absent}
+use Rattle.matching.specs.Rules.{Entry, any, exactly, Rule, MatchRules}
 use Rattle.matching.specs.declared.rules.Operation.TheVariants.{Create, Update, Delete}
 use Rattle.matching.specs.declared.rules.OperationEntry.{OperationEntry}
 use Rattle.matching.specs.declared.rules.OperationEntry.TheVariants as operation

@@ -3,13 +3,13 @@
 ghost use Rattle.std.specs.Prelude.{◌≡◌, None, Some, map, IfOk, OnOk, IsErrOf};
 ghost use Rattle.serde_json.specs.Data.{Members, member};
 ghost use Rattle.serde_json.specs.View.{view, members_view};
-ghost use Rattle.matching.specs.Rules.{requirement_seen};
+ghost use Rattle.labels.specs.Requirement.{requirement_seen};
 ghost use Rattle.policy.specs.Forms.{after};
 ghost use Rattle.policy.specs.MatchRules.{labels_of};
 ghost use Rattle.policy.specs.declared.form.FormFault.TheVariants as FormFault;
 
 use crate::form::{Form, FormFault, has_only, optional_list, optional_or, required};
-use matching::Requirement;
+use labels::Requirement;
 use serde_json::{Map, Value as Json};
 use std::alloc::Global;
 
@@ -49,11 +49,11 @@ impl Form for Operator {
 }
 
 impl Form for Requirement {
-    ghost use Rattle.matching.specs.Rules as rules;
-    ghost use Rattle.matching.specs.Rules.{requirement_seen};
+    ghost use Rattle.labels.specs.Requirement as labels;
+    ghost use Rattle.labels.specs.Requirement.{requirement_seen};
     ghost use Rattle.policy.specs.MatchRules.{requirement_of};
 
-    ghost Spelled = { rules.Requirement };
+    ghost Spelled = { labels.Requirement };
 
     ghost form_of = { requirement_of };
 
@@ -88,11 +88,11 @@ pub struct Labels {
 
 impl Form for Labels {
     ghost use Rattle.std.specs.Prelude.{List, map};
-    ghost use Rattle.matching.specs.Rules as rules;
-    ghost use Rattle.matching.specs.Rules.{requirement_seen};
+    ghost use Rattle.labels.specs.Requirement as labels;
+    ghost use Rattle.labels.specs.Requirement.{requirement_seen};
     ghost use Rattle.policy.specs.MatchRules.{match_labels_of};
 
-    ghost Spelled = { List rules.Requirement };
+    ghost Spelled = { List labels.Requirement };
 
     ghost form_of = { match_labels_of };
 
@@ -150,11 +150,11 @@ pub struct Selector {
 
 impl Form for Selector {
     ghost use Rattle.std.specs.Prelude.{List, map};
-    ghost use Rattle.matching.specs.Rules as rules;
-    ghost use Rattle.matching.specs.Rules.{requirement_seen};
+    ghost use Rattle.labels.specs.Requirement as labels;
+    ghost use Rattle.labels.specs.Requirement.{requirement_seen};
     ghost use Rattle.policy.specs.MatchRules.{selector_of};
 
-    ghost Spelled = { List rules.Requirement };
+    ghost Spelled = { List labels.Requirement };
 
     ghost form_of = { selector_of };
 

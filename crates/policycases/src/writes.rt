@@ -2,7 +2,8 @@
 
 use cases::{Wrong, yes_or_no};
 use jsondoc::{Doc, ReadFault};
-use matching::{Attempt, MatchRules, Operation, is_guarded, matches, selects};
+use labels::selects;
+use matching::{Attempt, MatchRules, Operation, is_guarded, matches};
 use names::{Key, KeyFault, Resource, ResourceTable};
 use policy::Binding;
 use serde_json::Value;

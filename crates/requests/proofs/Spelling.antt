@@ -4,7 +4,8 @@ use Rattle.std.proofs.lemmas.List.Folds.{list_all-append}
 use Rattle.std.specs.List.{list_all, position_or_len}
 use Rattle.std.specs.Option.{option_map_or}
 use Rattle.jsondoc.proofs.Documents.{both}
-use Rattle.requests.specs.Selector.{Requirement, equals, differs, has, lacks, is_label, is_label_byte, is_value, is_value_byte, parted, behind, on_label, on_pair, negated, equated, affirmed, requirement_of}
+use Rattle.labels.specs.Requirement.{Requirement, is_one_of, is_none_of, is_there, is_absent}
+use Rattle.requests.specs.Selector.{equals, differs, is_label, is_label_byte, is_value, is_value_byte, parted, behind, on_label, on_pair, negated, equated, affirmed, requirement_of}
 use Rattle.requests.specs.Spelling.{IsWellFormed, Spells}
 
 and_true : (a b : Bool) → a ≡ true → b ≡ true → (a && b) ≡ true
@@ -139,10 +140,10 @@ on_whole : (part : List ℕ) → parted 33 part ≡ None → requirement_of part
 on_whole part is = ap (λ o. option_map_or (λ q. negated q.0 q.1) o (affirmed part)) is
 
 on_equated : (part : List ℕ) (p : List ℕ × List ℕ) → parted 61 part ≡ Some p → affirmed part ≡ equated p.0 p.1
-on_equated part p is = ap (λ o. option_map_or (λ q. equated q.0 q.1) o (on_label has part)) is
+on_equated part p is = ap (λ o. option_map_or (λ q. equated q.0 q.1) o (on_label is_there part)) is
 
-on_alone : (part : List ℕ) → parted 61 part ≡ None → affirmed part ≡ on_label has part
-on_alone part is = ap (λ o. option_map_or (λ q. equated q.0 q.1) o (on_label has part)) is
+on_alone : (part : List ℕ) → parted 61 part ≡ None → affirmed part ≡ on_label is_there part
+on_alone part is = ap (λ o. option_map_or (λ q. equated q.0 q.1) o (on_label is_there part)) is
 
 made_pair : (asks : List ℕ → List ℕ → Requirement) (label value : List ℕ) → is_label label ≡ true → is_value value ≡ true
     → on_pair asks label value ≡ Some (asks label value)
@@ -170,21 +171,25 @@ differs_spelled : (label value : List ℕ) → is_label label ≡ true → is_va
 differs_spelled label value l v =
     on_parted (label ++ 33 ∷ 61 ∷ value) (label, 61 ∷ value) (parted_some 33 label (61 ∷ value) (in_label 33 label refl l)) ∙ made_pair differs label value l v
 
-has_spelled : (label : List ℕ) → is_label label ≡ true → requirement_of label ≡ Some (has label)
+has_spelled : (label : List ℕ) → is_label label ≡ true → requirement_of label ≡ Some (is_there label)
 has_spelled label l =
-    on_whole label (parted_none 33 label (in_label 33 label refl l)) ∙ on_alone label (parted_none 61 label (in_label 61 label refl l)) ∙ made_label has label l
+    on_whole label (parted_none 33 label (in_label 33 label refl l)) ∙ on_alone label (parted_none 61 label (in_label 61 label refl l)) ∙ made_label is_there label l
 
-lacks_spelled : (label : List ℕ) → is_label label ≡ true → requirement_of (33 ∷ label) ≡ Some (lacks label)
+lacks_spelled : (label : List ℕ) → is_label label ≡ true → requirement_of (33 ∷ label) ≡ Some (is_absent label)
 lacks_spelled label l =
     on_parted (33 ∷ label) ([], label) (parted_some 33 [] label refl)
-    ∙ ap (λ o. option_map_or (on_pair differs []) o (on_label lacks label)) (behind_none 61 label (in_label 61 label refl l)) ∙ made_label lacks label l
+    ∙ ap (λ o. option_map_or (on_pair differs []) o (on_label is_absent label)) (behind_none 61 label (in_label 61 label refl l)) ∙ made_label is_absent label l
 
 spelled : (part : List ℕ) (r : Requirement) → IsWellFormed r → Spells r part → requirement_of part ≡ Some r
-spelled part (equals label value) form (inl is) = ap requirement_of is ∙ equals_spelled label value form.0 form.1
-spelled part (equals label value) form (inr is) = ap requirement_of is ∙ twice_spelled label value form.0 form.1
-spelled part (differs label value) form is = ap requirement_of is ∙ differs_spelled label value form.0 form.1
-spelled part (has label) form is = ap requirement_of is ∙ has_spelled label form
-spelled part (lacks label) form is = ap requirement_of is ∙ lacks_spelled label form
+spelled part (is_one_of label []) form is = absurd is
+spelled part (is_one_of label (value ∷ other ∷ more)) form is = absurd is
+spelled part (is_none_of label []) form is = absurd is
+spelled part (is_none_of label (value ∷ other ∷ more)) form is = absurd is
+spelled part (is_one_of label (value ∷ [])) form (inl is) = ap requirement_of is ∙ equals_spelled label value form.0 form.1
+spelled part (is_one_of label (value ∷ [])) form (inr is) = ap requirement_of is ∙ twice_spelled label value form.0 form.1
+spelled part (is_none_of label (value ∷ [])) form is = ap requirement_of is ∙ differs_spelled label value form.0 form.1
+spelled part (is_there label) form is = ap requirement_of is ∙ has_spelled label form
+spelled part (is_absent label) form is = ap requirement_of is ∙ lacks_spelled label form
 
 -- ---- what is asked is spelled
 
@@ -211,13 +216,13 @@ no_length [] is = refl
 no_length (b ∷ bs) is = absurd (let never : suc (length bs) ≡ 0 = eqb-true (suc (length bs)) 0 is in cc)
 
 empty_asked : (v : Bool) (part before after : List ℕ) (r : Requirement) → (length before == 0) ≡ v → part ≡ before ++ 33 ∷ after
-    → cond v (on_label lacks after) None ≡ Some r → Asks part r
+    → cond v (on_label is_absent after) None ≡ Some r → Asks part r
 empty_asked true part before after r empty whole is =
-    label_asked lacks after part r is (λ l. (l, whole ∙ ap (λ b. b ++ 33 ∷ after) (no_length before empty)))
+    label_asked is_absent after part r is (λ l. (l, whole ∙ ap (λ b. b ++ 33 ∷ after) (no_length before empty)))
 empty_asked false part before after r empty whole is = absurd (let never : None ≡ Some r = is in cc)
 
 negated_asked : (o : Option (List ℕ)) (part before after : List ℕ) (r : Requirement) → behind 61 after ≡ o → part ≡ before ++ 33 ∷ after
-    → option_map_or (on_pair differs before) o (cond (length before == 0) (on_label lacks after) None) ≡ Some r → Asks part r
+    → option_map_or (on_pair differs before) o (cond (length before == 0) (on_label is_absent after) None) ≡ Some r → Asks part r
 negated_asked None part before after r at whole is = empty_asked (length before == 0) part before after r refl whole is
 negated_asked (Some value) part before after r at whole is =
     pair_asked differs before value part r is (λ l v. ((l, v), whole ∙ ap (λ a. before ++ 33 ∷ a) (behind_some 61 after value at)))
@@ -229,8 +234,8 @@ equated_asked (Some value) part before after r at whole is =
     pair_asked equals before value part r is (λ l v. ((l, v), inr (whole ∙ ap (λ a. before ++ 61 ∷ a) (behind_some 61 after value at))))
 
 affirmed_asked : (o : Option (List ℕ × List ℕ)) (part : List ℕ) (r : Requirement) → parted 61 part ≡ o
-    → option_map_or (λ q. equated q.0 q.1) o (on_label has part) ≡ Some r → Asks part r
-affirmed_asked None part r at is = label_asked has part part r is (λ l. (l, refl))
+    → option_map_or (λ q. equated q.0 q.1) o (on_label is_there part) ≡ Some r → Asks part r
+affirmed_asked None part r at is = label_asked is_there part part r is (λ l. (l, refl))
 affirmed_asked (Some p) part r at is = equated_asked (behind 61 p.1) part p.0 p.1 r refl (parted_is 61 part p at) is
 
 part_asked : (o : Option (List ℕ × List ℕ)) (part : List ℕ) (r : Requirement) → parted 33 part ≡ o

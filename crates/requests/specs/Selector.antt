@@ -1,25 +1,20 @@
 -- Label selectors, the equality-based ones (Kubernetes, "Labels and Selectors"): their texts, and what they select.
-use Rattle.std.specs.Prelude.{ℕ, List, [], ◌∷◌, length, Bool, true, false, not, ◌&&◌, ◌||◌, ◌==◌, nat_lt, codes, map, string_bytes, if◌then◌else◌, Option, Some, None, is_some, is_none, option_map, option_and_then, unwrap_or}
+use Rattle.std.specs.Prelude.{ℕ, List, [], ◌∷◌, length, Bool, not, ◌&&◌, ◌||◌, ◌==◌, nat_lt, map, if◌then◌else◌, Option, Some, None, option_map, option_and_then, unwrap_or}
 use Rattle.std.specs.Char.{is_ascii_digit, is_ascii_lowercase, is_ascii_uppercase}
 use Rattle.std.specs.List.{list_all, slice_split, position_or_len, before_first, after_first}
 use Rattle.std.specs.Option.{option_map_or}
-use Rattle.std.specs.Str.{bytes_eq}
-use Rattle.serde_json.specs.Find.{get, as_str}
 use Rattle.documents.specs.Document.{Document}
-use Rattle.requests.specs.declared.selector.Requirement as code
-use Rattle.requests.specs.declared.selector.Requirement.TheVariants.{Equals, Differs, Has, Lacks}
+use Rattle.labels.specs.Requirement.{Requirement, is_one_of, is_none_of, is_there, is_absent, requirement_seen}
+use Rattle.labels.specs.Selecting as labels
 use Rattle.requests.specs.declared.selector.Selector as code_selector
 
--- what a part of a selector asks of the labels
-pub data Requirement : Type 0 where
-  -- the label has this value
-  equals : (label value : List ℕ) → Requirement
-  -- the label has another value, or is not there
-  differs : (label value : List ℕ) → Requirement
-  -- the label is there
-  has : (label : List ℕ) → Requirement
-  -- the label is not there
-  lacks : (label : List ℕ) → Requirement
+-- the label has this value
+abbrev pub equals : (label value : List ℕ) → Requirement
+equals label value = is_one_of label (value ∷ [])
+
+-- the label has another value, or is not there
+abbrev pub differs : (label value : List ℕ) → Requirement
+differs label value = is_none_of label (value ∷ [])
 
 -- ---- the texts
 
@@ -70,7 +65,7 @@ on_pair asks label value = if is_label label && is_value value then Some (asks l
 -- a part with an exclamation mark: `LABEL!=VALUE`, or `!LABEL`
 abbrev pub negated : (before after : List ℕ) → Option Requirement
 negated before after =
-    option_map_or (on_pair differs before) (behind equals_sign after) (if length before == 0 then on_label lacks after else None)
+    option_map_or (on_pair differs before) (behind equals_sign after) (if length before == 0 then on_label is_absent after else None)
 
 -- a part with an equals sign: `LABEL=VALUE`, or `LABEL==VALUE`
 abbrev pub equated : (before after : List ℕ) → Option Requirement
@@ -78,7 +73,7 @@ equated before after = on_pair equals before (unwrap_or (behind equals_sign afte
 
 -- a part without exclamation mark: one with an equals sign, or `LABEL`
 abbrev pub affirmed : (part : List ℕ) → Option Requirement
-affirmed part = option_map_or (λ parts. equated parts.0 parts.1) (parted equals_sign part) (on_label has part)
+affirmed part = option_map_or (λ parts. equated parts.0 parts.1) (parted equals_sign part) (on_label is_there part)
 
 -- what a part asks, if it asks something
 abbrev pub requirement_of : (part : List ℕ) → Option Requirement
@@ -95,28 +90,11 @@ selector_of text = if length text == 0 then Some [] else requirements_of (slice_
 
 -- ---- what they select
 
--- the value of a label: the text that is this member of `metadata.labels`
-abbrev pub label_of : (label : List ℕ) → Document → Option (List ℕ)
-label_of label d =
-    option_and_then as_str (option_and_then (get label) (option_and_then (get (codes "labels")) (get (codes "metadata") d.json)))
-
-abbrev pub meets : Document → Requirement → Bool
-meets d (equals label value) = option_map_or (λ found. bytes_eq value found) (label_of label d) false
-meets d (differs label value) = option_map_or (λ found. not (bytes_eq value found)) (label_of label d) true
-meets d (has label) = is_some (label_of label d)
-meets d (lacks label) = is_none (label_of label d)
-
 -- a document is selected if it meets each requirement
 abbrev pub selects : List Requirement → Document → Bool
-selects requirements d = list_all (meets d) requirements
+selects requirements d = labels.selects requirements d.json
 
--- ---- what the code's types stand for
-
-abbrev pub requirement_seen : code.Requirement → Requirement
-requirement_seen (Equals label value) = equals (string_bytes label) (string_bytes value)
-requirement_seen (Differs label value) = differs (string_bytes label) (string_bytes value)
-requirement_seen (Has label) = has (string_bytes label)
-requirement_seen (Lacks label) = lacks (string_bytes label)
+-- ---- what the code's type stands for
 
 abbrev pub selector_seen : code_selector.Selector → List Requirement
 selector_seen s = map requirement_seen s.requirements.items

@@ -25,4 +25,4 @@ pub use laws::{parts_are_spelled, stored_is_read};
 pub use manifest::{BodyFault, Manifest};
 pub use refusal::Refusal;
 pub use request::Request;
-pub use selector::{Requirement, Selector};
+pub use selector::Selector;

@@ -1,23 +1,12 @@
 // The text of a selector, and the documents that it selects.
-ghost use Rattle.std.specs.Prelude.{◌≡◌, ◌==◌, map, IfOk, option_map};
+ghost use Rattle.std.specs.Prelude.{◌≡◌, ◌==◌, ◌∷◌, [], map, string_bytes, IfOk, option_map};
 ghost use Rattle.std.specs.List.{list_all, slice_split};
-ghost use Rattle.requests.specs.Selector.{equals, differs, has, lacks, exclamation_mark, equals_sign, comma, is_value_byte, is_value, is_label_byte, is_label, parted, behind, on_label, on_pair, negated, equated, affirmed, requirement_of, requirements_of, selector_of, label_of, meets, selects, requirement_seen, selector_seen};
+ghost use Rattle.labels.specs.Requirement.{is_there, is_absent, requirement_seen};
+ghost use Rattle.requests.specs.Selector.{equals, differs, exclamation_mark, equals_sign, comma, is_value_byte, is_value, is_label_byte, is_label, parted, behind, on_label, on_pair, negated, equated, affirmed, requirement_of, requirements_of, selector_of, selects, selector_seen};
 
 use documents::Document;
+use labels::Requirement;
 use std::alloc::{AllocError, Global};
-
-/// What one part of a selector asks of the labels of an object: the texts are a label and, in the first two, a value.
-#[derive(Drop)]
-pub enum Requirement {
-    /// The label has this value.
-    Equals(String, String),
-    /// The label has another value, or is not there.
-    Differs(String, String),
-    /// The label is there.
-    Has(String),
-    /// The label is not there.
-    Lacks(String),
-}
 
 /// A label selector of equality-based requirements (Kubernetes, "Labels and Selectors"), each of which must be met.
 #[derive(Drop)]
@@ -48,12 +37,7 @@ impl Selector {
     pub fn selects(&self, document: &Document) -> bool
         ensures { result ≡ selects (selector_seen self.now) document.now }
     {
-        for requirement in &self.requirements {
-            if !meets(document, requirement) {
-                return false;
-            }
-        }
-        true
+        labels::selects(&self.requirements, document.json().value())
     }
 }
 
@@ -124,13 +108,21 @@ fn equated(alloc: Global, before: &str, after: &str) -> Result<Option<Requiremen
     }
 }
 
+fn one_value(alloc: Global, value: &str) -> Result<Vec<String>, AllocError>
+    ensures { IfOk result (λ values. map string_bytes values.items ≡ value.now ∷ []) }
+{
+    let mut values = Vec::new(alloc);
+    values.push(String::from_str(alloc, value)?)?;
+    Ok(values)
+}
+
 fn equals(alloc: Global, label: &str, value: &str) -> Result<Option<Requirement>, AllocError>
     ensures { IfOk result (λ read. option_map requirement_seen read ≡ on_pair equals label.now value.now) }
 {
     if is_label(label) && is_value(value) {
+        let values = one_value(alloc, value)?;
         let label = String::from_str(alloc, label)?;
-        let value = String::from_str(alloc, value)?;
-        Ok(Some(Requirement::Equals(label, value)))
+        Ok(Some(Requirement::IsOneOf(label, values)))
     } else {
         Ok(None)
     }
@@ -140,29 +132,29 @@ fn differs(alloc: Global, label: &str, value: &str) -> Result<Option<Requirement
     ensures { IfOk result (λ read. option_map requirement_seen read ≡ on_pair differs label.now value.now) }
 {
     if is_label(label) && is_value(value) {
+        let values = one_value(alloc, value)?;
         let label = String::from_str(alloc, label)?;
-        let value = String::from_str(alloc, value)?;
-        Ok(Some(Requirement::Differs(label, value)))
+        Ok(Some(Requirement::IsNoneOf(label, values)))
     } else {
         Ok(None)
     }
 }
 
 fn has(alloc: Global, label: &str) -> Result<Option<Requirement>, AllocError>
-    ensures { IfOk result (λ read. option_map requirement_seen read ≡ on_label has label.now) }
+    ensures { IfOk result (λ read. option_map requirement_seen read ≡ on_label is_there label.now) }
 {
     if is_label(label) {
-        Ok(Some(Requirement::Has(String::from_str(alloc, label)?)))
+        Ok(Some(Requirement::IsThere(String::from_str(alloc, label)?)))
     } else {
         Ok(None)
     }
 }
 
 fn lacks(alloc: Global, label: &str) -> Result<Option<Requirement>, AllocError>
-    ensures { IfOk result (λ read. option_map requirement_seen read ≡ on_label lacks label.now) }
+    ensures { IfOk result (λ read. option_map requirement_seen read ≡ on_label is_absent label.now) }
 {
     if is_label(label) {
-        Ok(Some(Requirement::Lacks(String::from_str(alloc, label)?)))
+        Ok(Some(Requirement::IsAbsent(String::from_str(alloc, label)?)))
     } else {
         Ok(None)
     }
@@ -221,49 +213,4 @@ fn is_label(text: &str) -> bool
     ensures { result ≡ is_label text.now }
 {
     !text.is_empty() && are_label_bytes(text)
-}
-
-// ---- documents
-
-fn meets(document: &Document, requirement: &Requirement) -> bool
-    ensures { result ≡ meets document.now (requirement_seen requirement.now) }
-{
-    match requirement {
-        Requirement::Equals(label, value) => { has_value(document, label.as_str(), value.as_str()) }
-        Requirement::Differs(label, value) => {
-            has_no_value(document, label.as_str(), value.as_str())
-        }
-        Requirement::Has(label) => label_of(document, label.as_str()).is_some(),
-        Requirement::Lacks(label) => label_of(document, label.as_str()).is_none(),
-    }
-}
-
-fn has_value(document: &Document, label: &str, value: &str) -> bool
-    ensures { result ≡ meets document.now (equals label.now value.now) }
-{
-    match label_of(document, label) {
-        Some(found) => value == found,
-        None => false,
-    }
-}
-
-fn has_no_value(document: &Document, label: &str, value: &str) -> bool
-    ensures { result ≡ meets document.now (differs label.now value.now) }
-{
-    match label_of(document, label) {
-        Some(found) => value != found,
-        None => true,
-    }
-}
-
-// The value of a label.
-fn label_of<'d>(document: &'d Document, label: &str) -> Option<&'d str>
-    ensures { option_map (λ found. found.now) result ≡ label_of label.now document.now }
-{
-    document
-        .json()
-        .get("metadata")?
-        .get("labels")?
-        .get(label)?
-        .as_str()
 }

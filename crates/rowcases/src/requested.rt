@@ -3,8 +3,9 @@
 use crate::replies::message;
 use crate::streams::routed_first;
 use cases::{TextBuilder, Wrong, wanted};
+use labels::Requirement;
 use names::Key;
-use requests::{Collection, Manifest, Refusal, Request, Requirement, Selector};
+use requests::{Collection, Manifest, Refusal, Request, Selector};
 use routes::{Routed, Routes};
 use std::alloc::Global;
 
@@ -46,17 +47,26 @@ pub fn push_refusal(line: &mut TextBuilder, refusal: Refusal) {
     line.word(refusal.message());
 }
 
+fn push_values(line: &mut TextBuilder, values: &[String]) {
+    let mut between = "";
+    for value in values {
+        line.push(between);
+        line.push(value.as_str());
+        between = "|";
+    }
+}
+
 fn push_requirement(line: &mut TextBuilder, requirement: &Requirement) {
-    let (before, label, between, value) = match requirement {
-        Requirement::Equals(label, value) => ("", label, "=", value.as_str()),
-        Requirement::Differs(label, value) => ("", label, "!=", value.as_str()),
-        Requirement::Has(label) => ("", label, "", ""),
-        Requirement::Lacks(label) => ("!", label, "", ""),
+    let (before, label, between, values) = match requirement {
+        Requirement::IsOneOf(label, values) => ("", label, "=", values.as_slice()),
+        Requirement::IsNoneOf(label, values) => ("", label, "!=", values.as_slice()),
+        Requirement::IsThere(label) => ("", label, "", [].as_slice()),
+        Requirement::IsAbsent(label) => ("!", label, "", [].as_slice()),
     };
     line.word(before);
     line.push(label.as_str());
     line.push(between);
-    line.push(value);
+    push_values(line, values);
 }
 
 /// Adds how many requirements a selector has, and which.

@@ -10,7 +10,7 @@ use Rattle.names.specs.declared.resource.Scope.{Scope}
 use Rattle.names.specs.declared.resource.Scope.TheVariants.{Namespaced, Cluster}
 use Rattle.objects.specs.Objects.{is_of}
 use Rattle.matching.specs.Rules.{Attempt}
-use Rattle.matching.specs.Selecting.{selects}
+use Rattle.labels.specs.Selecting.{selects}
 use Rattle.policy.specs.Forms.{Text}
 use Rattle.policy.specs.Spec.{Wanted, by_name, by_selector, ParamRef}
 

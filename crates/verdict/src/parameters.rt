@@ -16,7 +16,8 @@ ghost use Rattle.verdict.specs.declared.lookup.LookupFault.TheVariants as Lookup
 use crate::lookup::{Listed, Lookup, LookupFault};
 use documents::shown_document;
 use jsondoc::Doc;
-use matching::{Attempt, selects};
+use labels::selects;
+use matching::Attempt;
 use names::{Resource, Scope};
 use policy::{Binding, ParamRef, Wanted};
 use std::alloc::{AllocError, Global};

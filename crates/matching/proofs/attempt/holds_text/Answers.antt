@@ -3,7 +3,7 @@ use Rattle.std.proofs.lemmas.Iterator.{YieldsList-from_slice}
 use Rattle.std.proofs.lemmas.Iterator.Search.{any_from_yields_List}
 use Rattle.matching.specs.Matching.{is_text}
 use Rattle.matching.specs.Rules.{entry_seen}
-use Rattle.matching.proofs.Lists.{list_any-map}
+use Rattle.labels.proofs.Lists.{list_any-map}
 use Rattle.matching.proofs.attempt.holds_text.Goals as goal
 
 pub returns : goal.returns

@@ -1,6 +1,7 @@
 use Rattle.std.proofs.Common.{map, drop, ap, sym, ◌∙◌, get_or, List, [], ◌∷◌, ℕ, ◌+◌, Bor, option_map, refl}
 use Rattle.std.proofs.lemmas.List.{map-append}
-use Rattle.requests.specs.Selector.{Requirement, requirement_seen, requirement_of, requirements_of}
+use Rattle.labels.specs.Requirement.{Requirement, requirement_seen}
+use Rattle.requests.specs.Selector.{requirement_of, requirements_of}
 use Rattle.requests.proofs.Lists.{drop-next}
 use Rattle.requests.proofs.Selecting.{followed_by, followed_by-nil, followed_by-more, followed_by-none}
 use Rattle.requests.proofs.selector.requirements_of.Goals as goal

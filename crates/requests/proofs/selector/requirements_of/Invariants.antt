@@ -1,5 +1,6 @@
 use Rattle.std.proofs.Common.{◌≡◌, map, drop}
-use Rattle.requests.specs.Selector.{requirement_seen, requirements_of}
+use Rattle.labels.specs.Requirement.{requirement_seen}
+use Rattle.requests.specs.Selector.{requirements_of}
 use Rattle.requests.proofs.Selecting.{followed_by}
 use Rattle.requests.proofs.selector.requirements_of.Given as goal
 

@@ -2,10 +2,10 @@ use Rattle.std.proofs.Common.{rules, tests, sym, ◌∙◌}
 use Rattle.std.proofs.lemmas.Iterator.{YieldsList-from_slice}
 use Rattle.std.proofs.lemmas.Iterator.Search.{all_from_yields_List}
 use Rattle.std.proofs.lemmas.List.Folds.{list_all-map}
-use Rattle.matching.specs.Rules.{requirement_seen}
-use Rattle.matching.specs.Selecting.{meets}
+use Rattle.labels.specs.Requirement.{requirement_seen}
+use Rattle.labels.specs.Selecting.{meets}
 use Rattle.serde_json.specs.View.{view}
-use Rattle.matching.proofs.selector.selects.Goals as goal
+use Rattle.labels.proofs.selecting.selects.Goals as goal
 
 pub returns : goal.returns
 returns c =

@@ -5,7 +5,7 @@ use Rattle.std.specs.Option.{option_map_or}
 use Rattle.std.specs.Str.{bytes_eq}
 use Rattle.serde_json.specs.Data.{Data}
 use Rattle.serde_json.specs.Find.{get, as_str}
-use Rattle.matching.specs.Rules.{Requirement, is_one_of, is_none_of, is_there, is_absent}
+use Rattle.labels.specs.Requirement.{Requirement, is_one_of, is_none_of, is_there, is_absent}
 
 -- the text is one of these
 abbrev pub is_among : List (List ℕ) → List ℕ → Bool

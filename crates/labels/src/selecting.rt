@@ -1,11 +1,11 @@
-//! Whether a label selector selects an object.
+//! Whether an object meets what a selector asks.
 
 ghost use Rattle.std.specs.Prelude.{◌≡◌, map, string_bytes, option_map};
 ghost use Rattle.serde_json.specs.View.{view};
-ghost use Rattle.matching.specs.Rules.{requirement_seen};
-ghost use Rattle.matching.specs.Selecting.{is_among, label_of, has_one_of, meets, selects};
+ghost use Rattle.labels.specs.Requirement.{requirement_seen};
+ghost use Rattle.labels.specs.Selecting.{is_among, label_of, has_one_of, meets, selects};
 
-use crate::rules::Requirement;
+use crate::requirement::Requirement;
 use serde_json::Value;
 
 /// Whether the object meets each requirement. A label is a text that is a member of `metadata.labels`.
@@ -46,7 +46,7 @@ fn label_of<'d>(object: &'d Value, key: &str) -> Option<&'d str>
 }
 
 /// Whether the text is one of these.
-pub(crate) fn is_among(texts: &[String], text: &str) -> bool
+pub fn is_among(texts: &[String], text: &str) -> bool
     ensures { result ≡ is_among (map string_bytes texts.now) text.now }
 {
     texts.iter().any(|candidate| text == candidate.as_str())

@@ -2,8 +2,8 @@ use Rattle.std.proofs.Common.{rules, tests, sym, ◌∙◌, string_bytes}
 use Rattle.std.proofs.lemmas.Iterator.{YieldsList-from_slice}
 use Rattle.std.proofs.lemmas.Iterator.Search.{any_from_yields_List}
 use Rattle.std.specs.Str.{bytes_eq}
-use Rattle.matching.proofs.Lists.{list_any-map}
-use Rattle.matching.proofs.selector.is_among.Goals as goal
+use Rattle.labels.proofs.Lists.{list_any-map}
+use Rattle.labels.proofs.selecting.is_among.Goals as goal
 
 pub returns : goal.returns
 returns c =
