@@ -13,9 +13,9 @@ use Rattle.history.specs.View.{stored_at}
 use Rattle.policy.specs.declared.validation.Reason.{Reason}
 use Rattle.policy.specs.declared.validation.Reason.TheVariants.{Unauthorized, Forbidden, Invalid, RequestEntityTooLarge}
 use Rattle.expressions.specs.Specification.{Specification}
+use Rattle.names.specs.declared.format.Rules.{Rules}
 use Rattle.apicore.specs.Step.{Asked, Refusal, known, with_bad_expression, denied_by, reason_code, status, refusal, success, warnings_of, verdict_of, asks_for, reply}
 use Rattle.apicore.specs.Standing.{View}
-use Rattle.durable.specs.Rules.{first_rules}
 use Rattle.httpmsg.specs.Stream.{Message}
 use Rattle.routes.specs.Asked.{asked}
 use Rattle.api.specs.Answers.{Answered, reply_of}
@@ -84,15 +84,16 @@ choice_code : (o : Option Refusal) (good : Reply) → IsStatusCode good.code →
 choice_code None good is = is
 choice_code (Some r) good is = refusal_code r
 
-request_code : (v : View) (a : Asked) → IsStatusCode (reply first_rules v a).code
-request_code v a =
-    let warnings : List (List ℕ) = warnings_of (verdict_of v (asks_for a.request a.specification)) in
-    choice_code (refusal first_rules v a) (success v a.request warnings) (success_code v a.request warnings)
+module _ (rules : Rules) where
+  request_code : (v : View) (a : Asked) → IsStatusCode (reply rules v a).code
+  request_code v a =
+      let warnings : List (List ℕ) = warnings_of (verdict_of v (asks_for a.request a.specification)) in
+      choice_code (refusal rules v a) (success v a.request warnings) (success_code v a.request warnings)
 
-either_code : (b : Bool) (v : View) (m : Message) (s : Specification Expr)
-    → IsStatusCode (reply_of v (record { message = m; specification = s; is_served = b })).code
-either_code true v m s = request_code v (record { request = asked m; specification = s })
-either_code false v m s = table_code OutOfMemory
+  either_code : (b : Bool) (v : View) (m : Message) (s : Specification Expr)
+      → IsStatusCode (reply_of rules v (record { message = m; specification = s; is_served = b })).code
+  either_code true v m s = request_code v (record { request = asked m; specification = s })
+  either_code false v m s = table_code OutOfMemory
 
-pub reply_code : (v : View) (a : Answered) → IsStatusCode (reply_of v a).code
-reply_code v a = either_code a.is_served v a.message a.specification
+  pub reply_code : (v : View) (a : Answered) → IsStatusCode (reply_of rules v a).code
+  reply_code v a = either_code a.is_served v a.message a.specification

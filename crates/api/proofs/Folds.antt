@@ -4,12 +4,12 @@ use Rattle.std.proofs.lemmas.List.{append-nil, map-append}
 use Rattle.device.specs.declared.device.Device.{Ghosts}
 use Rattle.device.proofs.Moments.{followed_by}
 use Rattle.requests.specs.declared.refusal.Refusal.TheVariants.{StorageFailed}
+use Rattle.names.specs.declared.format.Rules.{Rules}
 use Rattle.apicore.specs.Standing.{Write, History, View, AreAdmitted}
 use Rattle.apicore.proofs.Admitting.{AreAdmitted-append}
 use Rattle.history.specs.View.{view, after_all}
 use Rattle.history.proofs.ViewLemmas.{after_all-append}
 use Rattle.durable.specs.declared.store.Store.{Store}
-use Rattle.durable.specs.Rules.{first_rules}
 use Rattle.durable.specs.Stands.{StandsFor}
 use Rattle.durable.specs.Settled.{device_of, serves, IsFound, IsSettledAt, IsLeftAt, LeavesSome}
 use Rattle.durable.proofs.Answering.{view-after}
@@ -21,33 +21,34 @@ use Rattle.api.specs.declared.fault.ServeFault.TheVariants.{Read, Write as Write
 use Rattle.api.specs.ReplyBytes.{reply_bytes, closing_bytes}
 use Rattle.api.specs.Answers.{Answered, ShowsAt, AreRead, messages, writes_of, reply_of, all_writes, all_bytes, AllRefused, HasGrown, WhereSettled, HasApplied, Answers, WritesSome, MeetsFailure, Stops}
 
--- what is seen after some answers
-abbrev pub seen : View → List Answered → View
-seen v xs = after_all first_rules v (all_writes v xs)
+module _ (rules : Rules) where
+  -- what is seen after some answers
+  abbrev pub seen : View → List Answered → View
+  seen v xs = after_all rules v (all_writes rules v xs)
 
-pub all_writes-append : (v : View) (xs ys : List Answered) → all_writes v (xs ++ ys) ≡ all_writes v xs ++ all_writes (seen v xs) ys
-all_writes-append v [] ys = refl
-all_writes-append v (x ∷ xs) ys =
-    let w : List Write = writes_of v x in
-    let u : View = after_all first_rules v w in
-    let more : List Write = all_writes u xs in
-    ap (λ r. w ++ r) (all_writes-append u xs ys)
-    ∙ sym (append_assoc w more (all_writes (after_all first_rules u more) ys))
-    ∙ ap (λ z. (w ++ more) ++ all_writes z ys) (sym (after_all-append first_rules v w more))
+  pub all_writes-append : (v : View) (xs ys : List Answered) → all_writes rules v (xs ++ ys) ≡ all_writes rules v xs ++ all_writes rules (seen v xs) ys
+  all_writes-append v [] ys = refl
+  all_writes-append v (x ∷ xs) ys =
+      let w : List Write = writes_of rules v x in
+      let u : View = after_all rules v w in
+      let more : List Write = all_writes rules u xs in
+      ap (λ r. w ++ r) (all_writes-append u xs ys)
+      ∙ sym (append_assoc w more (all_writes rules (after_all rules u more) ys))
+      ∙ ap (λ z. (w ++ more) ++ all_writes rules z ys) (sym (after_all-append rules v w more))
 
-pub all_bytes-append : (v : View) (xs ys : List Answered) → all_bytes v (xs ++ ys) ≡ all_bytes v xs ++ all_bytes (seen v xs) ys
-all_bytes-append v [] ys = refl
-all_bytes-append v (x ∷ xs) ys =
-    let w : List Write = writes_of v x in
-    let u : View = after_all first_rules v w in
-    let more : List Write = all_writes u xs in
-    let bytes : List ℕ = reply_bytes x.message (reply_of v x) in
-    ap (λ r. bytes ++ r) (all_bytes-append u xs ys)
-    ∙ sym (append_assoc bytes (all_bytes u xs) (all_bytes (after_all first_rules u more) ys))
-    ∙ ap (λ z. (bytes ++ all_bytes u xs) ++ all_bytes z ys) (sym (after_all-append first_rules v w more))
+  pub all_bytes-append : (v : View) (xs ys : List Answered) → all_bytes rules v (xs ++ ys) ≡ all_bytes rules v xs ++ all_bytes rules (seen v xs) ys
+  all_bytes-append v [] ys = refl
+  all_bytes-append v (x ∷ xs) ys =
+      let w : List Write = writes_of rules v x in
+      let u : View = after_all rules v w in
+      let more : List Write = all_writes rules u xs in
+      let bytes : List ℕ = reply_bytes x.message (reply_of rules v x) in
+      ap (λ r. bytes ++ r) (all_bytes-append u xs ys)
+      ∙ sym (append_assoc bytes (all_bytes rules u xs) (all_bytes rules (after_all rules u more) ys))
+      ∙ ap (λ z. (bytes ++ all_bytes rules u xs) ++ all_bytes rules z ys) (sym (after_all-append rules v w more))
 
-seen-append : (v : View) (xs ys : List Answered) → seen v (xs ++ ys) ≡ seen (seen v xs) ys
-seen-append v xs ys = ap (after_all first_rules v) (all_writes-append v xs ys) ∙ after_all-append first_rules v (all_writes v xs) (all_writes (seen v xs) ys)
+  seen-append : (v : View) (xs ys : List Answered) → seen v (xs ++ ys) ≡ seen (seen v xs) ys
+  seen-append v xs ys = ap (after_all rules v) (all_writes-append v xs ys) ∙ after_all-append rules v (all_writes rules v xs) (all_writes rules (seen v xs) ys)
 
 AllRefused-append : (xs ys : List Answered) → AllRefused xs → AllRefused ys → AllRefused (xs ++ ys)
 AllRefused-append [] ys first second = second
@@ -57,108 +58,111 @@ read_then : (xs ys : List Answered) → AreRead xs → AreRead ys → AreRead (x
 read_then [] ys first second = second
 read_then (x ∷ xs) ys first second = (first.0, read_then xs ys first.1 second)
 
--- the writes of some answers, and then of others
-admitted_then : (v : View) (xs ys : List Answered) → AreAdmitted first_rules v (all_writes v xs)
-    → AreAdmitted first_rules (seen v xs) (all_writes (seen v xs) ys) → AreAdmitted first_rules v (all_writes v (xs ++ ys))
-admitted_then v xs ys first second =
-    subst (AreAdmitted first_rules v) (sym (all_writes-append v xs ys))
-    (AreAdmitted-append first_rules v (all_writes v xs) (all_writes (seen v xs) ys) first second)
+module _ (rules : Rules) where
+  -- the writes of some answers, and then of others
+  admitted_then : (v : View) (xs ys : List Answered) → AreAdmitted rules v (all_writes rules v xs)
+      → AreAdmitted rules (seen rules v xs) (all_writes rules (seen rules v xs) ys) → AreAdmitted rules v (all_writes rules v (xs ++ ys))
+  admitted_then v xs ys first second =
+      subst (AreAdmitted rules v) (sym (all_writes-append rules v xs ys))
+      (AreAdmitted-append rules v (all_writes rules v xs) (all_writes rules (seen rules v xs) ys) first second)
 
--- the view of a history, and of what follows it
-pub seen_view : (v : View) (h : History) (ws : List Write) → v ≡ view first_rules h → after_all first_rules v ws ≡ view first_rules (h ++ ws)
-seen_view v h ws is = ap (λ x. after_all first_rules x ws) is ∙ view-after h ws
+  -- the view of a history, and of what follows it
+  pub seen_view : (v : View) (h : History) (ws : List Write) → v ≡ view rules h → after_all rules v ws ≡ view rules (h ++ ws)
+  seen_view v h ws is = ap (λ x. after_all rules x ws) is ∙ view-after rules h ws
 
 -- ---- what is found
 
-found_before : (h : History) (writes more : List Write) (c : List ℕ) → IsFound first_rules h [] writes c → IsFound first_rules h [] (writes ++ more) c
-found_before h writes more c found = record {
-  more = found.more;
-  rest = found.rest ++ more;
-  parts = ap (λ w. w ++ more) found.parts ∙ append_assoc found.more found.rest more;
-  stands = found.stands;
-}
+module _ (rules : Rules) where
+  found_before : (h : History) (writes more : List Write) (c : List ℕ) → IsFound rules h [] writes c → IsFound rules h [] (writes ++ more) c
+  found_before h writes more c found = record {
+    more = found.more;
+    rest = found.rest ++ more;
+    parts = ap (λ w. w ++ more) found.parts ∙ append_assoc found.more found.rest more;
+    stands = found.stands;
+  }
 
-pub found_after : (h : History) (first kept writes : List Write) (c : List ℕ) → IsFound first_rules (h ++ first) kept writes c
-    → IsFound first_rules h (first ++ kept) (first ++ writes) c
-found_after h first kept writes c found = record {
-  more = found.more;
-  rest = found.rest;
-  parts = ap (λ w. first ++ w) found.parts ∙ sym (append_assoc first kept (found.more ++ found.rest));
-  stands = subst (StandsFor first_rules c)
-      (append_assoc h first (kept ++ found.more) ∙ ap (λ w. h ++ w) (sym (append_assoc first kept found.more))) found.stands;
-}
+  pub found_after : (h : History) (first kept writes : List Write) (c : List ℕ) → IsFound rules (h ++ first) kept writes c
+      → IsFound rules h (first ++ kept) (first ++ writes) c
+  found_after h first kept writes c found = record {
+    more = found.more;
+    rest = found.rest;
+    parts = ap (λ w. first ++ w) found.parts ∙ sym (append_assoc first kept (found.more ++ found.rest));
+    stands = subst (StandsFor rules c)
+        (append_assoc h first (kept ++ found.more) ∙ ap (λ w. h ++ w) (sym (append_assoc first kept found.more))) found.stands;
+  }
 
-found_later : (h : History) (first writes : List Write) (c : List ℕ) → IsFound first_rules (h ++ first) [] writes c → IsFound first_rules h [] (first ++ writes) c
-found_later h first writes c found = record {
-  more = first ++ found.more;
-  rest = found.rest;
-  parts = ap (λ w. first ++ w) found.parts ∙ sym (append_assoc first found.more found.rest);
-  stands = subst (StandsFor first_rules c) (append_assoc h first found.more) found.stands;
-}
+  found_later : (h : History) (first writes : List Write) (c : List ℕ) → IsFound rules (h ++ first) [] writes c → IsFound rules h [] (first ++ writes) c
+  found_later h first writes c found = record {
+    more = first ++ found.more;
+    rest = found.rest;
+    parts = ap (λ w. first ++ w) found.parts ∙ sym (append_assoc first found.more found.rest);
+    stands = subst (StandsFor rules c) (append_assoc h first found.more) found.stands;
+  }
 
-module _ {D : Type 0} {g : Ghosts D} where
+module _ {D : Type 0} {g : Ghosts D} (rules : Rules) where
   -- the moments of one run and then of another
-  pub moments_then : (old mid new : Store D g) (h : History) (first second : List Write) → LeavesSome first_rules old mid h first
-      → LeavesSome first_rules mid new (h ++ first) second → LeavesSome first_rules old new h (first ++ second)
+  pub moments_then : (old mid new : Store D g) (h : History) (first second : List Write) → LeavesSome rules old mid h first
+      → LeavesSome rules mid new (h ++ first) second → LeavesSome rules old new h (first ++ second)
   moments_then old mid new h first second before after =
-      followed_by g.disk (device_of old) (device_of mid) (device_of new) (IsFound first_rules h [] first) (IsFound first_rules (h ++ first) [] second)
-      (IsFound first_rules h [] (first ++ second)) before after (found_before h first second) (found_later h first second)
+      followed_by g.disk (device_of old) (device_of mid) (device_of new) (IsFound rules h [] first) (IsFound rules (h ++ first) [] second)
+      (IsFound rules h [] (first ++ second)) before after (found_before rules h first second) (found_later rules h first second)
 
-  pub left_after : (new : Store D g) (h : History) (first kept writes : List Write) → IsLeftAt first_rules new (h ++ first) kept writes
-      → IsLeftAt first_rules new h (first ++ kept) (first ++ writes)
+  pub left_after : (new : Store D g) (h : History) (first kept writes : List Write) → IsLeftAt rules new (h ++ first) kept writes
+      → IsLeftAt rules new h (first ++ kept) (first ++ writes)
   left_after new h first kept writes left = record {
     stopped = left.stopped;
     keeps = left.keeps;
-    read = found_after h first kept writes (g.disk.content (device_of new)) left.read;
-    left = λ c is. found_after h first kept writes c (left.left c is);
+    read = found_after rules h first kept writes (g.disk.content (device_of new)) left.read;
+    left = λ c is. found_after rules h first kept writes c (left.left c is);
   }
 
-  pub applied_then : (old mid new : Store D g) (v : View) (xs ys : List Answered) → HasApplied old mid v xs
-      → HasApplied mid new (seen v xs) ys → HasApplied old new v (xs ++ ys)
+  pub applied_then : (old mid new : Store D g) (v : View) (xs ys : List Answered) → HasApplied rules old mid v xs
+      → HasApplied rules mid new (seen rules v xs) ys → HasApplied rules old new v (xs ++ ys)
   applied_then old mid new v xs ys before after =
-      let us : List Write = all_writes v xs in
-      let ws : List Write = all_writes (seen v xs) ys in
-      let writes : all_writes v (xs ++ ys) ≡ us ++ ws = all_writes-append v xs ys in
+      let us : List Write = all_writes rules v xs in
+      let ws : List Write = all_writes rules (seen rules v xs) ys in
+      let writes : all_writes rules v (xs ++ ys) ≡ us ++ ws = all_writes-append rules v xs ys in
       record {
         serving = after.serving ∙ before.serving;
-        shows = subst (ShowsAt new) (sym (seen-append v xs ys)) after.shows;
+        shows = subst (ShowsAt rules new) (sym (seen-append rules v xs ys)) after.shows;
         failed = λ stopped.
             let first = before.failed stopped in
             let second = after.failed (before.serving ∙ stopped) in
             (second.0 ∙ first.0, AllRefused-append xs ys first.1 second.1);
         specified = read_then xs ys before.specified after.specified;
-        admitted = admitted_then v xs ys before.admitted after.admitted;
-        settled = λ h is settled. subst (IsSettledAt first_rules new) (append_assoc h us ws ∙ ap (λ w. h ++ w) (sym writes))
-            (after.settled (h ++ us) (seen_view v h us is) (before.settled h is settled));
-        moments = λ h is settled. subst (LeavesSome first_rules old new h) (sym writes)
+        admitted = admitted_then rules v xs ys before.admitted after.admitted;
+        settled = λ h is settled. subst (IsSettledAt rules new) (append_assoc h us ws ∙ ap (λ w. h ++ w) (sym writes))
+            (after.settled (h ++ us) (seen_view rules v h us is) (before.settled h is settled));
+        moments = λ h is settled. subst (LeavesSome rules old new h) (sym writes)
             (moments_then old mid new h us ws (before.moments h is settled)
-            (after.moments (h ++ us) (seen_view v h us is) (before.settled h is settled)));
+            (after.moments (h ++ us) (seen_view rules v h us is) (before.settled h is settled)));
       }
 
-  pub applied_none : (store : Store D g) (v : View) → ShowsAt store v
+  pub applied_none : (store : Store D g) (v : View) → ShowsAt rules store v
       → (g.disk.keeps (device_of store) → (c : List ℕ) → g.disk.since (device_of store) (g.disk.moment (device_of store)) c → g.disk.left (device_of store) c)
-      → HasApplied store store v []
+      → HasApplied rules store store v []
   applied_none store v shows only_now = record {
     serving = refl;
     shows = shows;
     failed = λ stopped. (refl, tt);
     specified = tt;
     admitted = tt;
-    settled = λ h is settled. subst (IsSettledAt first_rules store) (sym (append-nil h)) settled;
-    moments = λ h is settled. leaves-idle first_rules store h [] (only_now settled.keeps) settled;
+    settled = λ h is settled. subst (IsSettledAt rules store) (sym (append-nil h)) settled;
+    moments = λ h is settled. leaves-idle rules store h [] (only_now settled.keeps) settled;
   }
 
 -- ---- bytes and messages
 
-pub bytes_one : (v : View) (a : Answered) (closing : List ℕ) → reply_bytes a.message (reply_of v a) ++ closing ≡ all_bytes v (a ∷ []) ++ closing
-bytes_one v a closing = ap (λ b. b ++ closing) (sym (append-nil (reply_bytes a.message (reply_of v a))))
+module _ (rules : Rules) where
+  pub bytes_one : (v : View) (a : Answered) (closing : List ℕ) → reply_bytes a.message (reply_of rules v a) ++ closing ≡ all_bytes rules v (a ∷ []) ++ closing
+  bytes_one v a closing = ap (λ b. b ++ closing) (sym (append-nil (reply_bytes a.message (reply_of rules v a))))
 
-pub bytes_then : (v : View) (xs ys : List Answered) (closing : List ℕ)
-    → (all_bytes v xs ++ []) ++ (all_bytes (seen v xs) ys ++ closing) ≡ all_bytes v (xs ++ ys) ++ closing
-bytes_then v xs ys closing =
-    let back : List ℕ = all_bytes (seen v xs) ys in
-    ap (λ b. b ++ (back ++ closing)) (append-nil (all_bytes v xs)) ∙ sym (append_assoc (all_bytes v xs) back closing)
-    ∙ ap (λ b. b ++ closing) (sym (all_bytes-append v xs ys))
+  pub bytes_then : (v : View) (xs ys : List Answered) (closing : List ℕ)
+      → (all_bytes rules v xs ++ []) ++ (all_bytes rules (seen rules v xs) ys ++ closing) ≡ all_bytes rules v (xs ++ ys) ++ closing
+  bytes_then v xs ys closing =
+      let back : List ℕ = all_bytes rules (seen rules v xs) ys in
+      ap (λ b. b ++ (back ++ closing)) (append-nil (all_bytes rules v xs)) ∙ sym (append_assoc (all_bytes rules v xs) back closing)
+      ∙ ap (λ b. b ++ closing) (sym (all_bytes-append rules v xs ys))
 
 pub messages_then : (xs ys : List Answered) (ms ns : List Message) → messages xs ≡ ms → messages ys ≡ ns → messages (xs ++ ys) ≡ ms ++ ns
 messages_then xs ys ms ns first second = map-append (λ (a : Answered). a.message) xs ys ∙ ap (λ z. z ++ messages ys) first ∙ ap (λ z. ms ++ z) second
@@ -188,40 +192,40 @@ grown_after a b c le (inr most) = inr most
 
 -- ---- answers
 
-module _ {O D : Type 0} {g : Ghosts D} (took : O → O → List ℕ → Type 0) where
-  pub answers_none : (o : O) (store : Store D g) (v : View) → took o o [] → ShowsAt store v
+module _ {O D : Type 0} {g : Ghosts D} (rules : Rules) (took : O → O → List ℕ → Type 0) where
+  pub answers_none : (o : O) (store : Store D g) (v : View) → took o o [] → ShowsAt rules store v
       → (g.disk.keeps (device_of store) → (c : List ℕ) → g.disk.since (device_of store) (g.disk.moment (device_of store)) c → g.disk.left (device_of store) c)
-      → Answers took o o store store v [] []
-  answers_none o store v none shows only_now = record { answered = []; answers = refl; written = none; store = applied_none store v shows only_now }
+      → Answers rules took o o store store v [] []
+  answers_none o store v none shows only_now = record { answered = []; answers = refl; written = none; store = applied_none rules store v shows only_now }
 
   -- the answer to one message
-  pub answers_one : (o p : O) (old new : Store D g) (v : View) (a : Answered) → took o p (reply_bytes a.message (reply_of v a))
-      → HasApplied old new v (a ∷ []) → Answers took o p old new v (a.message ∷ []) []
+  pub answers_one : (o p : O) (old new : Store D g) (v : View) (a : Answered) → took o p (reply_bytes a.message (reply_of rules v a))
+      → HasApplied rules old new v (a ∷ []) → Answers rules took o p old new v (a.message ∷ []) []
   answers_one o p old new v a written applied = record {
     answered = a ∷ [];
     answers = refl;
-    written = subst (took o p) (sym (append-nil (reply_bytes a.message (reply_of v a))) ∙ bytes_one v a []) written;
+    written = subst (took o p) (sym (append-nil (reply_bytes a.message (reply_of rules v a))) ∙ bytes_one rules v a []) written;
     store = applied;
   }
 
   -- a beginning of the answer to one message
-  pub writes_some_one : (o p : O) (old new : Store D g) (v : View) (a : Answered) → TookSome took o p (reply_bytes a.message (reply_of v a))
-      → HasApplied old new v (a ∷ []) → WritesSome took o p old new v (a.message ∷ []) []
+  pub writes_some_one : (o p : O) (old new : Store D g) (v : View) (a : Answered) → TookSome took o p (reply_bytes a.message (reply_of rules v a))
+      → HasApplied rules old new v (a ∷ []) → WritesSome rules took o p old new v (a.message ∷ []) []
   writes_some_one o p old new v a written applied = record {
     answered = a ∷ [];
     waiting = [];
     split = refl;
-    written = subst (TookSome took o p) (sym (append-nil (reply_bytes a.message (reply_of v a))) ∙ bytes_one v a []) written;
+    written = subst (TookSome took o p) (sym (append-nil (reply_bytes a.message (reply_of rules v a))) ∙ bytes_one rules v a []) written;
     store = applied;
   }
 
   -- the device failed at one message, now or before
   pub fails_at_one : (failures : O → ℕ) (o p : O) (old new : Store D g) (v : View) (a : Answered) → a.is_served ≡ serves old
       → (written : TookSome took o p (closing_bytes false StorageFailed)) → (written.rest ≡ []) ⊎ HasGrown (failures o) (failures p)
-      → serves new ≡ false → (serves old ≡ false → new ≡ old) → AreRead (a ∷ []) → AreAdmitted first_rules v (all_writes v (a ∷ []))
-      → WhereSettled old v (λ h. IsLeftAt first_rules new h [] (all_writes v (a ∷ [])))
-      → WhereSettled old v (λ h. LeavesSome first_rules old new h (all_writes v (a ∷ [])))
-      → MeetsFailure took o p old new failures v (a.message ∷ [])
+      → serves new ≡ false → (serves old ≡ false → new ≡ old) → AreRead (a ∷ []) → AreAdmitted rules v (all_writes rules v (a ∷ []))
+      → WhereSettled rules old v (λ h. IsLeftAt rules new h [] (all_writes rules v (a ∷ [])))
+      → WhereSettled rules old v (λ h. LeavesSome rules old new h (all_writes rules v (a ∷ [])))
+      → MeetsFailure rules took o p old new failures v (a.message ∷ [])
   fails_at_one failures o p old new v a tried written whole stopped failed read admitted left moments = record {
     answered = [];
     failing = a;
@@ -242,7 +246,7 @@ module _ {O D : Type 0} {g : Ghosts D} (took : O → O → List ℕ → Type 0) 
   }
 
   abbrev fails_before : (failures : O → ℕ) (o p : O) (old new : Store D g) (v : View) (ms more : List Message)
-      → MeetsFailure took o p old new failures v ms → MeetsFailure took o p old new failures v (ms ++ more)
+      → MeetsFailure rules took o p old new failures v ms → MeetsFailure rules took o p old new failures v (ms ++ more)
   fails_before failures o p old new v ms more stops = record {
     answered = stops.answered;
     failing = stops.failing;
@@ -264,7 +268,7 @@ module _ {O D : Type 0} {g : Ghosts D} (took : O → O → List ℕ → Type 0) 
 
   -- further messages wait
   pub stops_before : (failures : O → ℕ) (o p : O) (old new : Store D g) (v : View) (ms more : List Message) (fault : ServeFault)
-      → Stops took failures o p old new v ms fault → Stops took failures o p old new v (ms ++ more) fault
+      → Stops rules took failures o p old new v ms fault → Stops rules took failures o p old new v (ms ++ more) fault
   stops_before failures o p old new v ms more Read stops = stops
   stops_before failures o p old new v ms more WriteFault stops = record {
     answered = stops.answered;
@@ -278,31 +282,31 @@ module _ {O D : Type 0} {g : Ghosts D} (took : O → O → List ℕ → Type 0) 
   stops_before failures o p old new v ms more (Damaged damage) stops = stops
   stops_before failures o p old new v ms more Failed stops = fails_before failures o p old new v ms more stops
 
-module _ {O D : Type 0} {g : Ghosts D} (took : O → O → List ℕ → Type 0)
+module _ {O D : Type 0} {g : Ghosts D} (rules : Rules) (took : O → O → List ℕ → Type 0)
     (took_then : (old mid new : O) (front back : List ℕ) → took old mid front → took mid new back → took old new (front ++ back)) where
   -- the answers to some messages and then to others
   pub answers_then : (o q p : O) (old mid new : Store D g) (v : View) (ms ns : List Message) (closing : List ℕ)
-      → (before : Answers took o q old mid v ms []) → Answers took q p mid new (seen v before.answered) ns closing
-      → Answers took o p old new v (ms ++ ns) closing
+      → (before : Answers rules took o q old mid v ms []) → Answers rules took q p mid new (seen rules v before.answered) ns closing
+      → Answers rules took o p old new v (ms ++ ns) closing
   answers_then o q p old mid new v ms ns closing before after =
       let xs : List Answered = before.answered in
       let ys : List Answered = after.answered in
       record {
         answered = xs ++ ys;
         answers = messages_then xs ys ms ns before.answers after.answers;
-        written = subst (took o p) (bytes_then v xs ys closing)
-            (took_then o q p (all_bytes v xs ++ []) (all_bytes (seen v xs) ys ++ closing) before.written after.written);
-        store = applied_then old mid new v xs ys before.store after.store;
+        written = subst (took o p) (bytes_then rules v xs ys closing)
+            (took_then o q p (all_bytes rules v xs ++ []) (all_bytes rules (seen rules v xs) ys ++ closing) before.written after.written);
+        store = applied_then rules old mid new v xs ys before.store after.store;
       }
 
   -- the answers to some messages, and then some of those to others
   abbrev pub writes_some_then : (o q p : O) (old mid new : Store D g) (v : View) (ms ns : List Message) (closing : List ℕ)
-      → (before : Answers took o q old mid v ms []) → WritesSome took q p mid new (seen v before.answered) ns closing
-      → WritesSome took o p old new v (ms ++ ns) closing
+      → (before : Answers rules took o q old mid v ms []) → WritesSome rules took q p mid new (seen rules v before.answered) ns closing
+      → WritesSome rules took o p old new v (ms ++ ns) closing
   writes_some_then o q p old mid new v ms ns closing before after =
       let xs : List Answered = before.answered in
       let ys : List Answered = after.answered in
-      let front : List ℕ = all_bytes v xs ++ [] in
+      let front : List ℕ = all_bytes rules v xs ++ [] in
       record {
         answered = xs ++ ys;
         waiting = after.waiting;
@@ -310,26 +314,26 @@ module _ {O D : Type 0} {g : Ghosts D} (took : O → O → List ℕ → Type 0)
         written = record {
           front = front ++ after.written.front;
           rest = after.written.rest;
-          split = sym (bytes_then v xs ys closing) ∙ ap (λ b. front ++ b) after.written.split
+          split = sym (bytes_then rules v xs ys closing) ∙ ap (λ b. front ++ b) after.written.split
               ∙ sym (append_assoc front after.written.front after.written.rest);
           taken = took_then o q p front after.written.front before.written after.written.taken;
         };
-        store = applied_then old mid new v xs ys before.store after.store;
+        store = applied_then rules old mid new v xs ys before.store after.store;
       }
 
   -- the answers to some messages, and then the device fails at another
   pub fails_then : (failures : O → ℕ) (o q p : O) → failures o ≤ failures q → (old mid new : Store D g) (v : View) (ms ns : List Message)
-      → (before : Answers took o q old mid v ms []) → MeetsFailure took q p mid new failures (seen v before.answered) ns
-      → MeetsFailure took o p old new failures v (ms ++ ns)
+      → (before : Answers rules took o q old mid v ms []) → MeetsFailure rules took q p mid new failures (seen rules v before.answered) ns
+      → MeetsFailure rules took o p old new failures v (ms ++ ns)
   fails_then failures o q p later old mid new v ms ns before after =
       let xs : List Answered = before.answered in
       let ys : List Answered = after.answered in
       let last : List Answered = after.failing ∷ [] in
-      let first : List Write = all_writes v xs in
-      let u : View = seen v xs in
-      let kept : first ++ all_writes u ys ≡ all_writes v (xs ++ ys) = sym (all_writes-append v xs ys) in
-      let all : first ++ all_writes u (ys ++ last) ≡ all_writes v ((xs ++ ys) ++ last) =
-      sym (all_writes-append v xs (ys ++ last)) ∙ ap (all_writes v) (sym (append_assoc xs ys last))
+      let first : List Write = all_writes rules v xs in
+      let u : View = seen rules v xs in
+      let kept : first ++ all_writes rules u ys ≡ all_writes rules v (xs ++ ys) = sym (all_writes-append rules v xs ys) in
+      let all : first ++ all_writes rules u (ys ++ last) ≡ all_writes rules v ((xs ++ ys) ++ last) =
+      sym (all_writes-append rules v xs (ys ++ last)) ∙ ap (all_writes rules v) (sym (append_assoc xs ys last))
       in
       record {
         answered = xs ++ ys;
@@ -341,28 +345,28 @@ module _ {O D : Type 0} {g : Ghosts D} (took : O → O → List ℕ → Type 0)
         unwritten = after.unwritten;
         refusal = after.refusal;
         whole = ⊎_elim (λ none. inl none) (λ grown. inr (grown_after (failures o) (failures q) (failures p) later grown)) after.whole;
-        written = subst (took o p) (bytes_then v xs ys after.closing)
-            (took_then o q p (all_bytes v xs ++ []) (all_bytes u ys ++ after.closing) before.written after.written);
+        written = subst (took o p) (bytes_then rules v xs ys after.closing)
+            (took_then o q p (all_bytes rules v xs ++ []) (all_bytes rules u ys ++ after.closing) before.written after.written);
         stopped = after.stopped;
         failed = λ stopped.
             let earlier = before.store.failed stopped in
             let then_ = after.failed (before.store.serving ∙ stopped) in
             (then_.0 ∙ earlier.0, AllRefused-append xs ys earlier.1 then_.1);
         specified = subst AreRead (sym (append_assoc xs ys last)) (read_then xs (ys ++ last) before.store.specified after.specified);
-        admitted = subst (λ zs. AreAdmitted first_rules v (all_writes v zs)) (sym (append_assoc xs ys last))
-            (admitted_then v xs (ys ++ last) before.store.admitted after.admitted);
-        left = λ h is settled. subst (λ k. IsLeftAt first_rules new h k (all_writes v ((xs ++ ys) ++ last))) kept
-            (subst (IsLeftAt first_rules new h (first ++ all_writes u ys)) all
-            (left_after new h first (all_writes u ys) (all_writes u (ys ++ last))
-            (after.left (h ++ first) (seen_view v h first is) (before.store.settled h is settled))));
-        moments = λ h is settled. subst (LeavesSome first_rules old new h) all
-            (moments_then old mid new h first (all_writes u (ys ++ last)) (before.store.moments h is settled)
-            (after.moments (h ++ first) (seen_view v h first is) (before.store.settled h is settled)));
+        admitted = subst (λ zs. AreAdmitted rules v (all_writes rules v zs)) (sym (append_assoc xs ys last))
+            (admitted_then rules v xs (ys ++ last) before.store.admitted after.admitted);
+        left = λ h is settled. subst (λ k. IsLeftAt rules new h k (all_writes rules v ((xs ++ ys) ++ last))) kept
+            (subst (IsLeftAt rules new h (first ++ all_writes rules u ys)) all
+            (left_after rules new h first (all_writes rules u ys) (all_writes rules u (ys ++ last))
+            (after.left (h ++ first) (seen_view rules v h first is) (before.store.settled h is settled))));
+        moments = λ h is settled. subst (LeavesSome rules old new h) all
+            (moments_then rules old mid new h first (all_writes rules u (ys ++ last)) (before.store.moments h is settled)
+            (after.moments (h ++ first) (seen_view rules v h first is) (before.store.settled h is settled)));
       }
 
   pub stops_then : (failures : O → ℕ) (o q p : O) → failures o ≤ failures q → (old mid new : Store D g) (v : View) (ms ns : List Message) (fault : ServeFault)
-      → (before : Answers took o q old mid v ms []) → Stops took failures q p mid new (seen v before.answered) ns fault
-      → Stops took failures o p old new v (ms ++ ns) fault
+      → (before : Answers rules took o q old mid v ms []) → Stops rules took failures q p mid new (seen rules v before.answered) ns fault
+      → Stops rules took failures o p old new v (ms ++ ns) fault
   stops_then failures o q p later old mid new v ms ns Read before after = after
   stops_then failures o q p later old mid new v ms ns WriteFault before after = writes_some_then o q p old mid new v ms ns [] before after
   stops_then failures o q p later old mid new v ms ns Device before after = fails_then failures o q p later old mid new v ms ns before after

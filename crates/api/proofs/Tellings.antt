@@ -3,6 +3,7 @@ use Rattle.std.proofs.Common.{◌≡◌, ◌≢◌, ℕ, List, [], ◌++◌, ref
 use Rattle.std.proofs.lemmas.List.{append-nil}
 use Rattle.device.specs.declared.device.Device.{Ghosts}
 use Rattle.requests.specs.declared.refusal.Refusal.TheVariants.{OutOfMemory}
+use Rattle.names.specs.declared.format.Rules.{Rules}
 use Rattle.apicore.specs.Standing.{View}
 use Rattle.durable.specs.declared.store.Store.{Store}
 use Rattle.durable.specs.Settled.{device_of}
@@ -23,39 +24,39 @@ use Rattle.api.specs.Piece.{TellsMore, Tells, Breaks}
 use Rattle.api.proofs.Folds.{applied_none}
 use Rattle.api.proofs.Streams.{open_end}
 
-module _ {O D : Type 0} {g : Ghosts D} (took : O → O → List ℕ → Type 0) (failures : O → ℕ) where
+module _ {O D : Type 0} {g : Ghosts D} (rules : Rules) (took : O → O → List ℕ → Type 0) (failures : O → ℕ) where
   -- the messages of a piece are answered
   pub tells_by : (o p : O) (old new : Store D g) (v : View) (read : List ℕ) (ms : List Message) (before : Progress) (piece : List ℕ)
-      (now : Progress) (told : Told) → (all : TellsMore took failures o p old new v read ms before piece now [])
+      (now : Progress) (told : Told) → (all : TellsMore rules took failures o p old new v read ms before piece now [])
       → (told ≡ Nothing → (all.more ≡ []) × (now.end ≢ Some Closed))
       → ((end : End) → told ≡ Ends end → (end ≡ Closed) × (now.end ≡ Some Closed))
       → (all.more ≡ [] → (b : BrokenMessage) → now.end ≡ Some (Broken b) → ⊥)
-      → Tells took failures o p old new v read ms before piece now told
+      → Tells rules took failures o p old new v read ms before piece now told
   tells_by o p old new v read ms before piece now Messages all nothing ends no_fault = all
   tells_by o p old new v read ms before piece now Nothing all nothing ends no_fault =
       (all, open_end (read ++ piece) (ms ++ all.more) now all.cut (nothing refl).1 (no_fault (nothing refl).0))
   tells_by o p old new v read ms before piece now (Ends end) all nothing ends no_fault =
-      let Here : End → Type 0 = λ e. TellsMore took failures o p old new v read ms before piece now (end_bytes e) × (now.end ≡ Some e) in
+      let Here : End → Type 0 = λ e. TellsMore rules took failures o p old new v read ms before piece now (end_bytes e) × (now.end ≡ Some e) in
       subst Here (sym (ends end refl).0) (all, (ends end refl).1)
 
   -- bytes that answer no message
   pub answers_closing : (o p : O) (store : Store D g) (v : View) (closing : List ℕ) → took o p closing
       → (g.disk.keeps (device_of store) → (c : List ℕ) → g.disk.since (device_of store) (g.disk.moment (device_of store)) c → g.disk.left (device_of store) c)
-      → ShowsAt store v → Answers took o p store store v [] closing
+      → ShowsAt rules store v → Answers rules took o p store store v [] closing
   answers_closing o p store v closing written only_now shows =
-      record { answered = []; answers = refl; written = written; store = applied_none store v shows only_now }
+      record { answered = []; answers = refl; written = written; store = applied_none rules store v shows only_now }
 
   pub some_closing : (o p : O) (store : Store D g) (v : View) (closing : List ℕ) → TookSome took o p closing
       → (g.disk.keeps (device_of store) → (c : List ℕ) → g.disk.since (device_of store) (g.disk.moment (device_of store)) c → g.disk.left (device_of store) c)
-      → ShowsAt store v → WritesSome took o p store store v [] closing
+      → ShowsAt rules store v → WritesSome rules took o p store store v [] closing
   some_closing o p store v closing written only_now shows =
-      record { answered = []; waiting = []; split = refl; written = written; store = applied_none store v shows only_now }
+      record { answered = []; waiting = []; split = refl; written = written; store = applied_none rules store v shows only_now }
 
   -- the stream ends at a fault
   pub tells_broken : (o p : O) (store : Store D g) (v : View) (read : List ℕ) (ms : List Message) (before : Progress) (piece : List ℕ)
       (now : Progress) (b : BrokenMessage) → IsCut (read ++ piece) ms now × (now.end ≡ Some (Broken b)) → took o p (end_bytes (Broken b))
       → (g.disk.keeps (device_of store) → (c : List ℕ) → g.disk.since (device_of store) (g.disk.moment (device_of store)) c → g.disk.left (device_of store) c)
-      → ShowsAt store v → Tells took failures o p store store v read ms before piece now (Ends (Broken b))
+      → ShowsAt rules store v → Tells rules took failures o p store store v read ms before piece now (Ends (Broken b))
   tells_broken o p store v read ms before piece now b cut written only_now shows = (
     record {
       more = [];
@@ -68,7 +69,7 @@ module _ {O D : Type 0} {g : Ghosts D} (took : O → O → List ℕ → Type 0) 
   pub breaks_at_end : (o p : O) (store : Store D g) (v : View) (read : List ℕ) (ms : List Message) (before : Progress) (piece : List ℕ)
       (now : Progress) (b : BrokenMessage) → IsCut (read ++ piece) ms now × (now.end ≡ Some (Broken b)) → TookSome took o p (end_bytes (Broken b))
       → (g.disk.keeps (device_of store) → (c : List ℕ) → g.disk.since (device_of store) (g.disk.moment (device_of store)) c → g.disk.left (device_of store) c)
-      → ShowsAt store v → Breaks took failures o p store store v read ms before piece now Write
+      → ShowsAt rules store v → Breaks rules took failures o p store store v read ms before piece now Write
   breaks_at_end o p store v read ms before piece now b cut written only_now shows =
       inr (inl (record {
         end = Broken b;
@@ -79,8 +80,8 @@ module _ {O D : Type 0} {g : Ghosts D} (took : O → O → List ℕ → Type 0) 
 
   -- answering the messages of a piece stops
   pub breaks_by : (o p : O) (old new : Store D g) (v : View) (read : List ℕ) (ms more : List Message) (before : Progress) (piece : List ℕ)
-      (now : Progress) (fault : ServeFault) → IsCut (read ++ piece) (ms ++ more) now → Stops took failures o p old new v more fault
-      → Breaks took failures o p old new v read ms before piece now fault
+      (now : Progress) (fault : ServeFault) → IsCut (read ++ piece) (ms ++ more) now → Stops rules took failures o p old new v more fault
+      → Breaks rules took failures o p old new v read ms before piece now fault
   breaks_by o p old new v read ms more before piece now Read cut stops = stops
   breaks_by o p old new v read ms more before piece now Write cut stops = inl (record { more = more; cut = cut; some = stops })
   breaks_by o p old new v read ms more before piece now Device cut stops = record { more = more; cut = cut; fails = stops }
@@ -98,24 +99,24 @@ module _ {O D : Type 0} {g : Ghosts D} (took : O → O → List ℕ → Type 0) 
       → (fault ≡ CutMemory → MatchResult r (λ told. ⊥) (λ stop. ((stop ≡ Memory) × took o p (closing_bytes false OutOfMemory))
       ⊎ ((stop ≡ Write) × TookSome took o p (closing_bytes false OutOfMemory))))
       → (g.disk.keeps (device_of store) → (c : List ℕ) → g.disk.since (device_of store) (g.disk.moment (device_of store)) c → g.disk.left (device_of store) c)
-      → ShowsAt store v
-      → MatchResult r (Tells took failures o p store store v read ms before piece now) (Breaks took failures o p store store v read ms before piece now)
+      → ShowsAt rules store v
+      → MatchResult r (Tells rules took failures o p store store v read ms before piece now) (Breaks rules took failures o p store store v read ms before piece now)
   unfed o p store v read ms before piece now (CutBroken b) (Ok told) cut same broken memory only_now shows =
       let all = broken b refl in
-      subst (Tells took failures o p store store v read ms before piece now) (sym all.0)
+      subst (Tells rules took failures o p store store v read ms before piece now) (sym all.0)
       (tells_broken o p store v read ms before piece now b (cut b refl) all.1 only_now shows)
   unfed o p store v read ms before piece now (CutBroken b) (Err stop) cut same broken memory only_now shows =
       let all = broken b refl in
-      subst (Breaks took failures o p store store v read ms before piece now) (sym all.0)
+      subst (Breaks rules took failures o p store store v read ms before piece now) (sym all.0)
       (breaks_at_end o p store v read ms before piece now b (cut b refl) all.1 only_now shows)
   unfed o p store v read ms before piece now CutMemory (Ok told) cut same broken memory only_now shows = absurd (memory refl)
   unfed o p store v read ms before piece now CutMemory (Err stop) cut same broken memory only_now shows = on (memory refl)
     where
       on : ((stop ≡ Memory) × took o p (closing_bytes false OutOfMemory)) ⊎ ((stop ≡ Write) × TookSome took o p (closing_bytes false OutOfMemory))
-          → Breaks took failures o p store store v read ms before piece now stop
+          → Breaks rules took failures o p store store v read ms before piece now stop
       on (inl all) =
-          subst (Breaks took failures o p store store v read ms before piece now) (sym all.0)
+          subst (Breaks rules took failures o p store store v read ms before piece now) (sym all.0)
           (answers_closing o p store v (closing_bytes false OutOfMemory) all.1 only_now shows, same refl)
       on (inr some) =
-          subst (Breaks took failures o p store store v read ms before piece now) (sym some.0)
+          subst (Breaks rules took failures o p store store v read ms before piece now) (sym some.0)
           (inr (inr (some_closing o p store v (closing_bytes false OutOfMemory) some.1 only_now shows, same refl)))

@@ -12,7 +12,7 @@ use Rattle.apicore.specs.Prepared.{IsReadOf}
 use Rattle.history.specs.View.{view, after_all}
 use Rattle.durable.specs.declared.fault.Damage.{Damage}
 use Rattle.durable.specs.declared.store.Store.{Store}
-use Rattle.durable.specs.Rules.{first_rules}
+use Rattle.names.specs.declared.format.Rules.{Rules}
 use Rattle.durable.specs.Settled.{serves, ServesAt, IsSettledAt, IsLeftAt, LeavesSome}
 use Rattle.httpmsg.specs.Flow.{TookSome}
 use Rattle.httpmsg.specs.Stream.{Message}
@@ -47,25 +47,25 @@ messages answered = map (λ a. a.message) answered
 abbrev pub AreRead : List Answered → Type 0
 AreRead answered = AllByRecursion (λ a. a.is_served ≡ true → IsReadOf (asked a.message) a.specification) answered
 
--- ---- one message, where v is shown
+-- ---- one message, where v is shown under these numbers
 
 -- the writes of its request: none where it was not served
-abbrev pub writes_of : View → Answered → List Write
-writes_of v a = if a.is_served then writes first_rules v (asked_of a) else []
+abbrev pub writes_of : Rules → View → Answered → List Write
+writes_of rules v a = if a.is_served then writes rules v (asked_of a) else []
 
 -- the reply to its request, or that memory was refused to it
-abbrev pub reply_of : View → Answered → Reply
-reply_of v a = if a.is_served then reply first_rules v (asked_of a) else status OutOfMemory
+abbrev pub reply_of : Rules → View → Answered → Reply
+reply_of rules v a = if a.is_served then reply rules v (asked_of a) else status OutOfMemory
 
 -- ---- messages, one after another
 
-abbrev pub all_writes : View → List Answered → List Write
-all_writes v [] = []
-all_writes v (a ∷ more) = writes_of v a ++ all_writes (after_all first_rules v (writes_of v a)) more
+abbrev pub all_writes : Rules → View → List Answered → List Write
+all_writes rules v [] = []
+all_writes rules v (a ∷ more) = writes_of rules v a ++ all_writes rules (after_all rules v (writes_of rules v a)) more
 
-abbrev pub all_bytes : View → List Answered → List ℕ
-all_bytes v [] = []
-all_bytes v (a ∷ more) = reply_bytes a.message (reply_of v a) ++ all_bytes (after_all first_rules v (writes_of v a)) more
+abbrev pub all_bytes : Rules → View → List Answered → List ℕ
+all_bytes rules v [] = []
+all_bytes rules v (a ∷ more) = reply_bytes a.message (reply_of rules v a) ++ all_bytes rules (after_all rules v (writes_of rules v a)) more
 
 -- none of them was served
 abbrev pub AllRefused : List Answered → Type 0
@@ -78,59 +78,59 @@ HasGrown before now = (before < now) ⊎ (now ≡ 2 ^ 64 - 1)
 
 -- ---- what a call that answers messages leaves
 
--- The store shows this view while it serves. Of one that has failed nothing is asked.
-abbrev pub ShowsAt : {D : Type 0} {g : Ghosts D} → Store D g → View → Type 0
-ShowsAt store v = serves store ≡ true → ServesAt store v
+-- The store keeps to these numbers and shows this view while it serves. Of one that has failed nothing is asked.
+abbrev pub ShowsAt : {D : Type 0} {g : Ghosts D} → Rules → Store D g → View → Type 0
+ShowsAt rules store v = serves store ≡ true → ServesAt rules store v
 
 -- Where old, which showed v, was settled at a history.
-abbrev pub WhereSettled : {D : Type 0} {g : Ghosts D} → Store D g → View → (History → Type 0) → Type 0
-WhereSettled old v P = (h : History) → v ≡ view first_rules h → IsSettledAt first_rules old h → P h
+abbrev pub WhereSettled : {D : Type 0} {g : Ghosts D} → Rules → Store D g → View → (History → Type 0) → Type 0
+WhereSettled rules old v P = (h : History) → v ≡ view rules h → IsSettledAt rules old h → P h
 
 -- The store showed v, and shows what the answers leave; each of their writes was admitted by the policies, bindings and parameters just
 -- before it. A store that had failed is as it was. One that was settled at a history is settled behind the writes of the answers, and at
 -- every moment since a crash leaves that history followed by some first ones of them.
-pub record HasApplied {D : Type 0} {g : Ghosts D} (old new : Store D g) (v : View) (answered : List Answered) : Type 0 where
+pub record HasApplied {D : Type 0} {g : Ghosts D} (rules : Rules) (old new : Store D g) (v : View) (answered : List Answered) : Type 0 where
   pub serving : serves new ≡ serves old
-  pub shows : ShowsAt new (after_all first_rules v (all_writes v answered))
+  pub shows : ShowsAt rules new (after_all rules v (all_writes rules v answered))
   pub failed : serves old ≡ false → (new ≡ old) × AllRefused answered
   pub specified : AreRead answered
-  pub admitted : AreAdmitted first_rules v (all_writes v answered)
-  pub settled : WhereSettled old v (λ h. IsSettledAt first_rules new (h ++ all_writes v answered))
-  pub moments : WhereSettled old v (λ h. LeavesSome first_rules old new h (all_writes v answered))
+  pub admitted : AreAdmitted rules v (all_writes rules v answered)
+  pub settled : WhereSettled rules old v (λ h. IsSettledAt rules new (h ++ all_writes rules v answered))
+  pub moments : WhereSettled rules old v (λ h. LeavesSome rules old new h (all_writes rules v answered))
 
 -- The store's reply to a message, none where memory was refused, is the model's, and its writes are in the store.
-pub record HasReplied {D : Type 0} {g : Ghosts D} (old new : Store D g) (v : View) (m : Message) (found : Option Reply) : Type 0 where
+pub record HasReplied {D : Type 0} {g : Ghosts D} (rules : Rules) (old new : Store D g) (v : View) (m : Message) (found : Option Reply) : Type 0 where
   pub specification : Specification Expr
-  pub reply : unwrap_or found (status OutOfMemory) ≡ reply_of v (answered_by m specification found)
-  pub store : HasApplied old new v (answered_by m specification found ∷ [])
+  pub reply : unwrap_or found (status OutOfMemory) ≡ reply_of rules v (answered_by m specification found)
+  pub store : HasApplied rules old new v (answered_by m specification found ∷ [])
 
 -- The device failed at a message, whose writes stand or do not; or it had failed before, and nothing is done.
-pub record HasFailedAt {D : Type 0} {g : Ghosts D} (old new : Store D g) (v : View) (m : Message) (fault : ServeFault) : Type 0 where
+pub record HasFailedAt {D : Type 0} {g : Ghosts D} (rules : Rules) (old new : Store D g) (v : View) (m : Message) (fault : ServeFault) : Type 0 where
   pub failing : Answered
   pub is_of : failing.message ≡ m
   pub tried : failing.is_served ≡ serves old
   pub stopped : serves new ≡ false
   pub is : ((fault ≡ ServeFaults.Device) × (serves old ≡ true)) ⊎ ((fault ≡ ServeFaults.Failed) × (serves old ≡ false) × (new ≡ old))
   pub specified : AreRead (failing ∷ [])
-  pub admitted : AreAdmitted first_rules v (all_writes v (failing ∷ []))
-  pub left : WhereSettled old v (λ h. IsLeftAt first_rules new h [] (all_writes v (failing ∷ [])))
-  pub moments : WhereSettled old v (λ h. LeavesSome first_rules old new h (all_writes v (failing ∷ [])))
+  pub admitted : AreAdmitted rules v (all_writes rules v (failing ∷ []))
+  pub left : WhereSettled rules old v (λ h. IsLeftAt rules new h [] (all_writes rules v (failing ∷ [])))
+  pub moments : WhereSettled rules old v (λ h. LeavesSome rules old new h (all_writes rules v (failing ∷ [])))
 
-module _ {O D : Type 0} {g : Ghosts D} (took : O → O → List ℕ → Type 0) (o p : O) (old new : Store D g) where
+module _ {O D : Type 0} {g : Ghosts D} (rules : Rules) (took : O → O → List ℕ → Type 0) (o p : O) (old new : Store D g) where
   -- The messages are answered, and behind the replies closing bytes are written.
   pub record Answers (v : View) (ms : List Message) (closing : List ℕ) : Type 0 where
     pub answered : List Answered
     pub answers : messages answered ≡ ms
-    pub written : took o p (all_bytes v answered ++ closing)
-    pub store : HasApplied old new v answered
+    pub written : took o p (all_bytes rules v answered ++ closing)
+    pub store : HasApplied rules old new v answered
 
   -- The output failed: some first messages were applied, and a beginning of their replies and of closing bytes is written.
   pub record WritesSome (v : View) (ms : List Message) (closing : List ℕ) : Type 0 where
     pub answered : List Answered
     pub waiting : List Message
     pub split : ms ≡ messages answered ++ waiting
-    pub written : TookSome took o p (all_bytes v answered ++ closing)
-    pub store : HasApplied old new v answered
+    pub written : TookSome took o p (all_bytes rules v answered ++ closing)
+    pub store : HasApplied rules old new v answered
 
   -- The device failed at a message, now or before: those before it are answered, and then a refusal that closes is written, the whole
   -- of it unless the output failed. What is found of a store that was settled has the writes that were answered, and perhaps that of
@@ -145,25 +145,25 @@ module _ {O D : Type 0} {g : Ghosts D} (took : O → O → List ℕ → Type 0) 
     pub unwritten : List ℕ
     pub refusal : closing_bytes false StorageFailed ≡ closing ++ unwritten
     pub whole : (unwritten ≡ []) ⊎ HasGrown (failures o) (failures p)
-    pub written : took o p (all_bytes v answered ++ closing)
+    pub written : took o p (all_bytes rules v answered ++ closing)
     pub stopped : serves new ≡ false
     pub failed : serves old ≡ false → (new ≡ old) × AllRefused answered
     pub specified : AreRead (answered ++ failing ∷ [])
-    pub admitted : AreAdmitted first_rules v (all_writes v (answered ++ failing ∷ []))
-    pub left : WhereSettled old v (λ h. IsLeftAt first_rules new h (all_writes v answered) (all_writes v (answered ++ failing ∷ [])))
-    pub moments : WhereSettled old v (λ h. LeavesSome first_rules old new h (all_writes v (answered ++ failing ∷ [])))
+    pub admitted : AreAdmitted rules v (all_writes rules v (answered ++ failing ∷ []))
+    pub left : WhereSettled rules old v (λ h. IsLeftAt rules new h (all_writes rules v answered) (all_writes rules v (answered ++ failing ∷ [])))
+    pub moments : WhereSettled rules old v (λ h. LeavesSome rules old new h (all_writes rules v (answered ++ failing ∷ [])))
 
 -- ---- why answering ends early
 
 -- how answering messages stops: only by the output or by the device, now or before
-abbrev pub Stops : {O D : Type 0} {g : Ghosts D} → (O → O → List ℕ → Type 0) → (O → ℕ) → O → O → Store D g → Store D g
+abbrev pub Stops : {O D : Type 0} {g : Ghosts D} → Rules → (O → O → List ℕ → Type 0) → (O → ℕ) → O → O → Store D g → Store D g
     → View → List Message → ServeFault → Type 0
-Stops took failures o p old new v ms ServeFaults.Read = ⊥
-Stops took failures o p old new v ms ServeFaults.Write = WritesSome took o p old new v ms []
-Stops took failures o p old new v ms ServeFaults.Device = MeetsFailure took o p old new failures v ms
-Stops took failures o p old new v ms ServeFaults.Memory = ⊥
-Stops took failures o p old new v ms (ServeFaults.Damaged damage) = ⊥
-Stops took failures o p old new v ms ServeFaults.Failed = MeetsFailure took o p old new failures v ms
+Stops rules took failures o p old new v ms ServeFaults.Read = ⊥
+Stops rules took failures o p old new v ms ServeFaults.Write = WritesSome rules took o p old new v ms []
+Stops rules took failures o p old new v ms ServeFaults.Device = MeetsFailure rules took o p old new failures v ms
+Stops rules took failures o p old new v ms ServeFaults.Memory = ⊥
+Stops rules took failures o p old new v ms (ServeFaults.Damaged damage) = ⊥
+Stops rules took failures o p old new v ms ServeFaults.Failed = MeetsFailure rules took o p old new failures v ms
 
 -- The output's and the device's fault are answered only where theirs grew, and `Failed` only where the store had stopped.
 pub record HasCauses {T : Type 0} (output_old output_new device_old device_new : ℕ) (serves_old serves_new : Bool) (result : Result T ServeFault) : Type 0 where

@@ -5,7 +5,7 @@ use Rattle.apicore.specs.Standing.{History}
 use Rattle.history.specs.Reply.{Reply, status}
 use Rattle.apicore.specs.Step.{Asked, runs}
 use Rattle.history.specs.View.{view}
-use Rattle.durable.specs.Rules.{first_rules}
+use Rattle.names.specs.declared.format.Rules.{Rules}
 use Rattle.httpmsg.specs.Stream.{Message}
 use Rattle.api.specs.ReplyBytes.{reply_bytes}
 use Rattle.api.specs.Answers.{Answered, asked_of, all_writes, all_bytes}
@@ -35,6 +35,6 @@ replies_bytes (a ∷ more) replies = bytes_if a.is_served a.message replies (rep
 -- their documents.
 abbrev pub AnswersAreRuns : Type 0
 AnswersAreRuns =
-    (h : History) (answered : List Answered) →
-    (h ++ all_writes (view first_rules h) answered ≡ (runs first_rules h (all_asked answered)).0)
-    × (all_bytes (view first_rules h) answered ≡ replies_bytes answered (runs first_rules h (all_asked answered)).1)
+    (rules : Rules) (h : History) (answered : List Answered) →
+    (h ++ all_writes rules (view rules h) answered ≡ (runs rules h (all_asked answered)).0)
+    × (all_bytes rules (view rules h) answered ≡ replies_bytes answered (runs rules h (all_asked answered)).1)

@@ -3,9 +3,9 @@ use Rattle.std.specs.Prelude.{◌≡◌, ◌≢◌, ℕ, ◌≤◌, ◌⊎◌, L
 use Rattle.device.specs.declared.device.Device.{Ghosts}
 use Rattle.requests.specs.declared.refusal.Refusal.TheVariants.{OutOfMemory, StorageFailed}
 use Rattle.apicore.specs.Standing.{View, AreAdmitted}
+use Rattle.names.specs.declared.format.Rules.{Rules}
 use Rattle.durable.specs.declared.fault.Damage.{Damage}
 use Rattle.durable.specs.declared.store.Store.{Store}
-use Rattle.durable.specs.Rules.{first_rules}
 use Rattle.durable.specs.Settled.{serves, IsLeftAt, LeavesSome}
 use Rattle.httpmsg.specs.declared.head.End.{End}
 use Rattle.httpmsg.specs.Stream.{Message, IsStream, Progress, IsCut}
@@ -28,20 +28,20 @@ abbrev pub IsClosing : (read : List ℕ) → List Message → (closing : List �
 IsClosing read ms closing =
     ((end : End) × IsStream read ms end × (closing ≡ end_bytes end)) ⊎ (closing ≡ closing_bytes false OutOfMemory)
 
-module _ {D : Type 0} {g : Ghosts D} (old new : Store D g) (v : View) (read written : List ℕ) where
+module _ {D : Type 0} {g : Ghosts D} (rules : Rules) (old new : Store D g) (v : View) (read written : List ℕ) where
   -- The stream was served to its end: the replies to its messages are written, and then that of its end.
   pub record HasEnded (ended : Type 0) (end : End) : Type 0 where
     pub answered : List Answered
     pub stream : Ends ended read (messages answered) end
-    pub text : written ≡ all_bytes v answered ++ end_bytes end
-    pub store : HasApplied old new v answered
+    pub text : written ≡ all_bytes rules v answered ++ end_bytes end
+    pub store : HasApplied rules old new v answered
 
   -- The input failed: the whole messages of what was read are answered.
   pub record HasReadSome : Type 0 where
     pub answered : List Answered
     pub stream : GoesOn read (messages answered)
-    pub text : written ≡ all_bytes v answered
-    pub store : HasApplied old new v answered
+    pub text : written ≡ all_bytes rules v answered
+    pub store : HasApplied rules old new v answered
 
   -- The output failed: some first messages were applied, and what is written is a beginning of their replies, and of what
   -- closes behind them.
@@ -56,8 +56,8 @@ module _ {D : Type 0} {g : Ghosts D} (old new : Store D g) (v : View) (read writ
     pub closing : List ℕ
     pub closes : (closing ≡ []) ⊎ ((waiting ≡ []) × IsClosing cut (messages answered) closing)
     pub unwritten : List ℕ
-    pub text : all_bytes v answered ++ closing ≡ written ++ unwritten
-    pub store : HasApplied old new v answered
+    pub text : all_bytes rules v answered ++ closing ≡ written ++ unwritten
+    pub store : HasApplied rules old new v answered
 
   -- The device failed at a message, now or before: those before it are answered, and then a refusal that closes is written, the whole
   -- of it unless the output failed. What is found of a store that was settled has the writes that were answered, and perhaps that of
@@ -73,13 +73,13 @@ module _ {D : Type 0} {g : Ghosts D} (old new : Store D g) (v : View) (read writ
     pub unwritten : List ℕ
     pub refusal : closing_bytes false StorageFailed ≡ closing ++ unwritten
     pub whole : (unwritten ≡ []) ⊎ HasGrown output_old output_new
-    pub text : written ≡ all_bytes v answered ++ closing
+    pub text : written ≡ all_bytes rules v answered ++ closing
     pub stopped : serves new ≡ false
     pub failed : serves old ≡ false → (new ≡ old) × AllRefused answered
     pub specified : AreRead (answered ++ failing ∷ [])
-    pub admitted : AreAdmitted first_rules v (all_writes v (answered ++ failing ∷ []))
-    pub left : WhereSettled old v (λ h. IsLeftAt first_rules new h (all_writes v answered) (all_writes v (answered ++ failing ∷ [])))
-    pub moments : WhereSettled old v (λ h. LeavesSome first_rules old new h (all_writes v (answered ++ failing ∷ [])))
+    pub admitted : AreAdmitted rules v (all_writes rules v (answered ++ failing ∷ []))
+    pub left : WhereSettled rules old v (λ h. IsLeftAt rules new h (all_writes rules v answered) (all_writes rules v (answered ++ failing ∷ [])))
+    pub moments : WhereSettled rules old v (λ h. LeavesSome rules old new h (all_writes rules v (answered ++ failing ∷ [])))
 
   -- Memory was refused to further bytes: the messages before them are answered, and then a refusal that closes is written.
   pub record HasLackedMemory : Type 0 where
@@ -89,17 +89,17 @@ module _ {D : Type 0} {g : Ghosts D} (old new : Store D g) (v : View) (read writ
     pub parts : read ≡ cut ++ uncut
     pub progress : Progress
     pub stream : IsCut cut (messages answered) progress
-    pub text : written ≡ all_bytes v answered ++ closing_bytes false OutOfMemory
-    pub store : HasApplied old new v answered
+    pub text : written ≡ all_bytes rules v answered ++ closing_bytes false OutOfMemory
+    pub store : HasApplied rules old new v answered
 
 -- how serving stops
-abbrev pub HasStopped : {D : Type 0} {g : Ghosts D} → Store D g → Store D g → View → (output_old output_new : ℕ) → ServeFault → List ℕ → List ℕ → Type 0
-HasStopped old new v m n ServeFaults.Read read written = HasReadSome old new v read written
-HasStopped old new v m n ServeFaults.Write read written = HasWrittenSome old new v read written
-HasStopped old new v m n ServeFaults.Device read written = HasFailed old new v read written m n
-HasStopped old new v m n ServeFaults.Memory read written = HasLackedMemory old new v read written
-HasStopped old new v m n (ServeFaults.Damaged damage) read written = ⊥
-HasStopped old new v m n ServeFaults.Failed read written = HasFailed old new v read written m n
+abbrev pub HasStopped : {D : Type 0} {g : Ghosts D} → Rules → Store D g → Store D g → View → (output_old output_new : ℕ) → ServeFault → List ℕ → List ℕ → Type 0
+HasStopped rules old new v m n ServeFaults.Read read written = HasReadSome rules old new v read written
+HasStopped rules old new v m n ServeFaults.Write read written = HasWrittenSome rules old new v read written
+HasStopped rules old new v m n ServeFaults.Device read written = HasFailed rules old new v read written m n
+HasStopped rules old new v m n ServeFaults.Memory read written = HasLackedMemory rules old new v read written
+HasStopped rules old new v m n (ServeFaults.Damaged damage) read written = ⊥
+HasStopped rules old new v m n ServeFaults.Failed read written = HasFailed rules old new v read written m n
 
 -- The input gave some bytes and the output took some, of which this holds.
 pub record Exchanged {I O : Type 0} (gave : I → I → List ℕ → Type 0) (took : O → O → List ℕ → Type 0) (input_old input_new : I)

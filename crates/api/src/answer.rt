@@ -3,6 +3,7 @@
 ghost use Rattle.std.specs.Prelude.{◌≡◌, ◌≢◌, ◌≤◌, ◌++◌, [], ◌∷◌, List, false, true, IfOk, OnOk, OnErr, IfErr, IsErrOf, MatchResult, option_map, unwrap_or};
 ghost use Rattle.requests.specs.declared.refusal.Refusal.TheVariants.{OutOfMemory};
 ghost use Rattle.requests.specs.RequestOf.{request_of};
+ghost use Rattle.names.specs.declared.format.Rules.{Rules};
 ghost use Rattle.apicore.specs.Standing.{View};
 ghost use Rattle.history.specs.Reply.{status};
 ghost use Rattle.device.specs.Disk.{HasFailed};
@@ -30,8 +31,8 @@ fn reply_to<D: Device>(
     store: &mut Store<D>,
 ) -> Result<Option<Reply>, ServeFault>
     requires { request_of request.now ≡ asked message.now }
-    ensures replied { (v : View) → ShowsAt store.old v → IfOk result (HasReplied store.old store.new v message.now) }
-    ensures stopped { (v : View) → ShowsAt store.old v → IfErr result (HasFailedAt store.old store.new v message.now) }
+    ensures replied { (rules : Rules) (v : View) → ShowsAt rules store.old v → IfOk result (HasReplied rules store.old store.new v message.now) }
+    ensures stopped { (rules : Rules) (v : View) → ShowsAt rules store.old v → IfErr result (HasFailedAt rules store.old store.new v message.now) }
     ensures never_read { result ≢ Err ServeFault.Read }
     ensures never_write { result ≢ Err ServeFault.Write }
     ensures never_damaged { (damage : DamageData) → result ≢ Err (ServeFault.Damaged damage) }
@@ -56,9 +57,9 @@ fn answer_to<D: Device>(
     message: &Message,
     store: &mut Store<D>,
 ) -> Result<Answer, ServeFault>
-    ensures replied { (v : View) → ShowsAt store.old v → IfOk result (λ answer. HasReplied store.old store.new v message.now answer.reply) }
+    ensures replied { (rules : Rules) (v : View) → ShowsAt rules store.old v → IfOk result (λ answer. HasReplied rules store.old store.new v message.now answer.reply) }
     ensures allow { IfOk result (λ answer. option_map (λ methods. methods.now) answer.allow ≡ allow_in message.now (unwrap_or answer.reply (status OutOfMemory))) }
-    ensures stopped { (v : View) → ShowsAt store.old v → IfErr result (HasFailedAt store.old store.new v message.now) }
+    ensures stopped { (rules : Rules) (v : View) → ShowsAt rules store.old v → IfErr result (HasFailedAt rules store.old store.new v message.now) }
     ensures never_read { result ≢ Err ServeFault.Read }
     ensures never_write { result ≢ Err ServeFault.Write }
     ensures never_damaged { (damage : DamageData) → result ≢ Err (ServeFault.Damaged damage) }
@@ -94,9 +95,9 @@ fn answer<O: Output, D: Device>(
     sheet: &mut Sheet,
     store: &mut Store<D>,
 ) -> Result<(), ServeFault>
-    ensures outcome { (v : View) → ShowsAt store.old v → MatchResult result
-        (λ _. Answers O.took output.old output.new store.old store.new v (message.now ∷ []) [])
-        (Stops O.took O.failures output.old output.new store.old store.new v (message.now ∷ [])) }
+    ensures outcome { (rules : Rules) (v : View) → ShowsAt rules store.old v → MatchResult result
+        (λ _. Answers rules O.took output.old output.new store.old store.new v (message.now ∷ []) [])
+        (Stops rules O.took O.failures output.old output.new store.old store.new v (message.now ∷ [])) }
     ensures causes { HasCauses (O.failures output.old) (O.failures output.new) (D.disk.failures (device_of store.old))
         (D.disk.failures (device_of store.new)) (serves store.old) (serves store.new) result }
 {
@@ -122,9 +123,9 @@ pub(crate) fn answer_all<O: Output, D: Device>(
     sheet: &mut Sheet,
     store: &mut Store<D>,
 ) -> Result<(), ServeFault>
-    ensures outcome { (v : View) → ShowsAt store.old v → MatchResult result
-        (λ _. Answers O.took output.old output.new store.old store.new v messages.now [])
-        (Stops O.took O.failures output.old output.new store.old store.new v messages.now) }
+    ensures outcome { (rules : Rules) (v : View) → ShowsAt rules store.old v → MatchResult result
+        (λ _. Answers rules O.took output.old output.new store.old store.new v messages.now [])
+        (Stops rules O.took O.failures output.old output.new store.old store.new v messages.now) }
     ensures causes { HasCauses (O.failures output.old) (O.failures output.new) (D.disk.failures (device_of store.old))
         (D.disk.failures (device_of store.new)) (serves store.old) (serves store.new) result }
 {

@@ -1,6 +1,7 @@
 //! A connection, served.
 
 ghost use Rattle.std.specs.Prelude.{◌≡◌, ◌≢◌, ◌<◌, ◌⊎◌, [], length, false, None, IfOk, IsErrOf, MatchResult};
+ghost use Rattle.names.specs.declared.format.Rules.{Rules};
 ghost use Rattle.apicore.specs.Standing.{View};
 ghost use Rattle.durable.specs.Settled.{device_of, serves};
 ghost use Rattle.durable.specs.declared.fault.Damage.{Damage as DamageData};
@@ -35,11 +36,11 @@ fn serve_pieces<I: Input, O: Output, D: Device>(
 ) -> Result<End, ServeFault>
     requires fresh { connection.cutter ≡ record { pending = []; end = None } }
     requires buffer { 0 < length buffer.old }
-    ensures outcome { (v : View) → ShowsAt store.old v → MatchResult result
+    ensures outcome { (rules : Rules) (v : View) → ShowsAt rules store.old v → MatchResult result
         (λ end. Exchanged I.gave O.took input.old input.new output.old output.new
-        (λ read written. HasEnded store.old store.new v read written (I.has_ended input.new) end))
+        (λ read written. HasEnded rules store.old store.new v read written (I.has_ended input.new) end))
         (λ fault. Exchanged I.gave O.took input.old input.new output.old output.new
-        (HasStopped store.old store.new v (O.failures output.old) (O.failures output.new) fault)) }
+        (HasStopped rules store.old store.new v (O.failures output.old) (O.failures output.new) fault)) }
     ensures causes { HasAllCauses (I.failures input.old) (I.failures input.new) (O.failures output.old) (O.failures output.new)
         (D.disk.failures (device_of store.old)) (D.disk.failures (device_of store.new)) (serves store.old) (serves store.new) result }
 {
@@ -73,22 +74,22 @@ pub fn serve<I: Input, O: Output, D: Device>(
     output: &mut O,
     store: &mut Store<D>,
 ) -> Result<End, ServeFault>
-    ensures ended { (v : View) → ShowsAt store.old v → IfOk result (λ end. Exchanged I.gave O.took input.old input.new output.old output.new
-        (λ read written. HasEnded store.old store.new v read written (I.has_ended input.new) end)) }
-    ensures read { (v : View) → ShowsAt store.old v → IsErrOf result ServeFault.Read
-        → Exchanged I.gave O.took input.old input.new output.old output.new (HasReadSome store.old store.new v) }
-    ensures write { (v : View) → ShowsAt store.old v → IsErrOf result ServeFault.Write
-        → Exchanged I.gave O.took input.old input.new output.old output.new (HasWrittenSome store.old store.new v) }
+    ensures ended { (rules : Rules) (v : View) → ShowsAt rules store.old v → IfOk result (λ end. Exchanged I.gave O.took input.old input.new output.old output.new
+        (λ read written. HasEnded rules store.old store.new v read written (I.has_ended input.new) end)) }
+    ensures read { (rules : Rules) (v : View) → ShowsAt rules store.old v → IsErrOf result ServeFault.Read
+        → Exchanged I.gave O.took input.old input.new output.old output.new (HasReadSome rules store.old store.new v) }
+    ensures write { (rules : Rules) (v : View) → ShowsAt rules store.old v → IsErrOf result ServeFault.Write
+        → Exchanged I.gave O.took input.old input.new output.old output.new (HasWrittenSome rules store.old store.new v) }
 
     // Also of a store that had failed.
-    ensures device { (v : View) → ShowsAt store.old v → IsErrOf result ServeFault.Device ⊎ IsErrOf result ServeFault.Failed
+    ensures device { (rules : Rules) (v : View) → ShowsAt rules store.old v → IsErrOf result ServeFault.Device ⊎ IsErrOf result ServeFault.Failed
         → Exchanged I.gave O.took input.old input.new output.old output.new
-        (λ read written. HasFailed store.old store.new v read written (O.failures output.old) (O.failures output.new)) }
+        (λ read written. HasFailed rules store.old store.new v read written (O.failures output.old) (O.failures output.new)) }
 
     // Nothing was read, written or changed, or memory was refused to further bytes.
-    ensures memory { (v : View) → ShowsAt store.old v → IsErrOf result ServeFault.Memory
+    ensures memory { (rules : Rules) (v : View) → ShowsAt rules store.old v → IsErrOf result ServeFault.Memory
         → ((input.new ≡ input.old) × (output.new ≡ output.old) × (store.new ≡ store.old))
-        ⊎ Exchanged I.gave O.took input.old input.new output.old output.new (HasLackedMemory store.old store.new v) }
+        ⊎ Exchanged I.gave O.took input.old input.new output.old output.new (HasLackedMemory rules store.old store.new v) }
 
     ensures never_damaged { (damage : DamageData) → result ≢ Err (ServeFault.Damaged damage) }
     ensures failed { IsErrOf result ServeFault.Failed → serves store.old ≡ false }

@@ -2,6 +2,7 @@
 
 ghost use Rattle.std.specs.Prelude.{◌≡◌, ◌≢◌, ◌<◌, ◌≤◌, ◌⊎◌, ℕ, List, [], length, take, false, Some, None, IfOk, IfErr, IsErrOf, MatchResult};
 ghost use Rattle.requests.specs.declared.refusal.Refusal.TheVariants as refusal;
+ghost use Rattle.names.specs.declared.format.Rules.{Rules};
 ghost use Rattle.apicore.specs.Standing.{View};
 ghost use Rattle.durable.specs.Settled.{device_of, serves};
 ghost use Rattle.httpmsg.specs.declared.head.BrokenMessage.{BrokenMessage as BrokenData};
@@ -64,10 +65,10 @@ impl Connection {
         output: &mut O,
         store: &mut Store<D>,
     ) -> Result<Told, ServeFault>
-        ensures outcome { (v : View) (read : List ℕ) (ms : List MessageData) → ShowsAt store.old v → IsCut read ms self.old.cutter
+        ensures outcome { (rules : Rules) (v : View) (read : List ℕ) (ms : List MessageData) → ShowsAt rules store.old v → IsCut read ms self.old.cutter
             → MatchResult result
-            (Tells O.took O.failures output.old output.new store.old store.new v read ms self.old.cutter piece.now self.new.cutter)
-            (Breaks O.took O.failures output.old output.new store.old store.new v read ms self.old.cutter piece.now self.new.cutter) }
+            (Tells rules O.took O.failures output.old output.new store.old store.new v read ms self.old.cutter piece.now self.new.cutter)
+            (Breaks rules O.took O.failures output.old output.new store.old store.new v read ms self.old.cutter piece.now self.new.cutter) }
         ensures causes { HasCauses (O.failures output.old) (O.failures output.new) (D.disk.failures (device_of store.old))
             (D.disk.failures (device_of store.new)) (serves store.old) (serves store.new) result }
     {
@@ -173,11 +174,11 @@ pub(crate) fn next_step<I: Input, O: Output, D: Device>(
 ) -> Result<Step, ServeFault>
     requires count { count ≤ length buffer.old }
     requires room { 0 < length buffer.old }
-    ensures outcome { (v : View) (read : List ℕ) (ms : List MessageData) → ShowsAt store.old v → IsCut read ms connection.old.cutter
+    ensures outcome { (rules : Rules) (v : View) (read : List ℕ) (ms : List MessageData) → ShowsAt rules store.old v → IsCut read ms connection.old.cutter
         → MatchResult result
-        (Steps I.gave O.took O.failures input.old input.new output.old output.new store.old store.new v read ms connection.old.cutter (take count buffer.old) connection.new.cutter
+        (Steps rules I.gave O.took O.failures input.old input.new output.old output.new store.old store.new v read ms connection.old.cutter (take count buffer.old) connection.new.cutter
         buffer.new (I.has_ended input.new))
-        (StepsWrong I.gave O.took O.failures input.old input.new output.old output.new store.old store.new v read ms connection.old.cutter (take count buffer.old)
+        (StepsWrong rules I.gave O.took O.failures input.old input.new output.old output.new store.old store.new v read ms connection.old.cutter (take count buffer.old)
         connection.new.cutter) }
     ensures fits { (n : ℕ) → result ≡ Ok (Step.Feed n) → n ≤ length buffer.new }
     ensures causes { HasAllCauses (I.failures input.old) (I.failures input.new) (O.failures output.old) (O.failures output.new)

@@ -30,8 +30,7 @@ use Rattle.durable.specs.Recorded.{payload, IsStorable}
 use Rattle.durable.specs.declared.store.Store.{Store}
 use Rattle.durable.specs.Ready.{HoldsHistory}
 use Rattle.durable.specs.RecordOf.{IsRecordOf}
-use Rattle.durable.specs.Rules.{first_rules}
-use Rattle.durable.specs.Settled.{IsFound, ServesAt, IsSettledAt, IsLeftAt, LeavesSome, HasReplied, HasFailedAt, device_of, serves, shown}
+use Rattle.durable.specs.Settled.{IsFound, ServesAt, IsSettledAt, IsLeftAt, LeavesSome, HasReplied, HasFailedAt, device_of, serves, kept_rules, shown}
 use Rattle.durable.proofs.Findings.{leaves-idle}
 
 -- ---- results
@@ -50,61 +49,65 @@ on_success P (Err e) ok holds = absurd (true≢false (sym ok))
 -- ---- what a store shows, and what its device holds
 
 -- what is seen after the writes
-pub view-after : (h : History) (ws : List Write) → after_all first_rules (view first_rules h) ws ≡ view first_rules (h ++ ws)
-view-after h ws = sym (after_all-append first_rules empty h ws)
+pub view-after : (rules : Rules) (h : History) (ws : List Write) → after_all rules (view rules h) ws ≡ view rules (h ++ ws)
+view-after rules h ws = sym (after_all-append rules empty h ws)
 
 -- a settled store's device holds its history
-pub held : {D : Type 0} {g : Ghosts D} (store : Store D g) (h : History) → IsSettledAt first_rules store h → HoldsHistory first_rules g.disk (device_of store) h
-held store h settled = record { keeps = settled.keeps; read = settled.read; left = settled.left }
+pub held : {D : Type 0} {g : Ghosts D} (rules : Rules) (store : Store D g) (h : History) → IsSettledAt rules store h → HoldsHistory rules g.disk (device_of store) h
+held rules store h settled = record { keeps = settled.keeps; read = settled.read; left = settled.left }
 
 -- and the other way round
-pub settled_from : {D : Type 0} {g : Ghosts D} (store : Store D g) (h : History) → serves store ≡ true → Shows (shown store) (view first_rules h)
-    → HoldsHistory first_rules g.disk (device_of store) h → IsSettledAt first_rules store h
-settled_from store h working shows holds = record { working = working; keeps = holds.keeps; shows = shows; read = holds.read; left = holds.left }
+pub settled_from : {D : Type 0} {g : Ghosts D} (rules : Rules) (store : Store D g) (h : History) → serves store ≡ true → kept_rules store ≡ rules → Shows (shown store) (view rules h)
+    → HoldsHistory rules g.disk (device_of store) h → IsSettledAt rules store h
+settled_from rules store h working numbers shows holds = record { working = working; rules_are = numbers; keeps = holds.keeps; shows = shows; read = holds.read; left = holds.left }
 
 -- a store that is settled at a history serves, and shows its view
-pub settled_serves : {D : Type 0} {g : Ghosts D} (rules : Rules) (store : Store D g) (h : History) → IsSettledAt rules store h → ServesAt store (view rules h)
+pub settled_serves : {D : Type 0} {g : Ghosts D} (rules : Rules) (store : Store D g) (h : History) → IsSettledAt rules store h → ServesAt rules store (view rules h)
 settled_serves rules store h settled =
-    record { working = settled.working; shows = settled.shows; seen = histories_show rules h settled.read.history }
+    record { working = settled.working; rules_are = settled.rules_are; shows = settled.shows; seen = histories_show rules h settled.read.history }
 
 -- a store that serves after the writes of a history, on a device that holds them
-settled_after : {D : Type 0} {g : Ghosts D} (store : Store D g) (h : History) (ws : List Write) → ServesAt store (after_all first_rules (view first_rules h) ws)
-    → HoldsHistory first_rules g.disk (device_of store) (h ++ ws) → IsSettledAt first_rules store (h ++ ws)
-settled_after store h ws serving holds =
+settled_after : {D : Type 0} {g : Ghosts D} (rules : Rules) (store : Store D g) (h : History) (ws : List Write) → ServesAt rules store (after_all rules (view rules h) ws)
+    → HoldsHistory rules g.disk (device_of store) (h ++ ws) → IsSettledAt rules store (h ++ ws)
+settled_after rules store h ws serving holds =
     let Shown : View → Type 0 = λ v. Shows (shown store) v in
-    settled_from store (h ++ ws) serving.working (subst Shown (view-after h ws) serving.shows) holds
+    settled_from rules store (h ++ ws) serving.working serving.rules_are (subst Shown (view-after rules h ws) serving.shows) holds
 
 -- what is shown after writes that are held with the plans of these
-shown_after : (held : seen.View Beside) (v : View) (ws : List (plain.Write Beside)) (us : List Write) → Shows held v
-    → map (mapped_write plans_held) ws ≡ map write_with_plans us → Shows (after_all first_rules held ws) (after_all first_rules v us)
-shown_after held v ws us shows same =
-    all_mapped plans_held first_rules held ws
-    ∙ ap (λ (x : seen.View Beside). after_all first_rules x (map (mapped_write plans_held) ws)) shows
-    ∙ ap (λ (xs : List (plain.Write Beside)). after_all first_rules (with_plans v) xs) same
-    ∙ sym (all_mapped plans_beside first_rules v us)
+shown_after : (rules : Rules) (held : seen.View Beside) (v : View) (ws : List (plain.Write Beside)) (us : List Write) → Shows held v
+    → map (mapped_write plans_held) ws ≡ map write_with_plans us → Shows (after_all rules held ws) (after_all rules v us)
+shown_after rules held v ws us shows same =
+    all_mapped plans_held rules held ws
+    ∙ ap (λ (x : seen.View Beside). after_all rules x (map (mapped_write plans_held) ws)) shows
+    ∙ ap (λ (xs : List (plain.Write Beside)). after_all rules (with_plans v) xs) same
+    ∙ sym (all_mapped plans_beside rules v us)
 
-small : first_rules.text_limit_bytes ≤ 2 ^ 24
-unfolding first_rules
-small = omega arith
+-- the plans of a text can be held
+abbrev pub Small : Rules → Type 0
+Small rules = rules.text_limit_bytes ≤ 2 ^ 24
 
 -- a view as histories have it stays one
-seen_after : (v : View) (a : Asked) → IsView v → RequestHasForm a.request → IsReadOf a.request a.specification → IsView (after_all first_rules v (writes first_rules v a))
-seen_after v a is form read = record {
-  ascends = objects_ascend first_rules v (writes first_rules v a) is.ascends;
-  trees = trees_stay first_rules v (writes first_rules v a) is.trees (AllMayFollow-writes first_rules v a.request a.specification small form read);
+seen_after : (rules : Rules) → Small rules → (v : View) (a : Asked) → IsView v → RequestHasForm a.request → IsReadOf a.request a.specification → IsView (after_all rules v (writes rules v a))
+seen_after rules small v a is form read = record {
+  ascends = objects_ascend rules v (writes rules v a) is.ascends;
+  trees = trees_stay rules v (writes rules v a) is.trees (AllMayFollow-writes rules v a.request a.specification small form read);
 }
 
 -- ---- the step
 
--- the step under the store's rules
-at_first_rules : (rules : Rules) (v : View) (a : Asked) (p : Prepared) → rules ≡ first_rules → IsStepOf rules v a p → IsStepOf first_rules v a p
-at_first_rules rules v a p same step = let Of : Rules → Type 0 = λ r. IsStepOf r v a p in subst Of same step
+-- the step under the store's numbers
+step_under : (kept rules : Rules) (v : View) (a : Asked) (p : Prepared) → kept ≡ rules → IsStepOf kept v a p → IsStepOf rules v a p
+step_under kept rules v a p same step = let Of : Rules → Type 0 = λ r. IsStepOf r v a p in subst Of same step
 
 -- at what the store shows it is the model's
-step_at : {D : Type 0} {g : Ghosts D} (old : Store D g) (r : Request) (p : Prepared) (is : IsPrepared old.core r p) (v : View) → ServesAt old v
-    → IsStepOf first_rules v (record { request = r; specification = is.specification }) p
-step_at old r p is v serving =
-    at_first_rules old.core.rules v (record { request = r; specification = is.specification }) p old.rules (is.step v serving.shows serving.seen)
+step_at : {D : Type 0} {g : Ghosts D} (rules : Rules) (old : Store D g) (r : Request) (p : Prepared) (is : IsPrepared old.core r p) (v : View) → ServesAt rules old v
+    → IsStepOf rules v (record { request = r; specification = is.specification }) p
+step_at rules old r p is v serving =
+    step_under old.core.rules rules v (record { request = r; specification = is.specification }) p serving.rules_are (is.step v serving.shows serving.seen)
+
+-- those of the texts that a store takes can
+small_at : {D : Type 0} {g : Ghosts D} (rules : Rules) (store : Store D g) → kept_rules store ≡ rules → Small rules
+small_at rules store same = subst Small same store.limits
 
 no_record : (asked : Option (PreparedWrite Beside)) → IsRecordOf asked None → writes_of asked ≡ []
 no_record None is = refl
@@ -120,91 +123,92 @@ one_of (w ∷ []) x is = (w, refl, let same : x ≡ write_with_plans w = cc in s
 one_of (v ∷ w ∷ ws) x is = cc
 
 -- without a record nothing is written
-nothing_written : (v : View) (a : Asked) (p : Prepared) → IsStepOf first_rules v a p → IsRecordOf p.write None → writes first_rules v a ≡ []
-nothing_written v a p step without =
-    none_of (writes first_rules v a) (ap (λ (xs : List (plain.Write Beside)). map (mapped_write plans_held) xs) (sym (no_record p.write without)) ∙ step.writes)
+nothing_written : (rules : Rules) (v : View) (a : Asked) (p : Prepared) → IsStepOf rules v a p → IsRecordOf p.write None → writes rules v a ≡ []
+nothing_written rules v a p step without =
+    none_of (writes rules v a) (ap (λ (xs : List (plain.Write Beside)). map (mapped_write plans_held) xs) (sym (no_record p.write without)) ∙ step.writes)
 
 -- and with one something is
-something_written : (v : View) (a : Asked) (p : Prepared) (body : Body) → IsStepOf first_rules v a p → IsRecordOf p.write (Some body) → writes first_rules v a ≡ [] → ⊥
-something_written v a p body step is none = go p.write (step.writes ∙ ap (λ (ws : List Write). map write_with_plans ws) none) is
+something_written : (rules : Rules) (v : View) (a : Asked) (p : Prepared) (body : Body) → IsStepOf rules v a p → IsRecordOf p.write (Some body) → writes rules v a ≡ [] → ⊥
+something_written rules v a p body step is none = go p.write (step.writes ∙ ap (λ (ws : List Write). map write_with_plans ws) none) is
   where
     go : (asked : Option (PreparedWrite Beside)) → map (mapped_write plans_held) (writes_of asked) ≡ [] → IsRecordOf asked (Some body) → ⊥
     go None are is = is
     go (Some q) are is = let never : ◌≡◌ {A = List (plain.Write Beside)} (mapped_write plans_held (write_of q) ∷ []) [] = are in cc
 
 -- The one write of a request that writes.
-pub record OneWrite (h : History) (a : Asked) (body : Body) : Type 0 where
+pub record OneWrite (rules : Rules) (h : History) (a : Asked) (body : Body) : Type 0 where
   pub write : Write
-  pub writes_are : writes first_rules (view first_rules h) a ≡ write ∷ []
-  pub follows : MayFollow first_rules (view first_rules h) write
+  pub writes_are : writes rules (view rules h) a ≡ write ∷ []
+  pub follows : MayFollow rules (view rules h) write
   pub storable : IsStorable write
   pub payload_is : payload_of body ≡ payload write
 
-storable_of : (v : View) (w : Write) → MayFollow first_rules v w → IsKeyOf w → IsStorable w
-storable_of v (put k d trees) may key = (may.0.form, omega (arith, small, may.0.size), omega (arith, small, may.0.size, may.1.short))
-storable_of v (delete k) may key = key
+storable_of : (rules : Rules) → Small rules → (v : View) (w : Write) → MayFollow rules v w → IsKeyOf w → IsStorable w
+storable_of rules small v (put k d trees) may key = (may.0.form, omega (arith, small, may.0.size), omega (arith, small, may.0.size, may.1.short))
+storable_of rules small v (delete k) may key = key
 
-one_write : (h : History) (a : Asked) (p : Prepared) (body : Body) → IsStepOf first_rules (view first_rules h) a p → RequestHasForm a.request → IsReadOf a.request a.specification
-    → IsRecordOf p.write (Some body) → OneWrite h a body
-one_write h a p body step form read is = go p.write step.writes is
+one_write : (rules : Rules) → Small rules → (h : History) (a : Asked) (p : Prepared) (body : Body) → IsStepOf rules (view rules h) a p → RequestHasForm a.request → IsReadOf a.request a.specification
+    → IsRecordOf p.write (Some body) → OneWrite rules h a body
+one_write rules small h a p body step form read is = go p.write step.writes is
   where
-    go : (asked : Option (PreparedWrite Beside)) → map (mapped_write plans_held) (writes_of asked) ≡ map write_with_plans (writes first_rules (view first_rules h) a)
-        → IsRecordOf asked (Some body) → OneWrite h a body
+    go : (asked : Option (PreparedWrite Beside)) → map (mapped_write plans_held) (writes_of asked) ≡ map write_with_plans (writes rules (view rules h) a)
+        → IsRecordOf asked (Some body) → OneWrite rules h a body
     go None are is = absurd is
     go (Some q) are is =
-        let one = one_of (writes first_rules (view first_rules h) a) (mapped_write plans_held (write_of q)) are in
-        let All : List Write → Type 0 = λ ws. AllMayFollow first_rules (view first_rules h) ws in
-        let follow = subst All one.1 (AllMayFollow-writes first_rules (view first_rules h) a.request a.specification small form read) in
+        let one = one_of (writes rules (view rules h) a) (mapped_write plans_held (write_of q)) are in
+        let All : List Write → Type 0 = λ ws. AllMayFollow rules (view rules h) ws in
+        let follow = subst All one.1 (AllMayFollow-writes rules (view rules h) a.request a.specification small form read) in
         record {
           write = one.0;
           writes_are = one.1;
           follows = follow.0;
-          storable = storable_of (view first_rules h) one.0 follow.0 (key_of_written first_rules (view first_rules h) a.request a.specification one.0 form one.1);
+          storable = storable_of rules small (view rules h) one.0 follow.0 (key_of_written rules (view rules h) a.request a.specification one.0 form one.1);
           payload_is = is ∙ ap (λ x. bytes.payload (recorded x)) one.2;
         }
 
 -- ---- a request that writes nothing
 
 module _ {D : Type 0} {g : Ghosts D} (old new : Store D g) (device : device_of old ≡ device_of new) (working : serves old ≡ serves new) (shows : shown new ≡ shown old)
+    (kept : kept_rules new ≡ kept_rules old)
     (only_now : (c : List ℕ) → g.disk.keeps (device_of old) → g.disk.since (device_of old) (g.disk.moment (device_of old)) c → g.disk.left (device_of old) c) where
   -- the store serves as before
-  pub serving_still : (v : View) → ServesAt old v → ServesAt new v
-  serving_still v serving = record { working = sym working ∙ serving.working; shows = ap (mapped plans_held) shows ∙ serving.shows; seen = serving.seen }
+  pub serving_still : (rules : Rules) (v : View) → ServesAt rules old v → ServesAt rules new v
+  serving_still rules v serving = record { working = sym working ∙ serving.working; rules_are = kept ∙ serving.rules_are; shows = ap (mapped plans_held) shows ∙ serving.shows; seen = serving.seen }
 
   -- is settled as before
-  pub settled_still : (h : History) → IsSettledAt first_rules old h → IsSettledAt first_rules new h
-  settled_still h settled =
-      let Held : D → Type 0 = λ d. HoldsHistory first_rules g.disk d h in
-      settled_from new h (sym working ∙ settled.working) (ap (mapped plans_held) shows ∙ settled.shows) (subst Held device (held old h settled))
+  pub settled_still : (rules : Rules) (h : History) → IsSettledAt rules old h → IsSettledAt rules new h
+  settled_still rules h settled =
+      let Held : D → Type 0 = λ d. HoldsHistory rules g.disk d h in
+      settled_from rules new h (sym working ∙ settled.working) (kept ∙ settled.rules_are) (ap (mapped plans_held) shows ∙ settled.shows) (subst Held device (held rules old h settled))
 
   -- and a crash leaves what it left
-  moments_still : (h : History) (ws : List Write) → IsSettledAt first_rules old h → LeavesSome first_rules old new h ws
-  moments_still h ws settled =
-      let Leaves : D → Type 0 = λ d. LeavesOnly g.disk (device_of old) d (IsFound first_rules h [] ws) in
-      subst Leaves device (leaves-idle first_rules old h ws (λ c since. only_now c settled.keeps since) settled)
+  moments_still : (rules : Rules) (h : History) (ws : List Write) → IsSettledAt rules old h → LeavesSome rules old new h ws
+  moments_still rules h ws settled =
+      let Leaves : D → Type 0 = λ d. LeavesOnly g.disk (device_of old) d (IsFound rules h [] ws) in
+      subst Leaves device (leaves-idle rules old h ws (λ c since. only_now c settled.keeps since) settled)
 
-  pub replied_still : (r : Request) (p : Prepared) → IsPrepared old.core r p → IsRecordOf p.write None → HasReplied first_rules old new r p.reply
+  pub replied_still : (r : Request) (p : Prepared) → IsPrepared old.core r p → IsRecordOf p.write None → HasReplied old new r p.reply
   replied_still r p is without =
       let a : Asked = record { request = r; specification = is.specification } in
       record {
         specification = is.specification;
         read = is.read;
-        shown = λ v serving.
-            let step = step_at old r p is v serving in
-            let Serves : List Write → Type 0 = λ ws. ServesAt new (after_all first_rules v ws) in
+        shown = λ rules v serving.
+            let step = step_at rules old r p is v serving in
+            let Serves : List Write → Type 0 = λ ws. ServesAt rules new (after_all rules v ws) in
             record {
               reply = step.reply;
-              serving = subst Serves (sym (nothing_written v a p step without)) (serving_still v serving);
+              serving = subst Serves (sym (nothing_written rules v a p step without)) (serving_still rules v serving);
               untouched = λ none. sym device;
-              admitted = written_admitted first_rules v r is.specification;
+              admitted = written_admitted rules v r is.specification;
             };
-        settled = λ h settled.
-            let step = step_at old r p is (view first_rules h) (settled_serves first_rules old h settled) in
-            let none = nothing_written (view first_rules h) a p step without in
-            let At : History → Type 0 = λ x. IsSettledAt first_rules new x in
+        settled = λ rules h settled.
+            let step = step_at rules old r p is (view rules h) (settled_serves rules old h settled) in
+            let none = nothing_written rules (view rules h) a p step without in
+            let At : History → Type 0 = λ x. IsSettledAt rules new x in
             record {
-              settled = subst At (sym (append-nil h) ∙ ap (λ (ws : List Write). h ++ ws) (sym none)) (settled_still h settled);
-              moments = moments_still h (writes first_rules (view first_rules h) a) settled;
+              settled = subst At (sym (append-nil h) ∙ ap (λ (ws : List Write). h ++ ws) (sym none)) (settled_still rules h settled);
+              moments = moments_still rules h (writes rules (view rules h) a) settled;
             };
       }
 
@@ -212,64 +216,66 @@ module _ {D : Type 0} {g : Ghosts D} (old new : Store D g) (device : device_of o
 
 module _ {D : Type 0} {g : Ghosts D} (old new : Store D g) (r : Request) (p : Prepared) (body : Body) (is : IsPrepared old.core r p) (form : RequestHasForm r)
     (has_record : IsRecordOf p.write (Some body))
-    (stands : (h : History) (w : Write) → HoldsHistory first_rules g.disk (device_of old) h → MayFollow first_rules (view first_rules h) w → IsStorable w
-    → payload_of body ≡ payload w → Stands g.disk (device_of old) (device_of new) (IsFound first_rules h [] (w ∷ [])) (IsFound first_rules h [] (w ∷ []))) where
-  one_at : (h : History) → IsSettledAt first_rules old h → OneWrite h (record { request = r; specification = is.specification }) body
-  one_at h settled =
-      one_write h (record { request = r; specification = is.specification }) p body (step_at old r p is (view first_rules h) (settled_serves first_rules old h settled))
+    (stands : (rules : Rules) (h : History) (w : Write) → HoldsHistory rules g.disk (device_of old) h → MayFollow rules (view rules h) w → IsStorable w
+    → payload_of body ≡ payload w → Stands g.disk (device_of old) (device_of new) (IsFound rules h [] (w ∷ [])) (IsFound rules h [] (w ∷ []))) where
+  one_at : (rules : Rules) (h : History) → IsSettledAt rules old h → OneWrite rules h (record { request = r; specification = is.specification }) body
+  one_at rules h settled =
+      one_write rules (small_at rules old settled.rules_are) h (record { request = r; specification = is.specification }) p body (step_at rules old r p is (view rules h) (settled_serves rules old h settled))
       form is.read has_record
 
-  moments_written : (h : History) → IsSettledAt first_rules old h → LeavesSome first_rules old new h (writes first_rules (view first_rules h) (record { request = r; specification = is.specification }))
-  moments_written h settled =
-      let one = one_at h settled in
-      let Leaves : List Write → Type 0 = λ ws. LeavesSome first_rules old new h ws in
-      subst Leaves (sym one.writes_are) (stands h one.write (held old h settled) one.follows one.storable one.payload_is).moments
+  moments_written : (rules : Rules) (h : History) → IsSettledAt rules old h → LeavesSome rules old new h (writes rules (view rules h) (record { request = r; specification = is.specification }))
+  moments_written rules h settled =
+      let one = one_at rules h settled in
+      let Leaves : List Write → Type 0 = λ ws. LeavesSome rules old new h ws in
+      subst Leaves (sym one.writes_are) (stands rules h one.write (held rules old h settled) one.follows one.storable one.payload_is).moments
 
-  pub replied_written : serves new ≡ true → shown new ≡ after_all first_rules (shown old) (writes_of p.write)
-      → ((h : History) (w : Write) → HoldsHistory first_rules g.disk (device_of old) h → MayFollow first_rules (view first_rules h) w → IsStorable w
-      → payload_of body ≡ payload w → HoldsHistory first_rules g.disk (device_of new) (h ++ w ∷ []))
-      → HasReplied first_rules old new r p.reply
-  replied_written working shows appended =
+  pub replied_written : serves new ≡ true → kept_rules new ≡ kept_rules old → shown new ≡ after_all (kept_rules old) (shown old) (writes_of p.write)
+      → ((rules : Rules) (h : History) (w : Write) → HoldsHistory rules g.disk (device_of old) h → MayFollow rules (view rules h) w → IsStorable w
+      → payload_of body ≡ payload w → HoldsHistory rules g.disk (device_of new) (h ++ w ∷ []))
+      → HasReplied old new r p.reply
+  replied_written working kept shows appended =
       let a : Asked = record { request = r; specification = is.specification } in
-      let serving_after : (v : View) → ServesAt old v → ServesAt new (after_all first_rules v (writes first_rules v a)) =
-      (λ v serving.
-      let step = step_at old r p is v serving in
+      let serving_after : (rules : Rules) (v : View) → ServesAt rules old v → ServesAt rules new (after_all rules v (writes rules v a)) =
+      (λ rules v serving.
+      let step = step_at rules old r p is v serving in
       record {
         working = working;
-        shows = ap (mapped plans_held) shows ∙ shown_after (shown old) v (writes_of p.write) (writes first_rules v a) serving.shows step.writes;
-        seen = seen_after v a serving.seen form is.read;
+        rules_are = kept ∙ serving.rules_are;
+        shows = ap (mapped plans_held) (shows ∙ ap (λ (x : Rules). after_all x (shown old) (writes_of p.write)) serving.rules_are)
+            ∙ shown_after rules (shown old) v (writes_of p.write) (writes rules v a) serving.shows step.writes;
+        seen = seen_after rules (small_at rules old serving.rules_are) v a serving.seen form is.read;
       })
       in
       record {
         specification = is.specification;
         read = is.read;
-        shown = λ v serving. record {
-          reply = (step_at old r p is v serving).reply;
-          serving = serving_after v serving;
-          untouched = λ none. absurd (something_written v a p body (step_at old r p is v serving) has_record none);
-          admitted = written_admitted first_rules v r is.specification;
+        shown = λ rules v serving. record {
+          reply = (step_at rules old r p is v serving).reply;
+          serving = serving_after rules v serving;
+          untouched = λ none. absurd (something_written rules v a p body (step_at rules old r p is v serving) has_record none);
+          admitted = written_admitted rules v r is.specification;
         };
-        settled = λ h settled.
-            let one = one_at h settled in
-            let Holds : List Write → Type 0 = λ ws. HoldsHistory first_rules g.disk (device_of new) (h ++ ws) in
+        settled = λ rules h settled.
+            let one = one_at rules h settled in
+            let Holds : List Write → Type 0 = λ ws. HoldsHistory rules g.disk (device_of new) (h ++ ws) in
             record {
-              settled = settled_after new h (writes first_rules (view first_rules h) a) (serving_after (view first_rules h) (settled_serves first_rules old h settled))
-                  (subst Holds (sym one.writes_are) (appended h one.write (held old h settled) one.follows one.storable one.payload_is));
-              moments = moments_written h settled;
+              settled = settled_after rules new h (writes rules (view rules h) a) (serving_after rules (view rules h) (settled_serves rules old h settled))
+                  (subst Holds (sym one.writes_are) (appended rules h one.write (held rules old h settled) one.follows one.storable one.payload_is));
+              moments = moments_written rules h settled;
             };
       }
 
-  pub failed_written : serves new ≡ false → HasFailedAt first_rules old new r
+  pub failed_written : serves new ≡ false → HasFailedAt old new r
   failed_written stopped =
       let a : Asked = record { request = r; specification = is.specification } in
       record {
         specification = is.specification;
         read = is.read;
-        untouched = λ v serving none. absurd (something_written v a p body (step_at old r p is v serving) has_record none);
-        left = λ h settled.
-            let one = one_at h settled in
-            let at = stands h one.write (held old h settled) one.follows one.storable one.payload_is in
-            let Left : List Write → Type 0 = λ ws. IsLeftAt first_rules new h [] ws in
-            (subst Left (sym one.writes_are) (record { stopped = stopped; keeps = at.kept; read = at.seen; left = at.crash }), moments_written h settled);
-        admitted = λ v. written_admitted first_rules v r is.specification;
+        untouched = λ rules v serving none. absurd (something_written rules v a p body (step_at rules old r p is v serving) has_record none);
+        left = λ rules h settled.
+            let one = one_at rules h settled in
+            let at = stands rules h one.write (held rules old h settled) one.follows one.storable one.payload_is in
+            let Left : List Write → Type 0 = λ ws. IsLeftAt rules new h [] ws in
+            (subst Left (sym one.writes_are) (record { stopped = stopped; keeps = at.kept; read = at.seen; left = at.crash }), moments_written rules h settled);
+        admitted = λ rules v. written_admitted rules v r is.specification;
       }

@@ -1,5 +1,5 @@
 -- What reading a device tells of the history that its content stands for.
-use Rattle.std.proofs.Common.{◌≡◌, ◌∙◌, sym, ap, subst, ◌++◌, ℕ, List, [], ◌∷◌, refl, map}
+use Rattle.std.proofs.Common.{arith, ◌≡◌, ◌≤◌, ◌^◌, ◌∙◌, sym, ap, subst, ◌++◌, ℕ, List, [], ◌∷◌, refl, map}
 use Rattle.gatelog.specs.declared.gate_log.Log.{Log}
 use Rattle.gatelog.specs.Log.{HoldsLog}
 use Rattle.gatelog.proofs.Walking.{at_most_one}
@@ -23,6 +23,10 @@ use Rattle.apicore.proofs.Histories.{one_history as payloads_one}
 use Rattle.durable.specs.Recorded.{payload, AllStorable}
 use Rattle.apicore.proofs.Staying.{histories_show}
 use Rattle.durable.specs.Laws.{AtMostOneHistory, AtMostOneView, ReplayedIsShown}
+use Rattle.names.specs.declared.format.Format.{Format}
+use Rattle.names.specs.declared.format.Format.TheVariants.{First}
+use Rattle.names.specs.Format.{rules_of}
+use Rattle.durable.specs.Rules.{first_rules, AreOfFormat}
 use Rattle.durable.specs.Stands.{StandsFor}
 
 -- ---- with plans for trees
@@ -67,6 +71,20 @@ same_writes rules u v (x ∷ g) (w ∷ h) a b same =
     let others : g ≡ h = same_writes rules (after rules u x) (after rules v w) g h a.1 b.1 rest in
     λ i. one i ∷ others i
 
+-- ---- the numbers of a format
+
+rules_of_first : (f : Format) → rules_of f ≡ first_rules
+unfolding first_rules
+rules_of_first First = refl
+
+pub first_small : first_rules.text_limit_bytes ≤ 2 ^ 24
+unfolding first_rules
+first_small = omega arith
+
+-- there is one format
+pub first_numbers : (rules : Rules) → AreOfFormat rules → rules ≡ first_rules
+first_numbers rules numbers = numbers.are ∙ rules_of_first numbers.format
+
 -- ---- what is read
 
 module _ (rules : Rules) (content : List ℕ) (h : History) (stands : StandsFor rules content h) (root : Root) (counts : HoldsRoot content root) where
@@ -101,9 +119,9 @@ module _ (rules : Rules) (content : List ℕ) (h : History) (stands : StandsFor 
       found.2 ∙ ap (λ (g : written.History). view rules g) same ∙ sym (all_mapped plans_beside rules empty stands.later)
       ∙ ap (λ (g : History). with_plans (view rules g)) (sym (stands.parts ∙ ap (λ (b : History). b ++ stands.later) stands.checkpoint.no_writes))
 
--- a content stands for one history
-pub one_history : AtMostOneHistory
-one_history rules content g h first second =
+-- under the same numbers a content stands for one history
+one_history_of : (rules : Rules) (content : List ℕ) (g h : History) → StandsFor rules content g → StandsFor rules content h → g ≡ h
+one_history_of rules content g h first second =
     let written = written_here rules content g first second.root second.counts (map payload second.later) second.last second.log in
     let own = written_here rules content h second second.root second.counts (map payload second.later) second.last second.log in
     let held : map write_with_plans first.later ≡ map write_with_plans second.later =
@@ -113,9 +131,18 @@ one_history rules content g h first second =
     first.parts ∙ ap (λ (b : History). b ++ first.later) first.checkpoint.no_writes ∙ same
     ∙ sym (second.parts ∙ ap (λ (b : History). b ++ second.later) second.checkpoint.no_writes)
 
+-- and the numbers are those of the one format
+pub one_history : AtMostOneHistory
+one_history first second content g h one other =
+    let same : first ≡ second = first_numbers first one.numbers ∙ sym (first_numbers second other.numbers) in
+    let Stands : Rules → Type 0 = λ rules. StandsFor rules content g in
+    (same, one_history_of second content g h (subst Stands same one) other)
+
 -- so its histories have one view
 pub one_view : AtMostOneView
-one_view rules content g h first second = ap (view rules) (one_history rules content g h first second)
+one_view first second content g h one other =
+    let same = one_history first second content g h one other in
+    ap (λ (rules : Rules). view rules g) same.0 ∙ ap (view second) same.1
 
 -- what the writes of a history left, with the plans of its trees, shows the view of that history
 pub replayed_is_shown : ReplayedIsShown

@@ -166,7 +166,7 @@ none_in_none rules v rs r none =
     let ws : List Write = writes rules (after_all rules v us) r in
     no_parts us ws (sym (accepted-append rules v rs (r ∷ []) ∙ ap (λ (w : List Write). us ++ w) (append-nil ws)) ∙ none)
 
-pub answered_none : {D : Type 0} {g : Ghosts D} (rules : Rules) (store : Store D g) (v : View) → ServesAt store v → HasAnsweredAt rules store store v [] []
+pub answered_none : {D : Type 0} {g : Ghosts D} (rules : Rules) (store : Store D g) (v : View) → ServesAt rules store v → HasAnsweredAt rules store store v [] []
 answered_none rules store v serving = record { serving = serving; answered = refl; untouched = λ none. refl; admitted = tt }
 
 -- one request more
@@ -174,7 +174,7 @@ pub answered_more : {D : Type 0} {g : Ghosts D} (rules : Rules) (old mid new : S
     → HasAnsweredAt rules old mid v done given → (r : Asked) (said : Reply) → HasReplyAt rules mid new (after_all rules v (accepted rules v done)) r said
     → HasAnsweredAt rules old new v (done ++ r ∷ []) (given ++ said ∷ [])
 answered_more rules old mid new v done given so_far r said next = record {
-  serving = subst (ServesAt new) (sym (view_one rules v done r)) next.serving;
+  serving = subst (ServesAt rules new) (sym (view_one rules v done r)) next.serving;
   answered = ap (λ (x : List Reply). x ++ said ∷ []) so_far.answered ∙ ap (λ x. replies rules v done ++ x ∷ []) next.reply
       ∙ sym (replies-append rules v done (r ∷ []));
   untouched = λ none. let parts = none_in_none rules v done r none in next.untouched parts.1 ∙ so_far.untouched parts.0;

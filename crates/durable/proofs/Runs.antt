@@ -29,67 +29,67 @@ asked_more requests asked a are read = record {
 }
 
 -- nothing was asked
-pub run_none : {D : Type 0} {g : Ghosts D} (rules : Rules) (store : Store D g)
+pub run_none : {D : Type 0} {g : Ghosts D} (store : Store D g)
     → ((c : List ℕ) → g.disk.keeps (device_of store) → g.disk.since (device_of store) (g.disk.moment (device_of store)) c → g.disk.left (device_of store) c)
-    → HasServed rules store store [] []
-run_none rules store only_now = record {
+    → HasServed store store [] []
+run_none store only_now = record {
   asked = [];
   are = record { are = refl; read = tt };
-  shown = λ v serving. answered_none rules store v serving;
-  settled = λ h settled. served_none rules store h (λ c since. only_now c settled.keeps since) settled;
+  shown = λ rules v serving. answered_none rules store v serving;
+  settled = λ rules h settled. served_none rules store h (λ c since. only_now c settled.keeps since) settled;
 }
 
-module _ {D : Type 0} {g : Ghosts D} (rules : Rules) (old mid new : Store D g) (done : List Request) (given : List Reply) (so_far : HasServed rules old mid done given) where
+module _ {D : Type 0} {g : Ghosts D} (old mid new : Store D g) (done : List Request) (given : List Reply) (so_far : HasServed old mid done given) where
   -- one request more
-  pub run_more : (r : Request) (said : Reply) → HasReplied rules mid new r said → HasServed rules old new (done ++ r ∷ []) (given ++ said ∷ [])
+  pub run_more : (r : Request) (said : Reply) → HasReplied mid new r said → HasServed old new (done ++ r ∷ []) (given ++ said ∷ [])
   run_more r said replied =
       let a : Asked = record { request = r; specification = replied.specification } in
       record {
         asked = so_far.asked ++ a ∷ [];
         are = asked_more done so_far.asked a so_far.are replied.read;
-        shown = λ v serving.
-            let before = so_far.shown v serving in
-            answered_more rules old mid new v so_far.asked given before a said (replied.shown (after_all rules v (accepted rules v so_far.asked)) before.serving);
-        settled = λ h settled.
-            let before = so_far.settled h settled in
-            let next = replied.settled (h ++ added rules h so_far.asked) before.settled in
+        shown = λ rules v serving.
+            let before = so_far.shown rules v serving in
+            answered_more rules old mid new v so_far.asked given before a said (replied.shown rules (after_all rules v (accepted rules v so_far.asked)) before.serving);
+        settled = λ rules h settled.
+            let before = so_far.settled rules h settled in
+            let next = replied.settled rules (h ++ added rules h so_far.asked) before.settled in
             served_more rules old mid new h so_far.asked before a next.settled next.moments;
       }
 
   -- a request that changed nothing
-  pub run_same : ((v : View) → ServesAt mid v → ServesAt new v × (device_of new ≡ device_of mid))
-      → ((h : History) → IsSettledAt rules mid h → IsSettledAt rules new h × LeavesSome rules mid new h []) → HasServed rules old new done given
+  pub run_same : ((rules : Rules) (v : View) → ServesAt rules mid v → ServesAt rules new v × (device_of new ≡ device_of mid))
+      → ((rules : Rules) (h : History) → IsSettledAt rules mid h → IsSettledAt rules new h × LeavesSome rules mid new h []) → HasServed old new done given
   run_same serving_still settled_still = record {
     asked = so_far.asked;
     are = so_far.are;
-    shown = λ v serving.
-        let before = so_far.shown v serving in
-        let next = serving_still (after_all rules v (accepted rules v so_far.asked)) before.serving in
+    shown = λ rules v serving.
+        let before = so_far.shown rules v serving in
+        let next = serving_still rules (after_all rules v (accepted rules v so_far.asked)) before.serving in
         record { serving = next.0; answered = before.answered; untouched = λ none. next.1 ∙ before.untouched none; admitted = before.admitted };
-    settled = λ h settled.
-        let before = so_far.settled h settled in
-        let next = settled_still (h ++ added rules h so_far.asked) before.settled in
+    settled = λ rules h settled.
+        let before = so_far.settled rules h settled in
+        let next = settled_still rules (h ++ added rules h so_far.asked) before.settled in
         served_same rules old mid new h so_far.asked before next.0 next.1;
   }
 
   -- the device failed in a further request
-  pub run_stopped : (r : Request) → HasFailedAt rules mid new r → HasStopped rules old new (done ++ r ∷ []) given
+  pub run_stopped : (r : Request) → HasFailedAt mid new r → HasStopped old new (done ++ r ∷ []) given
   run_stopped r failed =
       let a : Asked = record { request = r; specification = failed.specification } in
       record {
         asked = so_far.asked;
         failing = a;
         are = asked_more done so_far.asked a so_far.are failed.read;
-        shown = λ v serving.
-            let before = so_far.shown v serving in (
+        shown = λ rules v serving.
+            let before = so_far.shown rules v serving in (
               before.answered,
               (λ none.
                   let parts = none_in_none rules v so_far.asked a none in
-                  failed.untouched (after_all rules v (accepted rules v so_far.asked)) before.serving parts.1 ∙ before.untouched parts.0),
+                  failed.untouched rules (after_all rules v (accepted rules v so_far.asked)) before.serving parts.1 ∙ before.untouched parts.0),
               accepted_admitted rules v (so_far.asked ++ a ∷ []),
             );
-        stopped = λ h settled.
-            let before = so_far.settled h settled in
-            let next = failed.left (h ++ added rules h so_far.asked) before.settled in
+        stopped = λ rules h settled.
+            let before = so_far.settled rules h settled in
+            let next = failed.left rules (h ++ added rules h so_far.asked) before.settled in
             stopped_at rules old mid new h so_far.asked before a next.0 next.1;
       }

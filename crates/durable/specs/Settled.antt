@@ -42,6 +42,10 @@ module _ {D : Type 0} {g : Ghosts D} where
   abbrev pub serves : Store D g → Bool
   serves store = store.serves
 
+  -- the numbers that a store keeps to
+  abbrev pub kept_rules : Store D g → Rules
+  kept_rules store = store.core.rules
+
   -- what a store holds of its objects, with their plans
   abbrev pub shown : Store D g → seen.View Beside
   shown store = store.core.view
@@ -50,15 +54,17 @@ module _ {D : Type 0} {g : Ghosts D} where
   abbrev pub LeavesSome : Rules → (old new : Store D g) → History → List Write → Type 0
   LeavesSome rules old new h writes = LeavesOnly g.disk (device_of old) (device_of new) (IsFound rules h [] writes)
 
--- The store serves, and shows this view, which is one as histories have it. Nothing is said of its device.
-pub record ServesAt {D : Type 0} {g : Ghosts D} (store : Store D g) (v : View) : Type 0 where
+-- The store serves, keeps to these numbers, and shows this view, which is one as histories have it. Nothing is said of its device.
+pub record ServesAt {D : Type 0} {g : Ghosts D} (rules : Rules) (store : Store D g) (v : View) : Type 0 where
   pub working : serves store ≡ true
+  pub rules_are : kept_rules store ≡ rules
   pub shows : Shows (shown store) v
   pub seen : IsView v
 
--- The store serves and shows this history, and it would be found again, after a crash and without one.
+-- The store serves, keeps to these numbers and shows this history, and it would be found again, after a crash and without one.
 pub record IsSettledAt {D : Type 0} {g : Ghosts D} (rules : Rules) (store : Store D g) (h : History) : Type 0 where
   pub working : serves store ≡ true
+  pub rules_are : kept_rules store ≡ rules
   pub keeps : g.disk.keeps (device_of store)
   pub shows : Shows (shown store) (view rules h)
   pub read : StandsFor rules (g.disk.content (device_of store)) h
@@ -76,7 +82,7 @@ pub record IsLeftAt {D : Type 0} {g : Ghosts D} (rules : Rules) (store : Store D
 -- A store that showed v has answered as the model does, serves, and shows what the request leaves. Its write was admitted just before it.
 pub record HasReplyAt {D : Type 0} {g : Ghosts D} (rules : Rules) (old new : Store D g) (v : View) (a : Asked) (said : Reply) : Type 0 where
   pub reply : said ≡ reply rules v a
-  pub serving : ServesAt new (after_all rules v (writes rules v a))
+  pub serving : ServesAt rules new (after_all rules v (writes rules v a))
   pub untouched : writes rules v a ≡ [] → device_of new ≡ device_of old
   pub admitted : AreAdmitted rules v (writes rules v a)
 
@@ -86,30 +92,30 @@ pub record HasSettledAt {D : Type 0} {g : Ghosts D} (rules : Rules) (old new : S
   pub moments : LeavesSome rules old new h (writes rules (view rules h) a)
 
 -- What a request does to a store, with what stands in its document.
-pub record HasReplied {D : Type 0} {g : Ghosts D} (rules : Rules) (old new : Store D g) (r : Request) (said : Reply) : Type 0 where
+pub record HasReplied {D : Type 0} {g : Ghosts D} (old new : Store D g) (r : Request) (said : Reply) : Type 0 where
   pub specification : Specification Expr
   pub read : IsReadOf r specification
   -- at whatever view the store showed
-  pub shown : (v : View) → ServesAt old v → HasReplyAt rules old new v (record { request = r; specification = specification }) said
+  pub shown : (rules : Rules) (v : View) → ServesAt rules old v → HasReplyAt rules old new v (record { request = r; specification = specification }) said
   -- and where its device keeps the disk model
-  pub settled : (h : History) → IsSettledAt rules old h → HasSettledAt rules old new h (record { request = r; specification = specification })
+  pub settled : (rules : Rules) (h : History) → IsSettledAt rules old h → HasSettledAt rules old new h (record { request = r; specification = specification })
 
 -- The device failed in the request: its write stands, or it does not.
-pub record HasFailedAt {D : Type 0} {g : Ghosts D} (rules : Rules) (old new : Store D g) (r : Request) : Type 0 where
+pub record HasFailedAt {D : Type 0} {g : Ghosts D} (old new : Store D g) (r : Request) : Type 0 where
   pub specification : Specification Expr
   pub read : IsReadOf r specification
-  pub untouched : (v : View) → ServesAt old v → writes rules v (record { request = r; specification = specification }) ≡ []
+  pub untouched : (rules : Rules) (v : View) → ServesAt rules old v → writes rules v (record { request = r; specification = specification }) ≡ []
       → device_of new ≡ device_of old
-  pub left : (h : History) → IsSettledAt rules old h
+  pub left : (rules : Rules) (h : History) → IsSettledAt rules old h
       → IsLeftAt rules new h [] (writes rules (view rules h) (record { request = r; specification = specification }))
       × LeavesSome rules old new h (writes rules (view rules h) (record { request = r; specification = specification }))
-  pub admitted : (v : View) → AreAdmitted rules v (writes rules v (record { request = r; specification = specification }))
+  pub admitted : (rules : Rules) (v : View) → AreAdmitted rules v (writes rules v (record { request = r; specification = specification }))
 
 -- ---- requests, one after the other
 
 -- A store that showed v has answered as the model does, serves, and shows what the requests leave. Each write was admitted just before it.
 pub record HasAnsweredAt {D : Type 0} {g : Ghosts D} (rules : Rules) (old new : Store D g) (v : View) (asked : List Asked) (given : List Reply) : Type 0 where
-  pub serving : ServesAt new (after_all rules v (accepted rules v asked))
+  pub serving : ServesAt rules new (after_all rules v (accepted rules v asked))
   pub answered : given ≡ replies rules v asked
   pub untouched : accepted rules v asked ≡ [] → device_of new ≡ device_of old
   pub admitted : AreAdmitted rules v (accepted rules v asked)
@@ -120,11 +126,11 @@ pub record HasServedAs {D : Type 0} {g : Ghosts D} (rules : Rules) (old new : St
   pub moments : LeavesSome rules old new h (added rules h asked)
 
 -- A run from old has answered these requests, with what stands in their documents.
-pub record HasServed {D : Type 0} {g : Ghosts D} (rules : Rules) (old new : Store D g) (requests : List Request) (given : List Reply) : Type 0 where
+pub record HasServed {D : Type 0} {g : Ghosts D} (old new : Store D g) (requests : List Request) (given : List Reply) : Type 0 where
   pub asked : List Asked
   pub are : AreAsked requests asked
-  pub shown : (v : View) → ServesAt old v → HasAnsweredAt rules old new v asked given
-  pub settled : (h : History) → IsSettledAt rules old h → HasServedAs rules old new h asked
+  pub shown : (rules : Rules) (v : View) → ServesAt rules old v → HasAnsweredAt rules old new v asked given
+  pub settled : (rules : Rules) (h : History) → IsSettledAt rules old h → HasServedAs rules old new h asked
 
 -- A store that was settled at the history has taken what was asked first of all, and its device failed in the next.
 pub record HasStoppedAs {D : Type 0} {g : Ghosts D} (rules : Rules) (old new : Store D g) (h : History) (done all : List Asked) : Type 0 where
@@ -132,12 +138,12 @@ pub record HasStoppedAs {D : Type 0} {g : Ghosts D} (rules : Rules) (old new : S
   pub moments : LeavesSome rules old new h (added rules h all)
 
 -- A run from old has answered these requests but the last, in which the device failed.
-pub record HasStopped {D : Type 0} {g : Ghosts D} (rules : Rules) (old new : Store D g) (requests : List Request) (given : List Reply) : Type 0 where
+pub record HasStopped {D : Type 0} {g : Ghosts D} (old new : Store D g) (requests : List Request) (given : List Reply) : Type 0 where
   pub asked : List Asked
   pub failing : Asked
   pub are : AreAsked requests (asked ++ failing ∷ [])
-  pub shown : (v : View) → ServesAt old v
+  pub shown : (rules : Rules) (v : View) → ServesAt rules old v
       → (given ≡ replies rules v asked)
       × (accepted rules v (asked ++ failing ∷ []) ≡ [] → device_of new ≡ device_of old)
       × AreAdmitted rules v (accepted rules v (asked ++ failing ∷ []))
-  pub stopped : (h : History) → IsSettledAt rules old h → HasStoppedAs rules old new h asked (asked ++ failing ∷ [])
+  pub stopped : (rules : Rules) (h : History) → IsSettledAt rules old h → HasStoppedAs rules old new h asked (asked ++ failing ∷ [])

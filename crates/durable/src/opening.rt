@@ -6,6 +6,7 @@ ghost use Rattle.device.specs.Step.{Same};
 ghost use Rattle.device.specs.Run.{Ran};
 ghost use Rattle.gatelog.specs.Log.{HoldsLog};
 ghost use Rattle.checkpoint.specs.Root.{HoldsRoot};
+ghost use Rattle.names.specs.declared.format.Rules.{Rules};
 ghost use Rattle.apicore.specs.Standing.{History};
 ghost use Rattle.durable.specs.declared.fault.Damage.{Damage};
 ghost use Rattle.durable.specs.declared.fault.Fault.TheVariants as Fault;
@@ -30,7 +31,7 @@ pub(crate) struct Opened {
     pub(crate) log: Log,
 }
 
-// The numbers that a store keeps to.
+// The numbers of the first format, which is the only one: a file of another has another header.
 #[tactic(auto, unfolding(crate::specs::Rules::first_rules))]
 fn rules() -> Rules
     ensures { result ≡ first_rules }
@@ -44,7 +45,7 @@ fn root_without_pages<D: Device>(device: &mut D) -> Result<Root, Fault>
     ensures no_pages { IfOk result (λ root. root.pages ≡ 0) }
     ensures revision { IfOk result (λ root. root.revision ≡ 1) }
     ensures damaged { D.disk.keeps device.old → (damage : Damage) → IsErrOf result (Fault.Damaged damage)
-        → (h : History) → StandsFor first_rules (D.disk.content device.old) h → ⊥ }
+        → (rules : Rules) (h : History) → StandsFor rules (D.disk.content device.old) h → ⊥ }
     ensures ran { Ran D.disk device.old device.new Same }
     ensures refusal { (result ≢ Err Fault.Failed) × (result ≢ Err Fault.Memory) }
     ensures cause { IsErrOf result Fault.Device → HasFailed D.disk device.old device.new }
@@ -75,11 +76,12 @@ fn read_log<D: Device>(alloc: Global, device: &mut D, at: u64) -> Result<(Log, V
 fn read_store<D: Device>(alloc: Global, device: &mut D) -> Result<Opened, Fault>
     ensures rules { IfOk result (λ opened. opened.core.rules ≡ first_rules) }
     ensures works { IfOk result (λ opened. opened.log.failed ≡ false) }
-    ensures found { D.disk.keeps device.old → (h : History) → StandsFor first_rules (D.disk.content device.old) h → IfOk result (λ opened. Shows opened.core.view (view first_rules h)) }
-    ensures replayed { IfOk result (λ opened. IsReplayed first_rules opened.core.view) }
+    ensures found { D.disk.keeps device.old → (rules : Rules) (h : History) → StandsFor rules (D.disk.content device.old) h
+        → IfOk result (λ opened. (opened.core.rules ≡ rules) × Shows opened.core.view (view rules h)) }
+    ensures replayed { IfOk result (λ opened. IsReplayed opened.core.rules opened.core.view) }
     ensures log { D.disk.keeps device.old → IfOk result (λ opened. IsLogOf (D.disk.content device.old) opened.log) }
     ensures damaged { D.disk.keeps device.old → (damage : Damage) → IsErrOf result (Fault.Damaged damage)
-        → (h : History) → StandsFor first_rules (D.disk.content device.old) h → ⊥ }
+        → (rules : Rules) (h : History) → StandsFor rules (D.disk.content device.old) h → ⊥ }
     ensures ran { Ran D.disk device.old device.new Same }
     ensures refusal { result ≢ Err Fault.Failed }
     ensures cause { IsErrOf result Fault.Device → HasFailed D.disk device.old device.new }
@@ -103,12 +105,13 @@ fn read_store<D: Device>(alloc: Global, device: &mut D) -> Result<Opened, Fault>
 pub(crate) fn synced_store<D: Device>(alloc: Global, device: &mut D) -> Result<Opened, Fault>
     ensures rules { IfOk result (λ opened. opened.core.rules ≡ first_rules) }
     ensures works { IfOk result (λ opened. opened.log.failed ≡ false) }
-    ensures found { D.disk.keeps device.old → (h : History) → StandsFor first_rules (D.disk.content device.old) h → IfOk result (λ opened. Shows opened.core.view (view first_rules h)) }
-    ensures replayed { IfOk result (λ opened. IsReplayed first_rules opened.core.view) }
+    ensures found { D.disk.keeps device.old → (rules : Rules) (h : History) → StandsFor rules (D.disk.content device.old) h
+        → IfOk result (λ opened. (opened.core.rules ≡ rules) × Shows opened.core.view (view rules h)) }
+    ensures replayed { IfOk result (λ opened. IsReplayed opened.core.rules opened.core.view) }
     ensures log { D.disk.keeps device.old → IfOk result (λ opened. IsLogOf (D.disk.content device.old) opened.log) }
     ensures durable { D.disk.keeps device.old → OnOk result (Only (D.disk.content device.new) (D.disk.left device.new)) }
     ensures damaged { D.disk.keeps device.old → (damage : Damage) → IsErrOf result (Fault.Damaged damage)
-        → (h : History) → StandsFor first_rules (D.disk.content device.old) h → ⊥ }
+        → (rules : Rules) (h : History) → StandsFor rules (D.disk.content device.old) h → ⊥ }
     ensures ran { Ran D.disk device.old device.new Same }
     ensures refusal { result ≢ Err Fault.Failed }
     ensures cause { IsErrOf result Fault.Device → HasFailed D.disk device.old device.new }

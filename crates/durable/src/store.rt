@@ -1,5 +1,5 @@
-ghost use Rattle.std.specs.Prelude.{◌≡◌, ◌≢◌, ◌≤◌, ◌+◌, ◌++◌, ◌∷◌, [], List, ℕ, length, take, map, true, false, is_ok, None, Some, IsSome, IfSome, IfOk, IfErr, OnOk, OnErr, IsErrOf, ◌⊎◌};
-ghost use Rattle.durable.specs.Rules.{first_rules};
+ghost use Rattle.std.specs.Prelude.{◌≡◌, ◌≢◌, ◌≤◌, ◌+◌, ◌^◌, ◌++◌, ◌∷◌, [], List, ℕ, length, take, map, true, false, is_ok, None, Some, IsSome, IfSome, IfOk, IfErr, OnOk, OnErr, IsErrOf, ◌⊎◌};
+ghost use Rattle.durable.specs.Rules.{AreOfFormat};
 ghost use Rattle.durable.specs.Opened.{IsReplayed};
 ghost use Rattle.durable.specs.Ready.{IsReady};
 
@@ -20,7 +20,7 @@ pub struct Store<D: Device> {
     core: Core,
     log: Log,
     serves: bool,
-    ghost rules: { core.rules ≡ first_rules },
+    ghost limits: { core.rules.text_limit_bytes ≤ 2 ^ 24 },
     ghost works: { serves ≡ true → log.failed ≡ false },
     ghost ready: { serves ≡ true → D.disk.keeps device → ∥ IsReady D.disk device log ∥₁ },
 }
@@ -29,6 +29,7 @@ impl<D: Device> Store<D> {
     ghost use Rattle.device.specs.Disk.{LeavesOnly, HasCause, HasFailed};
     ghost use Rattle.device.specs.Run.{Stands};
     ghost use Rattle.gatelog.specs.Payload.{payload_of};
+    ghost use Rattle.names.specs.declared.format.Rules.{Rules};
     ghost use Rattle.requests.specs.RequestOf.{request_of};
     ghost use Rattle.history.specs.Prepared.{AreReady, writes_of};
     ghost use Rattle.history.specs.View.{view, after_all};
@@ -37,7 +38,7 @@ impl<D: Device> Store<D> {
     ghost use Rattle.durable.specs.Recorded.{payload, IsStorable};
     ghost use Rattle.durable.specs.Ready.{HoldsHistory};
     ghost use Rattle.durable.specs.Stands.{StandsFor};
-    ghost use Rattle.durable.specs.Settled.{device_of, serves, shown, ServesAt, IsFound, IsSettledAt, LeavesSome, HasReplied, HasFailedAt, HasServed, HasStopped};
+    ghost use Rattle.durable.specs.Settled.{device_of, serves, kept_rules, shown, ServesAt, IsFound, IsSettledAt, LeavesSome, HasReplied, HasFailedAt, HasServed, HasStopped};
 
     /// Opens the store on a device: syncs it, reads it, and writes nothing. With a refusal it gives the device back.
     ///
@@ -45,12 +46,13 @@ impl<D: Device> Store<D> {
     ///
     /// `Device` only where the device failed in this call; `Memory`; `Damaged` only where the content stands for no history.
     pub fn open(alloc: Global, device: D) -> Result<Store<D>, (Fault, D)>
-        ensures settled { (h : History) → D.disk.keeps device → StandsFor first_rules (D.disk.content device) h
-            → IfOk result (λ store. IsSettledAt first_rules store h) }
+        ensures settled { (rules : Rules) (h : History) → D.disk.keeps device → StandsFor rules (D.disk.content device) h
+            → IfOk result (λ store. IsSettledAt rules store h) }
         ensures serves { IfOk result (λ store. serves store ≡ true) }
 
-        // Whatever the device: it shows what the writes that were read left, with their plans.
-        ensures replayed { IfOk result (λ store. IsReplayed first_rules (shown store)) }
+        // Whatever the device: it keeps to the numbers of a format, and shows what the writes that were read left, with their plans.
+        ensures rules { IfOk result (λ store. AreOfFormat (kept_rules store)) }
+        ensures replayed { IfOk result (λ store. IsReplayed (kept_rules store) (shown store)) }
 
         // At every moment a crash leaves what it might have left before.
         ensures any_moment { D.disk.keeps device → IfOk result (λ store. LeavesOnly D.disk device (device_of store) (D.disk.left device)) }
@@ -59,7 +61,7 @@ impl<D: Device> Store<D> {
         ensures content { D.disk.keeps device → IfOk result (λ store. D.disk.content (device_of store) ≡ D.disk.content device) }
         ensures content_err { D.disk.keeps device → IfErr result (λ e. D.disk.keeps e.1 × (D.disk.content e.1 ≡ D.disk.content device)) }
         ensures left_err { D.disk.keeps device → IfErr result (λ e. (c : List ℕ) → D.disk.left e.1 c → D.disk.left device c) }
-        ensures refusal { (h : History) → D.disk.keeps device → StandsFor first_rules (D.disk.content device) h
+        ensures refusal { (rules : Rules) (h : History) → D.disk.keeps device → StandsFor rules (D.disk.content device) h
             → IfErr result (λ e. (e.0 ≡ Fault.Device) ⊎ (e.0 ≡ Fault.Memory)) }
         ensures never_failed { IfErr result (λ e. e.0 ≢ Fault.Failed) }
         ensures cause { IfErr result (λ e. e.0 ≡ Fault.Device → HasFailed D.disk device e.1) }
@@ -98,12 +100,12 @@ impl<D: Device> Store<D> {
     /// `Device` only where the device failed in this call: the write may stand or not, and the store answers `Failed` from then
     /// on. `Memory` changes nothing. `Failed` after a failure, with no call of the device.
     pub fn apply(&mut self, alloc: Global, request: &Request) -> Result<Reply, Fault>
-        ensures ok { serves self.old ≡ true → IfOk result (HasReplied first_rules self.old self.new (request_of request.now)) }
-        ensures device { IsErrOf result Fault.Device → HasFailedAt first_rules self.old self.new (request_of request.now) }
-        ensures memory_serving { (v : View) → ServesAt self.old v → IsErrOf result Fault.Memory
-            → ServesAt self.new v × (device_of self.new ≡ device_of self.old) }
-        ensures memory { (h : History) → IsSettledAt first_rules self.old h → IsErrOf result Fault.Memory
-            → IsSettledAt first_rules self.new h × LeavesSome first_rules self.old self.new h [] }
+        ensures ok { serves self.old ≡ true → IfOk result (HasReplied self.old self.new (request_of request.now)) }
+        ensures device { IsErrOf result Fault.Device → HasFailedAt self.old self.new (request_of request.now) }
+        ensures memory_serving { (rules : Rules) (v : View) → ServesAt rules self.old v → IsErrOf result Fault.Memory
+            → ServesAt rules self.new v × (device_of self.new ≡ device_of self.old) }
+        ensures memory { (rules : Rules) (h : History) → IsSettledAt rules self.old h → IsErrOf result Fault.Memory
+            → IsSettledAt rules self.new h × LeavesSome rules self.old self.new h [] }
 
         ensures refusal { serves self.old ≡ true → OnErr result (IsErrOf result Fault.Device ⊎ IsErrOf result Fault.Memory) }
         ensures failed { serves self.old ≡ false → IsErrOf result Fault.Failed × (self.new ≡ self.old) }
@@ -128,11 +130,12 @@ impl<D: Device> Store<D> {
         requires serves { serves self.old ≡ true }
         requires ready { AreReady self.old.core prepared.write }
         ensures reply { IfOk result (λ r. r ≡ prepared.reply) }
+        ensures rules { kept_rules self.new ≡ kept_rules self.old }
         ensures shows { (shown self.new) ≡ after_all self.old.core.rules (shown self.old) (writes_of prepared.write) }
-        ensures stands { (h : History) (w : Write) → HoldsHistory first_rules D.disk (device_of self.old) h → MayFollow first_rules (view first_rules h) w → IsStorable w
-            → payload_of body ≡ payload w → Stands D.disk (device_of self.old) (device_of self.new) (IsFound first_rules h [] (w ∷ [])) (IsFound first_rules h [] (w ∷ [])) }
-        ensures appended { (h : History) (w : Write) → HoldsHistory first_rules D.disk (device_of self.old) h → MayFollow first_rules (view first_rules h) w → IsStorable w
-            → payload_of body ≡ payload w → OnOk result (HoldsHistory first_rules D.disk (device_of self.new) (h ++ w ∷ [])) }
+        ensures stands { (rules : Rules) (h : History) (w : Write) → HoldsHistory rules D.disk (device_of self.old) h → MayFollow rules (view rules h) w → IsStorable w
+            → payload_of body ≡ payload w → Stands D.disk (device_of self.old) (device_of self.new) (IsFound rules h [] (w ∷ [])) (IsFound rules h [] (w ∷ [])) }
+        ensures appended { (rules : Rules) (h : History) (w : Write) → HoldsHistory rules D.disk (device_of self.old) h → MayFollow rules (view rules h) w → IsStorable w
+            → payload_of body ≡ payload w → OnOk result (HoldsHistory rules D.disk (device_of self.new) (h ++ w ∷ [])) }
         ensures serves { serves self.new ≡ is_ok result }
         ensures refusal { OnErr result (result ≡ Err Fault.Device) }
         ensures cause { HasCause D.disk (device_of self.old) (device_of self.new) result }
@@ -147,10 +150,10 @@ impl<D: Device> Store<D> {
     fn append(&mut self, body: Body) -> Result<(), Fault>
         requires { serves self.old ≡ true }
         ensures core { self.new.core ≡ self.old.core }
-        ensures stands { (h : History) (w : Write) → HoldsHistory first_rules D.disk (device_of self.old) h → MayFollow first_rules (view first_rules h) w → IsStorable w
-            → payload_of body ≡ payload w → Stands D.disk (device_of self.old) (device_of self.new) (IsFound first_rules h [] (w ∷ [])) (IsFound first_rules h [] (w ∷ [])) }
-        ensures appended { (h : History) (w : Write) → HoldsHistory first_rules D.disk (device_of self.old) h → MayFollow first_rules (view first_rules h) w → IsStorable w
-            → payload_of body ≡ payload w → OnOk result (HoldsHistory first_rules D.disk (device_of self.new) (h ++ w ∷ [])) }
+        ensures stands { (rules : Rules) (h : History) (w : Write) → HoldsHistory rules D.disk (device_of self.old) h → MayFollow rules (view rules h) w → IsStorable w
+            → payload_of body ≡ payload w → Stands D.disk (device_of self.old) (device_of self.new) (IsFound rules h [] (w ∷ [])) (IsFound rules h [] (w ∷ [])) }
+        ensures appended { (rules : Rules) (h : History) (w : Write) → HoldsHistory rules D.disk (device_of self.old) h → MayFollow rules (view rules h) w → IsStorable w
+            → payload_of body ≡ payload w → OnOk result (HoldsHistory rules D.disk (device_of self.new) (h ++ w ∷ [])) }
         ensures serves { serves self.new ≡ is_ok result }
         ensures refusal { OnErr result (result ≡ Err Fault.Device) }
         ensures cause { HasCause D.disk (device_of self.old) (device_of self.new) result }
@@ -172,13 +175,13 @@ impl<D: Device> Store<D> {
     /// where there is no request.
     pub fn run(&mut self, alloc: Global, requests: &[Request]) -> (Vec<Reply>, Option<Fault>)
         ensures all { result.1 ≡ None
-            → HasServed first_rules self.old self.new (map request_of requests.now) result.0.items }
+            → HasServed self.old self.new (map request_of requests.now) result.0.items }
         ensures memory { result.1 ≡ Some Fault.Memory
-            → HasServed first_rules self.old self.new (take (length result.0.items) (map request_of requests.now)) result.0.items }
+            → HasServed self.old self.new (take (length result.0.items) (map request_of requests.now)) result.0.items }
 
         // It speaks of the requests up to the one in which the device failed: nothing was read of those behind it.
         ensures device { result.1 ≡ Some Fault.Device
-            → HasStopped first_rules self.old self.new (take (length result.0.items + 1) (map request_of requests.now)) result.0.items }
+            → HasStopped self.old self.new (take (length result.0.items + 1) (map request_of requests.now)) result.0.items }
 
         ensures refusal { serves self.old ≡ true → IfSome result.1 (λ fault. (fault ≡ Fault.Device) ⊎ (fault ≡ Fault.Memory)) }
         ensures failed { serves self.old ≡ false → (self.new ≡ self.old) × (result.0.items ≡ []) × (result.1 ≡ Some Fault.Failed) }

@@ -4,21 +4,21 @@ use Rattle.api.proofs.Runs.{at_ok, at_error}
 use Rattle.api.proofs.connection.serve.Goals as goal
 
 pub returns-clause-ended : goal.returns-clause-ended
-returns-clause-ended g c v shows = at_ok c.serve_pieces.result _ _ (c.serve_pieces.ensures.outcome v shows)
+returns-clause-ended g c rules v shows = at_ok c.serve_pieces.result _ _ (c.serve_pieces.ensures.outcome rules v shows)
 
 pub returns-clause-read : goal.returns-clause-read
-returns-clause-read g c v shows is = at_error c.serve_pieces.result _ _ Read (c.serve_pieces.ensures.outcome v shows) is
+returns-clause-read g c rules v shows is = at_error c.serve_pieces.result _ _ Read (c.serve_pieces.ensures.outcome rules v shows) is
 
 pub returns-clause-write : goal.returns-clause-write
-returns-clause-write g c v shows is = at_error c.serve_pieces.result _ _ Write (c.serve_pieces.ensures.outcome v shows) is
+returns-clause-write g c rules v shows is = at_error c.serve_pieces.result _ _ Write (c.serve_pieces.ensures.outcome rules v shows) is
 
 pub returns-clause-device : goal.returns-clause-device
-returns-clause-device g c v shows either =
-    ⊎_elim (λ is. at_error c.serve_pieces.result _ _ Device (c.serve_pieces.ensures.outcome v shows) is)
-    (λ is. at_error c.serve_pieces.result _ _ Failed (c.serve_pieces.ensures.outcome v shows) is) either
+returns-clause-device g c rules v shows either =
+    ⊎_elim (λ is. at_error c.serve_pieces.result _ _ Device (c.serve_pieces.ensures.outcome rules v shows) is)
+    (λ is. at_error c.serve_pieces.result _ _ Failed (c.serve_pieces.ensures.outcome rules v shows) is) either
 
 pub returns-clause-memory : goal.returns-clause-memory
-returns-clause-memory g c v shows is = inr (at_error c.serve_pieces.result _ _ Memory (c.serve_pieces.ensures.outcome v shows) is)
+returns-clause-memory g c rules v shows is = inr (at_error c.serve_pieces.result _ _ Memory (c.serve_pieces.ensures.outcome rules v shows) is)
 
 pub returns-clause-never_damaged : goal.returns-clause-never_damaged
 returns-clause-never_damaged g c damage is = c.serve_pieces.ensures.causes.never_damaged damage is

@@ -8,14 +8,14 @@ use Rattle.api.proofs.connection.serve_pieces.Goals as goal
 
 pub loop-init : goal.loop-init
 loop-init g c = (
-  λ v shows.
+  λ rules v shows.
       let gave = g.I.Input.gave in
       let took = g.O.Output.took in
       let Now : Progress → Type 0 =
-      λ now. SoFar gave took c.args.input.now c.args.input.now c.args.output.now c.args.output.now c.args.store.now c.args.store.now v now []
+      λ now. SoFar rules gave took c.args.input.now c.args.input.now c.args.output.now c.args.output.now c.args.store.now c.args.store.now v now []
       in
       subst Now (sym c.requires.fresh)
-      (so_far_none gave took g.O.Output.failures c.args.input.now c.args.output.now c.args.store.now v (g.met.I.Input.gave_none c.args.input.now)
+      (so_far_none rules gave took g.O.Output.failures c.args.input.now c.args.output.now c.args.store.now v (g.met.I.Input.gave_none c.args.input.now)
       (g.met.O.Output.took_none c.args.output.now) (λ keeps content since. g.met.D.Device.only_now _ content keeps since) shows),
   omega arith,
   c.requires.buffer,
@@ -26,46 +26,46 @@ loop-init g c = (
 )
 
 pub returns-in-Ok-Finish-clause-outcome : goal.returns-in-Ok-Finish-clause-outcome
-returns-in-Ok-Finish-clause-outcome g c v shows =
+returns-in-Ok-Finish-clause-outcome g c rules v shows =
     let gave = g.I.Input.gave in
     let took = g.O.Output.took in
-    let so_far = c.loop.invariant.0 v shows in
+    let so_far = c.loop.invariant.0 rules v shows in
     let Stepped : Step → Type 0 =
-    λ step. Steps gave took g.O.Output.failures c.loop.input c.next_step.new.input c.loop.output c.next_step.new.output c.loop.store c.next_step.new.store
-    (seen v so_far.answers.answered) so_far.read so_far.ms c.loop.connection.cutter (take c.loop.count c.loop.buffer) c.next_step.new.connection.cutter
+    λ step. Steps rules gave took g.O.Output.failures c.loop.input c.next_step.new.input c.loop.output c.next_step.new.output c.loop.store c.next_step.new.store
+    (seen rules v so_far.answers.answered) so_far.read so_far.ms c.loop.connection.cutter (take c.loop.count c.loop.buffer) c.next_step.new.connection.cutter
     c.next_step.new.buffer (g.I.Input.has_ended c.next_step.new.input) step
     in
-    let step = subst Stepped c.in-Ok-Finish.field-0-is (c.in-Ok-Finish.ensures.outcome _ so_far.read so_far.ms so_far.answers.store.shows so_far.cut) in
+    let step = subst Stepped c.in-Ok-Finish.field-0-is (c.in-Ok-Finish.ensures.outcome rules _ so_far.read so_far.ms so_far.answers.store.shows so_far.cut) in
     let later =
-    so_far_told gave took g.O.Output.failures g.met.O.Output.took_then c.args.input.now c.loop.input c.args.output.now c.loop.output c.next_step.new.output c.args.store.now
+    so_far_told rules gave took g.O.Output.failures g.met.O.Output.took_then c.args.input.now c.loop.input c.args.output.now c.loop.output c.next_step.new.output c.args.store.now
     c.loop.store c.next_step.new.store v c.loop.connection.cutter c.next_step.new.connection.cutter (take c.loop.count c.loop.buffer) so_far step.0
     in
-    finished_at gave took g.O.Output.failures g.met.O.Output.took_then c.args.input.now c.loop.input c.next_step.new.input c.args.output.now c.next_step.new.output
+    finished_at rules gave took g.O.Output.failures g.met.O.Output.took_then c.args.input.now c.loop.input c.next_step.new.input c.args.output.now c.next_step.new.output
     c.finish.new.output c.args.store.now c.next_step.new.store v c.next_step.new.connection.cutter (g.I.Input.has_ended c.next_step.new.input) c.finish.result
     g.met.I.Input.gave_then later step.2 step.3 (c.finish.ensures.outcome later.read later.ms later.cut step.1)
 
 pub returns-in-Ok-End-clause-outcome : goal.returns-in-Ok-End-clause-outcome
-returns-in-Ok-End-clause-outcome g c v shows =
+returns-in-Ok-End-clause-outcome g c rules v shows =
     let gave = g.I.Input.gave in
     let took = g.O.Output.took in
-    let so_far = c.loop.invariant.0 v shows in
+    let so_far = c.loop.invariant.0 rules v shows in
     let Stepped : Step → Type 0 =
-    λ step. Steps gave took g.O.Output.failures c.loop.input c.next_step.new.input c.loop.output c.next_step.new.output c.loop.store c.next_step.new.store
-    (seen v so_far.answers.answered) so_far.read so_far.ms c.loop.connection.cutter (take c.loop.count c.loop.buffer) c.next_step.new.connection.cutter
+    λ step. Steps rules gave took g.O.Output.failures c.loop.input c.next_step.new.input c.loop.output c.next_step.new.output c.loop.store c.next_step.new.store
+    (seen rules v so_far.answers.answered) so_far.read so_far.ms c.loop.connection.cutter (take c.loop.count c.loop.buffer) c.next_step.new.connection.cutter
     c.next_step.new.buffer (g.I.Input.has_ended c.next_step.new.input) step
     in
-    ended_at gave took g.O.Output.failures g.met.O.Output.took_then c.args.input.now c.loop.input c.next_step.new.input c.args.output.now c.loop.output c.next_step.new.output
+    ended_at rules gave took g.O.Output.failures g.met.O.Output.took_then c.args.input.now c.loop.input c.next_step.new.input c.args.output.now c.loop.output c.next_step.new.output
     c.args.store.now c.loop.store c.next_step.new.store v c.loop.connection.cutter c.next_step.new.connection.cutter (take c.loop.count c.loop.buffer)
     (g.I.Input.has_ended c.next_step.new.input) c.in-Ok-End.end g.met.I.Input.gave_then so_far
-    (subst Stepped c.in-Ok-End.field-0-is (c.in-Ok-End.ensures.outcome _ so_far.read so_far.ms so_far.answers.store.shows so_far.cut))
+    (subst Stepped c.in-Ok-End.field-0-is (c.in-Ok-End.ensures.outcome rules _ so_far.read so_far.ms so_far.answers.store.shows so_far.cut))
 
 pub returns-in-Err-clause-outcome : goal.returns-in-Err-clause-outcome
-returns-in-Err-clause-outcome g c v shows =
-    let so_far = c.loop.invariant.0 v shows in
-    wrong_at g.I.Input.gave g.O.Output.took g.O.Output.failures g.met.O.Output.took_then c.args.input.now c.loop.input c.next_step.new.input c.args.output.now c.loop.output
+returns-in-Err-clause-outcome g c rules v shows =
+    let so_far = c.loop.invariant.0 rules v shows in
+    wrong_at rules g.I.Input.gave g.O.Output.took g.O.Output.failures g.met.O.Output.took_then c.args.input.now c.loop.input c.next_step.new.input c.args.output.now c.loop.output
     c.next_step.new.output c.loop.invariant.4 c.args.store.now c.loop.store c.next_step.new.store v c.loop.connection.cutter c.next_step.new.connection.cutter
     (take c.loop.count c.loop.buffer) c.in-Err.fault g.met.I.Input.gave_then so_far
-    (c.in-Err.ensures.outcome _ so_far.read so_far.ms so_far.answers.store.shows so_far.cut)
+    (c.in-Err.ensures.outcome rules _ so_far.read so_far.ms so_far.answers.store.shows so_far.cut)
 
 pub returns-in-Err-clause-causes : goal.returns-in-Err-clause-causes
 returns-in-Err-clause-causes g c =
@@ -73,19 +73,19 @@ returns-in-Err-clause-causes g c =
 
 pub loop-preserved : goal.loop-preserved
 loop-preserved g c = (
-  λ v shows.
+  λ rules v shows.
       let gave = g.I.Input.gave in
       let took = g.O.Output.took in
-      let so_far = c.loop.invariant.0 v shows in
+      let so_far = c.loop.invariant.0 rules v shows in
       let Stepped : Step → Type 0 =
-      λ step. Steps gave took g.O.Output.failures c.loop.input c.next_step.new.input c.loop.output c.next_step.new.output c.loop.store c.next_step.new.store
-      (seen v so_far.answers.answered) so_far.read so_far.ms c.loop.connection.cutter (take c.loop.count c.loop.buffer) c.next_step.new.connection.cutter
+      λ step. Steps rules gave took g.O.Output.failures c.loop.input c.next_step.new.input c.loop.output c.next_step.new.output c.loop.store c.next_step.new.store
+      (seen rules v so_far.answers.answered) so_far.read so_far.ms c.loop.connection.cutter (take c.loop.count c.loop.buffer) c.next_step.new.connection.cutter
       c.next_step.new.buffer (g.I.Input.has_ended c.next_step.new.input) step
       in
-      let step = subst Stepped c.in-Ok-Feed.field-0-is (c.in-Ok-Feed.ensures.outcome _ so_far.read so_far.ms so_far.answers.store.shows so_far.cut) in
-      so_far_read gave took g.O.Output.failures c.args.input.now c.loop.input c.next_step.new.input c.args.output.now c.next_step.new.output c.args.store.now
+      let step = subst Stepped c.in-Ok-Feed.field-0-is (c.in-Ok-Feed.ensures.outcome rules _ so_far.read so_far.ms so_far.answers.store.shows so_far.cut) in
+      so_far_read rules gave took g.O.Output.failures c.args.input.now c.loop.input c.next_step.new.input c.args.output.now c.next_step.new.output c.args.store.now
       c.next_step.new.store v c.next_step.new.connection.cutter (take c.in-Ok-Feed.more c.next_step.new.buffer) g.met.I.Input.gave_then
-      (so_far_told gave took g.O.Output.failures g.met.O.Output.took_then c.args.input.now c.loop.input c.args.output.now c.loop.output c.next_step.new.output
+      (so_far_told rules gave took g.O.Output.failures g.met.O.Output.took_then c.args.input.now c.loop.input c.args.output.now c.loop.output c.next_step.new.output
       c.args.store.now c.loop.store c.next_step.new.store v c.loop.connection.cutter c.next_step.new.connection.cutter (take c.loop.count c.loop.buffer) so_far step.0)
       step.1,
   c.in-Ok-Feed.ensures.fits c.in-Ok-Feed.more (ap Ok c.in-Ok-Feed.field-0-is),
@@ -97,13 +97,13 @@ loop-preserved g c = (
 )
 
 pub returns-in-Ok-clause-outcome : goal.returns-in-Ok-clause-outcome
-returns-in-Ok-clause-outcome g c v shows =
-    no_more g.I.Input.gave g.O.Output.took g.O.Output.failures g.met.O.Output.took_then c.args.input.now c.loop.input c.args.output.now c.loop.output
-    c.write_no_more.new.output c.args.store.now c.loop.store v c.loop.connection.cutter (take c.loop.count c.loop.buffer) (c.loop.invariant.0 v shows)
+returns-in-Ok-clause-outcome g c rules v shows =
+    no_more rules g.I.Input.gave g.O.Output.took g.O.Output.failures g.met.O.Output.took_then c.args.input.now c.loop.input c.args.output.now c.loop.output
+    c.write_no_more.new.output c.args.store.now c.loop.store v c.loop.connection.cutter (take c.loop.count c.loop.buffer) (c.loop.invariant.0 rules v shows)
     c.in-Ok.ensures.writes
 
 pub returns-clause-outcome : goal.returns-clause-outcome
-returns-clause-outcome g c v shows =
-    no_more_in_part g.I.Input.gave g.O.Output.took g.O.Output.failures g.met.O.Output.took_then c.args.input.now c.loop.input c.args.output.now c.loop.output
-    c.write_no_more.new.output c.args.store.now c.loop.store v c.loop.connection.cutter (take c.loop.count c.loop.buffer) (c.loop.invariant.0 v shows)
+returns-clause-outcome g c rules v shows =
+    no_more_in_part rules g.I.Input.gave g.O.Output.took g.O.Output.failures g.met.O.Output.took_then c.args.input.now c.loop.input c.args.output.now c.loop.output
+    c.write_no_more.new.output c.args.store.now c.loop.store v c.loop.connection.cutter (take c.loop.count c.loop.buffer) (c.loop.invariant.0 rules v shows)
     c.in-Err-write_no_more.ensures.writes

@@ -7,6 +7,6 @@ use Rattle.durable.proofs.Beginning.{stands_new}
 use Rattle.durable.proofs.laws.new_store_is_empty.Goals as goal
 
 pub returns : goal.returns
-returns c rules =
+returns c =
     let root : Root = record { slot = A; generation = 1; first = 8; pages = 0; revision = 1 } in
-    stands_new rules new_content root (new_content-root root refl refl refl refl refl) refl refl refl new_content-log
+    stands_new new_content root (new_content-root root refl refl refl refl refl) refl refl refl new_content-log

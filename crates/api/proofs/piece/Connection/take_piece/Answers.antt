@@ -5,35 +5,35 @@ use Rattle.api.proofs.Tellings.{tells_by, breaks_by, unfed}
 use Rattle.api.proofs.piece.Connection.take_piece.Goals as goal
 
 pub returns-in-Ok-answer_all-clause-outcome : goal.returns-in-Ok-answer_all-clause-outcome
-returns-in-Ok-answer_all-clause-outcome g c v read ms shows cut =
+returns-in-Ok-answer_all-clause-outcome g c rules v read ms shows cut =
     let took = g.O.Output.took in
     let more : List Message = c.in-Ok.messages.items in
     let Answered : List Message → Type 0 =
-    λ xs. Answers took c.args.output.now c.answer_all.new.output c.args.store.now c.answer_all.new.store v xs []
+    λ xs. Answers rules took c.args.output.now c.answer_all.new.output c.args.store.now c.answer_all.new.store v xs []
     in
-    tells_by took g.O.Output.failures c.args.output.now c.answer_all.new.output c.args.store.now c.answer_all.new.store v read ms c.args.self.now.cutter c.args.piece.now
+    tells_by rules took g.O.Output.failures c.args.output.now c.answer_all.new.output c.args.store.now c.answer_all.new.store v read ms c.args.self.now.cutter c.args.piece.now
     c.feed.new.self c.told_by.result
     (record {
       more = more;
       cut = c.in-Ok.ensures.ok read ms cut;
-      answers = subst Answered c.deref.ensures.value (c.in-Ok-answer_all.ensures.outcome v shows);
+      answers = subst Answered c.deref.ensures.value (c.in-Ok-answer_all.ensures.outcome rules v shows);
     })
     (λ is. let none = c.told_by.ensures.nothing is in (sym c.deref-in-Ok-answer_all.ensures.value ∙ none.0, none.1))
     c.told_by.ensures.ends c.in-Ok.ensures.told
 
 pub returns-in-Ok-clause-outcome : goal.returns-in-Ok-clause-outcome
-returns-in-Ok-clause-outcome g c v read ms shows cut =
+returns-in-Ok-clause-outcome g c rules v read ms shows cut =
     let took = g.O.Output.took in
     let Stopped : List Message → Type 0 =
-    λ xs. Stops took g.O.Output.failures c.args.output.now c.answer_all.new.output c.args.store.now c.answer_all.new.store v xs c.in-Err-answer_all.fault
+    λ xs. Stops rules took g.O.Output.failures c.args.output.now c.answer_all.new.output c.args.store.now c.answer_all.new.store v xs c.in-Err-answer_all.fault
     in
-    breaks_by took g.O.Output.failures c.args.output.now c.answer_all.new.output c.args.store.now c.answer_all.new.store v read ms c.in-Ok.messages.items
+    breaks_by rules took g.O.Output.failures c.args.output.now c.answer_all.new.output c.args.store.now c.answer_all.new.store v read ms c.in-Ok.messages.items
     c.args.self.now.cutter c.args.piece.now c.feed.new.self c.in-Err-answer_all.fault (c.in-Ok.ensures.ok read ms cut)
-    (subst Stopped c.deref.ensures.value (c.in-Err-answer_all.ensures.outcome v shows))
+    (subst Stopped c.deref.ensures.value (c.in-Err-answer_all.ensures.outcome rules v shows))
 
 pub returns-clause-outcome : goal.returns-clause-outcome
-returns-clause-outcome g c v read ms shows cut =
-    unfed g.O.Output.took g.O.Output.failures c.args.output.now c.answer_fault.new.output c.args.store.now v read ms c.args.self.now.cutter c.args.piece.now
+returns-clause-outcome g c rules v read ms shows cut =
+    unfed rules g.O.Output.took g.O.Output.failures c.args.output.now c.answer_fault.new.output c.args.store.now v read ms c.args.self.now.cutter c.args.piece.now
     c.feed.new.self c.in-Err.fault c.answer_fault.result
     (λ b is. c.in-Err.ensures.broken read ms cut b (ap Err is)) (λ is. c.in-Err.ensures.memory (ap Err is))
     c.answer_fault.ensures.broken c.answer_fault.ensures.memory
