@@ -1,46 +1,62 @@
--- The heights at a place, over the program's arrivals.
-use Rattle.std.proofs.Common.{◌≡◌, ℕ, Bool, true, false, not, cond, ◌&&◌, ◌||◌, ◌==◌, List, [], ◌∷◌, map, take, Option, Some, None, refl, ap, ◌∙◌, zero, suc}
+-- What arrivals tell of a place, and what a table holds of it.
+use Rattle.std.proofs.Common.{◌≡◌, ℕ, ◌<◌, Bool, true, false, not, cond, ◌&&◌, ◌||◌, ◌==◌, List, [], ◌∷◌, ◌++◌, Option, Some, None, refl, sym, ap, ◌∙◌, arith, eqb-true, eq-eqb}
 use Rattle.std.specs.List.{find, list_all, filter}
-use Rattle.std.specs.Option.{option_map}
-use Rattle.instructions.specs.declared.instruction.Instruction.{Instruction}
-use Rattle.instructions.specs.Seen.{op_of, ops_of}
-use Rattle.instructions.specs.Judging.{Arrival, height_at, height_of_first, comes_to, goes_past}
-use Rattle.plancode.specs.declared.judging.Arrival.{Arrival as Held}
-use Rattle.plancode.specs.Bodies.{arrival_of, arrivals_of}
+use Rattle.instructions.specs.Judging.{Arrival, height_at, height_of_first, comes_to}
+use Rattle.plancode.specs.declared.bodies.Height.{Height}
+use Rattle.plancode.specs.declared.bodies.Height.TheVariants as height
+use Rattle.plancode.specs.Bodies.{joined, one_height, told, all_told}
 
-find-map : {A B : Type 0} (f : A → B) (p : B → Bool) (xs : List A) → find p (map f xs) ≡ option_map f (find (λ x. p (f x)) xs)
-find-map f p [] = refl
-find-map f p (x ∷ xs) = elim (p (f x)) as (λ b. cond b (Some (f x)) (find p (map f xs)) ≡ option_map f (cond b (Some x) (find (λ y. p (f y)) xs))) [ true ↦ refl | false ↦ find-map f p xs ]
+-- two heights stay two
+told_mixed : (place : ℕ) (came : List Arrival) → all_told place height.Mixed came ≡ height.Mixed
+told_mixed place [] = refl
+told_mixed place (a ∷ came) = elim (comes_to place a) as (λ b. all_told place (cond b height.Mixed height.Mixed) came ≡ height.Mixed) [ true ↦ told_mixed place came | false ↦ told_mixed place came ]
 
-pub list_all-map : {A B : Type 0} (f : A → B) (p : B → Bool) (xs : List A) → list_all p (map f xs) ≡ list_all (λ x. p (f x)) xs
-list_all-map f p [] = refl
-list_all-map f p (x ∷ xs) = ap (λ b. p (f x) && b) (list_all-map f p xs)
+abbrev has_height : ℕ → ℕ → Arrival → Bool
+has_height place h a = not (comes_to place a) || (a.height == h)
 
-pub filter-map : {A B : Type 0} (f : A → B) (p : B → Bool) (xs : List A) → filter p (map f xs) ≡ map f (filter (λ x. p (f x)) xs)
-filter-map f p [] = refl
-filter-map f p (x ∷ xs) = elim (p (f x)) as (λ b. cond b (f x ∷ filter p (map f xs)) (filter p (map f xs)) ≡ map f (cond b (x ∷ filter (λ y. p (f y)) xs) (filter (λ y. p (f y)) xs))) [ true ↦ ap (λ ys. f x ∷ ys) (filter-map f p xs) | false ↦ filter-map f p xs ]
+told_always : (place h : ℕ) (came : List Arrival) → all_told place (height.Always h) came ≡ cond (list_all (has_height place h) came) (height.Always h) height.Mixed
+told_always place h [] = refl
+told_always place h (a ∷ came) =
+    elim (comes_to place a) as (λ b. all_told place (cond b (cond (a.height == h) (height.Always h) height.Mixed) (height.Always h)) came ≡ cond ((not b || (a.height == h)) && list_all (has_height place h) came) (height.Always h) height.Mixed)
+    [ true ↦ elim (a.height == h) as (λ c. all_told place (cond c (height.Always h) height.Mixed) came ≡ cond (c && list_all (has_height place h) came) (height.Always h) height.Mixed) [ true ↦ told_always place h came | false ↦ told_mixed place came ] | false ↦ told_always place h came ]
 
-take-map : {A B : Type 0} (f : A → B) (n : ℕ) (xs : List A) → take n (map f xs) ≡ map f (take n xs)
-take-map f zero xs = refl
-take-map f (suc n) [] = refl
-take-map f (suc n) (x ∷ xs) = ap (λ ys. f x ∷ ys) (take-map f n xs)
+one_always : (b : Bool) (h : ℕ) → one_height (cond b (height.Always h) height.Mixed) ≡ cond b (Some h) None
+one_always true h = refl
+one_always false h = refl
 
-none_first : (at : ℕ) (awaited : List Arrival) (o : Option Held) → ◌≡◌ {A = Option ℕ} (option_map (λ a. a.height) o) None → height_of_first at awaited (option_map arrival_of o) ≡ None
-none_first at awaited None e = refl
-none_first at awaited (Some x) e = absurd cc
+or_true : (b : Bool) → (b || true) ≡ true
+or_true true = refl
+or_true false = refl
 
-pub height_at-none : (at : ℕ) (held : List Held) → ◌≡◌ {A = Option ℕ} (option_map (λ a. a.height) (find (λ a. a.place == at) held)) None → height_at at (arrivals_of held) ≡ None
-height_at-none at held e = ap (height_of_first at (arrivals_of held)) (find-map arrival_of (comes_to at) held) ∙ none_first at (arrivals_of held) (find (λ a. a.place == at) held) e
+is_first : (place : ℕ) (a : Arrival) (came : List Arrival) → comes_to place a ≡ true → height_at place (a ∷ came) ≡ one_height (all_told place height.Never (a ∷ came))
+is_first place a came e =
+    let here : has_height place a.height a ≡ true = ap (λ b. not (comes_to place a) || b) (eq-eqb a.height a.height refl) ∙ or_true (not (comes_to place a)) in
+    ap (λ b. height_of_first place (a ∷ came) (cond b (Some a) (find (comes_to place) came))) e
+    ∙ ap (λ b. cond (b && list_all (has_height place a.height) came) (Some a.height) None) here
+    ∙ sym (one_always (list_all (has_height place a.height) came) a.height)
+    ∙ sym (ap one_height (told_always place a.height came))
+    ∙ sym (ap (λ b. one_height (all_told place (cond b (height.Always a.height) height.Never) came)) e)
 
-some_first : (at h : ℕ) (held : List Held) (b : Bool) (o : Option Held) → ◌≡◌ {A = Option ℕ} (option_map (λ a. a.height) o) (Some h) → list_all (λ a. not (a.place == at) || (a.height == h)) held ≡ b → height_of_first at (arrivals_of held) (option_map arrival_of o) ≡ cond b (Some h) None
-some_first at h held b None e all = absurd cc
-some_first at h held b (Some x) e all =
-    let k : x.height ≡ h = cc in
-    let m : list_all (λ a. not (comes_to at a) || (a.height == x.height)) (arrivals_of held) ≡ b = list_all-map arrival_of (λ a. not (comes_to at a) || (a.height == x.height)) held ∙ rw k all in
-    rw (m, k) refl
+passed_by : (place : ℕ) (a : Arrival) (came : List Arrival) (first : Option Arrival) → comes_to place a ≡ false → height_of_first place (a ∷ came) first ≡ height_of_first place came first
+passed_by place a came None e = refl
+passed_by place a came (Some first) e = rw e refl
 
-pub height_at-some : (at h : ℕ) (held : List Held) (b : Bool) → ◌≡◌ {A = Option ℕ} (option_map (λ a. a.height) (find (λ a. a.place == at) held)) (Some h) → list_all (λ a. not (a.place == at) || (a.height == h)) held ≡ b → height_at at (arrivals_of held) ≡ cond b (Some h) None
-height_at-some at h held b e all = ap (height_of_first at (arrivals_of held)) (find-map arrival_of (comes_to at) held) ∙ some_first at h held b (find (λ a. a.place == at) held) e all
+not_came : (place : ℕ) (a : Arrival) (came : List Arrival) → comes_to place a ≡ false → height_at place came ≡ one_height (all_told place height.Never came) → height_at place (a ∷ came) ≡ one_height (all_told place height.Never (a ∷ came))
+not_came place a came e others = rw e (passed_by place a came (find (comes_to place) came) e ∙ others)
 
-pub clear_is : (target n : ℕ) (later : List Instruction) → list_all (λ op. not (goes_past target op)) (take n (ops_of later)) ≡ list_all (λ i. not (goes_past target (op_of i))) (take n later)
-clear_is target n later = ap (list_all (λ op. not (goes_past target op))) (take-map op_of n later) ∙ list_all-map op_of (λ op. not (goes_past target op)) (take n later)
+pub height_is : (place : ℕ) (came : List Arrival) → height_at place came ≡ one_height (all_told place height.Never came)
+height_is place [] = refl
+height_is place (a ∷ came) = (elim (comes_to place a) as (λ b. comes_to place a ≡ b → height_at place (a ∷ came) ≡ one_height (all_told place height.Never (a ∷ came))) [ true ↦ is_first place a came | false ↦ λ e. not_came place a came e (height_is place came) ]) refl
+
+pub told_append : (place : ℕ) (known : Height) (came bs : List Arrival) → all_told place known (came ++ bs) ≡ all_told place (all_told place known came) bs
+told_append place known [] bs = refl
+told_append place known (a ∷ came) bs = told_append place (told place known a) came bs
+
+-- arrivals that came elsewhere tell nothing of a place
+pub told_filter : (at place : ℕ) (known : Height) (came : List Arrival) → at < place → all_told place known (filter (λ a. not (comes_to at a)) came) ≡ all_told place known came
+told_filter at place known [] lt = refl
+told_filter at place known (a ∷ came) lt =
+    (elim (comes_to at a) as (λ b. comes_to at a ≡ b → all_told place known (cond (not b) (a ∷ filter (λ x. not (comes_to at x)) came) (filter (λ x. not (comes_to at x)) came)) ≡ all_told place known (a ∷ came)) [
+      | true ↦ λ e. let k : a.place ≡ at = eqb-true a.place at e in let n : comes_to place a ≡ false = grind arith in told_filter at place known came lt ∙ sym (ap (λ b. all_told place (cond b (joined known a.height) known) came) n)
+      | false ↦ λ e. told_filter at place (told place known a) came lt
+    ]) refl

@@ -2,6 +2,10 @@ pub mod Texts
 pub mod Failing
 pub mod Counting
 pub mod Heights
+pub mod Standing
+pub mod Between
+pub mod Leaving
+pub mod Running
 pub mod Low
 pub mod Walking
 pub mod Fields

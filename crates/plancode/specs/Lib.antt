@@ -1,4 +1,5 @@
 pub mod Reading
 pub mod Bodies
+pub mod Macros
 pub mod Plans
 pub mod Laws

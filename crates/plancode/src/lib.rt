@@ -6,8 +6,10 @@
 //! of the stack, and each body of a macro ends with one outcome, so a machine can run it without looking.
 #![tactic(auto)]
 
+mod bodies;
 mod judging;
 mod laws;
+mod macros;
 mod numbers;
 mod operands;
 mod reading;
