@@ -3,6 +3,7 @@
 use crate::device_lines::{call, counts, crash, firsts, sector, tries};
 use crate::log_lines::LogLines;
 use crate::other_devices::{file_after_crash, remembered};
+use crate::page_lines::{page, page_find, page_room, page_with};
 use crate::record_lines::{answered, cuts, damage_word, reads, replay};
 use crate::root_lines::{log_start, new_store, root, write_sector};
 use cases::{Bench, Wrong, compare, first_word, number, shown, text};
@@ -105,8 +106,18 @@ impl Disk {
             "append-delete" => ended(alloc, self.log.append_delete(alloc, &mut self.device)?),
             "records" => self.log.records(alloc, &mut self.device, rest),
             "gate" => self.log.gate(alloc),
-            _ => of_records(alloc, word, rest),
+            _ => of_pages(alloc, word, rest),
         }
+    }
+}
+
+fn of_pages(alloc: Global, word: &str, rest: &str) -> Result<String, Wrong> {
+    match word {
+        "page" => page(alloc, rest),
+        "page-with" => page_with(alloc, rest),
+        "page-room" => page_room(alloc, rest),
+        "page-find" => page_find(alloc, rest),
+        _ => of_records(alloc, word, rest),
     }
 }
 

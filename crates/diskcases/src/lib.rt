@@ -1,4 +1,4 @@
-//! The cases of devices, logs, roots and records.
+//! The cases of devices, logs, roots, pages and records.
 //!
 //! [`Disk`] is the bench of their files; `README.md` beside the files has their lines. [`check_files`] looks at devices over files of the
 //! operating system.
@@ -9,6 +9,7 @@ mod device_lines;
 mod file_devices;
 mod log_lines;
 mod other_devices;
+mod page_lines;
 mod payloads;
 mod record_lines;
 mod root_lines;

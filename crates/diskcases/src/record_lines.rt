@@ -7,7 +7,7 @@ use cases::{TextBuilder, Wrong, first_word, number, shown, spelled, text, wanted
 use history::Reply;
 use names::{Format, Key, Rules};
 use records::{RecordFault, StoredWrite, read_write};
-use requests::Request;
+use requests::{Manifest, Request};
 use std::alloc::Global;
 
 fn key_text(line: &mut TextBuilder, key: &Key) {
@@ -16,30 +16,44 @@ fn key_text(line: &mut TextBuilder, key: &Key) {
     line.word(key.name());
 }
 
+// What a put says: the key, the text, and the plans where there are any.
+fn push_put(
+    alloc: Global,
+    line: &mut TextBuilder,
+    manifest: &Manifest,
+    plans: &[u8],
+) -> Result<(), Wrong> {
+    line.word("put");
+    key_text(line, manifest.key());
+    line.word(manifest.text());
+    if !plans.is_empty() {
+        line.word(spelled(alloc, plans)?.as_str());
+    }
+    wanted(
+        manifest.version().is_none(),
+        "a stored document has a version",
+    )
+}
+
+fn write_text(alloc: Global, write: &StoredWrite<'_>) -> Result<String, Wrong> {
+    let mut line = TextBuilder::new(alloc);
+    match write {
+        StoredWrite::Put(manifest, plans) => push_put(alloc, &mut line, manifest, plans)?,
+        StoredWrite::Delete(key) => {
+            line.word("delete");
+            key_text(&mut line, key);
+        }
+    }
+    line.end()
+}
+
 /// `reads PAYLOAD`: the write that it spells.
 pub fn reads(alloc: Global, line: &str) -> Result<String, Wrong> {
     let bytes = payload(alloc, line)?;
-    let mut write = TextBuilder::new(alloc);
     match read_write(alloc, bytes.as_slice()) {
-        Ok(StoredWrite::Put(manifest, plans)) => {
-            write.word("put");
-            key_text(&mut write, manifest.key());
-            wanted(
-                manifest.version().is_none(),
-                "a stored document has a version",
-            )?;
-            write.word(manifest.text());
-            if !plans.is_empty() {
-                write.word(spelled(alloc, plans)?.as_str());
-            }
-        }
-        Ok(StoredWrite::Delete(key)) => {
-            write.word("delete");
-            key_text(&mut write, &key);
-        }
-        Err(fault) => return shown(alloc, &fault),
+        Ok(write) => write_text(alloc, &write),
+        Err(fault) => shown(alloc, &fault),
     }
-    write.end()
 }
 
 /// `cuts PAYLOAD`: how many beginnings of the payload, each but the whole, are no record.
@@ -85,13 +99,21 @@ fn reply_text(alloc: Global, reply: &Reply) -> Result<String, Wrong> {
     line.end()
 }
 
+fn reply_to(alloc: Global, core: &mut Core, request: &Request) -> Result<String, Wrong> {
+    match prepare(core, alloc, request) {
+        Ok(prepared) => {
+            let text = reply_text(alloc, &prepared.reply);
+            drop(prepared);
+            text
+        }
+        Err(_) => Err(Wrong::Memory),
+    }
+}
+
 // The reply to a GET of the configmap.
 fn reply_to_get(alloc: Global, core: &mut Core) -> Result<String, Wrong> {
     let request = Request::Get(settings(alloc)?);
-    match prepare(core, alloc, &request) {
-        Ok(prepared) => reply_text(alloc, &prepared.reply),
-        Err(_) => Err(Wrong::Memory),
-    }
+    reply_to(alloc, core, &request)
 }
 
 /// `answered LIMIT PAYLOAD ; ..`: the code and the body that a GET of the configmap is answered by.

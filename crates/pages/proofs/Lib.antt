@@ -1,0 +1,10 @@
+pub mod Numbers
+pub mod Slots
+pub mod Entries
+pub mod Searching
+pub mod Bytes
+pub mod Building
+pub mod Clearing
+pub mod Order
+pub mod Room
+pub mod OnePage

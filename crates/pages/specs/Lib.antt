@@ -1,0 +1,4 @@
+pub mod Page
+pub mod Damage
+pub mod Building
+pub mod Laws
