@@ -33,14 +33,18 @@ fn is_taken(written: &str) -> bool {
     written.starts_with("HTTP/1.1 20")
 }
 
-fn requests_of(alloc: Global, writes: &[String]) -> Result<Vec<Request>, Wrong> {
-    let routes = Routes::new(alloc)?;
+fn requests_by(alloc: Global, routes: &Routes, writes: &[String]) -> Result<Vec<Request>, Wrong> {
     let mut requests = Vec::new(alloc);
     for write in writes {
-        let request = routed_first(alloc, &routes, write.as_str())?.request;
+        let request = routed_first(alloc, routes, write.as_str())?.request;
         requests.push(request)?;
     }
     Ok(requests)
+}
+
+fn requests_of(alloc: Global, writes: &[String]) -> Result<Vec<Request>, Wrong> {
+    let routes = Routes::new(alloc)?;
+    requests_by(alloc, &routes, writes)
 }
 
 // Makes the writes as far as they are taken, the first in a connection and the others in one run: how many are.
@@ -74,16 +78,20 @@ fn make(alloc: Global, place: &mut Place, write: &str) -> Result<(), Wrong> {
     wanted(is_taken(written.as_str()), "a write is refused")
 }
 
-// The lists that are shown before the first write and behind each, where nothing fails.
-fn shown_lists(alloc: Global, writes: &[String]) -> Result<Vec<String>, Wrong> {
-    let mut place = Place::new(alloc, ROOM_SECTORS)?;
+fn lists_in(alloc: Global, place: &mut Place, writes: &[String]) -> Result<Vec<String>, Wrong> {
     let mut lists = Vec::new(alloc);
-    push_listed(alloc, &mut place, &mut lists)?;
+    push_listed(alloc, place, &mut lists)?;
     for write in writes {
-        make(alloc, &mut place, write.as_str())?;
-        push_listed(alloc, &mut place, &mut lists)?;
+        make(alloc, place, write.as_str())?;
+        push_listed(alloc, place, &mut lists)?;
     }
     Ok(lists)
+}
+
+// The lists that are shown before the first write and after each, where nothing fails.
+fn shown_lists(alloc: Global, writes: &[String]) -> Result<Vec<String>, Wrong> {
+    let mut place = Place::new(alloc, ROOM_SECTORS)?;
+    lists_in(alloc, &mut place, writes)
 }
 
 fn is_list(lists: &[String], at: usize, found: &str) -> bool {
@@ -93,8 +101,8 @@ fn is_list(lists: &[String], at: usize, found: &str) -> bool {
     }
 }
 
-// The list that is found behind a crash.
-fn found_behind(
+// The list that is found after a crash.
+fn found_after(
     alloc: Global,
     place: &mut Place,
     picks: &[Pick],
@@ -107,14 +115,36 @@ fn found_behind(
 
 // Asks that a second crash leaves the same list.
 fn is_left_again(alloc: Global, place: &mut Place, first: &str) -> Result<(), Wrong> {
-    let second = found_behind(alloc, place, &[Pick::Fill(0xA5)], u64::MAX)?;
+    let second = found_after(alloc, place, &[Pick::Fill(0xA5)], u64::MAX)?;
     wanted(
         first == second.as_str(),
         "a second crash leaves something else",
     )
 }
 
-// One stop and one crash: what is found is what was told or one write more, and the same after a second crash.
+// Makes the writes as far as they are taken, and asks that the crash leaves them or one write more, and a second crash the same.
+fn crashed(
+    alloc: Global,
+    place: &mut Place,
+    writes: &[String],
+    lists: &[String],
+    picks: &[Pick],
+    length: u64,
+) -> Result<(), Wrong> {
+    let count = match place {
+        Place::Open(store) => told(alloc, store, writes)?,
+        _ => 0,
+    };
+    let first = found_after(alloc, place, picks, length)?;
+    wanted(
+        is_list(lists, count, first.as_str())
+            || is_list(lists, count.saturating_add(1), first.as_str()),
+        "a stop leaves neither what was told nor one write more",
+    )?;
+    is_left_again(alloc, place, first.as_str())
+}
+
+// One stop and one crash.
 fn stopped(
     alloc: Global,
     writes: &[String],
@@ -126,17 +156,7 @@ fn stopped(
     let mut device = created(alloc, ROOM_SECTORS)?;
     device.stop_on(call);
     let mut place = opened(alloc, device);
-    let count = match &mut place {
-        Place::Open(store) => told(alloc, store, writes)?,
-        _ => 0,
-    };
-    let first = found_behind(alloc, &mut place, picks, length)?;
-    wanted(
-        is_list(lists, count, first.as_str())
-            || is_list(lists, count.saturating_add(1), first.as_str()),
-        "a stop leaves neither what was told nor one write more",
-    )?;
-    is_left_again(alloc, &mut place, first.as_str())
+    crashed(alloc, &mut place, writes, lists, picks, length)
 }
 
 /// `stops A B`: stops the writes, on a new store each time, at each call from the A-th to the B-th, an opening's first being 1, and
