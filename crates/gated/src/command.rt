@@ -31,8 +31,13 @@ pub enum Verb<'a> {
     },
 }
 
-// A subcommand that takes a file.
-fn over_file<'a>(alloc: Global, name: &'a str, about: &'a str) -> Result<Command<'a>, AllocError>
+// A subcommand that takes a file, whose help ends in an example.
+fn over_file<'a>(
+    alloc: Global,
+    name: &'a str,
+    about: &'a str,
+    example: &'a str,
+) -> Result<Command<'a>, AllocError>
     ensures app { IfOk result (λ c. app_of c ≡ record { top = over_file name.entry.now; subs = [] }) }
     ensures local { IfOk result (λ c. (out-Command c).has_globals ≡ false) }
 {
@@ -41,7 +46,10 @@ fn over_file<'a>(alloc: Global, name: &'a str, about: &'a str) -> Result<Command
         .help("The file of the store")
         .required(true)
         .action(ArgAction::Set);
-    Command::new(alloc, name).about(about).arg(file)
+    Command::new(alloc, name)
+        .about(about)
+        .after_help(example)
+        .arg(file)
 }
 
 // An option of `serve` that takes a value.
@@ -64,6 +72,7 @@ fn serve_line<'a>(alloc: Global) -> Result<Command<'a>, AllocError>
         alloc,
         "serve",
         "Serves connections, one after the other, and then ends",
+        "Example: gated serve store.db --listen 127.0.0.1:8080 --conns 65535",
     )?
     .arg(option(
         alloc,
@@ -95,13 +104,19 @@ fn line<'a>(alloc: Global) -> Result<Command<'a>, AllocError>
 {
     Command::new(alloc, "gated")
         .about("A small Kubernetes-style API server over one crash-safe file")
-        .version("0.1.0")
+        .version("0.2.0")
         .subcommand_required(true)
-        .subcommand(over_file(alloc, "create", "Makes a store in a new file")?)?
+        .subcommand(over_file(
+            alloc,
+            "create",
+            "Makes a store in a new file",
+            "Example: gated create store.db",
+        )?)?
         .subcommand(over_file(
             alloc,
             "replay",
             "Answers the HTTP requests on standard input",
+            "Example: gated replay store.db < requests.http",
         )?)?
         .subcommand(serve_line(alloc)?)
 }
