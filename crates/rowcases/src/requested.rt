@@ -56,17 +56,22 @@ fn push_values(line: &mut TextBuilder, values: &[String]) {
     }
 }
 
-fn push_requirement(line: &mut TextBuilder, requirement: &Requirement) {
-    let (before, label, between, values) = match requirement {
-        Requirement::IsOneOf(label, values) => ("", label, "=", values.as_slice()),
-        Requirement::IsNoneOf(label, values) => ("", label, "!=", values.as_slice()),
-        Requirement::IsThere(label) => ("", label, "", [].as_slice()),
-        Requirement::IsAbsent(label) => ("!", label, "", [].as_slice()),
-    };
-    line.word(before);
-    line.push(label.as_str());
+fn push_pair(line: &mut TextBuilder, label: &str, between: &str, values: &[String]) {
+    line.word(label);
     line.push(between);
     push_values(line, values);
+}
+
+fn push_requirement(line: &mut TextBuilder, requirement: &Requirement) {
+    match requirement {
+        Requirement::IsOneOf(label, values) => push_pair(line, label.as_str(), "=", values),
+        Requirement::IsNoneOf(label, values) => push_pair(line, label.as_str(), "!=", values),
+        Requirement::IsThere(label) => line.word(label.as_str()),
+        Requirement::IsAbsent(label) => {
+            line.word("!");
+            line.push(label.as_str());
+        }
+    }
 }
 
 /// Adds how many requirements a selector has, and which.
