@@ -51,7 +51,10 @@ fn cells_text(alloc: Global, page: &Page<'_>) -> Result<String, Wrong> {
 pub fn page_with(alloc: Global, line: &str) -> Result<String, Wrong> {
     let (at, rest) = first_word(line);
     let (byte, cells) = first_word(rest);
-    let (at, with) = (number(at)? as usize, number(byte)? as u8);
+    let (at, with) = (
+        number(at)? as usize,
+        u8::try_from(number(byte)?).unwrap_or(0),
+    );
     let mut bytes = page_of(alloc, cells)?.bytes().to_vec(alloc)?;
     if let Some(byte) = bytes.get_mut(at) {
         *byte = with;
