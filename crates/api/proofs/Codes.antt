@@ -1,5 +1,5 @@
 -- The status of a reply is a status code.
-use Rattle.std.proofs.Common.{ℕ, List, [], ◌+◌, Option, Some, None, Bool, true, false, arith}
+use Rattle.std.proofs.Common.{ℕ, List, [], Option, Some, None, Bool, true, false, arith}
 use Rattle.std.specs.Option.{option_map_or}
 use Rattle.http.specs.StatusCode.{IsStatusCode}
 use Rattle.celtree.specs.Tree.{Expr}

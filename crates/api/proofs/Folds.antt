@@ -1,6 +1,7 @@
 -- Answers, one after another.
 use Rattle.std.proofs.Common.{arith, ◌≡◌, ◌≤◌, ◌⊎◌, inl, inr, ⊎_elim, ℕ, List, [], ◌∷◌, ◌++◌, refl, ap, sym, ◌∙◌, append_assoc, subst, false, Result, Ok, Err}
 use Rattle.std.proofs.lemmas.List.{append-nil, map-append}
+use Rattle.std.specs.List.{AllByRecursion}
 use Rattle.device.specs.declared.device.Device.{Ghosts}
 use Rattle.device.proofs.Moments.{followed_by}
 use Rattle.requests.specs.declared.refusal.Refusal.TheVariants.{StorageFailed}
@@ -228,8 +229,10 @@ module _ {O D : Type 0} {g : Ghosts D} (rules : Rules) (took : O → O → List 
       → MeetsFailure rules took o p old new failures v (a.message ∷ [])
   fails_at_one failures o p old new v a tried written whole stopped failed read admitted left moments = record {
     answered = [];
-    failing = a;
-    tried = tried;
+    failing = a ∷ [];
+    some = omega arith;
+    few = omega arith;
+    tried = (tried, tt);
     waiting = [];
     split = refl;
     closing = written.front;
@@ -250,9 +253,12 @@ module _ {O D : Type 0} {g : Ghosts D} (rules : Rules) (took : O → O → List 
   fails_before failures o p old new v ms more stops = record {
     answered = stops.answered;
     failing = stops.failing;
+    some = stops.some;
+    few = stops.few;
     tried = stops.tried;
     waiting = stops.waiting ++ more;
-    split = ap (λ z. z ++ more) stops.split ∙ append_assoc (messages stops.answered) (stops.failing.message ∷ stops.waiting) more;
+    split = ap (λ z. z ++ more) stops.split ∙ append_assoc (messages stops.answered) (messages stops.failing ++ stops.waiting) more
+        ∙ ap (λ z. messages stops.answered ++ z) (append_assoc (messages stops.failing) stops.waiting more);
     closing = stops.closing;
     unwritten = stops.unwritten;
     refusal = stops.refusal;
@@ -328,7 +334,7 @@ module _ {O D : Type 0} {g : Ghosts D} (rules : Rules) (took : O → O → List 
   fails_then failures o q p later old mid new v ms ns before after =
       let xs : List Answered = before.answered in
       let ys : List Answered = after.answered in
-      let last : List Answered = after.failing ∷ [] in
+      let last : List Answered = after.failing in
       let first : List Write = all_writes rules v xs in
       let u : View = seen rules v xs in
       let kept : first ++ all_writes rules u ys ≡ all_writes rules v (xs ++ ys) = sym (all_writes-append rules v xs ys) in
@@ -338,9 +344,11 @@ module _ {O D : Type 0} {g : Ghosts D} (rules : Rules) (took : O → O → List 
       record {
         answered = xs ++ ys;
         failing = after.failing;
-        tried = after.tried ∙ before.store.serving;
+        some = after.some;
+        few = after.few;
+        tried = subst (λ b. AllByRecursion (λ a. a.is_served ≡ b) after.failing) before.store.serving after.tried;
         waiting = after.waiting;
-        split = split_then xs ms ns ys (after.failing.message ∷ after.waiting) before.answers after.split;
+        split = split_then xs ms ns ys (messages after.failing ++ after.waiting) before.answers after.split;
         closing = after.closing;
         unwritten = after.unwritten;
         refusal = after.refusal;

@@ -264,6 +264,8 @@ module _ {I O D : Type 0} {g : Ghosts D} (rules : Rules) (gave : I → I → Lis
           holds = record {
             answered = all.answered;
             failing = all.failing;
+            some = all.some;
+            few = all.few;
             tried = all.tried;
             waiting = all.waiting;
             progress = now;

@@ -1,5 +1,5 @@
 -- What the answers to messages write, on the wire and to the store.
-use Rattle.std.specs.Prelude.{◌≡◌, ◌≢◌, ℕ, ◌<◌, ◌≤◌, ◌-◌, ◌^◌, ◌⊎◌, List, [], ◌∷◌, ◌++◌, map, Bool, true, false, if◌then◌else◌, Option, is_some, unwrap_or, Result, Err, IsErrOf, OnOk}
+use Rattle.std.specs.Prelude.{◌≡◌, ◌≢◌, ℕ, ◌<◌, ◌≤◌, ◌-◌, ◌^◌, ◌⊎◌, List, [], ◌∷◌, ◌++◌, length, map, Bool, true, false, if◌then◌else◌, Option, is_some, unwrap_or, Result, Err, IsErrOf, OnOk}
 use Rattle.std.specs.List.{AllByRecursion}
 use Rattle.celtree.specs.Tree.{Expr}
 use Rattle.device.specs.declared.device.Device.{Ghosts}
@@ -7,6 +7,7 @@ use Rattle.requests.specs.declared.refusal.Refusal.TheVariants.{OutOfMemory, Sto
 use Rattle.expressions.specs.Specification.{Specification}
 use Rattle.apicore.specs.Standing.{Write, History, View, AreAdmitted}
 use Rattle.history.specs.Reply.{Reply, status}
+use Rattle.records.specs.Payload.{group_limit}
 use Rattle.apicore.specs.Step.{Asked, writes, reply}
 use Rattle.apicore.specs.Prepared.{IsReadOf}
 use Rattle.history.specs.View.{view, after_all}
@@ -132,15 +133,17 @@ module _ {O D : Type 0} {g : Ghosts D} (rules : Rules) (took : O → O → List 
     pub written : TookSome took o p (all_bytes rules v answered ++ closing)
     pub store : HasApplied rules old new v answered
 
-  -- The device failed at a message, now or before: those before it are answered, and then a refusal that closes is written, the whole
-  -- of it unless the output failed. What is found of a store that was settled has the writes that were answered, and perhaps that of
-  -- the message, which was admitted too. The message was served but where the store had failed before.
+  -- The device failed at messages that stand in one record, now or before: those before them are answered, and then a refusal that closes
+  -- is written, the whole of it unless the output failed. What is found of a store that was settled has the writes that were answered, and
+  -- perhaps those of the messages, which were admitted too. The messages were served but where the store had failed before.
   pub record MeetsFailure (failures : O → ℕ) (v : View) (ms : List Message) : Type 0 where
     pub answered : List Answered
-    pub failing : Answered
-    pub tried : failing.is_served ≡ serves old
+    pub failing : List Answered
+    pub some : 1 ≤ length failing
+    pub few : length failing ≤ group_limit
+    pub tried : AllByRecursion (λ a. a.is_served ≡ serves old) failing
     pub waiting : List Message
-    pub split : ms ≡ messages answered ++ failing.message ∷ waiting
+    pub split : ms ≡ messages answered ++ (messages failing ++ waiting)
     pub closing : List ℕ
     pub unwritten : List ℕ
     pub refusal : closing_bytes false StorageFailed ≡ closing ++ unwritten
@@ -148,10 +151,10 @@ module _ {O D : Type 0} {g : Ghosts D} (rules : Rules) (took : O → O → List 
     pub written : took o p (all_bytes rules v answered ++ closing)
     pub stopped : serves new ≡ false
     pub failed : serves old ≡ false → (new ≡ old) × AllRefused answered
-    pub specified : AreRead (answered ++ failing ∷ [])
-    pub admitted : AreAdmitted rules v (all_writes rules v (answered ++ failing ∷ []))
-    pub left : WhereSettled rules old v (λ h. IsLeftAt rules new h (all_writes rules v answered) (all_writes rules v (answered ++ failing ∷ [])))
-    pub moments : WhereSettled rules old v (λ h. LeavesSome rules old new h (all_writes rules v (answered ++ failing ∷ [])))
+    pub specified : AreRead (answered ++ failing)
+    pub admitted : AreAdmitted rules v (all_writes rules v (answered ++ failing))
+    pub left : WhereSettled rules old v (λ h. IsLeftAt rules new h (all_writes rules v answered) (all_writes rules v (answered ++ failing)))
+    pub moments : WhereSettled rules old v (λ h. LeavesSome rules old new h (all_writes rules v (answered ++ failing)))
 
 -- ---- why answering ends early
 

@@ -1,7 +1,9 @@
 -- What serving a connection leaves: the bytes read and written, and the store.
-use Rattle.std.specs.Prelude.{◌≡◌, ◌≢◌, ℕ, ◌≤◌, ◌⊎◌, List, [], ◌∷◌, ◌++◌, Bool, false, None, Result, Err, IsErrOf, OnOk}
+use Rattle.std.specs.Prelude.{◌≡◌, ◌≢◌, ℕ, ◌≤◌, ◌⊎◌, List, [], ◌++◌, length, Bool, false, None, Result, Err, IsErrOf, OnOk}
+use Rattle.std.specs.List.{AllByRecursion}
 use Rattle.device.specs.declared.device.Device.{Ghosts}
 use Rattle.requests.specs.declared.refusal.Refusal.TheVariants.{OutOfMemory, StorageFailed}
+use Rattle.records.specs.Payload.{group_limit}
 use Rattle.apicore.specs.Standing.{View, AreAdmitted}
 use Rattle.names.specs.declared.format.Rules.{Rules}
 use Rattle.durable.specs.declared.fault.Damage.{Damage}
@@ -59,16 +61,18 @@ module _ {D : Type 0} {g : Ghosts D} (rules : Rules) (old new : Store D g) (v : 
     pub text : all_bytes rules v answered ++ closing ≡ written ++ unwritten
     pub store : HasApplied rules old new v answered
 
-  -- The device failed at a message, now or before: those before it are answered, and then a refusal that closes is written, the whole
-  -- of it unless the output failed. What is found of a store that was settled has the writes that were answered, and perhaps that of
-  -- the message, which was admitted too. The message was served but where the store had failed before.
+  -- The device failed at messages that stand in one record, now or before: those before them are answered, and then a refusal that closes
+  -- is written, the whole of it unless the output failed. What is found of a store that was settled has the writes that were answered, and
+  -- perhaps those of the messages, which were admitted too. The messages were served but where the store had failed before.
   pub record HasFailed (output_old output_new : ℕ) : Type 0 where
     pub answered : List Answered
-    pub failing : Answered
-    pub tried : failing.is_served ≡ serves old
+    pub failing : List Answered
+    pub some : 1 ≤ length failing
+    pub few : length failing ≤ group_limit
+    pub tried : AllByRecursion (λ a. a.is_served ≡ serves old) failing
     pub waiting : List Message
     pub progress : Progress
-    pub stream : IsCut read (messages answered ++ failing.message ∷ waiting) progress
+    pub stream : IsCut read (messages answered ++ (messages failing ++ waiting)) progress
     pub closing : List ℕ
     pub unwritten : List ℕ
     pub refusal : closing_bytes false StorageFailed ≡ closing ++ unwritten
@@ -76,10 +80,10 @@ module _ {D : Type 0} {g : Ghosts D} (rules : Rules) (old new : Store D g) (v : 
     pub text : written ≡ all_bytes rules v answered ++ closing
     pub stopped : serves new ≡ false
     pub failed : serves old ≡ false → (new ≡ old) × AllRefused answered
-    pub specified : AreRead (answered ++ failing ∷ [])
-    pub admitted : AreAdmitted rules v (all_writes rules v (answered ++ failing ∷ []))
-    pub left : WhereSettled rules old v (λ h. IsLeftAt rules new h (all_writes rules v answered) (all_writes rules v (answered ++ failing ∷ [])))
-    pub moments : WhereSettled rules old v (λ h. LeavesSome rules old new h (all_writes rules v (answered ++ failing ∷ [])))
+    pub specified : AreRead (answered ++ failing)
+    pub admitted : AreAdmitted rules v (all_writes rules v (answered ++ failing))
+    pub left : WhereSettled rules old v (λ h. IsLeftAt rules new h (all_writes rules v answered) (all_writes rules v (answered ++ failing)))
+    pub moments : WhereSettled rules old v (λ h. LeavesSome rules old new h (all_writes rules v (answered ++ failing)))
 
   -- Memory was refused to further bytes: the messages before them are answered, and then a refusal that closes is written.
   pub record HasLackedMemory : Type 0 where

@@ -1,7 +1,6 @@
 -- How a step is decided: the first refusal, or the verdict of the policies.
-use Rattle.std.proofs.Common.{◌≡◌, ◌∙◌, sym, ap, refl, subst, ℕ, ◌+◌, ◌≤◌, ◌*◌, List, [], ◌∷◌, ◌++◌, length, map, Bool, true, false, cond, not, Vec, option_map, Option, Some, None, is_some, IsTrue, Result, Ok, Err, IfOk, arith, if◌then◌else◌}
+use Rattle.std.proofs.Common.{◌≡◌, ◌∙◌, sym, ap, refl, subst, ℕ, ◌+◌, ◌≤◌, ◌*◌, List, [], ◌∷◌, ◌++◌, length, map, Bool, true, false, cond, not, option_map, Option, Some, None, is_some, IsTrue, Result, Ok, Err, IfOk, arith, if◌then◌else◌}
 use Rattle.std.specs.Option.{option_map_or}
-use Rattle.std.specs.declared.alloc.Global.{Global}
 use Rattle.serde_json.specs.Data.{Data}
 use Rattle.jsondoc.specs.Document.{text}
 use Rattle.celtree.specs.Tree.{Expr}

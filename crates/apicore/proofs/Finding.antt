@@ -1,10 +1,9 @@
 -- What is found in a core, as it is looked up.
-use Rattle.std.proofs.Common.{◌≡◌, ◌∙◌, sym, ap, refl, subst, List, [], ◌∷◌, length, map, nat_le, Bool, true, false, cond, ◌&&◌, Vec, option_map, option_and_then, if◌then◌else◌, Option, Some, None, IsTrue}
+use Rattle.std.proofs.Common.{◌≡◌, ◌∙◌, sym, ap, refl, subst, List, [], ◌∷◌, length, map, nat_le, Bool, true, false, cond, ◌&&◌, option_map, option_and_then, if◌then◌else◌, Option, Some, None, IsTrue}
 use Rattle.std.specs.FinMap.{is_sorted}
 use Rattle.std.specs.FinMap.Entries.{below_all}
 use Rattle.std.specs.List.{AllByRecursion}
 use Rattle.std.specs.Ordering.{is_lt}
-use Rattle.std.specs.declared.alloc.Global.{Global}
 use Rattle.serde_json.specs.Data.{Data}
 use Rattle.celtree.specs.Tree.{Expr}
 use Rattle.names.specs.Key.{Key, key_cmp}
@@ -14,7 +13,6 @@ use Rattle.objects.specs.Objects.{value_at}
 use Rattle.history.specs.declared.state.Stored.{Stored}
 use Rattle.history.specs.Mapped.{each}
 use Rattle.history.specs.View as seen
-use Rattle.plancode.specs.Plans.{Judged}
 use Rattle.policy.specs.Forms.{Text}
 use Rattle.policy.specs.Policies.{policy_of}
 use Rattle.policy.specs.Spec.{Policy, Wanted}

@@ -1,6 +1,7 @@
 -- Histories and the payloads that they have.
-use Rattle.std.proofs.Common.{◌≡◌, ℕ, ◌+◌, ◌^◌, ◌<◌, List, [], ◌∷◌, ◌++◌, length, map, get_or, take, drop, refl, sym, ap, subst, ◌∙◌, arith, Result, Ok, Err, OnOk}
+use Rattle.std.proofs.Common.{◌≡◌, ℕ, ◌+◌, ◌<◌, List, [], ◌∷◌, ◌++◌, length, map, get_or, take, drop, refl, sym, ap, subst, ◌∙◌, Result, Ok, Err, OnOk}
 use Rattle.std.proofs.lemmas.List.{map-append, map_push, drop_more, take-append-drop}
+use Rattle.std.specs.List.{AllByRecursion}
 use Rattle.names.specs.declared.format.Rules.{Rules}
 use Rattle.names.specs.Key.{Key}
 use Rattle.documents.specs.Document.{Document}
@@ -11,35 +12,65 @@ use Rattle.history.specs.View.{view, empty, after, after_all, MayPut, MayFollow,
 use Rattle.history.proofs.ViewLemmas.{after_all-append, AllMayFollow-append}
 use Rattle.records.proofs.Writes as bytes
 use Rattle.records.specs.Payload as bytes_form
-use Rattle.plancode.specs.Plans.{Judged}
+use Rattle.records.specs.Payload.{writes_in}
+use Rattle.records.proofs.Groups.{writes_in-push, all-push}
 use Rattle.expressions.specs.Specification.{MayHavePlans, plans_bytes}
 use Rattle.apicore.specs.Beside.{Beside, spelled}
 use Rattle.apicore.specs.Standing.{recorded}
 use Rattle.expressions.proofs.Listed.{one_stored_list}
-use Rattle.apicore.specs.Written.{Write, History, payload, HasPlans, IsStorable, AllStorable, IsWritten}
+use Rattle.apicore.specs.Written.{Write, History, payload, HasPlans, AllStorable, IsGroup, IsWritten}
 
 abbrev View : Type 0
 View = seen.View Beside
 
--- a write with plans has its payload alone
-pub one_write : (v w : Write) → IsStorable v → IsStorable w → payload v ≡ payload w → v ≡ w
-one_write (put k d p) (put l e q) a b same =
-    let raw : ◌≡◌ {A = plain.Write (List ℕ)} (put k d (plans_bytes k.resource p.plans)) (put l e (plans_bytes l.resource q.plans)) = bytes.one_write (recorded (put k d p)) (recorded (put l e q)) a.0 b.0 same in
+-- a write with plans is recorded as no other
+pub one_recorded : (v w : Write) → HasPlans v → HasPlans w → recorded v ≡ recorded w → v ≡ w
+one_recorded (put k d p) (put l e q) a b same =
+    let raw : ◌≡◌ {A = plain.Write (List ℕ)} (put k d (plans_bytes k.resource p.plans)) (put l e (plans_bytes l.resource q.plans)) = same in
     let key : k ≡ l = cc in
     let document : d ≡ e = cc in
     let plans : plans_bytes k.resource p.plans ≡ plans_bytes l.resource q.plans = cc in
     let Has : Key → Document → Type 0 = λ x y. MayHavePlans x.resource y.json p.plans in
     let Same : Key → Type 0 = λ x. plans_bytes x.resource p.plans ≡ plans_bytes l.resource q.plans in
-    let listed : p.plans ≡ q.plans = one_stored_list l.resource e.json p.plans q.plans (subst (Has l) document (subst (λ x. Has x d) key a.1.0)) b.1.0 (subst Same key plans) in
-    let alike : p ≡ q = a.1.1 ∙ (λ i. spelled (document i).json (listed i)) ∙ sym b.1.1 in
+    let listed : p.plans ≡ q.plans = one_stored_list l.resource e.json p.plans q.plans (subst (Has l) document (subst (λ x. Has x d) key a.0)) b.0 (subst Same key plans) in
+    let alike : p ≡ q = a.1 ∙ (λ i. spelled (document i).json (listed i)) ∙ sym b.1 in
     λ i. put (key i) (document i) (alike i)
-one_write (put k d p) (delete l) a b same = let raw : ◌≡◌ {A = plain.Write (List ℕ)} (put k d (plans_bytes k.resource p.plans)) (delete l) = bytes.one_write (recorded (put k d p)) (recorded (delete l)) a.0 b.0 same in cc
-one_write (delete k) (put l e q) a b same = let raw : ◌≡◌ {A = plain.Write (List ℕ)} (delete k) (put l e (plans_bytes l.resource q.plans)) = bytes.one_write (recorded (delete k)) (recorded (put l e q)) a.0 b.0 same in cc
-one_write (delete k) (delete l) a b same = let raw : ◌≡◌ {A = plain.Write (List ℕ)} (delete k) (delete l) = bytes.one_write (recorded (delete k)) (recorded (delete l)) a.0 b.0 same in let key : k ≡ l = cc in λ i. delete (key i)
+one_recorded (put k d p) (delete l) a b same = let raw : ◌≡◌ {A = plain.Write (List ℕ)} (put k d (plans_bytes k.resource p.plans)) (delete l) = same in cc
+one_recorded (delete k) (put l e q) a b same = let raw : ◌≡◌ {A = plain.Write (List ℕ)} (delete k) (put l e (plans_bytes l.resource q.plans)) = same in cc
+one_recorded (delete k) (delete l) a b same = let raw : ◌≡◌ {A = plain.Write (List ℕ)} (delete k) (delete l) = same in let key : k ≡ l = cc in λ i. delete (key i)
+
+same_recorded : (vs ws : List Write) → AllByRecursion HasPlans vs → AllByRecursion HasPlans ws → map recorded vs ≡ map recorded ws → vs ≡ ws
+same_recorded [] [] a b same = refl
+same_recorded [] (w ∷ ws) a b same = cc
+same_recorded (v ∷ vs) [] a b same = cc
+same_recorded (v ∷ vs) (w ∷ ws) a b same =
+    let first : recorded v ≡ recorded w = cc in
+    let rest : map recorded vs ≡ map recorded ws = cc in
+    let one : v ≡ w = one_recorded v w a.0 b.0 first in
+    let others : vs ≡ ws = same_recorded vs ws a.1 b.1 rest in
+    λ i. one i ∷ others i
+
+-- a group with plans has its payload alone
+pub one_group : (vs ws : List Write) → IsGroup vs → IsGroup ws → payload vs ≡ payload ws → vs ≡ ws
+one_group vs ws a b same = same_recorded vs ws a.plans b.plans (bytes.one_group (map recorded vs) (map recorded ws) a.held b.held same)
+
+-- ---- the writes of groups can be held
 
 AllStorable-append : (g h : List Write) → AllStorable g → AllStorable h → AllStorable (g ++ h)
 AllStorable-append [] h first more = more
 AllStorable-append (w ∷ g) h first more = (first.0, AllStorable-append g h first.1 more)
+
+group_storable : (ws : List Write) → AllByRecursion bytes_form.IsStorable (map recorded ws) → AllByRecursion HasPlans ws → AllStorable ws
+group_storable [] held plans = tt
+group_storable (w ∷ ws) held plans = ((held.0, plans.0), group_storable ws held.1 plans.1)
+
+groups_storable : (groups : List (List Write)) → AllByRecursion IsGroup groups → AllStorable (writes_in groups)
+groups_storable [] all = tt
+groups_storable (ws ∷ groups) all = AllStorable-append ws (writes_in groups) (group_storable ws all.0.held.storable all.0.plans) (groups_storable groups all.1)
+
+-- a record can hold each write of a history that has payloads
+pub written_storable : (rules : Rules) (h : History) (payloads : List (List ℕ)) → IsWritten rules h payloads → AllStorable h
+written_storable rules h payloads written = subst AllStorable (sym written.parts) (groups_storable written.groups written.grouped)
 
 -- ---- how a history grows
 
@@ -48,96 +79,106 @@ payloads_with front bytes = front ++ bytes ∷ []
 
 -- no payloads are those of the empty history
 pub IsWritten-none : (rules : Rules) → IsWritten rules [] []
-IsWritten-none rules = record { payloads_are = refl; storable = tt; history = tt }
+IsWritten-none rules = record { groups = []; payloads_are = refl; grouped = tt; parts = refl; history = tt }
 
--- one more write that may follow has one more payload
-pub IsWritten-push : (rules : Rules) (h : History) (payloads : List (List ℕ)) (w : Write) → IsWritten rules h payloads → MayFollow rules (view rules h) w → IsStorable w
-    → IsWritten rules (h ++ w ∷ []) (payloads ++ payload w ∷ [])
-IsWritten-push rules h payloads w written follows storable = record {
-  payloads_are = ap (λ ps. ps ++ payload w ∷ []) written.payloads_are ∙ sym (map_push payload h w);
-  storable = AllStorable-append h (w ∷ []) written.storable (storable, tt);
-  history = AllMayFollow-append rules empty h (w ∷ []) written.history (follows, tt);
+-- one more group of writes that may follow has one more payload
+pub IsWritten-push : (rules : Rules) (h : History) (payloads : List (List ℕ)) (ws : List Write) → IsWritten rules h payloads → AllMayFollow rules (view rules h) ws → IsGroup ws
+    → IsWritten rules (h ++ ws) (payloads ++ payload ws ∷ [])
+IsWritten-push rules h payloads ws written follow group = record {
+  groups = written.groups ++ ws ∷ [];
+  payloads_are = ap (λ ps. ps ++ payload ws ∷ []) written.payloads_are ∙ sym (map_push payload written.groups ws);
+  grouped = all-push IsGroup written.groups ws written.grouped group;
+  parts = ap (λ (g : History). g ++ ws) written.parts ∙ sym (writes_in-push written.groups ws);
+  history = AllMayFollow-append rules empty h ws written.history follow;
 }
 
-pub view-push : (rules : Rules) (h : History) (w : Write) → view rules (h ++ w ∷ []) ≡ after rules (view rules h) w
-view-push rules h w = after_all-append rules empty h (w ∷ [])
+view-append : (rules : Rules) (h : History) (ws : List Write) → view rules (h ++ ws) ≡ after_all rules (view rules h) ws
+view-append rules h ws = after_all-append rules empty h ws
 
 -- ---- at most one history
 
-same_writes : (g h : List Write) → AllStorable g → AllStorable h → map payload g ≡ map payload h → g ≡ h
-same_writes [] [] a b same = refl
-same_writes [] (w ∷ h) a b same = cc
-same_writes (v ∷ g) [] a b same = cc
-same_writes (v ∷ g) (w ∷ h) a b same =
+same_groups : (gs hs : List (List Write)) → AllByRecursion IsGroup gs → AllByRecursion IsGroup hs → map payload gs ≡ map payload hs → gs ≡ hs
+same_groups [] [] a b same = refl
+same_groups [] (w ∷ hs) a b same = cc
+same_groups (v ∷ gs) [] a b same = cc
+same_groups (v ∷ gs) (w ∷ hs) a b same =
     let first : payload v ≡ payload w = cc in
-    let rest : map payload g ≡ map payload h = cc in
-    let one : v ≡ w = one_write v w a.0 b.0 first in
-    let others : g ≡ h = same_writes g h a.1 b.1 rest in
+    let rest : map payload gs ≡ map payload hs = cc in
+    let one : v ≡ w = one_group v w a.0 b.0 first in
+    let others : gs ≡ hs = same_groups gs hs a.1 b.1 rest in
     λ i. one i ∷ others i
 
 pub one_history : (rules : Rules) (g h : History) (payloads : List (List ℕ)) → IsWritten rules g payloads → IsWritten rules h payloads → g ≡ h
-one_history rules g h payloads a b = same_writes g h a.storable b.storable (sym a.payloads_are ∙ b.payloads_are)
+one_history rules g h payloads a b =
+    a.parts ∙ ap (λ (groups : List (List Write)). writes_in groups) (same_groups a.groups b.groups a.grouped b.grouped (sym a.payloads_are ∙ b.payloads_are)) ∙ sym b.parts
 
 -- ---- a history that goes on
 
--- A write that a record can hold, has this payload and may follow.
+-- the first of writes that may follow may follow
+first_follow : (rules : Rules) (v : View) (ws us : List Write) → AllMayFollow rules v (ws ++ us) → AllMayFollow rules v ws
+first_follow rules v [] us follow = tt
+first_follow rules v (w ∷ ws) us follow = (follow.0, first_follow rules (after rules v w) ws us follow.1)
+
+-- and the others after them
+others_follow : (rules : Rules) (v : View) (ws us : List Write) → AllMayFollow rules v (ws ++ us) → AllMayFollow rules (after_all rules v ws) us
+others_follow rules v [] us follow = follow
+others_follow rules v (w ∷ ws) us follow = others_follow rules (after rules v w) ws us follow.1
+
+-- A group that has this payload and may follow.
 pub record IsNext (rules : Rules) (v : View) (bytes : List ℕ) : Type 0 where
-  pub write : Write
-  pub storable : IsStorable write
-  pub payload_is : payload write ≡ bytes
-  pub follows : MayFollow rules v write
+  pub writes : List Write
+  pub group : IsGroup writes
+  pub payload_is : payload writes ≡ bytes
+  pub follow : AllMayFollow rules v writes
 
-goes_on : (rules : Rules) (v : View) (g h : List Write) (bytes : List ℕ) (rest : List (List ℕ)) → AllStorable g → AllStorable h → AllMayFollow rules v h
-    → map payload h ≡ map payload g ++ bytes ∷ rest → IsNext rules (after_all rules v g) bytes
+goes_on : (rules : Rules) (v : View) (gs hs : List (List Write)) (bytes : List ℕ) (rest : List (List ℕ)) → AllByRecursion IsGroup gs → AllByRecursion IsGroup hs
+    → AllMayFollow rules v (writes_in hs) → map payload hs ≡ map payload gs ++ bytes ∷ rest → IsNext rules (after_all rules v (writes_in gs)) bytes
 goes_on rules v [] [] bytes rest a b follow same = cc
-goes_on rules v [] (w ∷ h) bytes rest a b follow same =
-    record { write = w; storable = b.0; payload_is = cc; follows = follow.0 }
-goes_on rules v (u ∷ g) [] bytes rest a b follow same = cc
-goes_on rules v (u ∷ g) (w ∷ h) bytes rest a b follow same =
-    let first : payload w ≡ payload u = cc in
-    let others : map payload h ≡ map payload g ++ bytes ∷ rest = cc in
-    let one : w ≡ u = one_write w u b.0 a.0 first in
-    let P : Write → Type 0 = λ x. AllMayFollow rules (after rules v x) h in
-    goes_on rules (after rules v u) g h bytes rest a.1 b.1 (subst P one follow.1) others
+goes_on rules v [] (ws ∷ hs) bytes rest a b follow same =
+    record { writes = ws; group = b.0; payload_is = cc; follow = first_follow rules v ws (writes_in hs) follow }
+goes_on rules v (us ∷ gs) [] bytes rest a b follow same = cc
+goes_on rules v (us ∷ gs) (ws ∷ hs) bytes rest a b follow same =
+    let first : payload ws ≡ payload us = cc in
+    let others : map payload hs ≡ map payload gs ++ bytes ∷ rest = cc in
+    let one : ws ≡ us = one_group ws us b.0 a.0 first in
+    let Follow : List Write → Type 0 = λ x. AllMayFollow rules (after_all rules v x) (writes_in hs) in
+    let Next : View → Type 0 = λ x. IsNext rules x bytes in
+    subst Next (sym (after_all-append rules v us (writes_in gs)))
+    (goes_on rules (after_all rules v us) gs hs bytes rest a.1 b.1 (subst Follow one (others_follow rules v ws (writes_in hs) follow)) others)
 
--- a history of more payloads goes on, behind the history of the first, with a write of the next
-pub next_write : (rules : Rules) (g h : History) (front : List (List ℕ)) (bytes : List ℕ) (rest : List (List ℕ)) → IsWritten rules g front
+-- a history of more payloads goes on, after the history of the first, with a group of the next
+next_group : (rules : Rules) (g h : History) (front : List (List ℕ)) (bytes : List ℕ) (rest : List (List ℕ)) → IsWritten rules g front
     → IsWritten rules h (front ++ bytes ∷ rest) → IsNext rules (view rules g) bytes
-next_write rules g h front bytes rest a b =
-    goes_on rules empty g h bytes rest a.storable b.storable b.history (sym b.payloads_are ∙ ap (λ ps. ps ++ bytes ∷ rest) a.payloads_are)
+next_group rules g h front bytes rest a b =
+    let Next : History → Type 0 = λ x. IsNext rules (view rules x) bytes in
+    subst Next (sym a.parts)
+    (goes_on rules empty a.groups b.groups bytes rest a.grouped b.grouped (subst (λ (x : History). AllMayFollow rules empty x) b.parts b.history)
+    (sym b.payloads_are ∙ ap (λ ps. ps ++ bytes ∷ rest) a.payloads_are))
 
 -- ---- one payload more, where a store has the rules and the view
 
--- the history of the payloads before, and the write that was taken
-pub grown : (rules own : Rules) (v new : View) (h : History) (front more : List (List ℕ)) (bytes : List ℕ) (w : Write) → own ≡ rules → IsWritten rules h front
-    → v ≡ view rules h → IsStorable w → payload w ≡ bytes → MayFollow own v w → new ≡ after own v w → more ≡ front ++ bytes ∷ []
+-- the history of the payloads before, and the writes that were taken
+pub grown : (rules own : Rules) (v new : View) (h : History) (front more : List (List ℕ)) (bytes : List ℕ) (ws : List Write) → own ≡ rules → IsWritten rules h front
+    → v ≡ view rules h → IsGroup ws → payload ws ≡ bytes → AllMayFollow own v ws → new ≡ after_all own v ws → more ≡ front ++ bytes ∷ []
     → (g : History) × IsWritten rules g more × (new ≡ view rules g)
-grown rules own v new h front more bytes w rules_are written seen storable is follows taken more_is =
-    let Follows : Rules → View → Type 0 = λ r x. MayFollow r x w in
-    let may : MayFollow rules (view rules h) w = subst (λ x. Follows rules x) seen (subst (λ r. Follows r v) rules_are follows) in
-    let same : payloads_with front (payload w) ≡ more = ap (payloads_with front) is ∙ sym more_is in (
-      h ++ w ∷ [],
-      subst (IsWritten rules (h ++ w ∷ [])) same (IsWritten-push rules h front w written may storable),
-      taken ∙ (λ i. after (rules_are i) (seen i) w) ∙ sym (view-push rules h w),
+grown rules own v new h front more bytes ws rules_are written seen group is follow taken more_is =
+    let Follow : Rules → View → Type 0 = λ r x. AllMayFollow r x ws in
+    let may : AllMayFollow rules (view rules h) ws = subst (λ x. Follow rules x) seen (subst (λ r. Follow r v) rules_are follow) in
+    let same : payloads_with front (payload ws) ≡ more = ap (payloads_with front) is ∙ sym more_is in (
+      h ++ ws,
+      subst (IsWritten rules (h ++ ws)) same (IsWritten-push rules h front ws written may group),
+      taken ∙ (λ i. after_all (rules_are i) (seen i) ws) ∙ sym (view-append rules h ws),
     )
 
--- no history has these payloads, where no write of the next may follow
+-- no history has these payloads, where no group of the next may follow
 pub stuck : (rules own : Rules) (v : View) (g h : History) (front all : List (List ℕ)) (bytes : List ℕ) (rest : List (List ℕ)) → own ≡ rules → v ≡ view rules g
     → IsWritten rules g front → IsWritten rules h all → all ≡ front ++ bytes ∷ rest
-    → ((w : Write) → IsStorable w → payload w ≡ bytes → MayFollow own v w → ⊥) → ⊥
+    → ((ws : List Write) → IsGroup ws → payload ws ≡ bytes → AllMayFollow own v ws → ⊥) → ⊥
 stuck rules own v g h front all bytes rest rules_are seen written other all_is none =
-    let next = next_write rules g h front bytes rest written (subst (IsWritten rules h) all_is other) in
-    let Follows : Rules → View → Type 0 = λ r x. MayFollow r x next.write in
-    none next.write next.storable next.payload_is
-    (subst (λ r. Follows r v) (sym rules_are) (subst (λ x. Follows rules x) (sym seen) next.follows))
-
--- no other write has the payload of one that may not follow
-pub no_other : (rules : Rules) (v : View) (w other : Write) (bytes : List ℕ) → IsStorable w → payload w ≡ bytes → (MayFollow rules v w → ⊥)
-    → IsStorable other → payload other ≡ bytes → MayFollow rules v other → ⊥
-no_other rules v w other bytes storable is never other_storable other_is follows =
-    let same : other ≡ w = one_write other w other_storable storable (other_is ∙ sym is) in
-    let P : Write → Type 0 = λ x. MayFollow rules v x in
-    never (subst P same follows)
+    let next = next_group rules g h front bytes rest written (subst (IsWritten rules h) all_is other) in
+    let Follow : Rules → View → Type 0 = λ r x. AllMayFollow r x next.writes in
+    none next.writes next.group next.payload_is
+    (subst (λ r. Follow r v) (sym rules_are) (subst (λ x. Follow rules x) (sym seen) next.follow))
 
 -- ---- the payloads up to a place
 
@@ -157,12 +198,25 @@ put_of_recorded rules v (put l e p) k d x is may =
     subst (May k) document (subst (λ y. May y e) key may)
 put_of_recorded rules v (delete l) k d x is may = cc
 
--- what was read is the write that was recorded
-pub recorded_is : (w : Write) (raw : plain.Write (List ℕ)) (payload_bytes : List ℕ) → IsStorable w → bytes_form.IsStorable raw → payload w ≡ payload_bytes → bytes_form.payload raw ≡ payload_bytes → recorded w ≡ raw
-recorded_is w raw payload_bytes storable fits is are = bytes.one_write (recorded w) raw storable.0 fits (is ∙ sym are)
+-- ---- a payload of one write
 
-pub storable_as : (w : Write) (raw : plain.Write (List ℕ)) → HasPlans w → recorded w ≡ raw → bytes_form.IsStorable raw → IsStorable w
-storable_as w raw has is fits = let P : plain.Write (List ℕ) → Type 0 = λ x. bytes_form.IsStorable x in (subst P (sym is) fits, has)
+-- a write that was recorded as this one is a group of its own
+pub group_of : (w : Write) (raw : plain.Write (List ℕ)) → HasPlans w → recorded w ≡ raw → bytes_form.IsGroup (raw ∷ []) → IsGroup (w ∷ [])
+group_of w raw has is group =
+    let Held : plain.Write (List ℕ) → Type 0 = λ x. bytes_form.IsGroup (x ∷ []) in
+    record { held = subst Held (sym is) group; plans = (has, tt) }
+
+-- a group with the payload of one write is a write that was recorded as it
+alone : (rules : Rules) (v : View) (ws : List Write) (raw : plain.Write (List ℕ)) → AllByRecursion HasPlans ws → map recorded ws ≡ raw ∷ [] → AllMayFollow rules v ws
+    → (w : Write) × HasPlans w × (recorded w ≡ raw) × MayFollow rules v w
+alone rules v [] raw plans same follow = cc
+alone rules v (w ∷ []) raw plans same follow = let is : recorded w ≡ raw = cc in (w, plans.0, is, follow.0)
+alone rules v (w ∷ u ∷ more) raw plans same follow = cc
+
+pub recorded_alone : (rules : Rules) (v : View) (ws : List Write) (raw : plain.Write (List ℕ)) (found : List ℕ) → IsGroup ws → bytes_form.IsGroup (raw ∷ [])
+    → payload ws ≡ found → bytes_form.payload (raw ∷ []) ≡ found → AllMayFollow rules v ws → (w : Write) × HasPlans w × (recorded w ≡ raw) × MayFollow rules v w
+recorded_alone rules v ws raw found group raw_group is are follow =
+    alone rules v ws raw group.plans (bytes.one_group (map recorded ws) (raw ∷ []) group.held raw_group (is ∙ sym are)) follow
 
 pub recorded_delete : (w : Write) (k : Key) → recorded w ≡ delete k → w ≡ delete k
 recorded_delete (put l e p) k is = cc

@@ -1,9 +1,8 @@
 -- What a core says of the view that it shows.
-use Rattle.std.proofs.Common.{◌≡◌, ◌∙◌, sym, ap, refl, ℕ, List, [], ◌∷◌, map, length, Bool, true, false, cond, not, ◌&&◌, ◌==◌, nat_le, Vec, option_map, Option, Some, None, decimal, bytes_eq}
+use Rattle.std.proofs.Common.{◌≡◌, ◌∙◌, sym, ap, refl, ℕ, List, [], ◌∷◌, map, length, Bool, true, false, cond, not, ◌&&◌, ◌==◌, nat_le, option_map, Option, Some, None, decimal, bytes_eq}
 use Rattle.std.proofs.lemmas.List.{length-map}
 use Rattle.std.specs.List.{filter}
 use Rattle.std.specs.Option.{option_map_or}
-use Rattle.std.specs.declared.alloc.Global.{Global}
 use Rattle.serde_json.specs.Data.{Data, null, array}
 use Rattle.serde_json.specs.View.{items_of}
 use Rattle.jsondoc.specs.Document.{text}
@@ -23,7 +22,6 @@ use Rattle.history.specs.Reply.{Reply, showing, status}
 use Rattle.history.specs.View as seen
 use Rattle.history.specs.View.{exists, stored_at, document_at, is_too_large, is_full, is_exhausted}
 use Rattle.history.proofs.Mapping.{value_each, there_mapped}
-use Rattle.plancode.specs.Plans.{Judged}
 use Rattle.apicore.specs.Beside.{Beside}
 use Rattle.apicore.specs.Prepared.{plans_held, Shows}
 use Rattle.apicore.specs.Standing.{View, plans_beside, shown_at}

@@ -6,6 +6,7 @@ use Rattle.history.specs.History as plain
 use Rattle.history.specs.History.{put, delete}
 use Rattle.history.specs.View.{AllFollow}
 use Rattle.records.specs.Payload as bytes
+use Rattle.records.specs.Payload.{writes_in}
 use Rattle.expressions.specs.Specification.{MayHavePlans}
 use Rattle.apicore.specs.Beside.{Beside, spelled}
 use Rattle.apicore.specs.Standing.{recorded}
@@ -17,9 +18,9 @@ Write = plain.Write Beside
 abbrev pub History : Type 0
 History = List Write
 
--- the payload of its record
-abbrev pub payload : Write → List ℕ
-payload w = bytes.payload (recorded w)
+-- the payload of the record of a group
+abbrev pub payload : List Write → List ℕ
+payload ws = bytes.payload (map recorded ws)
 
 -- a put has such plans as its document may have, beside what that spells
 abbrev pub HasPlans : Write → Type 0
@@ -34,8 +35,15 @@ IsStorable w = bytes.IsStorable (recorded w) × HasPlans w
 abbrev pub AllStorable : List Write → Type 0
 AllStorable writes = AllByRecursion IsStorable writes
 
--- The payloads are those of the writes of this history, in order.
+-- What one record holds: one write or more, each with such plans as its document may have.
+pub record IsGroup (ws : List Write) : Type 0 where
+  pub held : bytes.IsGroup (map recorded ws)
+  pub plans : AllByRecursion HasPlans ws
+
+-- The payloads are those of groups, in order, whose writes are this history.
 pub record IsWritten (rules : Rules) (h : History) (payloads : List (List ℕ)) : Type 0 where
-  pub payloads_are : payloads ≡ map payload h
-  pub storable : AllStorable h
+  pub groups : List (List Write)
+  pub payloads_are : payloads ≡ map payload groups
+  pub grouped : AllByRecursion IsGroup groups
+  pub parts : h ≡ writes_in groups
   pub history : AllFollow rules h

@@ -1,12 +1,12 @@
 ghost use Rattle.std.specs.Prelude.{◌≡◌, ℕ, List, map, IfOk, OnOk, IsErrOf};
-ghost use Rattle.history.specs.View.{view, after, MayFollow};
+ghost use Rattle.history.specs.View.{view, after, after_all, MayFollow, AllMayFollow};
 ghost use Rattle.history.specs.Mapped.{mapped};
 ghost use Rattle.requests.specs.Codes.{document_in};
 ghost use Rattle.history.specs.History.{put, delete};
 ghost use Rattle.apicore.specs.Standing.{recorded};
 ghost use Rattle.apicore.specs.Prepared.{plans_held};
 ghost use Rattle.apicore.specs.declared.fault.RecoveryFault.TheVariants as RecoveryFault;
-ghost use Rattle.apicore.specs.Written.{Write, History, payload, HasPlans, IsStorable, IsWritten};
+ghost use Rattle.apicore.specs.Written.{Write, History, payload, HasPlans, IsGroup, IsWritten};
 
 use crate::beside::Beside;
 use crate::fault::RecoveryFault;
@@ -32,13 +32,13 @@ pub fn replayed(alloc: Global, rules: Rules, payloads: &[Vec<u8>]) -> Result<Cor
     Ok(core)
 }
 
-// Takes the write that has a payload. `Damaged` where no write that may follow has it.
+// Takes the writes that have a payload. `Damaged` where no group of writes that may follow has it.
 fn replay(alloc: Global, core: &mut Core, bytes: &[u8]) -> Result<(), RecoveryFault>
     ensures rules { core.new.rules ≡ core.old.rules }
-    ensures taken { OnOk result ((w : Write) × IsStorable w × (payload w ≡ bytes.now)
-        × MayFollow core.old.rules (mapped plans_held core.old.view) w × (mapped plans_held core.new.view ≡ after core.old.rules (mapped plans_held core.old.view) w)) }
+    ensures taken { OnOk result ((ws : List Write) × IsGroup ws × (payload ws ≡ bytes.now)
+        × AllMayFollow core.old.rules (mapped plans_held core.old.view) ws × (mapped plans_held core.new.view ≡ after_all core.old.rules (mapped plans_held core.old.view) ws)) }
     ensures damaged { IsErrOf result RecoveryFault.Damaged
-        → (w : Write) → IsStorable w → payload w ≡ bytes.now → MayFollow core.old.rules (mapped plans_held core.old.view) w → ⊥ }
+        → (ws : List Write) → IsGroup ws → payload ws ≡ bytes.now → AllMayFollow core.old.rules (mapped plans_held core.old.view) ws → ⊥ }
 {
     match read_write(alloc, bytes)? {
         StoredWrite::Put(manifest, plans) => replay_put(alloc, core, manifest, plans),

@@ -17,10 +17,10 @@ mod root_lines;
 use apicore::one_history;
 pub use bench::Disk;
 pub use file_devices::check_files;
-use records::payload_has_one_write;
+use records::payload_has_one_group;
 
 /// The laws of records.
 pub fn laws_of_records() {
-    payload_has_one_write();
+    payload_has_one_group();
     one_history();
 }

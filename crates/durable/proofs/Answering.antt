@@ -1,5 +1,5 @@
 -- What a prepared step makes of a store.
-use Rattle.std.proofs.Common.{arith, ◌≡◌, ◌∙◌, sym, ap, subst, map, ◌≤◌, ◌<◌, ◌^◌, ◌++◌, ℕ, List, [], ◌∷◌, refl, true, false, Option, Some, None, Result, Ok, Err, IfOk, OnOk, IsErrOf, is_ok, true≢false}
+use Rattle.std.proofs.Common.{arith, ◌≡◌, ◌∙◌, sym, ap, subst, map, ◌≤◌, ◌^◌, ◌++◌, ℕ, List, [], ◌∷◌, refl, true, false, Option, Some, None, Result, Ok, Err, IfOk, OnOk, IsErrOf, is_ok, true≢false}
 use Rattle.std.proofs.lemmas.List.{append-nil}
 use Rattle.device.specs.declared.device.Device.{Ghosts}
 use Rattle.device.specs.Disk.{LeavesOnly}
@@ -18,6 +18,7 @@ use Rattle.history.specs.View.{view, empty, after_all}
 use Rattle.history.proofs.Mapping.{all_mapped}
 use Rattle.history.proofs.ViewLemmas.{after_all-append, objects_ascend}
 use Rattle.records.specs.Payload as bytes
+use Rattle.records.proofs.Writes.{one_is_group}
 use Rattle.apicore.specs.Beside.{Beside}
 use Rattle.apicore.specs.declared.prepared.Prepared.{Prepared}
 use Rattle.apicore.specs.Standing.{Write, History, View, IsView, MayFollow, AllMayFollow, plans_beside, with_plans, write_with_plans, recorded}
@@ -26,11 +27,11 @@ use Rattle.apicore.specs.Prepared.{Shows, IsReadOf, IsStepOf, IsPrepared, plans_
 use Rattle.apicore.proofs.Admitting.{written_admitted}
 use Rattle.apicore.proofs.Following.{IsKeyOf, key_of_written, AllMayFollow-writes}
 use Rattle.apicore.proofs.Staying.{trees_stay, histories_show}
-use Rattle.durable.specs.Recorded.{payload, IsStorable}
+use Rattle.durable.specs.Recorded.{payload, IsGroup}
 use Rattle.durable.specs.declared.store.Store.{Store}
 use Rattle.durable.specs.Ready.{HoldsHistory}
 use Rattle.durable.specs.RecordOf.{IsRecordOf}
-use Rattle.durable.specs.Settled.{IsFound, ServesAt, IsSettledAt, IsLeftAt, LeavesSome, HasReplied, HasFailedAt, device_of, serves, kept_rules, shown}
+use Rattle.durable.specs.Settled.{IsFound, ServesAt, IsSettledAt, LeavesSome, HasReplied, HasFailedAt, device_of, serves, kept_rules, shown}
 use Rattle.durable.proofs.Findings.{leaves-idle}
 
 -- ---- results
@@ -135,35 +136,32 @@ something_written rules v a p body step is none = go p.write (step.writes ∙ ap
     go None are is = is
     go (Some q) are is = let never : ◌≡◌ {A = List (plain.Write Beside)} (mapped_write plans_held (write_of q) ∷ []) [] = are in cc
 
--- The one write of a request that writes.
-pub record OneWrite (rules : Rules) (h : History) (a : Asked) (body : Body) : Type 0 where
-  pub write : Write
-  pub writes_are : writes rules (view rules h) a ≡ write ∷ []
-  pub follows : MayFollow rules (view rules h) write
-  pub storable : IsStorable write
-  pub payload_is : payload_of body ≡ payload write
+-- What a request writes may follow and is a group, of which the body has the payload.
+pub record IsBodyOf (rules : Rules) (h : History) (a : Asked) (body : Body) : Type 0 where
+  pub follow : AllMayFollow rules (view rules h) (writes rules (view rules h) a)
+  pub group : IsGroup (writes rules (view rules h) a)
+  pub payload_is : payload_of body ≡ payload (writes rules (view rules h) a)
 
-storable_of : (rules : Rules) → Small rules → (v : View) (w : Write) → MayFollow rules v w → IsKeyOf w → IsStorable w
+storable_of : (rules : Rules) → Small rules → (v : View) (w : Write) → MayFollow rules v w → IsKeyOf w → bytes.IsStorable (recorded (write_with_plans w))
 storable_of rules small v (put k d trees) may key = (may.0.form, omega (arith, small, may.0.size), omega (arith, small, may.0.size, may.1.short))
 storable_of rules small v (delete k) may key = key
 
-one_write : (rules : Rules) → Small rules → (h : History) (a : Asked) (p : Prepared) (body : Body) → IsStepOf rules (view rules h) a p → RequestHasForm a.request → IsReadOf a.request a.specification
-    → IsRecordOf p.write (Some body) → OneWrite rules h a body
-one_write rules small h a p body step form read is = go p.write step.writes is
+body_of : (rules : Rules) → Small rules → (h : History) (a : Asked) (p : Prepared) (body : Body) → IsStepOf rules (view rules h) a p → RequestHasForm a.request → IsReadOf a.request a.specification
+    → IsRecordOf p.write (Some body) → IsBodyOf rules h a body
+body_of rules small h a p body step form read is = go p.write step.writes is
   where
     go : (asked : Option (PreparedWrite Beside)) → map (mapped_write plans_held) (writes_of asked) ≡ map write_with_plans (writes rules (view rules h) a)
-        → IsRecordOf asked (Some body) → OneWrite rules h a body
+        → IsRecordOf asked (Some body) → IsBodyOf rules h a body
     go None are is = absurd is
     go (Some q) are is =
         let one = one_of (writes rules (view rules h) a) (mapped_write plans_held (write_of q)) are in
         let All : List Write → Type 0 = λ ws. AllMayFollow rules (view rules h) ws in
-        let follow = subst All one.1 (AllMayFollow-writes rules (view rules h) a.request a.specification small form read) in
+        let follow = AllMayFollow-writes rules (view rules h) a.request a.specification small form read in
+        let storable = storable_of rules small (view rules h) one.0 (subst All one.1 follow).0 (key_of_written rules (view rules h) a.request a.specification one.0 form one.1) in
         record {
-          write = one.0;
-          writes_are = one.1;
-          follows = follow.0;
-          storable = storable_of rules small (view rules h) one.0 follow.0 (key_of_written rules (view rules h) a.request a.specification one.0 form one.1);
-          payload_is = is ∙ ap (λ x. bytes.payload (recorded x)) one.2;
+          follow = follow;
+          group = subst IsGroup (sym one.1) (one_is_group (recorded (write_with_plans one.0)) storable);
+          payload_is = is ∙ ap (λ x. bytes.payload (recorded x ∷ [])) one.2 ∙ ap payload (sym one.1);
         }
 
 -- ---- a request that writes nothing
@@ -216,22 +214,21 @@ module _ {D : Type 0} {g : Ghosts D} (old new : Store D g) (device : device_of o
 
 module _ {D : Type 0} {g : Ghosts D} (old new : Store D g) (r : Request) (p : Prepared) (body : Body) (is : IsPrepared old.core r p) (form : RequestHasForm r)
     (has_record : IsRecordOf p.write (Some body))
-    (stands : (rules : Rules) (h : History) (w : Write) → HoldsHistory rules g.disk (device_of old) h → MayFollow rules (view rules h) w → IsStorable w
-    → payload_of body ≡ payload w → Stands g.disk (device_of old) (device_of new) (IsFound rules h [] (w ∷ [])) (IsFound rules h [] (w ∷ []))) where
-  one_at : (rules : Rules) (h : History) → IsSettledAt rules old h → OneWrite rules h (record { request = r; specification = is.specification }) body
-  one_at rules h settled =
-      one_write rules (small_at rules old settled.rules_are) h (record { request = r; specification = is.specification }) p body (step_at rules old r p is (view rules h) (settled_serves rules old h settled))
+    (stands : (rules : Rules) (h : History) (ws : List Write) → HoldsHistory rules g.disk (device_of old) h → AllMayFollow rules (view rules h) ws → IsGroup ws
+    → payload_of body ≡ payload ws → Stands g.disk (device_of old) (device_of new) (IsFound rules h [] ws) (IsFound rules h [] ws)) where
+  body_at : (rules : Rules) (h : History) → IsSettledAt rules old h → IsBodyOf rules h (record { request = r; specification = is.specification }) body
+  body_at rules h settled =
+      body_of rules (small_at rules old settled.rules_are) h (record { request = r; specification = is.specification }) p body (step_at rules old r p is (view rules h) (settled_serves rules old h settled))
       form is.read has_record
 
   moments_written : (rules : Rules) (h : History) → IsSettledAt rules old h → LeavesSome rules old new h (writes rules (view rules h) (record { request = r; specification = is.specification }))
   moments_written rules h settled =
-      let one = one_at rules h settled in
-      let Leaves : List Write → Type 0 = λ ws. LeavesSome rules old new h ws in
-      subst Leaves (sym one.writes_are) (stands rules h one.write (held rules old h settled) one.follows one.storable one.payload_is).moments
+      let is_body = body_at rules h settled in
+      (stands rules h (writes rules (view rules h) (record { request = r; specification = is.specification })) (held rules old h settled) is_body.follow is_body.group is_body.payload_is).moments
 
   pub replied_written : serves new ≡ true → kept_rules new ≡ kept_rules old → shown new ≡ after_all (kept_rules old) (shown old) (writes_of p.write)
-      → ((rules : Rules) (h : History) (w : Write) → HoldsHistory rules g.disk (device_of old) h → MayFollow rules (view rules h) w → IsStorable w
-      → payload_of body ≡ payload w → HoldsHistory rules g.disk (device_of new) (h ++ w ∷ []))
+      → ((rules : Rules) (h : History) (ws : List Write) → HoldsHistory rules g.disk (device_of old) h → AllMayFollow rules (view rules h) ws → IsGroup ws
+      → payload_of body ≡ payload ws → HoldsHistory rules g.disk (device_of new) (h ++ ws))
       → HasReplied old new r p.reply
   replied_written working kept shows appended =
       let a : Asked = record { request = r; specification = is.specification } in
@@ -256,11 +253,10 @@ module _ {D : Type 0} {g : Ghosts D} (old new : Store D g) (r : Request) (p : Pr
           admitted = written_admitted rules v r is.specification;
         };
         settled = λ rules h settled.
-            let one = one_at rules h settled in
-            let Holds : List Write → Type 0 = λ ws. HoldsHistory rules g.disk (device_of new) (h ++ ws) in
+            let is_body = body_at rules h settled in
             record {
               settled = settled_after rules new h (writes rules (view rules h) a) (serving_after rules (view rules h) (settled_serves rules old h settled))
-                  (subst Holds (sym one.writes_are) (appended rules h one.write (held rules old h settled) one.follows one.storable one.payload_is));
+                  (appended rules h (writes rules (view rules h) a) (held rules old h settled) is_body.follow is_body.group is_body.payload_is);
               moments = moments_written rules h settled;
             };
       }
@@ -273,9 +269,8 @@ module _ {D : Type 0} {g : Ghosts D} (old new : Store D g) (r : Request) (p : Pr
         read = is.read;
         untouched = λ rules v serving none. absurd (something_written rules v a p body (step_at rules old r p is v serving) has_record none);
         left = λ rules h settled.
-            let one = one_at rules h settled in
-            let at = stands rules h one.write (held rules old h settled) one.follows one.storable one.payload_is in
-            let Left : List Write → Type 0 = λ ws. IsLeftAt rules new h [] ws in
-            (subst Left (sym one.writes_are) (record { stopped = stopped; keeps = at.kept; read = at.seen; left = at.crash }), moments_written rules h settled);
+            let is_body = body_at rules h settled in
+            let at = stands rules h (writes rules (view rules h) a) (held rules old h settled) is_body.follow is_body.group is_body.payload_is in
+            (record { stopped = stopped; keeps = at.kept; read = at.seen; left = at.crash }, moments_written rules h settled);
         admitted = λ rules v. written_admitted rules v r is.specification;
       }

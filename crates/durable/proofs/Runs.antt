@@ -1,5 +1,5 @@
 -- A run with what stands in the documents of its requests.
-use Rattle.std.proofs.Common.{◌≡◌, ◌∙◌, ap, ◌++◌, ℕ, List, [], ◌∷◌, map, refl}
+use Rattle.std.proofs.Common.{arith, ◌≡◌, ◌∙◌, ap, sym, subst, ◌+◌, ◌++◌, ℕ, List, [], ◌∷◌, length, take, refl}
 use Rattle.std.proofs.lemmas.List.{map-append}
 use Rattle.std.specs.List.{AllByRecursion}
 use Rattle.device.specs.declared.device.Device.{Ghosts}
@@ -73,13 +73,15 @@ module _ {D : Type 0} {g : Ghosts D} (old mid new : Store D g) (done : List Requ
   }
 
   -- the device failed in a further request
-  pub run_stopped : (r : Request) → HasFailedAt mid new r → HasStopped old new (done ++ r ∷ []) given
-  run_stopped r failed =
+  pub run_stopped : (all : List Request) (r : Request) → HasFailedAt mid new r → take (length given + 1) all ≡ done ++ r ∷ [] → HasStopped old new all given
+  run_stopped all r failed reached =
       let a : Asked = record { request = r; specification = failed.specification } in
       record {
         asked = so_far.asked;
-        failing = a;
-        are = asked_more done so_far.asked a so_far.are failed.read;
+        failing = a ∷ [];
+        some = omega arith;
+        few = omega arith;
+        are = subst (λ (rs : List Request). AreAsked rs (so_far.asked ++ a ∷ [])) (sym reached) (asked_more done so_far.asked a so_far.are failed.read);
         shown = λ rules v serving.
             let before = so_far.shown rules v serving in (
               before.answered,

@@ -1,5 +1,5 @@
 -- The record of a prepared write.
-use Rattle.std.specs.Prelude.{◌≡◌, Option, Some, None}
+use Rattle.std.specs.Prelude.{◌≡◌, [], ◌∷◌, Option, Some, None}
 use Rattle.gatelog.specs.declared.record.Body.{Body}
 use Rattle.gatelog.specs.Payload.{payload_of}
 use Rattle.history.specs.Mapped.{mapped_write}
@@ -15,4 +15,4 @@ abbrev pub IsRecordOf : Option (PreparedWrite Beside) → Option Body → Type 0
 IsRecordOf None None = Unit {0}
 IsRecordOf None (Some body) = ⊥
 IsRecordOf (Some w) None = ⊥
-IsRecordOf (Some w) (Some body) = payload_of body ≡ payload (recorded (mapped_write plans_held (write_of w)))
+IsRecordOf (Some w) (Some body) = payload_of body ≡ payload (recorded (mapped_write plans_held (write_of w)) ∷ [])

@@ -1,11 +1,12 @@
 -- A store that serves a view, or is settled at a history, and what requests leave of it.
-use Rattle.std.specs.Prelude.{◌≡◌, ℕ, List, [], ◌∷◌, ◌++◌, map, Bool, true, false}
+use Rattle.std.specs.Prelude.{◌≡◌, ◌≤◌, ◌+◌, ℕ, List, [], ◌++◌, length, take, map, Bool, true, false}
 use Rattle.std.specs.List.{AllByRecursion}
 use Rattle.device.specs.declared.device.Device.{Ghosts}
 use Rattle.device.specs.Disk.{LeavesOnly}
 use Rattle.names.specs.declared.format.Rules.{Rules}
 use Rattle.requests.specs.Request.{Request}
 use Rattle.history.specs.Reply.{Reply}
+use Rattle.records.specs.Payload.{group_limit}
 use Rattle.history.specs.View as seen
 use Rattle.history.specs.View.{view, after_all}
 use Rattle.celtree.specs.Tree.{Expr}
@@ -132,18 +133,21 @@ pub record HasServed {D : Type 0} {g : Ghosts D} (old new : Store D g) (requests
   pub shown : (rules : Rules) (v : View) → ServesAt rules old v → HasAnsweredAt rules old new v asked given
   pub settled : (rules : Rules) (h : History) → IsSettledAt rules old h → HasServedAs rules old new h asked
 
--- A store that was settled at the history has taken what was asked first of all, and its device failed in the next.
+-- A store that was settled at the history has taken what was asked first of all, and its device failed in the rest.
 pub record HasStoppedAs {D : Type 0} {g : Ghosts D} (rules : Rules) (old new : Store D g) (h : History) (done all : List Asked) : Type 0 where
   pub left : IsLeftAt rules new h (added rules h done) (added rules h all)
   pub moments : LeavesSome rules old new h (added rules h all)
 
--- A run from old has answered these requests but the last, in which the device failed.
+-- A run from old has answered the first of these requests, and the device failed in the next, which stand in one record. Nothing was read
+-- of those after them.
 pub record HasStopped {D : Type 0} {g : Ghosts D} (old new : Store D g) (requests : List Request) (given : List Reply) : Type 0 where
   pub asked : List Asked
-  pub failing : Asked
-  pub are : AreAsked requests (asked ++ failing ∷ [])
+  pub failing : List Asked
+  pub some : 1 ≤ length failing
+  pub few : length failing ≤ group_limit
+  pub are : AreAsked (take (length given + length failing) requests) (asked ++ failing)
   pub shown : (rules : Rules) (v : View) → ServesAt rules old v
       → (given ≡ replies rules v asked)
-      × (accepted rules v (asked ++ failing ∷ []) ≡ [] → device_of new ≡ device_of old)
-      × AreAdmitted rules v (accepted rules v (asked ++ failing ∷ []))
-  pub stopped : (rules : Rules) (h : History) → IsSettledAt rules old h → HasStoppedAs rules old new h asked (asked ++ failing ∷ [])
+      × (accepted rules v (asked ++ failing) ≡ [] → device_of new ≡ device_of old)
+      × AreAdmitted rules v (accepted rules v (asked ++ failing))
+  pub stopped : (rules : Rules) (h : History) → IsSettledAt rules old h → HasStoppedAs rules old new h asked (asked ++ failing)

@@ -1,6 +1,6 @@
 //! The record of a write that is prepared.
 
-ghost use Rattle.std.specs.Prelude.{◌≡◌, IfOk, OnErr};
+ghost use Rattle.std.specs.Prelude.{◌≡◌, [], ◌∷◌, IfOk, OnErr};
 ghost use Rattle.gatelog.specs.Payload.{payload_of};
 ghost use Rattle.history.specs.Mapped.{mapped_write};
 ghost use Rattle.history.specs.Prepared.{write_of};
@@ -38,7 +38,7 @@ pub(crate) fn record_of(
 
 // The body that holds the payload of a write.
 fn body_of(alloc: Global, write: &PreparedWrite<Beside>) -> Result<Body, LogFault>
-    ensures { IfOk result (λ body. payload_of body ≡ payload (recorded (mapped_write plans_held (write_of write.now)))) }
+    ensures { IfOk result (λ body. payload_of body ≡ payload (recorded (mapped_write plans_held (write_of write.now)) ∷ [])) }
 {
     match write {
         PreparedWrite::Put(put) => {

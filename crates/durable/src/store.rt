@@ -33,9 +33,9 @@ impl<D: Device> Store<D> {
     ghost use Rattle.requests.specs.RequestOf.{request_of};
     ghost use Rattle.history.specs.Prepared.{AreReady, writes_of};
     ghost use Rattle.history.specs.View.{view, after_all};
-    ghost use Rattle.apicore.specs.Standing.{Write, History, View, MayFollow};
+    ghost use Rattle.apicore.specs.Standing.{Write, History, View, AllMayFollow};
     ghost use Rattle.durable.specs.declared.fault.Fault.TheVariants as Fault;
-    ghost use Rattle.durable.specs.Recorded.{payload, IsStorable};
+    ghost use Rattle.durable.specs.Recorded.{payload, IsGroup};
     ghost use Rattle.durable.specs.Ready.{HoldsHistory};
     ghost use Rattle.durable.specs.Stands.{StandsFor};
     ghost use Rattle.durable.specs.Settled.{device_of, serves, kept_rules, shown, ServesAt, IsFound, IsSettledAt, LeavesSome, HasReplied, HasFailedAt, HasServed, HasStopped};
@@ -125,17 +125,17 @@ impl<D: Device> Store<D> {
         }
     }
 
-    // Takes a prepared write, and appends its record.
+    // Takes a prepared write, and appends the record with this body.
     fn commit(&mut self, prepared: Prepared, body: Body) -> Result<Reply, Fault>
         requires serves { serves self.old ≡ true }
         requires ready { AreReady self.old.core prepared.write }
         ensures reply { IfOk result (λ r. r ≡ prepared.reply) }
         ensures rules { kept_rules self.new ≡ kept_rules self.old }
         ensures shows { (shown self.new) ≡ after_all self.old.core.rules (shown self.old) (writes_of prepared.write) }
-        ensures stands { (rules : Rules) (h : History) (w : Write) → HoldsHistory rules D.disk (device_of self.old) h → MayFollow rules (view rules h) w → IsStorable w
-            → payload_of body ≡ payload w → Stands D.disk (device_of self.old) (device_of self.new) (IsFound rules h [] (w ∷ [])) (IsFound rules h [] (w ∷ [])) }
-        ensures appended { (rules : Rules) (h : History) (w : Write) → HoldsHistory rules D.disk (device_of self.old) h → MayFollow rules (view rules h) w → IsStorable w
-            → payload_of body ≡ payload w → OnOk result (HoldsHistory rules D.disk (device_of self.new) (h ++ w ∷ [])) }
+        ensures stands { (rules : Rules) (h : History) (ws : List Write) → HoldsHistory rules D.disk (device_of self.old) h → AllMayFollow rules (view rules h) ws → IsGroup ws
+            → payload_of body ≡ payload ws → Stands D.disk (device_of self.old) (device_of self.new) (IsFound rules h [] ws) (IsFound rules h [] ws) }
+        ensures appended { (rules : Rules) (h : History) (ws : List Write) → HoldsHistory rules D.disk (device_of self.old) h → AllMayFollow rules (view rules h) ws → IsGroup ws
+            → payload_of body ≡ payload ws → OnOk result (HoldsHistory rules D.disk (device_of self.new) (h ++ ws)) }
         ensures serves { serves self.new ≡ is_ok result }
         ensures refusal { OnErr result (result ≡ Err Fault.Device) }
         ensures cause { HasCause D.disk (device_of self.old) (device_of self.new) result }
@@ -146,14 +146,14 @@ impl<D: Device> Store<D> {
         Ok(reply)
     }
 
-    // Appends the record of a write. After a failure the store serves no more.
+    // Appends the record of a group of writes. After a failure the store serves no more.
     fn append(&mut self, body: Body) -> Result<(), Fault>
         requires { serves self.old ≡ true }
         ensures core { self.new.core ≡ self.old.core }
-        ensures stands { (rules : Rules) (h : History) (w : Write) → HoldsHistory rules D.disk (device_of self.old) h → MayFollow rules (view rules h) w → IsStorable w
-            → payload_of body ≡ payload w → Stands D.disk (device_of self.old) (device_of self.new) (IsFound rules h [] (w ∷ [])) (IsFound rules h [] (w ∷ [])) }
-        ensures appended { (rules : Rules) (h : History) (w : Write) → HoldsHistory rules D.disk (device_of self.old) h → MayFollow rules (view rules h) w → IsStorable w
-            → payload_of body ≡ payload w → OnOk result (HoldsHistory rules D.disk (device_of self.new) (h ++ w ∷ [])) }
+        ensures stands { (rules : Rules) (h : History) (ws : List Write) → HoldsHistory rules D.disk (device_of self.old) h → AllMayFollow rules (view rules h) ws → IsGroup ws
+            → payload_of body ≡ payload ws → Stands D.disk (device_of self.old) (device_of self.new) (IsFound rules h [] ws) (IsFound rules h [] ws) }
+        ensures appended { (rules : Rules) (h : History) (ws : List Write) → HoldsHistory rules D.disk (device_of self.old) h → AllMayFollow rules (view rules h) ws → IsGroup ws
+            → payload_of body ≡ payload ws → OnOk result (HoldsHistory rules D.disk (device_of self.new) (h ++ ws)) }
         ensures serves { serves self.new ≡ is_ok result }
         ensures refusal { OnErr result (result ≡ Err Fault.Device) }
         ensures cause { HasCause D.disk (device_of self.old) (device_of self.new) result }
@@ -179,9 +179,8 @@ impl<D: Device> Store<D> {
         ensures memory { result.1 ≡ Some Fault.Memory
             → HasServed self.old self.new (take (length result.0.items) (map request_of requests.now)) result.0.items }
 
-        // It speaks of the requests up to the one in which the device failed: nothing was read of those behind it.
         ensures device { result.1 ≡ Some Fault.Device
-            → HasStopped self.old self.new (take (length result.0.items + 1) (map request_of requests.now)) result.0.items }
+            → HasStopped self.old self.new (map request_of requests.now) result.0.items }
 
         ensures refusal { serves self.old ≡ true → IfSome result.1 (λ fault. (fault ≡ Fault.Device) ⊎ (fault ≡ Fault.Memory)) }
         ensures failed { serves self.old ≡ false → (self.new ≡ self.old) × (result.0.items ≡ []) × (result.1 ≡ Some Fault.Failed) }

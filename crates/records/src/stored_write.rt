@@ -1,4 +1,5 @@
-ghost use Rattle.std.specs.Prelude.{◌≡◌, ◌≢◌, ◌<◌, ◌^◌, ℕ, List, length, IsTrue, IfOk, IsErrOf};
+ghost use Rattle.std.specs.Prelude.{◌≡◌, ◌≢◌, ◌<◌, ◌^◌, ◌++◌, ℕ, List, [], ◌∷◌, length, IsTrue, IfOk, IsErrOf};
+ghost use Rattle.byteorder.specs.Endian.{big_bytes};
 ghost use Rattle.jsondoc.specs.Document.{text};
 ghost use Rattle.fields.specs.Field.{field};
 ghost use Rattle.names.specs.Key.{Key as KeyData, is_key};
@@ -7,7 +8,7 @@ ghost use Rattle.requests.specs.Codes.{document_in};
 ghost use Rattle.requests.specs.Manifest.{HasForm};
 ghost use Rattle.history.specs.History.{Write, put, delete};
 ghost use Rattle.records.specs.declared.fault.RecordFault.TheVariants as RecordFault;
-ghost use Rattle.records.specs.Payload.{fields, payload, IsStorable};
+ghost use Rattle.records.specs.Payload.{fields, write_bytes, payload, IsStorable, IsGroup};
 ghost use Rattle.records.specs.WriteOf.{write_of};
 
 use crate::RecordFault;
@@ -27,11 +28,20 @@ pub enum StoredWrite<'a> {
     Delete(Key),
 }
 
-/// Reads a payload. `Damaged` where no well-formed write has it.
+/// Reads a payload, which has one write. `Damaged` where no group of well-formed writes has it.
 pub fn read_write(alloc: Global, bytes: &[u8]) -> Result<StoredWrite<'_>, RecordFault>
-    ensures write { IfOk result (λ w. payload (write_of w) ≡ bytes.now) }
+    ensures write { IfOk result (λ w. payload (write_of w ∷ []) ≡ bytes.now) }
+    ensures form { IfOk result (λ w. IsGroup (write_of w ∷ [])) }
+    ensures damaged { IsErrOf result RecordFault.Damaged → (ws : List (Write (List ℕ))) → IsGroup ws → payload ws ≢ bytes.now }
+{
+    read_one(alloc, bytes)
+}
+
+// Reads the number 1 and the write behind it.
+fn read_one(alloc: Global, bytes: &[u8]) -> Result<StoredWrite<'_>, RecordFault>
+    ensures write { IfOk result (λ w. big_bytes 2 1 ++ write_bytes (write_of w) ≡ bytes.now) }
     ensures form { IfOk result (λ w. IsStorable (write_of w)) }
-    ensures damaged { IsErrOf result RecordFault.Damaged → (w : Write (List ℕ)) → IsStorable w → payload w ≢ bytes.now }
+    ensures damaged { IsErrOf result RecordFault.Damaged → (w : Write (List ℕ)) → IsStorable w → big_bytes 2 1 ++ write_bytes w ≢ bytes.now }
 {
     let (kind, fields) = split_kind(bytes).ok_or(RecordFault::Damaged)?;
     match kind {

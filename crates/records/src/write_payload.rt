@@ -71,9 +71,9 @@ pub fn put_payload(
     document_text: &str,
     plans: &[u8],
 ) -> Result<Body, LogFault>
-    ensures bytes { (d : Document) → document_text.now ≡ text d.json → IfOk result (λ body. payload_of body ≡ payload (put key.now d plans.now)) }
+    ensures bytes { (d : Document) → document_text.now ≡ text d.json → IfOk result (λ body. payload_of body ≡ payload (put key.now d plans.now ∷ [])) }
     ensures long { (d : Document) → document_text.now ≡ text d.json → IsErrOf result LogFault.TooLong
-        → 67108864 < length (payload (put key.now d plans.now)) }
+        → 67108864 < length (payload (put key.now d plans.now ∷ [])) }
     ensures refusal { IsErrOf result LogFault.Device → ⊥ }
 {
     let mut body = begin(alloc, PUT)?;
@@ -85,7 +85,7 @@ pub fn put_payload(
 
 /// The body of the record of a deletion at this key.
 pub fn delete_payload(alloc: Global, key: &Key) -> Result<Body, LogFault>
-    ensures bytes { IfOk result (λ body. payload_of body ≡ payload (delete key.now)) }
+    ensures bytes { IfOk result (λ body. payload_of body ≡ payload (delete key.now ∷ [])) }
     ensures long { IsErrOf result LogFault.TooLong → ⊥ }
     ensures refusal { IsErrOf result LogFault.Device → ⊥ }
 {

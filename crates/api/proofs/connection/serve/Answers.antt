@@ -1,5 +1,5 @@
-use Rattle.std.proofs.Common.{inr, ⊎_elim, refl}
-use Rattle.api.specs.declared.fault.ServeFault.TheVariants.{Read, Write, Device, Memory, Damaged, Failed}
+use Rattle.std.proofs.Common.{inr, ⊎_elim}
+use Rattle.api.specs.declared.fault.ServeFault.TheVariants.{Read, Write, Device, Memory, Failed}
 use Rattle.api.proofs.Runs.{at_ok, at_error}
 use Rattle.api.proofs.connection.serve.Goals as goal
 

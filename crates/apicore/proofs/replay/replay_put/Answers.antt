@@ -1,11 +1,10 @@
-use Rattle.std.proofs.Common.{rules, ◌≡◌, ap, subst, sym, ◌∙◌, map, ℕ, List}
+use Rattle.std.proofs.Common.{rules, ◌≡◌, ap, subst, sym, ◌∙◌, ℕ, List}
 use Rattle.std.specs.Prelude.{IsErrOf}
 use Rattle.requests.specs.Codes.{document_in}
 use Rattle.names.specs.Key.{Key}
 use Rattle.names.specs.declared.resource.Resource.{Resource}
 use Rattle.serde_json.specs.Data.{Data}
 use Rattle.history.specs.declared.replay.ReplayFault.TheVariants as ReplayFault
-use Rattle.history.specs.History as plain
 use Rattle.history.specs.History.{put}
 use Rattle.history.specs.Mapped.{mapped}
 use Rattle.history.proofs.Mapping.{follows_mapped, follows_back, after_mapped}

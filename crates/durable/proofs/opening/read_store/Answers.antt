@@ -6,7 +6,9 @@ use Rattle.apicore.specs.Standing.{write_with_plans}
 use Rattle.apicore.specs.Prepared.{plans_held}
 use Rattle.history.specs.Mapped.{mapped}
 use Rattle.history.specs.View.{view}
+use Rattle.records.specs.Payload.{writes_in}
 use Rattle.apicore.specs.Written.{History, IsWritten}
+use Rattle.apicore.proofs.Histories.{written_storable}
 use Rattle.durable.specs.declared.fault.Fault.TheVariants as Fault
 use Rattle.durable.proofs.Reading.{first_numbers, no_log_here, written_here, shows_here}
 use Rattle.durable.proofs.opening.read_store.Goals as goal
@@ -37,7 +39,7 @@ returns-in-Err-Damaged-clause-damaged g c keeps damage is rules h stands =
     let there : HoldsLog (log_start root) payloads log.last content =
     subst In (c.root_without_pages.ensures.ran.seen keeps) (subst At c.log_start.ensures.place (c.in-Ok-read_log.ensures.found (c.root_without_pages.ensures.ran.kept keeps)))
     in
-    let later = map write_with_plans stands.later in
+    let later = map write_with_plans (writes_in stands.groups) in
     let Of : Rules → Type 0 = λ r. IsWritten r later (map (λ p. p.items) c.deref.result.now) in
     c.replayed.ensures.damaged (c.in-Err-Damaged.is ∙ ap Err c.in-Err-Damaged.field-0-is) later
     (subst Of (first_numbers rules stands.numbers ∙ sym c.rules.ensures)
@@ -85,4 +87,4 @@ returns-in-Ok-replayed-clause-replayed g c =
     let core = c.in-Ok-replayed.core in
     let Found : Rules → Type 0 = λ r. (h : History) × IsWritten r h (map (λ p. p.items) c.deref.result.now) × (mapped plans_held core.view ≡ view r h) in
     let found = subst Found (sym c.in-Ok-replayed.ensures.rules) c.in-Ok-replayed.ensures.found in
-    record { history = found.0; storable = found.1.storable; follows = found.1.history; shows = found.2 }
+    record { history = found.0; storable = written_storable core.rules found.0 (map (λ p. p.items) c.deref.result.now) found.1; follows = found.1.history; shows = found.2 }

@@ -52,7 +52,7 @@ returns-in-Some-clause-ok g c serves =
     (subst Of c.in-Some.is c.in_ok-record_of.ensures.record) c.commit.ensures.stands (c.commit.ensures.serves ∙ ok) (c.commit.ensures.rules ∙ rules_are)
     (c.commit.ensures.shows ∙ ap (λ (x : Rules). after_all x c.prepare.new.core.view (writes_of prepared.write)) rules_are
     ∙ ap (λ v. after_all c.args.self.now.core.rules v (writes_of prepared.write)) c.prepare.ensures.view)
-    (λ rules h w holds follows storable is. on_success _ c.commit.result ok (c.commit.ensures.appended rules h w holds follows storable is))))
+    (λ rules h ws holds follow group is. on_success _ c.commit.result ok (c.commit.ensures.appended rules h ws holds follow group is))))
     c.commit.ensures.reply
 
 pub returns-in-Some-clause-device : goal.returns-in-Some-clause-device

@@ -4,7 +4,7 @@ use Rattle.requests.specs.Request.{Request}
 use Rattle.requests.specs.RequestOf.{request_of}
 use Rattle.history.specs.Reply.{Reply}
 use Rattle.durable.specs.declared.fault.Fault.{Fault}
-use Rattle.durable.specs.Settled.{HasServed, HasStopped}
+use Rattle.durable.specs.Settled.{HasServed}
 use Rattle.durable.proofs.Running.{take-next}
 use Rattle.durable.proofs.Runs.{run_none, run_more, run_same, run_stopped}
 use Rattle.durable.proofs.store.Store.run.Goals as goal
@@ -44,12 +44,9 @@ returns-in-Err-apply-clause-device g c is =
     let all : List Request = map request_of c.args.requests.now in
     let given = c.loop-request.replies.items in
     let fault : c.in-Err-apply.fault ≡ Fault.Device = cc in
-    let Stopped : ℕ → Type 0 = λ n. HasStopped store c.apply.new.self (take (n + 1) all) given in
-    let Of : List Request → Type 0 = λ rs. HasStopped store c.apply.new.self rs given in
-    subst Stopped (sym c.loop-request.invariant.0)
-    (subst Of (sym (take-next request_of c.args.requests.now index c.request-item.result c.loop-request-test.true c.request-item.is))
-    (run_stopped store c.loop-request.self c.apply.new.self (take index all) given c.loop-request.invariant.4 (request_of c.request-item.result)
-    (c.apply.ensures.device (c.in-Err-apply.is ∙ ap Err fault))))
+    run_stopped store c.loop-request.self c.apply.new.self (take index all) given c.loop-request.invariant.4 all (request_of c.request-item.result)
+    (c.apply.ensures.device (c.in-Err-apply.is ∙ ap Err fault))
+    (ap (λ (n : ℕ). take (n + 1) all) c.loop-request.invariant.0 ∙ take-next request_of c.args.requests.now index c.request-item.result c.loop-request-test.true c.request-item.is)
 
 pub loop-request-preserved : goal.loop-request-preserved
 loop-request-preserved g c =
