@@ -7,3 +7,4 @@ pub mod Order
 pub mod Joining
 pub mod Hearing
 pub mod Taking
+pub mod Cutting

@@ -4,3 +4,4 @@ pub mod NewStore
 pub mod Pages
 pub mod Reader
 pub mod Index
+pub mod Filling
