@@ -3,3 +3,8 @@ pub mod Zeros
 pub mod Fronts
 pub mod Laying
 pub mod NewStore
+pub mod Order
+pub mod Joining
+pub mod Hearing
+pub mod Taking
+pub mod Cutting

@@ -12,12 +12,19 @@
 //! A new store is made on an empty device alone, and after its making answered `Ok` a crash leaves it as it is.
 #![tactic(auto)]
 
+mod filling;
+mod index;
 mod new_store;
 mod open;
+mod reader;
 mod root;
 mod roots;
+mod scanning;
 mod sector;
 
+pub use filling::{Entries, EntriesFault, first_keys};
 pub use new_store::{StartFault, start};
 pub use open::{RootFault, counted_root};
+pub use reader::{ReadFault, Reader};
 pub use root::{Root, Slot};
+pub use scanning::{ScanFault, scan};

@@ -6,6 +6,7 @@ use crate::other_devices::{file_after_crash, remembered};
 use crate::page_lines::{page, page_find, page_room, page_with};
 use crate::record_lines::{answered, cuts, damage_word, reads, replay};
 use crate::root_lines::{log_start, new_store, root, write_sector};
+use crate::scan_lines::{lay, scan_pages};
 use cases::{Bench, Wrong, compare, first_word, number, shown, text};
 use device::{Device, MemDevice};
 use std::alloc::Global;
@@ -76,6 +77,8 @@ impl Disk {
             "crash" => self.crash(alloc, rest),
             "new-store" => new_store(alloc, &mut self.device),
             "root" => root(alloc, &mut self.device),
+            "lay" => lay(alloc, &mut self.device, rest),
+            "scan" => scan_pages(alloc, &mut self.device, rest),
             _ => self.of_the_log(alloc, word, rest),
         }
     }

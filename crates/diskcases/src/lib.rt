@@ -13,6 +13,7 @@ mod page_lines;
 mod payloads;
 mod record_lines;
 mod root_lines;
+mod scan_lines;
 
 use apicore::one_history;
 pub use bench::Disk;

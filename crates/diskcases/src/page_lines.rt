@@ -14,8 +14,8 @@ fn push_cells(page: &mut PageBuilder, cells: &str) -> Result<(), Wrong> {
     Ok(())
 }
 
-// The page of these cells: `KEY VALUE ; KEY VALUE ..`.
-fn page_of(alloc: Global, cells: &str) -> Result<PageBuilder, Wrong> {
+/// The page of these cells: `KEY VALUE ; KEY VALUE ..`.
+pub(crate) fn page_of(alloc: Global, cells: &str) -> Result<PageBuilder, Wrong> {
     let mut page = PageBuilder::new(alloc)?;
     push_cells(&mut page, cells)?;
     Ok(page)
@@ -34,7 +34,8 @@ pub fn page(alloc: Global, line: &str) -> Result<String, Wrong> {
     Ok(format!(in alloc; "{front} .. {back}")?)
 }
 
-fn push_text(line: &mut TextBuilder, bytes: &[u8]) {
+/// Adds bytes as a word.
+pub(crate) fn push_text(line: &mut TextBuilder, bytes: &[u8]) {
     line.word(str::from_utf8(bytes).unwrap_or("other bytes"));
 }
 

@@ -1,0 +1,83 @@
+use Rattle.std.proofs.Common.{rules, ◌≡◌, ◌∙◌, sym, ap, subst, ◌<◌, ◌≤◌, ◌++◌, ◌∷◌, ℕ, Bool, false, true≢false, IsTrue, List, []}
+use Rattle.std.specs.Prelude.{IsErrOf}
+use Rattle.gatelog.proofs.Walking.{same_then}
+use Rattle.pages.specs.Page.{Entry, room_of}
+use Rattle.checkpoint.specs.Filling.{keys_from}
+use Rattle.checkpoint.specs.Index.{keys_of}
+use Rattle.checkpoint.specs.declared.filling.EntriesFault.TheVariants as EntriesFault
+use Rattle.checkpoint.proofs.Cutting.{walked_all, walked_more, walked_long}
+use Rattle.checkpoint.proofs.filling.first_keys.Goals as goal
+
+is_not : (b : Bool) → b ≡ false → IsTrue b → ⊥
+is_not b unset told = true≢false (sym told ∙ unset)
+
+pub returns-then-not-branch-clause-keys : goal.returns-then-not-branch-clause-keys
+returns-then-not-branch-clause-keys g c keeps all gives =
+    let inv = c.walk.invariant in
+    let content : List ℕ = g.D.Device.disk.content c.args.device.now in
+    let ahead : List ℕ → List Entry → Type 0 = λ x es. g.E.Entries.ahead c.walk.entries x es in
+    let none : (entry : Entry) (entries : List Entry) → ahead content (entry ∷ entries) → ⊥ = λ entry entries there.
+    let back : ahead (g.D.Device.disk.content c.walk.device) (entry ∷ entries) = subst (λ x. ahead x (entry ∷ entries)) (sym (inv.ran.seen keeps)) there in
+    is_not c.in_ok-advance.field-0 c.if-not-branch.true (c.in_ok-advance.ensures.some (inv.ran.kept keeps) entry entries back).0
+    in
+    ap (λ keys. keys_of keys.items) c.into_first_keys.ensures
+    ∙ (walked_all (ahead content) (keys_of c.walk.filling.first_keys.items) c.walk.filling.free all (inv.walked keeps all gives) none).0
+
+pub returns-then-not-branch-clause-fit : goal.returns-then-not-branch-clause-fit
+returns-then-not-branch-clause-fit g c keeps all gives =
+    let inv = c.walk.invariant in
+    let content : List ℕ = g.D.Device.disk.content c.args.device.now in
+    let ahead : List ℕ → List Entry → Type 0 = λ x es. g.E.Entries.ahead c.walk.entries x es in
+    let none : (entry : Entry) (entries : List Entry) → ahead content (entry ∷ entries) → ⊥ = λ entry entries there.
+    let back : ahead (g.D.Device.disk.content c.walk.device) (entry ∷ entries) = subst (λ x. ahead x (entry ∷ entries)) (sym (inv.ran.seen keeps)) there in
+    is_not c.in_ok-advance.field-0 c.if-not-branch.true (c.in_ok-advance.ensures.some (inv.ran.kept keeps) entry entries back).0
+    in
+    (walked_all (ahead content) (keys_of c.walk.filling.first_keys.items) c.walk.filling.free all (inv.walked keeps all gives) none).1
+
+pub walk-preserved : goal.walk-preserved
+walk-preserved g c =
+    let inv = c.walk.invariant in
+    let disk = g.D.Device.disk in
+    let content : List ℕ = disk.content c.args.device.now in
+    let now : List ℕ = disk.content c.walk.device in
+    let here : Entry = g.E.Entries.here c.advance.new.self in
+    let ahead : List ℕ → List Entry → Type 0 = λ x es. g.E.Entries.ahead c.walk.entries x es in
+    let after : List ℕ → List Entry → Type 0 = λ x es. g.E.Entries.ahead c.advance.new.self x es in
+    let told : ◌≡◌ {A = Entry} (c.key.result.now, c.cell.result.now) here = λ j. (c.key.ensures j, c.cell.ensures j) in
+    record {
+      ran = same_then disk c.args.device.now c.walk.device c.advance.new.device inv.ran c.advance.ensures.ran;
+      gives = λ x all gives. c.in_ok-advance.ensures.gives x all (inv.gives x all gives);
+      walked = λ keeps all gives.
+          let same : now ≡ content = inv.ran.seen keeps in
+          let kept = inv.ran.kept keeps in
+          let old_keys : List (List ℕ) = keys_of c.walk.filling.first_keys.items in
+          let new_keys : List (List ℕ) = keys_of c.add.new.self.first_keys.items in
+          walked_more (ahead content) (after content) old_keys new_keys c.walk.filling.free c.add.new.self.free all here (inv.walked keeps all gives)
+          (λ there. c.in_ok-advance.ensures.none kept (subst (λ x. ahead x []) (sym same) there) c.if-not-branch.false)
+          (λ entry entries there.
+          let next = c.in_ok-advance.ensures.some kept entry entries (subst (λ x. ahead x (entry ∷ entries)) (sym same) there) in
+          (next.1, subst (λ x. after x entries) same next.2))
+          (λ entries.
+          let Adds : Entry → Type 0 = λ e.
+          new_keys ++ keys_from c.add.new.self.free entries ≡ old_keys ++ keys_from c.walk.filling.free (e ∷ entries)
+          in
+          subst Adds told (c.in_ok-add.ensures.keys entries))
+          (subst (λ (e : Entry). room_of (e ∷ []) ≤ 32768) told c.in_ok-add.ensures.fits);
+    }
+
+pub returns-in_err-add-clause-too_long : goal.returns-in_err-add-clause-too_long
+returns-in_err-add-clause-too_long g c keeps all gives is fit =
+    let inv = c.walk.invariant in
+    let disk = g.D.Device.disk in
+    let content : List ℕ = disk.content c.args.device.now in
+    let now : List ℕ = disk.content c.walk.device in
+    let here : Entry = g.E.Entries.here c.advance.new.self in
+    let ahead : List ℕ → List Entry → Type 0 = λ x es. g.E.Entries.ahead c.walk.entries x es in
+    let told : ◌≡◌ {A = Entry} (c.key.result.now, c.cell.result.now) here = λ j. (c.key.ensures j, c.cell.ensures j) in
+    let same : now ≡ content = inv.ran.seen keeps in
+    let kept = inv.ran.kept keeps in
+    let long : IsErrOf c.add.result EntriesFault.TooLong = search rules in
+    walked_long (ahead content) (keys_of c.walk.filling.first_keys.items) c.walk.filling.free all here (inv.walked keeps all gives)
+    (λ there. c.in_ok-advance.ensures.none kept (subst (λ x. ahead x []) (sym same) there) c.if-not-branch.false)
+    (λ entry entries there. (c.in_ok-advance.ensures.some kept entry entries (subst (λ x. ahead x (entry ∷ entries)) (sym same) there)).1)
+    (subst (λ (e : Entry). 32768 < room_of (e ∷ [])) told (c.add.ensures.too_long long)) fit

@@ -1,0 +1,73 @@
+use Rattle.std.proofs.Common.{rules, arith, ◌≡◌, ◌∙◌, sym, ap, subst, ◌+◌, ◌*◌, ◌<◌, ℕ, List, [], ◌∷◌, ◌++◌, length, IsTrue}
+use Rattle.std.specs.Prelude.{IsErrOf}
+use Rattle.std.specs.FinMap.{is_sorted}
+use Rattle.gatelog.specs.Record.{part}
+use Rattle.gatelog.proofs.Walking.{same_then}
+use Rattle.pages.specs.Page.{Entry, bytes_cmp, entries_in, IsSound}
+use Rattle.checkpoint.specs.Index.{IsIndexed}
+use Rattle.checkpoint.specs.Pages.{pages_at, joined}
+use Rattle.checkpoint.specs.Reader.{Heard}
+use Rattle.checkpoint.specs.declared.scanning.ScanFault.TheVariants as ScanFault
+use Rattle.checkpoint.proofs.Hearing.{heard_then}
+use Rattle.checkpoint.proofs.Joining.{page_at, pages_at-more, sound_more, sound_at, sorted_to, joined-push}
+use Rattle.checkpoint.proofs.Taking.{page_read}
+use Rattle.checkpoint.proofs.scanning.take_pages.Goals as goal
+
+pub returns-in_err-refused-clause-page : goal.returns-in_err-refused-clause-page
+returns-in_err-refused-clause-page g c keeps is holds =
+    let inv = c.loop-i.invariant in
+    let disk = g.D.Device.disk in
+    let content : List ℕ = disk.content c.args.device.now in
+    let root = c.args.root.now in
+    let i : ℕ = c.loop-i.i in
+    let bytes : List ℕ = c.read.new.buffer in
+    let pages : List (List Entry) = pages_at root.first i content in
+    let size : length c.loop-i.buffer ≡ 32768 = omega arith in
+    let place : root.first + 64 * c.from.result ≡ root.first + 64 * i = omega (arith, c.from.ensures) in
+    let read : bytes ≡ page_at root.first i content =
+    page_read (root.first + 64 * c.from.result) c.loop-i.buffer bytes (disk.content c.loop-i.device) content size
+    (c.in_ok-read.ensures.bytes (inv.ran.kept keeps)) (inv.ran.seen keeps)
+    ∙ ap (λ at. part (512 * at) 32768 content) place
+    in
+    let told : IsErrOf c.take_page.result ScanFault.Page = search rules in
+    let Sorted : List ℕ → Type 0 = λ x. IsTrue (is_sorted bytes_cmp (joined pages ++ entries_in x)) in
+    c.take_page.ensures.page pages (inv.indexed keeps) told
+    (subst (λ (x : List ℕ). IsSound x) (sym read) (sound_at root.first root.pages i content holds.sound c.loop-i-test.true))
+    (subst Sorted (sym read) (sorted_to root.first root.pages i content c.loop-i-test.true holds.ascending))
+
+pub loop-i-preserved : goal.loop-i-preserved
+loop-i-preserved g c =
+    let inv = c.loop-i.invariant in
+    let disk = g.D.Device.disk in
+    let content : List ℕ = disk.content c.args.device.now in
+    let root = c.args.root.now in
+    let i : ℕ = c.loop-i.i in
+    let bytes : List ℕ = c.read.new.buffer in
+    let pages : List (List Entry) = pages_at root.first i content in
+    let size : length c.loop-i.buffer ≡ 32768 = omega arith in
+    let place : root.first + 64 * c.from.result ≡ root.first + 64 * i = omega (arith, c.from.ensures) in
+    let read : disk.keeps c.args.device.now → bytes ≡ page_at root.first i content = λ keeps.
+    page_read (root.first + 64 * c.from.result) c.loop-i.buffer bytes (disk.content c.loop-i.device) content size
+    (c.in_ok-read.ensures.bytes (inv.ran.kept keeps)) (inv.ran.seen keeps)
+    ∙ ap (λ at. part (512 * at) 32768 content) place
+    in
+    let page : List Entry = entries_in (page_at root.first i content) in
+    record {
+      ran = same_then disk c.args.device.now c.loop-i.device c.read.new.self inv.ran c.read.ensures.ran;
+      sound = λ keeps.
+          sound_more root.first i content (inv.sound keeps) (subst (λ (x : List ℕ). IsSound x) (read keeps) c.in_ok-refused.ensures.sound);
+      indexed = λ keeps.
+          let Indexed : List (List Entry) → Type 0 = λ ps. IsIndexed c.take_page.new.index ps in
+          subst Indexed (ap (λ (x : List ℕ). pages ++ entries_in x ∷ []) (read keeps) ∙ sym (pages_at-more root.first i content))
+          (c.in_ok-refused.ensures.added pages (inv.indexed keeps));
+      heard = λ keeps.
+          let told = g.R.Reader.told in
+          let refuses = g.R.Reader.refuses in
+          let Heard_page : List ℕ → Type 0 = λ x. Heard told refuses c.loop-i.reader c.take_page.new.reader (entries_in x) c.in_ok-refused.refused in
+          let Heard_all : List Entry → Type 0 = λ es. Heard told refuses c.args.reader.now c.take_page.new.reader es c.in_ok-refused.refused in
+          subst Heard_all (sym (ap joined (pages_at-more root.first i content) ∙ joined-push pages page))
+          (heard_then told refuses g.met.R.Reader.told_then c.args.reader.now c.loop-i.reader c.take_page.new.reader c.loop-i.refused c.in_ok-refused.refused
+          (joined pages) page (inv.heard keeps)
+          (λ none. subst Heard_page (read keeps) (c.in_ok-refused.ensures.heard none))
+          c.in_ok-refused.ensures.refused);
+    }

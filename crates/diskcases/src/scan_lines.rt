@@ -1,0 +1,115 @@
+//! Lines on the pages behind a root.
+
+ghost use Rattle.std.specs.Prelude.{◌≡◌, IfOk};
+
+use crate::page_lines::{page_of, push_text};
+use cases::{TextBuilder, WordReader, Wrong, first_word, number, text};
+use checkpoint::{ReadFault, Reader, Root, ScanFault, Slot, scan};
+use device::{Device, MemDevice};
+use std::alloc::Global;
+
+/// `lay SECTOR CELLS`: writes the page of these cells, if its place is at most the length.
+pub fn lay(alloc: Global, device: &mut MemDevice, line: &str) -> Result<String, Wrong> {
+    let (at, cells) = first_word(line);
+    let at = number(at)?;
+    let page = page_of(alloc, cells)?;
+    match device.len() {
+        Ok(len) if at <= len && device.write(at, page.bytes()).is_ok() => text(alloc, "ok"),
+        _ => text(alloc, "device failed"),
+    }
+}
+
+// A key with what stands under it.
+#[derive(Drop)]
+struct Listed {
+    key: Vec<u8>,
+    cell: Vec<u8>,
+}
+
+fn copied(alloc: Global, key: &[u8], cell: &[u8]) -> Result<Listed, ReadFault>
+    ensures { IfOk result (λ entry. (entry.key.items ≡ key.now) × (entry.cell.items ≡ cell.now)) }
+{
+    let key = key.to_vec(alloc)?;
+    let cell = cell.to_vec(alloc)?;
+    Ok(Listed { key, cell })
+}
+
+// A reader that keeps what it is told, and refuses one key.
+#[derive(Drop)]
+struct Listing {
+    entries: Vec<Listed>,
+    refused: Vec<u8>,
+}
+
+impl Reader for Listing {
+    ghost use Rattle.std.specs.Prelude.{◌≡◌};
+    ghost use Rattle.diskcases.specs.Listing.{IsTold, told_none, told_then};
+
+    ghost told = { IsTold };
+
+    ghost refuses = { λ listing entry. entry.0 ≡ listing.refused.items };
+
+    ghost told_none = { told_none };
+
+    ghost told_then = { told_then };
+
+    fn entry(&mut self, alloc: Global, key: &[u8], cell: &[u8]) -> Result<(), ReadFault> {
+        if key[..] == self.refused[..] {
+            return Err(ReadFault::Entry);
+        }
+        self.entries.push(copied(alloc, key, cell)?)?;
+        Ok(())
+    }
+}
+
+// What the listing was told, and the first keys.
+fn listing_text(alloc: Global, listing: &Listing, first_keys: &[Vec<u8>]) -> Result<String, Wrong> {
+    let mut line = TextBuilder::new(alloc);
+    for entry in &listing.entries {
+        push_text(&mut line, &entry.key);
+        push_text(&mut line, &entry.cell);
+    }
+    line.word("begin");
+    for key in first_keys {
+        push_text(&mut line, key);
+    }
+    line.end()
+}
+
+fn fault_text(fault: ScanFault) -> &'static str {
+    match fault {
+        ScanFault::Device => "device failed",
+        ScanFault::Page => "damaged page",
+        ScanFault::Entry => "refused entry",
+        ScanFault::Memory => "out of memory",
+    }
+}
+
+/// `scan FIRST PAGES REFUSED`: the entries of so many pages from a sector on, as they are told to a reader that refuses one key, and the
+/// first key of each page.
+pub fn scan_pages(alloc: Global, device: &mut MemDevice, line: &str) -> Result<String, Wrong> {
+    let mut words = WordReader::new(line);
+    let (first, pages) = (words.number(), words.number());
+    words.end()?;
+    let (Ok(pages), Ok(sectors)) = (u32::try_from(pages), device.len()) else {
+        return text(alloc, "device failed");
+    };
+    if first > sectors || 64 * u64::from(pages) > sectors - first {
+        return Err(Wrong::Told("the pages lie past the end"));
+    }
+    let root = Root {
+        slot: Slot::A,
+        generation: 1,
+        first,
+        pages,
+        revision: 1,
+    };
+    let mut listing = Listing {
+        entries: Vec::new(alloc),
+        refused: words.word().as_bytes().to_vec(alloc)?,
+    };
+    match scan(alloc, device, &root, &mut listing) {
+        Ok(first_keys) => listing_text(alloc, &listing, &first_keys),
+        Err(fault) => text(alloc, fault_text(fault)),
+    }
+}
