@@ -1,5 +1,5 @@
 -- Pages, one after the other.
-use Rattle.std.proofs.Common.{arith, ◌≡◌, refl, sym, ap, subst, ◌∙◌, ◌↔◌, ◌+◌, ◌*◌, ◌<◌, ◌≤◌, ℕ, zero, suc, add-one, true, IsTrue, List, [], ◌∷◌, ◌++◌, map, length, append_assoc, length-append}
+use Rattle.std.proofs.Common.{arith, ◌≡◌, refl, sym, ap, subst, ◌∙◌, ◌↔◌, ◌+◌, ◌*◌, ◌<◌, ◌≤◌, ℕ, zero, suc, add-one, true, IsTrue, List, [], ◌∷◌, ◌++◌, length, append_assoc}
 use Rattle.std.proofs.lemmas.List.{append-nil, map_push, length-map}
 use Rattle.std.specs.FinMap.{is_sorted}
 use Rattle.std.specs.declared.alloc.Global.{Global}
@@ -8,9 +8,8 @@ use Rattle.std.specs.declared.vec.Vec.{Vec}
 use Rattle.gatelog.specs.Record.{part}
 use Rattle.pages.specs.Page.{Entry, bytes_cmp, entries_in, IsSound}
 use Rattle.checkpoint.specs.declared.index.Index.{Index}
-use Rattle.checkpoint.specs.declared.root.Root.{Root}
 use Rattle.checkpoint.specs.Index.{last_key, keys_of, IsIndexed}
-use Rattle.checkpoint.specs.Pages.{pages_at, AreSound, joined, first_key, NoneEmpty, IsIndex, HoldsPages}
+use Rattle.checkpoint.specs.Pages.{pages_at, AreSound, joined, first_key, NoneEmpty}
 use Rattle.checkpoint.proofs.Order.{sorted_front, sorted_where_met, last_key-append}
 
 pub joined-append : (a b : List (List Entry)) → joined (a ++ b) ≡ joined a ++ joined b

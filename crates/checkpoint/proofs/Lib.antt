@@ -8,3 +8,4 @@ pub mod Joining
 pub mod Hearing
 pub mod Taking
 pub mod Cutting
+pub mod Passing

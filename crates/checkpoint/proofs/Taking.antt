@@ -1,8 +1,8 @@
 -- What one page adds to those before it.
-use Rattle.std.proofs.Common.{arith, ◌≡◌, sym, ap, subst, ◌∙◌, ◌+◌, ◌*◌, ◌<◌, ◌≤◌, ℕ, IsTrue, List, ◌∷◌, [], ◌++◌, length, take, drop}
+use Rattle.std.proofs.Common.{arith, ◌≡◌, ap, ◌∙◌, ◌*◌, ◌≤◌, ℕ, List, length, take, drop}
 use Rattle.gatelog.specs.Record.{part}
 use Rattle.pages.specs.Damage.{IsFirstDamage}
-use Rattle.pages.specs.Page.{Entry, entries_in, IsSound, SoundPage}
+use Rattle.pages.specs.Page.{Entry, IsSound, SoundPage}
 use Rattle.pages.specs.declared.damage.PageDamage.{PageDamage}
 use Rattle.pages.specs.declared.damage.PageDamage.TheVariants.{Mark, Slots, Cells, Order, FreeBytes}
 use Rattle.pages.proofs.Entries.{length-entries_in}

@@ -5,3 +5,4 @@ pub mod Pages
 pub mod Reader
 pub mod Index
 pub mod Filling
+pub mod EntryList

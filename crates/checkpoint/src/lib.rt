@@ -9,9 +9,13 @@
 //! let log = Log::open(&mut device, root.log_start())?;
 //! ```
 //!
+//! The pages of a root are read by [`scan`], each once, and their entries told to a [`Reader`]. Which key begins each page, of
+//! [`Entries`] that are cut into pages, is told by [`first_keys`].
+//!
 //! A new store is made on an empty device alone, and after its making answered `Ok` a crash leaves it as it is.
 #![tactic(auto)]
 
+mod entry_list;
 mod filling;
 mod index;
 mod new_store;
@@ -22,6 +26,7 @@ mod roots;
 mod scanning;
 mod sector;
 
+pub use entry_list::EntryList;
 pub use filling::{Entries, EntriesFault, first_keys};
 pub use new_store::{StartFault, start};
 pub use open::{RootFault, counted_root};

@@ -6,7 +6,7 @@ use crate::page_lines::{page_of, push_text};
 use cases::{TextBuilder, WordReader, Wrong, first_word, number, text};
 use checkpoint::{ReadFault, Reader, Root, ScanFault, Slot, scan};
 use device::{Device, MemDevice};
-use std::alloc::Global;
+use std::alloc::{AllocError, Global};
 
 /// `lay SECTOR CELLS`: writes the page of these cells, if its place is at most the length.
 pub fn lay(alloc: Global, device: &mut MemDevice, line: &str) -> Result<String, Wrong> {
@@ -26,7 +26,7 @@ struct Listed {
     cell: Vec<u8>,
 }
 
-fn copied(alloc: Global, key: &[u8], cell: &[u8]) -> Result<Listed, ReadFault>
+fn copied(alloc: Global, key: &[u8], cell: &[u8]) -> Result<Listed, AllocError>
     ensures { IfOk result (λ entry. (entry.key.items ≡ key.now) × (entry.cell.items ≡ cell.now)) }
 {
     let key = key.to_vec(alloc)?;

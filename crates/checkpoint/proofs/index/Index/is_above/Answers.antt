@@ -1,5 +1,4 @@
-use Rattle.std.proofs.Common.{arith, rules, ◌≡◌, ◌∙◌, sym, ap, ◌≤◌, ℕ, List, [], length, IsTrue}
-use Rattle.std.specs.declared.cmp.Ordering.TheVariants.{Less}
+use Rattle.std.proofs.Common.{arith, ◌≡◌, ◌∙◌, sym, ap, ◌≤◌, ℕ, List, [], length}
 use Rattle.std.proofs.lemmas.Bool.Decides.{nat_tests}
 use Rattle.pages.specs.Page.{Entry, bytes_cmp}
 use Rattle.checkpoint.specs.Pages.{first_key}
