@@ -3,3 +3,8 @@ pub mod Zeros
 pub mod Fronts
 pub mod Laying
 pub mod NewStore
+pub mod Steps
+pub mod Chain
+pub mod Staging
+pub mod Installing
+pub mod Placing

@@ -12,12 +12,16 @@
 //! A new store is made on an empty device alone, and after its making answered `Ok` a crash leaves it as it is.
 #![tactic(auto)]
 
+mod generation;
 mod new_store;
+mod next;
 mod open;
 mod root;
 mod roots;
 mod sector;
 
+pub use generation::{clear_slot, install};
 pub use new_store::{StartFault, start};
+pub use next::{Exhausted, next_root, place};
 pub use open::{RootFault, counted_root};
 pub use root::{Root, Slot};
