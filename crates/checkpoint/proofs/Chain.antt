@@ -1,5 +1,5 @@
 -- The steps from one generation to the next, at every moment.
-use Rattle.std.proofs.Common.{arith, refl, ◌≡◌, ◌∙◌, sym, ap, subst, ◌<◌, ◌≤◌, ◌+◌, ◌*◌, ◌⊎◌, inl, inr, ⊎_elim, ℕ, List, length, take, slice_index, Result, Ok, Err}
+use Rattle.std.proofs.Common.{arith, refl, ◌≡◌, ◌∙◌, sym, ap, subst, ◌+◌, ◌*◌, inl, inr, ⊎_elim, ℕ, List, length, take, slice_index, Result, Ok, Err}
 use Rattle.std.specs.Prelude.{OnOk}
 use Rattle.std.proofs.lemmas.Bool.{cases_eq}
 use Rattle.device.specs.Disk.{Disk, Only}
@@ -56,9 +56,9 @@ module _ {D : Type 0} (disk : Disk D) (start mid : D) (current : Root) (last : �
       let wider = λ (c : List ℕ) (closing : IsClosing c). closing-before current last (disk.content start) found.0 c closing in (
         found.0,
         stands_then disk start start mid Before IsClosing IsClosing Closes
-        (stands_now disk start Before IsClosing keeps now here
-        (λ c left. start-closing current last (disk.content start) found.0 (disk.content start) c here in_use.behind (in_use.durable c left)) wider)
-        run (λ a b closing torn. closing-gate current last (disk.content start) found.0 a b closing torn) wider,
+            (stands_now disk start Before IsClosing keeps now here
+            (λ c left. start-closing current last (disk.content start) found.0 (disk.content start) c here in_use.behind (in_use.durable c left)) wider)
+            run (λ a b closing torn. closing-gate current last (disk.content start) found.0 a b closing torn) wider,
       )
 
   idle_run : (WasOpen → ⊥) → Ran disk start mid Same → Stands disk start mid Before Clear

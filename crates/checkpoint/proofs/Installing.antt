@@ -1,5 +1,5 @@
 -- A root is installed, call by call.
-use Rattle.std.proofs.Common.{arith, ◌≡◌, sym, subst, ◌≤◌, ◌+◌, ◌*◌, ◌++◌, ℕ, List, length, replicate, Result, Ok, Err}
+use Rattle.std.proofs.Common.{arith, ◌≡◌, subst, ◌+◌, ◌*◌, ℕ, List, length, replicate, Result, Ok, Err}
 use Rattle.std.specs.Prelude.{OnOk}
 use Rattle.std.proofs.lemmas.List.{length-append, length-replicate}
 use Rattle.device.specs.Disk.{Disk, Only}

@@ -1,5 +1,5 @@
 -- Where a generation is placed.
-use Rattle.std.proofs.Common.{arith, ◌≡◌, ◌<◌, ◌≤◌, ◌+◌, ◌*◌, ◌⊎◌, inl, inr, ⊎_elim, ℕ}
+use Rattle.std.proofs.Common.{arith, ◌≤◌, ◌+◌, ◌*◌, ◌⊎◌, inl, inr, ⊎_elim, ℕ}
 use Rattle.std.proofs.lemmas.Bool.{cases_lt}
 use Rattle.checkpoint.specs.Install.{IsPlace}
 

@@ -1,14 +1,14 @@
 -- What stands after the writes of a generation, and what they leave.
-use Rattle.std.proofs.Common.{arith, refl, ◌≡◌, ◌∙◌, sym, ap, subst, ◌<◌, ◌≤◌, ◌+◌, ◌-◌, ◌*◌, ◌⊎◌, ◌++◌, inl, inr, ⊎_elim, ℕ, List, length, take, drop, replicate, max, slice_index}
+use Rattle.std.proofs.Common.{arith, refl, ◌≡◌, ◌∙◌, sym, ap, subst, ◌<◌, ◌≤◌, ◌+◌, ◌-◌, ◌*◌, ◌++◌, inl, inr, ⊎_elim, ℕ, List, length, take, drop, replicate, max, slice_index}
 use Rattle.std.proofs.lemmas.List.{length-take, length-append, length-replicate, get_or_append_left, get_or-append_right, ext_get_or}
 use Rattle.std.proofs.lemmas.Bool.{cases_lt}
 use Rattle.device.specs.Disk.{Disk}
-use Rattle.device.specs.Step.{Holds, Same, Torn, Cut}
+use Rattle.device.specs.Step.{Holds, Same, Torn}
 use Rattle.device.specs.Run.{Ran}
 use Rattle.device.proofs.Steps.{torn-bytes, torn_idle, length-holds}
 use Rattle.device.proofs.Runs.{ran_then, ran_wider}
 use Rattle.gatelog.specs.Record.{part}
-use Rattle.gatelog.proofs.Parts.{Agree, length-part, get-part}
+use Rattle.gatelog.proofs.Parts.{length-part, get-part}
 use Rattle.checkpoint.specs.declared.root.Slot.{Slot}
 use Rattle.checkpoint.specs.declared.root.Root.{Root}
 use Rattle.checkpoint.specs.Root.{root_sector, IsRoot, log_start}

@@ -9,7 +9,7 @@ use Rattle.gatelog.proofs.Parts.{Agree, part-agree, agree-take, reaches-take}
 use Rattle.checkpoint.specs.declared.root.Slot.{Slot}
 use Rattle.checkpoint.specs.declared.root.Slot.TheVariants.{A, B}
 use Rattle.checkpoint.specs.declared.root.Root.{Root}
-use Rattle.checkpoint.specs.Root.{root_sector, gate_sector, other, IsHeader, IsRoot, IsOpenRoot, Counts, log_start, HoldsRoot}
+use Rattle.checkpoint.specs.Root.{root_sector, gate_sector, other, IsHeader, IsRoot, IsOpenRoot, log_start, HoldsRoot}
 use Rattle.checkpoint.specs.Install.{HasAt, IsNext, IsBefore, IsClear, IsAfter, IsBeforeOrAfter, Spares}
 
 -- where the roots and their gates lie
@@ -290,12 +290,12 @@ pub holds-agree : (root : Root) (n : ℕ) (a b : List ℕ) → HoldsRoot a root 
 holds-agree root n a b holds agree far in_a in_b =
     let whole : 4608 ≤ n = omega (arith, holds.counts.stands.spelled.in_data, far) in
     let open_root : (r : Root) → IsOpenRoot a r → IsOpenRoot b r = λ r stands.
-        let places = in_front r.slot in
-        record {
-          is_open = agree (512 * gate_sector r.slot) (omega arith) (omega (arith, places.gate, whole)) ∙ stands.is_open;
-          spelled = root-agree r (512 * root_sector r.slot) a b (omega (arith, places.root, whole, in_a)) (omega (arith, places.root, whole, in_b))
-              (agree_within 0 n (512 * root_sector r.slot) 512 a b agree (omega arith) (omega (arith, places.root, whole))) stands.spelled;
-        } in
+    let places = in_front r.slot in
+    record {
+      is_open = agree (512 * gate_sector r.slot) (omega arith) (omega (arith, places.gate, whole)) ∙ stands.is_open;
+      spelled = root-agree r (512 * root_sector r.slot) a b (omega (arith, places.root, whole, in_a)) (omega (arith, places.root, whole, in_b))
+          (agree_within 0 n (512 * root_sector r.slot) 512 a b agree (omega arith) (omega (arith, places.root, whole))) stands.spelled;
+    } in
     let places = in_front (other root.slot) in
     record {
       header = header-agree a b (omega (arith, whole, in_a)) (omega (arith, whole, in_b)) (agree_within 0 n 0 512 a b agree (omega arith) (omega (arith, whole))) holds.header;

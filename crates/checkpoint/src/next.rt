@@ -30,7 +30,12 @@ pub fn place(start: u64, last_gate: u64, pages: u32) -> u64
 /// # Errors
 ///
 /// `Exhausted` where `current` is of the greatest generation.
-pub fn next_root(current: &Root, last_gate: u64, pages: u32, revision: u64) -> Result<Root, Exhausted>
+pub fn next_root(
+    current: &Root,
+    last_gate: u64,
+    pages: u32,
+    revision: u64,
+) -> Result<Root, Exhausted>
     requires behind { 8 ≤ last_gate }
     requires room { last_gate < 2 ^ 54 }
     ensures next { IfOk result (IsNext current.now last_gate) }

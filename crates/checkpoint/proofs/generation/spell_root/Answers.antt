@@ -1,8 +1,8 @@
-use Rattle.std.proofs.Common.{arith, ◌+◌, ◌*◌, ℕ, subst, length}
+use Rattle.std.proofs.Common.{arith, ◌*◌, ℕ, subst}
 use Rattle.std.proofs.lemmas.Result.{on_ok_weaker}
 use Rattle.std.specs.Prelude.{OnOk}
 use Rattle.gatelog.specs.Record.{part}
-use Rattle.checkpoint.specs.Root.{root_sector, IsRoot}
+use Rattle.checkpoint.specs.Root.{IsRoot}
 use Rattle.checkpoint.proofs.Steps.{in_front}
 use Rattle.checkpoint.proofs.Staging.{spelled}
 use Rattle.checkpoint.proofs.generation.spell_root.Goals as goal

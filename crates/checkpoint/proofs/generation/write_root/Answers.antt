@@ -1,4 +1,3 @@
-use Rattle.std.proofs.lemmas.Result.{on_ok_weaker}
 use Rattle.checkpoint.proofs.Installing.{on_ok}
 use Rattle.checkpoint.proofs.Staging.{gate_run, gate_and_root_run, pages_and_gate, gate_reaches}
 use Rattle.checkpoint.proofs.generation.write_root.Goals as goal
