@@ -1,19 +1,20 @@
 -- The steps from one generation to the next, at every moment.
-use Rattle.std.proofs.Common.{arith, refl, ◌≡◌, ◌∙◌, sym, ap, subst, ◌+◌, ◌*◌, inl, inr, ⊎_elim, ℕ, List, length, take, slice_index, Result, Ok, Err}
+use Rattle.std.proofs.Common.{arith, refl, ◌≡◌, ◌∙◌, sym, ap, subst, ◌≤◌, ◌+◌, ◌*◌, inl, inr, ⊎_elim, ℕ, List, length, take, slice_index, Result, Ok, Err}
 use Rattle.std.specs.Prelude.{OnOk}
 use Rattle.std.proofs.lemmas.Bool.{cases_eq}
 use Rattle.device.specs.Disk.{Disk, Only}
 use Rattle.device.specs.Run.{Ran, Stands}
 use Rattle.device.specs.Step.{Same, Torn, Cut}
 use Rattle.device.proofs.Moments.{weaker}
-use Rattle.device.proofs.Runs.{stands_now, stands_then, stands_synced, stands_weaker}
+use Rattle.device.proofs.Runs.{ran_wider, stands_now, stands_then, stands_synced, stands_weaker}
 use Rattle.gatelog.specs.Log.{IsOpen}
 use Rattle.gatelog.specs.Record.{part}
 use Rattle.checkpoint.specs.declared.root.Slot.{Slot}
 use Rattle.checkpoint.specs.declared.root.Root.{Root}
 use Rattle.checkpoint.specs.Root.{root_sector, gate_sector, other, IsRoot, log_start}
-use Rattle.checkpoint.specs.Install.{HasAt, IsNext, IsInUse, IsBefore, IsClear, IsAfter, IsBeforeOrAfter, Spares}
+use Rattle.checkpoint.specs.Install.{HasAt, IsStaged, IsNext, IsInUse, IsBefore, IsClear, IsAfter, IsBeforeOrAfter, Spares}
 use Rattle.checkpoint.proofs.Steps.{Closing, Opening, before-kept, closing-before, closing-gate, closing-clear, start-closing, start-clear, clear-spares, opening-gate, opening-after, opening-either, after-cut}
+use Rattle.checkpoint.proofs.Staging.{spares-torn}
 
 -- what left M left N
 pub stands_moments : {D : Type 0} (disk : Disk D) (old new : D) (M N S : List ℕ → Type 0) → Stands disk old new M S → ((c : List ℕ) → M c → N c) → Stands disk old new N S
@@ -114,6 +115,24 @@ module _ {D : Type 0} (disk : Disk D) (start : D) (current next : Root) (last : 
       stands_then disk start mid new Old Cleared Cleared Writes was run
       (λ a b clear spares. clear-spares current last old next is a b clear spares) (λ c clear. clear.before)
 
+  -- some of the pages are written
+  pub pages_more : (mid new : D) (n : ℕ) → n ≤ 32768 * next.pages + 512 → Stands disk start mid Old Cleared → Ran disk mid new (Torn (512 * next.first) n)
+      → Stands disk start new Old Cleared
+  pages_more mid new n inside was run =
+      staged_more mid new was
+      (ran_wider disk mid new (Torn (512 * next.first) n) Writes run
+      (λ a b torn. spares-torn (other current.slot) (512 * next.first) (32768 * next.pages + 512) (512 * next.first) n a b (omega arith) (omega (arith, inside)) torn))
+
+  -- all of them are
+  pub pages_staged : (mid new : D) (pages : List ℕ) → length pages ≡ 32768 * next.pages → Stands disk start mid Old Cleared
+      → Ran disk mid new (Torn (512 * next.first) (length pages)) → HasAt (512 * next.first) pages (disk.content new) → IsStaged disk start new current last old next pages
+  pages_staged mid new pages size was run there = record {
+    follows = is;
+    stands = pages_more mid new (length pages) (omega (arith, size)) was run;
+    size = size;
+    there = there;
+  }
+
   module _ (body : List ℕ) (size : length body ≡ 32768 * next.pages + 512) where
     abbrev Either : List ℕ → Type 0
     Either c = IsBeforeOrAfter current last next body old c
@@ -127,10 +146,17 @@ module _ {D : Type 0} (disk : Disk D) (start : D) (current next : Root) (last : 
     abbrev Installed : List ℕ → Type 0
     Installed c = IsAfter next body c
 
+    -- the old root counts, so one of the two does
+    pub before_either : (new : D) → Stands disk start new Old Old → Stands disk start new Either Either
+    before_either new was =
+        stands_moments disk start new Old Either Either (stands_weaker disk start new Old Old Either was (λ c before. inl before)) (λ c before. inl before)
+
+    pub clear_either : (new : D) → Stands disk start new Old Cleared → Stands disk start new Either Either
+    clear_either new was = before_either new (stands_weaker disk start new Old Cleared Old was (λ c clear. clear.before))
+
     pub staging_either : (mid new : D) → Stands disk start mid Old Cleared → Ran disk mid new Writes → Stands disk start new Either Either
     staging_either mid new was run =
-        stands_moments disk start new Old Either Either
-        (stands_weaker disk start new Old Cleared Either (staged_more mid new was run) (λ c clear. inl clear.before)) (λ c before. inl before)
+        clear_either new (staged_more mid new was run)
 
     -- all of them are on the disk
     pub staged : (mid new : D) → Stands disk start mid Old Cleared → Ran disk mid new Writes → Only (disk.content new) (disk.left new)

@@ -18,6 +18,10 @@ pub on_ok : {T E P : Type 0} (r : Result T E) → P → OnOk r P
 on_ok (Ok x) holds = holds
 on_ok (Err e) holds = tt
 
+-- how long the bytes of a generation are
+pub generation_size : (root : Root) (pages : List ℕ) → length pages ≡ 32768 * root.pages → length (generation pages) ≡ 32768 * root.pages + 512
+generation_size root pages size = omega (arith, length-append pages (replicate 512 0), length-replicate {A = ℕ} 512 0, size)
+
 module _ {D : Type 0} (disk : Disk D) (start first : D) (current : Root) (last : ℕ) (old : List ℕ) (next : Root) (pages : List ℕ)
     (is : IsStaged disk start first current last old next pages) where
   abbrev body : List ℕ
@@ -27,7 +31,7 @@ module _ {D : Type 0} (disk : Disk D) (start first : D) (current : Root) (last :
   Either c = IsBeforeOrAfter current last next body old c
 
   body_size : length body ≡ 32768 * next.pages + 512
-  body_size = omega (arith, length-append pages (replicate 512 0), length-replicate {A = ℕ} 512 0, is.size)
+  body_size = generation_size next pages is.size
 
   module _ (second : D) (root_run : Ran disk first second (Spares next.slot (512 * next.first) (32768 * next.pages + 512))) where
     root_run_there : Ran disk first second (Spares (other current.slot) (512 * next.first) (32768 * next.pages + 512))

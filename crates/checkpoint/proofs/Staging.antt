@@ -5,7 +5,7 @@ use Rattle.std.proofs.lemmas.Bool.{cases_lt}
 use Rattle.device.specs.Disk.{Disk}
 use Rattle.device.specs.Step.{Holds, Same, Torn}
 use Rattle.device.specs.Run.{Ran}
-use Rattle.device.proofs.Steps.{torn-bytes, torn_idle, length-holds}
+use Rattle.device.proofs.Steps.{torn-bytes, torn_idle, torn_wider, torn_next, length-holds}
 use Rattle.device.proofs.Runs.{ran_then, ran_wider}
 use Rattle.gatelog.specs.Record.{part}
 use Rattle.gatelog.proofs.Parts.{length-part, get-part}
@@ -53,6 +53,21 @@ HasAt-append at front behind content first second = record {
       ∙ sym (get_or-append_right front behind (length front) k 0 refl high))
       (cases_lt k (length front));
 }
+
+-- bytes that are written right behind those that stand there
+pub HasAt-more : (at : ℕ) (front behind a b : List ℕ) → HasAt at front a → Torn (at + length front) (length behind) a b
+    → Holds a (at + length front) behind b → HasAt at (front ++ behind) b
+HasAt-more at front behind a b has torn holds =
+    HasAt-append at front behind b
+    (HasAt-agree at front a b has (λ k low high. torn-bytes (at + length front) (length behind) a b torn k (inl high)) torn.no_shorter)
+    (HasAt-holds (at + length front) behind a b has.inside holds)
+
+-- a write right behind another is one write of both
+pub torn_run : {D : Type 0} (disk : Disk D) (old mid new : D) (at n m : ℕ) → Ran disk old mid (Torn at n) → Ran disk mid new (Torn (at + n) m) → Ran disk old new (Torn at (n + m))
+torn_run disk old mid new at n m first second =
+    ran_then disk old mid new (Torn at n) (Torn (at + n) m) (Torn at (n + m)) first second
+    (λ a b torn. torn_wider at n at (n + m) a b (omega arith) (omega arith) torn)
+    (λ a b c one two. torn_next at n m a b c one two)
 
 -- what the writes leave
 

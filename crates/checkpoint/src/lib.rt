@@ -9,6 +9,19 @@
 //! let log = Log::open(&mut device, root.log_start())?;
 //! ```
 //!
+//! The next generation is written while the root that counts stays as it is. Its root is installed once its pages are there:
+//!
+//! ```text
+//! let next = next_root(&root, log.last_gate(), pages, revision)?;
+//! clear_slot(&mut device, &root)?;
+//! // the pages are written from the sector next.first on
+//! install(&mut device, &next)?;
+//! let log = Log::restart(&device, next.log_start());
+//! ```
+//!
+//! At every moment of it a crash leaves the old generation, or the new one with an empty log, and after `install` answered `Ok` the new
+//! one.
+//!
 //! A new store is made on an empty device alone, and after its making answered `Ok` a crash leaves it as it is.
 #![tactic(auto)]
 

@@ -36,7 +36,7 @@ pub fn next_root(
     pages: u32,
     revision: u64,
 ) -> Result<Root, Exhausted>
-    requires behind { 8 ≤ last_gate }
+    requires in_data { 8 ≤ last_gate }
     requires room { last_gate < 2 ^ 54 }
     ensures next { IfOk result (IsNext current.now last_gate) }
     ensures place { IfOk result (λ next. IsPlace current.now.first last_gate pages next.first) }
