@@ -9,3 +9,8 @@ pub mod Hearing
 pub mod Taking
 pub mod Cutting
 pub mod Passing
+pub mod Steps
+pub mod Chain
+pub mod Staging
+pub mod Installing
+pub mod Placing

@@ -6,3 +6,4 @@ pub mod Reader
 pub mod Index
 pub mod Filling
 pub mod EntryList
+pub mod Install

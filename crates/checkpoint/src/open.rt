@@ -57,6 +57,7 @@ pub fn counted_root<D: Device>(device: &mut D) -> Result<Root, RootFault>
     ensures root { D.disk.keeps device.old → IsErrOf result RootFault.Root
         → IsHeader (part 0 512 (D.disk.content device.old)) × (9 * 512 ≤ length (D.disk.content device.old)) }
     ensures small { IfOk result (λ root. log_start root < 2 ^ 54) }
+    ensures in_data { IfOk result (λ root. 8 ≤ root.first) }
     ensures ran { Ran D.disk device.old device.new Same }
     ensures cause { IsErrOf result RootFault.Device → HasFailed D.disk device.old device.new }
 {

@@ -34,7 +34,17 @@ pub struct Root {
 }
 
 impl Slot {
-    ghost use Rattle.checkpoint.specs.Root.{root_sector, gate_sector};
+    ghost use Rattle.checkpoint.specs.Root.{root_sector, gate_sector, other};
+
+    /// The other one.
+    pub(crate) fn other(self) -> Slot
+        ensures { result ≡ other self }
+    {
+        match self {
+            Slot::A => Slot::B,
+            Slot::B => Slot::A,
+        }
+    }
 
     /// The sector of the root.
     pub(crate) fn root_sector(self) -> usize
