@@ -13,7 +13,7 @@ use device::Device;
 use pages::PAGE_BYTES;
 use std::alloc::{AllocError, AllocFailed, Global};
 
-// Bytes of a page that no cell takes, and of a cell beside its slot, its key and what stands under it.
+// Bytes before the first slot of a page, and of a slot with the length of a key.
 const HEAD_BYTES: usize = 8;
 
 const SLOT_BYTES: usize = 6;
@@ -80,7 +80,7 @@ pub trait Entries {
     ///
     /// # Errors
     ///
-    /// `Device` where the device failed; `Damaged` and `Memory` as an implementation says.
+    /// `Device` where the device failed. `Damaged` where its content holds no such entries. `Memory` where there was none.
     fn advance<D: Device>(&mut self, alloc: Global, device: &mut D) -> Result<bool, EntriesFault>
         ensures some { D.disk.keeps device.old → (entry : Entry) (entries : List Entry)
             → ahead self.old (D.disk.content device.old) (entry ∷ entries)
@@ -90,6 +90,8 @@ pub trait Entries {
         ensures most { IfOk result (λ more. IsTrue more → most self.new < most self.old) }
         ensures gives { (content : List ℕ) (entries : List Entry) → gives self.old content entries → gives self.new content entries }
         ensures ran { Ran D.disk device.old device.new Same }
+        ensures damaged { D.disk.keeps device.old → IsErrOf result EntriesFault.Damaged
+            → (entries : List Entry) → ahead self.old (D.disk.content device.old) entries → ⊥ }
         ensures refusal { IsErrOf result EntriesFault.TooLong → ⊥ }
         ensures cause { IsErrOf result EntriesFault.Device → HasFailed D.disk device.old device.new };
 
@@ -179,8 +181,8 @@ impl Filling {
 ///
 /// # Errors
 ///
-/// `TooLong` where an entry fits no page. `Device`, `Damaged` and `Memory` as the walk over the entries has them, and `Memory` where
-/// there was none for a key.
+/// `TooLong` where an entry fits no page. `Device` where the device failed, `Damaged` where its content holds no such entries, and
+/// `Memory` where there was none.
 pub fn first_keys<D: Device, E: Entries>(
     alloc: Global,
     device: &mut D,
@@ -192,6 +194,8 @@ pub fn first_keys<D: Device, E: Entries>(
         → OnOk result (AllFit all) }
     ensures too_long { D.disk.keeps device.old → (all : List Entry) → E.gives entries.old (D.disk.content device.old) all
         → IsErrOf result EntriesFault.TooLong → AllFit all → ⊥ }
+    ensures damaged { D.disk.keeps device.old → IsErrOf result EntriesFault.Damaged
+        → (all : List Entry) → E.gives entries.old (D.disk.content device.old) all → ⊥ }
     ensures gives { (content : List ℕ) (all : List Entry) → E.gives entries.old content all → E.gives entries.new content all }
     ensures ran { Ran D.disk device.old device.new Same }
     ensures cause { IsErrOf result EntriesFault.Device → HasFailed D.disk device.old device.new }

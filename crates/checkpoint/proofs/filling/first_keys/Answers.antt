@@ -81,3 +81,15 @@ returns-in_err-add-clause-too_long g c keeps all gives is fit =
     (λ there. c.in_ok-advance.ensures.none kept (subst (λ x. ahead x []) (sym same) there) c.if-not-branch.false)
     (λ entry entries there. (c.in_ok-advance.ensures.some kept entry entries (subst (λ x. ahead x (entry ∷ entries)) (sym same) there)).1)
     (subst (λ (e : Entry). 32768 < room_of (e ∷ [])) told (c.add.ensures.too_long long)) fit
+
+pub returns-in_err-advance-clause-damaged : goal.returns-in_err-advance-clause-damaged
+returns-in_err-advance-clause-damaged g c keeps is all gives =
+    let inv = c.walk.invariant in
+    let disk = g.D.Device.disk in
+    let content : List ℕ = disk.content c.args.device.now in
+    let now : List ℕ = disk.content c.walk.device in
+    let walked = inv.walked keeps all gives in
+    let same : now ≡ content = inv.ran.seen keeps in
+    let ahead : List ℕ → List Entry → Type 0 = λ x es. g.E.Entries.ahead c.walk.entries x es in
+    let damaged : IsErrOf c.advance.result EntriesFault.Damaged = search rules in
+    c.advance.ensures.damaged (inv.ran.kept keeps) damaged walked.rest (subst (λ x. ahead x walked.rest) (sym same) walked.there)
