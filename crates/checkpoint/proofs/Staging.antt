@@ -124,17 +124,23 @@ module _ (root : Root) where
       HasAt-agree (512 * root.first) (generation pages) b c (HasAt-append (512 * root.first) pages (replicate 512 0) b pages_there gate_there)
       (λ k low high. torn-bytes (512 * root_sector root.slot) 512 b c last k (inr (omega (arith, low, places.root, in_data)))) last.no_shorter
 
-  pub gate_reaches : (a b c : List ℕ) → 512 * log_start root ≤ length a → Holds a (512 * log_start root) (replicate 512 0) b
-      → Torn (512 * root_sector root.slot) 512 b c → 512 * log_start root + 512 ≤ length c
-  gate_reaches a b c room holds last =
-      let there = HasAt-holds (512 * log_start root) (replicate 512 0) a b room holds in
-      omega (arith, there.inside, last.no_shorter, length-replicate {A = ℕ} 512 0)
+  -- how long the content then is
+  pub length-gate : (a b c : List ℕ) → 8 ≤ root.first → 512 * log_start root ≤ length a → Holds a (512 * log_start root) (replicate 512 0) b
+      → Torn (512 * root_sector root.slot) 512 b c → length c ≡ max (length a) (512 * log_start root + 512)
+  length-gate a b c in_data room holds last =
+      let places = in_front root.slot in
+      let with_gate : length b ≡ max (length a) (512 * log_start root + length (replicate {A = ℕ} 512 0)) = length-holds (512 * log_start root) (replicate 512 0) a b room holds in
+      omega (arith, with_gate, in_data, places.root, last.no_shorter, last.no_longer, length-replicate {A = ℕ} 512 0)
 
 -- a root that was written is spelled
 pub spelled : (root : Root) (at : ℕ) (bytes old new : List ℕ) → IsRoot root bytes → at ≤ length old → Holds old at bytes new → IsRoot root (part at 512 new)
 spelled root at bytes old new is room holds =
     let Spelled : List ℕ → Type 0 = λ x. IsRoot root x in
     subst Spelled (sym (part-HasAt at 512 bytes new is.whole (HasAt-holds at bytes old new room holds))) is
+
+-- a write inside leaves the length
+pub length-torn : (at n : ℕ) (a b : List ℕ) → at + n ≤ length a → Torn at n a b → length b ≡ length a
+length-torn at n a b inside torn = omega (arith, inside, torn.no_shorter, torn.no_longer)
 
 -- a look, and then a write
 pub look_then_torn : {D : Type 0} (disk : Disk D) (old mid new : D) (at n : ℕ) → Ran disk old mid Same → Ran disk mid new (Torn at n) → Ran disk old new (Torn at n)

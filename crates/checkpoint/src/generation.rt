@@ -1,6 +1,6 @@
 //! The steps by which a new generation of a store becomes the one that counts.
 
-ghost use Rattle.std.specs.Prelude.{◌≡◌, ◌<◌, ◌≤◌, ◌+◌, ◌*◌, ◌^◌, ◌↔◌, ℕ, List, length, replicate, slice_index, IsTrue, IfOk, OnOk};
+ghost use Rattle.std.specs.Prelude.{◌≡◌, ◌<◌, ◌≤◌, ◌+◌, ◌*◌, ◌^◌, ◌↔◌, ℕ, List, length, max, replicate, slice_index, IsTrue, IfOk, OnOk};
 ghost use Rattle.device.specs.Disk.{Only, HasCause};
 ghost use Rattle.device.specs.Step.{Holds, Same, Torn, Cut};
 ghost use Rattle.device.specs.Run.{Ran, Stands};
@@ -103,7 +103,8 @@ fn write_root<D: Device>(device: &mut D, root: &Root) -> Result<(), DeviceFault>
     ensures pages { D.disk.keeps device.old → (pages : List ℕ) → length pages ≡ 32768 * root.now.pages
         → HasAt (512 * root.now.first) pages (D.disk.content device.old)
         → OnOk result (HasAt (512 * root.now.first) (generation pages) (D.disk.content device.new)) }
-    ensures reaches { D.disk.keeps device.old → OnOk result (512 * log_start root.now + 512 ≤ length (D.disk.content device.new)) }
+    ensures length { D.disk.keeps device.old → OnOk result
+        (length (D.disk.content device.new) ≡ max (length (D.disk.content device.old)) (512 * log_start root.now + 512)) }
     ensures room { OnOk result (log_start root.now < 2 ^ 54) }
     ensures durable { D.disk.keeps device.old → OnOk result (Only (D.disk.content device.new) (D.disk.left device.new)) }
     ensures ran { Ran D.disk device.old device.new (Spares root.now.slot (512 * root.now.first) (32768 * root.now.pages + 512)) }
@@ -119,6 +120,7 @@ fn cut_behind<D: Device>(device: &mut D, root: &Root) -> Result<(), DeviceFault>
     requires inside { D.disk.keeps device.old → 512 * log_start root.now + 512 ≤ length (D.disk.content device.old) }
     ensures front { D.disk.keeps device.old → root.now.first ≡ 8
         → OnOk result (length (D.disk.content device.new) ≡ 512 * log_start root.now + 512) }
+    ensures behind { (root.now.first ≡ 8 → ⊥) → device.new ≡ device.old }
     ensures ran { Ran D.disk device.old device.new (Cut (512 * log_start root.now + 512)) }
     ensures cause { HasCause D.disk device.old device.new result }
 {
@@ -171,6 +173,8 @@ pub fn install<D: Device>(device: &mut D, next: &Root) -> Result<(), DeviceFault
 
     ensures front { D.disk.keeps device.old → next.now.first ≡ 8
         → OnOk result (length (D.disk.content device.new) ≡ 512 * log_start next.now + 512) }
+    ensures behind { D.disk.keeps device.old → (next.now.first ≡ 8 → ⊥) → OnOk result
+        (length (D.disk.content device.new) ≡ max (length (D.disk.content device.old)) (512 * log_start next.now + 512)) }
     ensures room { OnOk result (log_start next.now < 2 ^ 54) }
     ensures kept { D.disk.keeps device.old → D.disk.keeps device.new }
     ensures had_kept { D.disk.keeps device.new → D.disk.keeps device.old }

@@ -1,3 +1,7 @@
+use Rattle.std.proofs.Common.{arith, ap, ◌≡◌, ◌∙◌, ◌*◌, length}
+use Rattle.checkpoint.specs.Root.{gate_sector}
+use Rattle.checkpoint.proofs.Steps.{in_front}
+use Rattle.checkpoint.proofs.Staging.{length-torn}
 use Rattle.checkpoint.proofs.Installing.{on_ok, root_fails, gate_fails, root_installed, cut_either, root_in_use}
 use Rattle.checkpoint.proofs.generation.install.Goals as goal
 
@@ -40,3 +44,14 @@ returns-clause-ok g c start current last old pages is =
     (c.in_ok-write_root.ensures.durable keeps) (c.in_ok-write_root.ensures.spelled keeps) (c.in_ok-write_root.ensures.pages keeps pages is.size is.there)
     c.open_root.new.device c.open_root.ensures.ran (c.in_ok-open_root.ensures.durable kept) (c.in_ok-open_root.ensures.opened kept)
     c.cut_behind.new.device c.cut_behind.ensures.ran)
+
+pub returns-clause-behind : goal.returns-clause-behind
+returns-clause-behind g c keeps off =
+    let disk = g.D.Device.disk in
+    let second = disk.content c.write_root.new.device in
+    let kept = c.write_root.ensures.ran.kept keeps in
+    let places = in_front c.args.next.now.slot in
+    let with_gate = c.in_ok-write_root.ensures.length keeps in
+    let opened : length (disk.content c.open_root.new.device) ≡ length second = length-torn (512 * gate_sector c.args.next.now.slot) 512 second
+    (disk.content c.open_root.new.device) (omega (arith, with_gate, c.requires.in_data, places.gate)) (c.open_root.ensures.ran.seen kept) in
+    on_ok c.cut_behind.result (ap (λ d. length (disk.content d)) (c.cut_behind.ensures.behind off) ∙ opened ∙ with_gate)

@@ -1,5 +1,5 @@
 use Rattle.checkpoint.proofs.Installing.{on_ok}
-use Rattle.checkpoint.proofs.Staging.{gate_run, gate_and_root_run, pages_and_gate, gate_reaches}
+use Rattle.checkpoint.proofs.Staging.{gate_run, gate_and_root_run, pages_and_gate, length-gate}
 use Rattle.checkpoint.proofs.generation.write_root.Goals as goal
 
 pub returns-in_err-write_first_gate-clause-ran : goal.returns-in_err-write_first_gate-clause-ran
@@ -20,10 +20,10 @@ returns-clause-pages g c keeps pages size has =
     c.requires.in_data size has (c.requires.inside keeps) (c.in_ok-write_first_gate.ensures.written keeps)
     (c.write_first_gate.ensures.ran.seen keeps) (c.spell_root.ensures.ran.seen kept))
 
-pub returns-clause-reaches : goal.returns-clause-reaches
-returns-clause-reaches g c keeps =
+pub returns-clause-length : goal.returns-clause-length
+returns-clause-length g c keeps =
     let disk = g.D.Device.disk in
     let kept = c.write_first_gate.ensures.ran.kept keeps in
     on_ok c.spell_root.result
-    (gate_reaches c.args.root.now (disk.content c.args.device.now) (disk.content c.write_first_gate.new.device) (disk.content c.spell_root.new.device)
-    (c.requires.inside keeps) (c.in_ok-write_first_gate.ensures.written keeps) (c.spell_root.ensures.ran.seen kept))
+    (length-gate c.args.root.now (disk.content c.args.device.now) (disk.content c.write_first_gate.new.device) (disk.content c.spell_root.new.device)
+    c.requires.in_data (c.requires.inside keeps) (c.in_ok-write_first_gate.ensures.written keeps) (c.spell_root.ensures.ran.seen kept))
