@@ -1,0 +1,7 @@
+pub mod Parts
+pub mod One
+pub mod Numbers
+pub mod Histories
+pub mod Ascending
+pub mod Plans
+pub mod Views
