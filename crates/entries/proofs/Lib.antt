@@ -3,5 +3,5 @@ pub mod One
 pub mod Numbers
 pub mod Histories
 pub mod Ascending
-pub mod Plans
+pub mod Pieces
 pub mod Views

@@ -6,8 +6,10 @@ ghost use Rattle.byteorder.specs.Endian.{big_bytes};
 use byteorder::{BigEndian, ByteOrder};
 use std::alloc::{AllocError, Global};
 
-// The first byte of the key of an object's entry, and of an event's.
+// The first byte of the key of an object's entry, of a piece of plans, and of an event's.
 pub(crate) const OBJECT: u8 = 1;
+
+pub(crate) const PLANS: u8 = 2;
 
 pub(crate) const EVENT: u8 = 3;
 

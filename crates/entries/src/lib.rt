@@ -9,11 +9,11 @@
 //!
 //! An object's entry has a 1 and the bytes of the object's key, and under them the revision of its last write in eight bytes and the text of its
 //! document. An event's entry has a 3 and the event's revision in eight bytes, and under them the number of its change in one byte, 1 for
-//! added, 2 for modified and 3 for deleted, the length of its key's bytes in two bytes, those bytes, and the text of its document. Numbers
-//! are unsigned, the highest byte first. Between objects and events stand the plans of policies, which `specs/Entries.antt` defines; no
-//! function writes them yet.
+//! added, 2 for modified and 3 for deleted, the length of its key's bytes in two bytes, those bytes, and the text of its document. Between
+//! objects and events stand the plans of policies, in pieces of 16384 bytes: an entry has a 2, the policy's name, a zero byte and the number of the
+//! piece in two bytes, and under them its bytes. Numbers are unsigned, the highest byte first.
 //!
-//! `object_entry` and `event_entry` give exactly the entry that the definitions name. `read_object` and `read_event` give what has an
+//! `object_entry`, `plan_entries` and `event_entry` give exactly the entries that the definitions name. `read_object` and `read_event` give what has an
 //! entry, and answer `Damaged` only where nothing well-formed has it. At most one object, or event, has an entry ([`entry_has_one_object`],
 //! [`entry_has_one_event`]).
 //!
@@ -28,6 +28,7 @@ mod event;
 mod fault;
 mod laws;
 mod object;
+mod plans;
 
 pub use entry::Entry;
 pub use event::{event_entry, read_event};
@@ -37,3 +38,4 @@ pub use laws::{
     histories_are_holdable,
 };
 pub use object::{StoredObject, object_entry, read_object};
+pub use plans::plan_entries;

@@ -1,0 +1,60 @@
+//! The entries of a policy's plans.
+
+ghost use Rattle.std.specs.Prelude.{◌≡◌, ◌≢◌, ◌<◌, ◌≤◌, ◌*◌, ◌^◌, ◌++◌, ◌∷◌, ℕ, List, None, length, take, drop, IfOk, IfSome};
+ghost use Rattle.byteorder.specs.Endian.{big_bytes};
+ghost use Rattle.entries.specs.Entries.{plan_entry, plan_entries};
+
+use crate::bytes::PLANS;
+use crate::entry::Entry;
+use byteorder::{BigEndian, ByteOrder};
+use names::Key;
+use std::alloc::{AllocError, Global};
+
+// Bytes of plans in a piece; the last may have fewer.
+const PIECE_BYTES: usize = 16384;
+
+// A piece of plans.
+fn piece(plans: &[u8], number: usize) -> &[u8]
+    requires { 16384 * number ≤ length plans.now }
+    ensures { result.now ≡ take 16384 (drop (16384 * number) plans.now) }
+{
+    let rest = &plans[PIECE_BYTES * number..];
+    &rest[..rest.len().min(PIECE_BYTES)]
+}
+
+// The key of a piece of a policy's plans.
+fn piece_key(alloc: Global, key: &Key, number: u16) -> Result<Vec<u8>, AllocError>
+    ensures { IfOk result (λ v. v.items ≡ (2 ∷ key.now.name) ++ 0 ∷ big_bytes 2 number) }
+{
+    let mut two = [0; 2];
+    BigEndian::write_u16(&mut two, number);
+    let mut bytes = Vec::new(alloc);
+    bytes.push(PLANS)?;
+    bytes.extend_from_slice(key.name().as_bytes())?;
+    bytes.push(0)?;
+    bytes.extend_from_slice(&two)?;
+    Ok(bytes)
+}
+
+// The entry of a piece.
+fn piece_entry(alloc: Global, key: &Key, plans: &[u8], number: usize) -> Result<Entry, AllocError>
+    requires inside { 16384 * number ≤ length plans.now }
+    requires few { number < 65536 }
+    ensures { IfOk result (λ entry. entry ≡ plan_entry key.now plans.now number) }
+{
+    let cell = piece(plans, number).to_vec(alloc)?;
+    let key = piece_key(alloc, key, number as u16)?;
+    Ok(Entry { key, cell })
+}
+
+/// The entries of a policy's plans, of which these are the bytes: one for each 16384 of them.
+pub fn plan_entries(alloc: Global, key: &Key, plans: &[u8]) -> Result<Vec<Entry>, AllocError>
+    requires { length plans.now ≤ 2 ^ 30 }
+    ensures { IfOk result (λ v. v.items ≡ plan_entries key.now plans.now) }
+{
+    let mut entries = Vec::new(alloc);
+    for number in 0..plans.len().div_ceil(PIECE_BYTES) {
+        entries.push(piece_entry(alloc, key, plans, number)?)?;
+    }
+    Ok(entries)
+}
