@@ -5,3 +5,5 @@ pub mod Histories
 pub mod Ascending
 pub mod Pieces
 pub mod Views
+pub mod Adding
+pub mod Fitting

@@ -1,5 +1,5 @@
 -- What entries promise.
-use Rattle.std.specs.Prelude.{◌≡◌, ◌<◌, ◌^◌, ℕ, List, IsTrue}
+use Rattle.std.specs.Prelude.{◌≡◌, ◌<◌, ◌≤◌, ◌^◌, ℕ, List, [], ◌∷◌, IsTrue}
 use Rattle.std.specs.FinMap.{is_sorted}
 use Rattle.std.specs.List.{AllByRecursion}
 use Rattle.names.specs.declared.format.Rules.{Rules}
@@ -9,7 +9,7 @@ use Rattle.documents.specs.Document.{Document}
 use Rattle.history.specs.declared.state.Stored.{Stored}
 use Rattle.history.specs.History.{Write}
 use Rattle.history.specs.View.{View, view, AllFollow}
-use Rattle.pages.specs.Page.{bytes_cmp}
+use Rattle.pages.specs.Page.{bytes_cmp, room_of}
 use Rattle.entries.specs.Entries.{object_entry, event_entry, entries_of}
 use Rattle.entries.specs.Holding.{IsStorableObject, IsStorableEvent, HasFewPlans, IsHoldable}
 
@@ -43,3 +43,9 @@ abbrev pub HistoriesAreHoldable : Type 0
 HistoriesAreHoldable =
     (rules : Rules) (h : List (Write (List ℕ))) → rules.greatest_revision < 2 ^ 64 → AllFollow rules h
     → AllByRecursion (HasFewPlans bytes_beside) (view rules h).objects → IsHoldable bytes_beside rules (view rules h)
+
+-- Each entry fits a page that has no other, where texts may have at most 16384 bytes.
+abbrev pub EntriesFitPages : Type 0
+EntriesFitPages =
+    (rules : Rules) (v : View (List ℕ)) → rules.text_limit_bytes ≤ 16384 → IsHoldable bytes_beside rules v
+    → AllByRecursion (λ e. room_of (e ∷ []) ≤ 32768) (entries_of bytes_beside v)

@@ -1,6 +1,6 @@
 //! What entries promise.
 
-ghost use Rattle.entries.specs.Laws.{AtMostOneObject, AtMostOneEvent, AtMostOneView, EntriesAscend, HistoriesAreHoldable};
+ghost use Rattle.entries.specs.Laws.{AtMostOneObject, AtMostOneEvent, AtMostOneView, EntriesAscend, EntriesFitPages, HistoriesAreHoldable};
 
 /// A law: at most one object has an entry.
 pub fn entry_has_one_object()
@@ -25,4 +25,9 @@ pub fn entries_ascend()
 /// A law: what a history shows can be held, if the plans of its objects can.
 pub fn histories_are_holdable()
     ensures { HistoriesAreHoldable }
+{}
+
+/// A law: each entry of a view fits a page, where texts may have at most 16384 bytes.
+pub fn entries_fit_pages()
+    ensures { EntriesFitPages }
 {}

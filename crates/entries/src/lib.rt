@@ -14,12 +14,13 @@
 //! piece in two bytes, and under them its bytes. Numbers are unsigned, the highest byte first.
 //!
 //! `object_entry`, `plan_entries` and `event_entry` give exactly the entries that the definitions name. `read_object` and `read_event` give what has an
-//! entry, and answer `Damaged` only where nothing well-formed has it. At most one object, or event, has an entry ([`entry_has_one_object`],
+//! entry, and answer `Damaged` only where nothing well-formed has it; `read_piece` gathers plans, piece by piece. At most one object, or event, has an entry ([`entry_has_one_object`],
 //! [`entry_has_one_event`]).
 //!
-//! The entries of a view ascend ([`entries_ascend`]), and at most one view has them ([`entries_have_one_view`]), its plans among it. What a history shows can
-//! be held ([`histories_are_holdable`]). The laws speak of views with the bytes of plans beside their documents, as records have them; the
-//! lemmas behind them (`one_view_of`, `entries_ascend` and `holdable` in `proofs/`) serve whatever stands beside a document.
+//! The entries of a view ascend ([`entries_ascend`]), each fits a page ([`entries_fit_pages`]), and at most one view has them, its plans among
+//! it ([`entries_have_one_view`]). What a history shows can be held ([`histories_are_holdable`]). These laws speak of views with the bytes of plans
+//! beside their documents, as records have them; the lemmas behind them (`entries_ascend`, `entries_fit`, `one_view_of` and `holdable` in
+//! `proofs/`) serve whatever stands beside a document.
 #![tactic(auto)]
 
 mod bytes;
@@ -34,8 +35,8 @@ pub use entry::Entry;
 pub use event::{event_entry, read_event};
 pub use fault::EntryFault;
 pub use laws::{
-    entries_ascend, entries_have_one_view, entry_has_one_event, entry_has_one_object,
-    histories_are_holdable,
+    entries_ascend, entries_fit_pages, entries_have_one_view, entry_has_one_event,
+    entry_has_one_object, histories_are_holdable,
 };
 pub use object::{StoredObject, object_entry, read_object};
-pub use plans::plan_entries;
+pub use plans::{plan_entries, read_piece};

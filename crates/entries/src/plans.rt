@@ -1,11 +1,14 @@
 //! The entries of a policy's plans.
 
-ghost use Rattle.std.specs.Prelude.{◌≡◌, ◌≢◌, ◌<◌, ◌≤◌, ◌*◌, ◌^◌, ◌++◌, ◌∷◌, ℕ, List, None, length, take, drop, IfOk, IfSome};
+ghost use Rattle.std.specs.Prelude.{◌≡◌, ◌≢◌, ◌<◌, ◌≤◌, ◌*◌, ◌%◌, ◌^◌, ◌++◌, ◌∷◌, [], ◌↔◌, ℕ, List, length, take, drop, IsTrue, IfOk, OnOk, OnErr, IsErrOf};
 ghost use Rattle.byteorder.specs.Endian.{big_bytes};
+ghost use Rattle.pages.specs.Page.{Entry as EntryData};
+ghost use Rattle.entries.specs.declared.fault.EntryFault.TheVariants as EntryFault;
 ghost use Rattle.entries.specs.Entries.{plan_entry, plan_entries};
 
 use crate::bytes::PLANS;
 use crate::entry::Entry;
+use crate::fault::EntryFault;
 use byteorder::{BigEndian, ByteOrder};
 use names::Key;
 use std::alloc::{AllocError, Global};
@@ -57,4 +60,46 @@ pub fn plan_entries(alloc: Global, key: &Key, plans: &[u8]) -> Result<Vec<Entry>
         entries.push(piece_entry(alloc, key, plans, number)?)?;
     }
     Ok(entries)
+}
+
+// Whether one more piece, of these bytes, may stand behind the pieces of others: those are full.
+fn may_follow(plans: &[u8], cell: &[u8]) -> bool
+    ensures { IsTrue result
+        ↔ ((length plans.now % 16384 ≡ 0) × (length plans.now < 2 ^ 30) × (0 < length cell.now) × (length cell.now ≤ 16384)) }
+{
+    plans.len() % PIECE_BYTES == 0
+        && plans.len() < 65536 * PIECE_BYTES
+        && !cell.is_empty()
+        && cell.len() <= PIECE_BYTES
+}
+
+/// Reads the next piece of a policy's plans from its entry, a key and the cell that stands under it: adds its bytes to those of the pieces
+/// before it.
+///
+/// # Errors
+///
+/// `Damaged` where no plans have these pieces one behind the other, and `Memory` where there was no memory to read it. The bytes
+/// stay as they were.
+pub fn read_piece(
+    alloc: Global,
+    policy: &Key,
+    plans: &mut Vec<u8>,
+    key: &[u8],
+    cell: &[u8],
+) -> Result<(), EntryFault>
+    ensures entry { OnOk result (plan_entries policy.now plans.new.items ≡ plan_entries policy.now plans.old.items ++ (key.now, cell.now) ∷ []) }
+    ensures bytes { OnOk result (plans.new.items ≡ plans.old.items ++ cell.now) }
+    ensures damaged { IsErrOf result EntryFault.Damaged → (all : List ℕ) (rest : List EntryData) → length all ≤ 2 ^ 30
+        → plan_entries policy.now all ≢ plan_entries policy.now plans.old.items ++ (key.now, cell.now) ∷ rest }
+    ensures kept { OnErr result (plans.new.items ≡ plans.old.items) }
+{
+    if !may_follow(plans, cell) {
+        return Err(EntryFault::Damaged);
+    }
+    let next = piece_key(alloc, policy, (plans.len() / PIECE_BYTES) as u16)?;
+    if key != next.as_slice() {
+        return Err(EntryFault::Damaged);
+    }
+    plans.extend_from_slice(cell)?;
+    Ok(())
 }
