@@ -82,8 +82,12 @@ fn last_field(bytes: &[u8]) -> Result<&[u8], RecordFault>
     Ok(inside)
 }
 
-// Reads the text of a document that is stored at a key.
-fn read_document(alloc: Global, key: &Key, document_text: &[u8]) -> Result<Manifest, RecordFault>
+/// Reads the text of a document that is stored at a key. `Damaged` where no document of the key's form has this text.
+pub fn read_document(
+    alloc: Global,
+    key: &Key,
+    document_text: &[u8],
+) -> Result<Manifest, RecordFault>
     ensures key { IfOk result (λ m. m.key ≡ key.now) }
     ensures form { IfOk result (λ m. HasForm key.now (document_in m.body)) }
     ensures text { IfOk result (λ m. text (document_in m.body).json ≡ document_text.now) }

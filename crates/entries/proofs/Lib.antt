@@ -1,0 +1,9 @@
+pub mod Parts
+pub mod One
+pub mod Numbers
+pub mod Histories
+pub mod Ascending
+pub mod Pieces
+pub mod Views
+pub mod Adding
+pub mod Fitting

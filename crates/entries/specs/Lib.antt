@@ -1,0 +1,4 @@
+pub mod Entries
+pub mod Holding
+pub mod Faults
+pub mod Laws
