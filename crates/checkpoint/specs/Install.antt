@@ -26,7 +26,7 @@ pub record IsNext (current : Root) (last : ℕ) (next : Root) : Type 0 where
   pub in_data : 8 ≤ next.first
   pub off : (log_start next + 1 ≤ current.first) ⊎ (last + 1 ≤ next.first)
 
--- The generation of this root is in use on a device: the root counts, and the log behind its pages ends with the gate `last`, which lies
+-- The generation of this root is in use on a device, up to the gate `last`: the root counts, and that gate lies behind its pages, and
 -- inside. Each content that a crash may leave is what reads give, up to the end of that gate.
 pub record IsInUse {D : Type 0} (disk : Disk D) (device : D) (root : Root) (last : ℕ) : Type 0 where
   pub holds : HoldsRoot (disk.content device) root

@@ -131,7 +131,11 @@ fn cut_behind<D: Device>(device: &mut D, root: &Root) -> Result<(), DeviceFault>
 }
 
 /// Makes the slot free in which the next root is to stand, while `current` counts: closes its gate where it reads open, and syncs. At
-/// every moment a crash leaves the generation in use as it is.
+/// every moment a crash leaves the generation in use as it is. No memory is taken.
+///
+/// # Errors
+///
+/// Where the device failed. The generation in use is then as it was.
 pub fn clear_slot<D: Device>(device: &mut D, current: &Root) -> Result<(), DeviceFault>
     requires { D.disk.keeps device.old → 8 * 512 ≤ length (D.disk.content device.old) }
     ensures ok { D.disk.keeps device.old → (last : ℕ) → IsInUse D.disk device.old current.now last
@@ -152,7 +156,12 @@ pub fn clear_slot<D: Device>(device: &mut D, current: &Root) -> Result<(), Devic
 /// root's gate, and syncs. Then, where the generation lies in front, it cuts away all behind its log's first gate. No memory is taken.
 ///
 /// Until the root's gate is opened a crash leaves the generation that was in use, and then the one or the other; after `Ok` it leaves the
-/// new one, whose log is empty. What a read finds after a failure is what a crash may leave: the one or the other.
+/// new one, whose log is empty.
+///
+/// # Errors
+///
+/// Where the device failed. A read then finds the one or the other generation, as a crash may leave it: so the device has to be opened
+/// again.
 pub fn install<D: Device>(device: &mut D, next: &Root) -> Result<(), DeviceFault>
     requires in_data { 8 ≤ next.now.first }
     requires room { log_start next.now < 2 ^ 64 }
