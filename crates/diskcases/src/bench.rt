@@ -2,6 +2,7 @@
 
 use crate::device_lines::{call, counts, crash, firsts, sector, tries};
 use crate::entry_lines::{pieces, reads_event, reads_object, reads_piece};
+use crate::generation_lines::{install_next, next, place_of};
 use crate::log_lines::LogLines;
 use crate::other_devices::{file_after_crash, remembered};
 use crate::page_lines::{page, page_find, page_room, page_with};
@@ -78,6 +79,8 @@ impl Disk {
             "crash" => self.crash(alloc, rest),
             "new-store" => new_store(alloc, &mut self.device),
             "root" => root(alloc, &mut self.device),
+            "next" => next(alloc, &mut self.device, rest),
+            "install" => install_next(alloc, &mut self.device, rest),
             "lay" => lay(alloc, &mut self.device, rest),
             "scan" => scan_pages(alloc, &mut self.device, rest),
             _ => self.of_the_log(alloc, word, rest),
@@ -137,6 +140,7 @@ fn of_entries(alloc: Global, word: &str, rest: &str) -> Result<String, Wrong> {
 
 fn of_records(alloc: Global, word: &str, rest: &str) -> Result<String, Wrong> {
     match word {
+        "place" => place_of(alloc, rest),
         "filled" => crate::log_lines::filled(alloc, rest),
         "log-start" => log_start(alloc, rest),
         "reads" => reads(alloc, rest),

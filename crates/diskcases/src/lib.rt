@@ -8,6 +8,7 @@ mod bench;
 mod device_lines;
 mod entry_lines;
 mod file_devices;
+mod generation_lines;
 mod log_lines;
 mod other_devices;
 mod page_lines;

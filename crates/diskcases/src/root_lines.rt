@@ -5,8 +5,8 @@ use checkpoint::{Root, RootFault, Slot, StartFault, counted_root, start};
 use device::{Device, MemDevice};
 use std::alloc::Global;
 
-// The slot, the generation, the first sector, the pages and the revision of a root.
-fn root_text(alloc: Global, root: &Root) -> Result<String, Wrong> {
+/// The slot, the generation, the first sector, the pages and the revision of a root.
+pub fn root_text(alloc: Global, root: &Root) -> Result<String, Wrong> {
     let mut line = TextBuilder::new(alloc);
     line.word(match root.slot {
         Slot::A => "A",
