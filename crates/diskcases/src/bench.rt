@@ -1,6 +1,7 @@
 //! What the lines of a case work on, and the lines by their words.
 
 use crate::device_lines::{call, counts, crash, firsts, sector, tries};
+use crate::entry_lines::{pieces, reads_event, reads_object, reads_piece};
 use crate::log_lines::LogLines;
 use crate::other_devices::{file_after_crash, remembered};
 use crate::page_lines::{page, page_find, page_room, page_with};
@@ -117,6 +118,16 @@ fn of_pages(alloc: Global, word: &str, rest: &str) -> Result<String, Wrong> {
         "page-with" => page_with(alloc, rest),
         "page-room" => page_room(alloc, rest),
         "page-find" => page_find(alloc, rest),
+        _ => of_entries(alloc, word, rest),
+    }
+}
+
+fn of_entries(alloc: Global, word: &str, rest: &str) -> Result<String, Wrong> {
+    match word {
+        "reads-object" => reads_object(alloc, rest),
+        "reads-event" => reads_event(alloc, rest),
+        "pieces" => pieces(alloc, rest),
+        "reads-piece" => reads_piece(alloc, rest),
         _ => of_records(alloc, word, rest),
     }
 }

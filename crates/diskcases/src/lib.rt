@@ -1,4 +1,4 @@
-//! The cases of devices, logs, roots, pages and records.
+//! The cases of devices, logs, roots, pages, entries and records.
 //!
 //! [`Disk`] is the bench of their files; `README.md` beside the files has their lines. [`check_files`] looks at devices over files of the
 //! operating system.
@@ -6,6 +6,7 @@
 
 mod bench;
 mod device_lines;
+mod entry_lines;
 mod file_devices;
 mod log_lines;
 mod other_devices;

@@ -10,7 +10,8 @@ use records::{RecordFault, StoredWrite, read_write};
 use requests::{Manifest, Request};
 use std::alloc::Global;
 
-fn key_text(line: &mut TextBuilder, key: &Key) {
+/// The key of an object, in three words.
+pub fn key_text(line: &mut TextBuilder, key: &Key) {
     line.word(key.resource().plural());
     line.word(key.namespace());
     line.word(key.name());
