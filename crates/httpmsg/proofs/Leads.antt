@@ -152,3 +152,13 @@ pub fed_nothing : (all : List ℕ) (ms : List Message) (old : Progress) (more : 
 fed_nothing all ms old more ns new is_open none cut next =
     let Cut : List Message → Type 0 = λ xs. IsCut (all ++ more) xs new in
     subst Cut (ap (λ xs. ms ++ xs) none ∙ append-nil ms) (cut_on all ms old more ns new is_open cut next)
+
+-- a piece that leaves fewer bytes than are awaited
+pub fed_idle : (all : List ℕ) (ms : List Message) (old : Progress) (more : List ℕ) (ns : List Message) (new : Progress)
+    → old.end ≡ None → new.end ≡ None → new.pending ≡ old.pending ++ more → IsUnfinished new.pending → ns ≡ [] → IsCut all ms old
+    → IsCut (all ++ more) (ms ++ ns) new
+fed_idle all ms old more ns new was_open is_open joined unfinished none cut =
+    let Unfinished : List ℕ → Type 0 = λ x. IsUnfinished x in
+    let Stop : Option End → Type 0 = λ e. MatchOption e ((new.pending ≡ old.pending ++ more) × IsUnfinished (old.pending ++ more)) (EndsAtOnce (old.pending ++ more)) in
+    let Cut : List Message → Type 0 = λ xs. IsCut (old.pending ++ more) xs new in
+    cut_on all ms old more ns new was_open cut (subst Cut (sym none) (subst Stop (sym is_open) (joined, subst Unfinished joined unfinished)))

@@ -2,13 +2,13 @@
 use Rattle.std.proofs.Common.{◌≡◌, ℕ, inl, inr, List, [], ◌∷◌, ◌++◌, length, take, drop, refl, ap, sym, ◌∙◌, arith, subst, Some, None, Bool, true, false, length-append}
 use Rattle.std.specs.Bool.{MatchBool}
 use Rattle.std.proofs.Math.Seq.{take-append_seam, drop-append_seam}
-use Rattle.httparse.specs.Grammar.{RequestHead, print_request}
+use Rattle.httparse.specs.Grammar.{RequestHead}
 use Rattle.httpmsg.specs.declared.head.BrokenMessage.{BrokenMessage}
 use Rattle.httpmsg.specs.declared.head.End.{End}
 use Rattle.httpmsg.specs.declared.head.End.TheVariants.{Clean, Closed, Broken}
 use Rattle.httpmsg.specs.Head.{head_of, method_of, content_length, fault_of}
-use Rattle.httpmsg.specs.Stream.{Message, message_of, BeginsWith, Takes, is_head, EndsAt, IsStream, StreamIsUnique}
-use Rattle.httpmsg.proofs.Cuts.{head_some, one_head}
+use Rattle.httpmsg.specs.Stream.{Message, message_of, Takes, is_head, EndsAt, IsStream, StreamIsUnique}
+use Rattle.httpmsg.proofs.Cuts.{none_begins, one_head}
 
 same_front : (a b r q : List ℕ) → length a ≡ length b → a ++ r ≡ b ++ q → (a ≡ b) × (r ≡ q)
 same_front a b r q size same = (
@@ -25,14 +25,9 @@ takes_unique bytes m n r q x y =
       parts.1,
     )
 
-none_begins : (h : RequestHead) (rest : List ℕ) → BeginsWith [] h rest → ⊥
-none_begins h rest b =
-    omega (arith, head_some h b.reads.0, ap length b.reads.1, length-append (print_request h) rest)
-
 no_message : (bytes : List ℕ) (m : Message) (rest : List ℕ) (end : End) → Takes bytes m rest → EndsAt bytes end → ⊥
 no_message bytes m rest Clean takes empty =
-    let Begins : List ℕ → Type 0 = λ x. BeginsWith x takes.head (m.body ++ rest) in
-    none_begins takes.head (m.body ++ rest) (subst Begins empty takes.begins)
+    none_begins bytes (ap length empty) takes.head (m.body ++ rest) takes.begins
 no_message bytes m rest Closed takes ends = ends
 no_message bytes m rest (Broken b) takes (inl inside) =
     let short = inside.unfinished takes.head (m.body ++ rest) takes.begins in
@@ -57,9 +52,7 @@ broken_unique bytes b d (inr x) (inr y) =
 
 empty_ends : (bytes : List ℕ) (b : BrokenMessage) → bytes ≡ [] → EndsAt bytes (Broken b) → ⊥
 empty_ends bytes b none (inl inside) = inside.some none
-empty_ends bytes b none (inr fault) =
-    let Begins : List ℕ → Type 0 = λ x. BeginsWith x fault.head fault.rest in
-    none_begins fault.head fault.rest (subst Begins none fault.begins)
+empty_ends bytes b none (inr fault) = none_begins bytes (ap length none) fault.head fault.rest fault.begins
 
 ends_unique : (bytes : List ℕ) (e d : End) → EndsAt bytes e → EndsAt bytes d → e ≡ d
 ends_unique bytes Clean Clean x y = refl

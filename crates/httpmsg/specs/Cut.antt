@@ -1,16 +1,31 @@
 -- The first message of some bytes.
-use Rattle.std.specs.Prelude.{ℕ, ◌<◌, ◌≤◌, List, ◌++◌, [], ◌∷◌, length, drop, unwrap_or, false}
+use Rattle.std.specs.Prelude.{◌≡◌, ℕ, ◌+◌, ◌<◌, ◌≤◌, ◌⊎◌, List, ◌++◌, [], ◌∷◌, length, drop, unwrap_or, false}
+use Rattle.httparse.specs.Grammar.{print_request}
 use Rattle.httpmsg.specs.declared.cutter.Next.{Next}
 use Rattle.httpmsg.specs.declared.cutter.Next.TheVariants.{Whole, Unfinished, Fails}
 use Rattle.httpmsg.specs.declared.head.MessageFault.TheVariants as Fault
 use Rattle.httpmsg.specs.declared.head.End.{End}
 use Rattle.httpmsg.specs.declared.head.End.TheVariants.{Clean, Broken}
-use Rattle.httpmsg.specs.Stream.{Message, Takes, Waits, IsUnfinished, EndsAtOnce, Progress, IsCut}
+use Rattle.httpmsg.specs.Head.{head_of, content_length}
+use Rattle.httpmsg.specs.Stream.{Message, Takes, LacksBody, Waits, IsUnfinished, EndsAtOnce, Progress, IsCut}
 
--- the bytes begin with a message of so many bytes, or with none yet, or end the stream whatever follows
+-- How many bytes must be there before more can be told of these: all of a message whose body is not there in full, and else one more than there are.
+abbrev pub IsAwaited : List ℕ → ℕ → Type 0
+IsAwaited bytes need =
+    ((b : LacksBody bytes) × (need ≡ length (print_request b.head) + content_length (head_of b.head)))
+    ⊎ ((LacksBody bytes → ⊥) × (need ≡ length bytes + 1))
+
+-- these bytes, and all that go on from them and are fewer than so many, give no message and no fault
+pub record Awaits (bytes : List ℕ) (need : ℕ) : Type 0 where
+  pub short : length bytes < need
+  pub few : need ≤ 24576
+  pub stays : (more : List ℕ) → length (bytes ++ more) < need → Waits (bytes ++ more) × IsUnfinished (bytes ++ more)
+  pub is : IsAwaited bytes need
+
+-- the bytes begin with a message of so many bytes, or with none before so many are there, or end the stream whatever follows
 abbrev pub IsNext : List ℕ → Next → Type 0
 IsNext bytes (Whole m len) = (0 < len) × (len ≤ length bytes) × Takes bytes m (drop len bytes)
-IsNext bytes Unfinished = (length bytes < 24576) × Waits bytes × IsUnfinished bytes
+IsNext bytes (Unfinished need) = Awaits bytes need
 IsNext bytes (Fails broken) = EndsAtOnce bytes (Broken broken)
 
 -- whatever is cut from the rest is, behind these messages, cut from the bytes

@@ -1,11 +1,11 @@
 //! Messages cut from the bytes of a connection as they come.
 
-ghost use Rattle.std.specs.Prelude.{◌≡◌, ◌≢◌, ◌+◌, ◌<◌, ◌≤◌, ◌⊎◌, ℕ, List, [], ◌++◌, length, take, drop, IfOk, OnOk, IfSome, IfNone, IsErrOf, MatchResult, IsTrue, ◌↔◌, Option, Some, None};
+ghost use Rattle.std.specs.Prelude.{◌≡◌, ◌≢◌, ◌+◌, ◌<◌, ◌≤◌, ◌⊎◌, ℕ, List, [], ◌++◌, length, vec_len, drop, IfOk, OnOk, IsErrOf, MatchResult, IsTrue, ◌↔◌, Option, Some, None};
 ghost use Rattle.httpmsg.specs.Head.{fault_of, content_length};
 ghost use Rattle.httpmsg.specs.Stream.{Message as MessageData, IsStream, StreamIsUnique, IsCut, Waits, is_head};
 ghost use Rattle.httpmsg.specs.declared.head.BrokenMessage.{BrokenMessage};
 ghost use Rattle.httpmsg.specs.Front.{IsFront};
-ghost use Rattle.httpmsg.specs.Cut.{IsNext, Leads, end_of};
+ghost use Rattle.httpmsg.specs.Cut.{IsNext, Awaits, Leads, end_of};
 
 use crate::front::{FIELD_ROOM, Front, read_front};
 use crate::head::{BrokenMessage, End, HeadView, MessageFault, Method};
@@ -14,30 +14,14 @@ use httparse::spans::{EMPTY_HEADER_SPAN, HeaderSpan};
 use std::alloc::{AllocError, Global};
 use std::marker::Model;
 
-/// More bytes than a message can have without being whole.
-pub(crate) const PENDING_LIMIT: usize = 24576;
-
 /// The first message of some bytes.
 #[derive(Drop)]
 pub(crate) enum Next {
     /// A message, and how many bytes it has.
     Whole(Message, usize),
-    Unfinished,
+    /// None yet, and how many bytes must be there before more can be told.
+    Unfinished(usize),
     Fails(BrokenMessage),
-}
-
-// The body that follows a head without a fault, if it is there.
-fn body_of<'b>(head: &HeadView, rest: &'b [u8]) -> Option<&'b [u8]>
-    requires { fault_of head.now ≡ None }
-    ensures some { IfSome result (λ body. (content_length head.now ≤ length rest.now) × (body.now ≡ take (content_length head.now) rest.now)) }
-    ensures none { IfNone result ((length rest.now < content_length head.now) × (content_length head.now ≤ 16384)) }
-{
-    let length = head.body_length() as usize;
-    if length <= rest.len() {
-        Some(&rest[..length])
-    } else {
-        None
-    }
 }
 
 fn next_message(alloc: Global, bytes: &[u8], room: &mut [HeaderSpan]) -> Result<Next, AllocError>
@@ -45,10 +29,10 @@ fn next_message(alloc: Global, bytes: &[u8], room: &mut [HeaderSpan]) -> Result<
     ensures { IfOk result (IsNext bytes.now) }
 {
     if bytes.is_empty() {
-        return Ok(Next::Unfinished);
+        return Ok(Next::Unfinished(1));
     }
     match read_front(bytes, room) {
-        Front::Unfinished => Ok(Next::Unfinished),
+        Front::Unfinished => Ok(Next::Unfinished(bytes.len() + 1)),
         Front::Never => Ok(Next::Fails(BrokenMessage {
             fault: MessageFault::Malformed,
             is_head: false,
@@ -72,20 +56,22 @@ fn first_message(
         let is_head = method.is_head();
         return Ok(Next::Fails(BrokenMessage { fault, is_head }));
     }
-    match body_of(head, &bytes[len..]) {
-        None => Ok(Next::Unfinished),
-        Some(body) => {
-            let message = Message::new(alloc, method, head.target, head.says_close(), body)?;
-            Ok(Next::Whole(message, len + body.len()))
-        }
+    let end = len + head.body_length() as usize;
+    if bytes.len() < end {
+        return Ok(Next::Unfinished(end));
     }
+    let body = &bytes[len..end];
+    let message = Message::new(alloc, method, head.target, head.says_close(), body)?;
+    Ok(Next::Whole(message, end))
 }
 
-// The whole messages of some bytes, where what follows them begins, and the end where it is known.
+// The whole messages of some bytes, where what follows them begins, and the end where it is known: else how many bytes of what follows must be
+// there before more can be told.
 #[derive(Drop)]
 struct Run {
     messages: Vec<Message>,
     at: usize,
+    awaited: usize,
     end: Option<End>,
 }
 
@@ -93,41 +79,52 @@ fn cut_all(alloc: Global, bytes: &[u8], room: &mut [HeaderSpan]) -> Result<Run, 
     requires { length room.old ≡ FIELD_ROOM }
     ensures cut { IfOk result (λ run. (run.at ≤ length bytes.now)
         × IsCut bytes.now run.messages.items (record { pending = drop run.at bytes.now; end = run.end })) }
-    ensures bound { IfOk result (λ run. run.end ≡ None → length bytes.now < run.at + 24576) }
-    ensures waits { IfOk result (λ run. run.end ≡ None → Waits (drop run.at bytes.now)) }
+    ensures awaits { IfOk result (λ run. run.end ≡ None → Awaits (drop run.at bytes.now) run.awaited) }
 {
     let mut messages = Vec::new(alloc);
     let mut at = 0;
     'messages: loop {
         match next_message(alloc, &bytes[at..], room)? {
-            Next::Unfinished => return Ok(Run {
+            Next::Unfinished(awaited) => return Ok(Run {
                 messages,
                 at,
+                awaited,
                 end: None,
             }),
-            Next::Fails(broken) => {
-                let end = Some(End::Broken(broken));
-                return Ok(Run { messages, at, end });
-            }
+            Next::Fails(broken) => return Ok(Run {
+                messages,
+                at,
+                awaited: 0,
+                end: Some(End::Broken(broken)),
+            }),
             Next::Whole(message, len) => {
                 let closes = message.closes();
                 messages.push(message)?;
                 at += len;
                 if closes {
-                    let end = Some(End::Closed);
-                    return Ok(Run { messages, at, end });
+                    return Ok(Run {
+                        messages,
+                        at,
+                        awaited: 0,
+                        end: Some(End::Closed),
+                    });
                 }
             }
         }
     }
 }
 
-fn joined(alloc: Global, front: &[u8], back: &[u8]) -> Result<Vec<u8>, AllocError>
-    ensures { IfOk result (λ v. v.items ≡ front.now ++ back.now) }
+// Moves what follows so many bytes to the front.
+fn remove_front(bytes: &mut Vec<u8>, count: usize)
+    requires { count ≤ vec_len bytes.old }
+    ensures { bytes.new.items ≡ drop count bytes.old.items }
 {
-    let mut bytes = Vec::from_slice(alloc, front)?;
-    bytes.extend_from_slice(back)?;
-    Ok(bytes)
+    if count == 0 {
+        return;
+    }
+    let len = bytes.len();
+    bytes.copy_within(count..len, 0);
+    bytes.truncate(len - count);
 }
 
 /// Why the bytes fed give no messages.
@@ -147,35 +144,6 @@ impl From<AllocError> for CutFault {
     fn from(_: AllocError) -> CutFault {
         CutFault::Memory
     }
-}
-
-// The messages that a piece gives, the bytes that belong to none yet, and the end where it is known.
-#[derive(Drop)]
-struct Piece {
-    messages: Vec<Message>,
-    pending: Vec<u8>,
-    end: Option<End>,
-}
-
-fn cut_piece(
-    alloc: Global,
-    pending: &[u8],
-    bytes: &[u8],
-    room: &mut [HeaderSpan],
-) -> Result<Piece, AllocError>
-    requires { length room.old ≡ FIELD_ROOM }
-    ensures cut { IfOk result (λ p. IsCut (pending.now ++ bytes.now) p.messages.items (record { pending = p.pending.items; end = p.end })) }
-    ensures bound { IfOk result (λ p. p.end ≡ None → length p.pending.items < 24576) }
-    ensures waits { IfOk result (λ p. p.end ≡ None → Waits p.pending.items) }
-{
-    let bytes = joined(alloc, pending, bytes)?;
-    let run = cut_all(alloc, &bytes, room)?;
-    let pending = Vec::from_slice(alloc, &bytes[run.at..])?;
-    Ok(Piece {
-        messages: run.messages,
-        pending,
-        end: run.end,
-    })
 }
 
 // The messages, or the fault where there are none before it.
@@ -207,6 +175,8 @@ fn after_end(alloc: Global, end: End) -> Result<Vec<Message>, CutFault>
 #[derive(Drop)]
 pub struct Cutter {
     pending: Vec<u8>,
+    // How many bytes must be pending before more can be told of them.
+    awaited: usize,
     room: Vec<HeaderSpan>,
     end: Option<End>,
 }
@@ -220,7 +190,9 @@ impl Model for Cutter {
 
     ghost view = { λ c. record { pending = c.pending.items; end = c.end } };
 
-    ghost invariant = { λ c. (length c.room.items ≡ 2731) × (c.end ≡ None → length c.pending.items < 24576) };
+    ghost use Rattle.httpmsg.specs.Cut.{Awaits};
+
+    ghost invariant = { λ c. (length c.room.items ≡ 2731) × (c.end ≡ None → Awaits c.pending.items c.awaited) };
 }
 
 impl Cutter {
@@ -231,6 +203,7 @@ impl Cutter {
         let room = vec![in alloc; EMPTY_HEADER_SPAN; FIELD_ROOM]?;
         Ok(Cutter {
             pending: Vec::new(alloc),
+            awaited: 1,
             room,
             end: None,
         })
@@ -256,10 +229,23 @@ impl Cutter {
         if let Some(end) = self.end {
             return after_end(alloc, end);
         }
-        let piece = cut_piece(alloc, &self.pending, bytes, &mut self.room)?;
-        self.pending = piece.pending;
-        self.end = piece.end;
-        told(piece.messages, piece.end)
+        let before = self.pending.len();
+        self.pending.extend_from_slice(bytes)?;
+        if self.pending.len() < self.awaited {
+            return Ok(Vec::new(alloc));
+        }
+        match cut_all(alloc, &self.pending, &mut self.room) {
+            Ok(run) => {
+                remove_front(&mut self.pending, run.at);
+                self.awaited = run.awaited;
+                self.end = run.end;
+                told(run.messages, run.end)
+            }
+            Err(AllocError) => {
+                self.pending.truncate(before);
+                Err(CutFault::Memory)
+            }
+        }
     }
 
     /// Whether a message said that the connection ends after its reply.

@@ -298,7 +298,8 @@ impl<'b> HeadView<'b> {
     /// How many bytes the body of a head without a fault has.
     pub fn body_length(&self) -> u64
         requires { fault_of self.now ≡ None }
-        ensures { result ≡ content_length self.now }
+        ensures length { result ≡ content_length self.now }
+        ensures limit { result ≤ BODY_LIMIT }
     {
         self.content_length().unwrap_or(0)
     }

@@ -1,15 +1,18 @@
-use Rattle.std.proofs.Common.{◌≡◌, ◌≢◌, length, [], true, false, arith, ap, sym, ◌∙◌, inl}
-use Rattle.std.proofs.lemmas.List.{nil_from_length}
+use Rattle.std.proofs.Common.{◌≡◌, ◌≢◌, length, [], true, false, arith, ap, sym, ◌∙◌, inl, inr}
 use Rattle.std.specs.Prelude.{◌==◌}
 use Rattle.std.proofs.lemmas.Bool.Decides.{nat_tests}
-use Rattle.httpmsg.proofs.Cuts.{empty_unfinished, never_ends}
+use Rattle.httpmsg.proofs.Cuts.{awaits_first, awaits_head, never_ends}
 use Rattle.httpmsg.proofs.cutter.next_message.Goals as goal
 
 pub returns-then-is_empty : goal.returns-then-is_empty
 returns-then-is_empty c =
     let test : (length c.args.bytes.now == 0) ≡ true = sym c.is_empty.ensures ∙ c.if-is_empty.true in
     let none : length c.args.bytes.now ≡ 0 = grind (arith, nat_tests) in
-    (omega (arith, none), inl (nil_from_length c.args.bytes.now none), empty_unfinished c.args.bytes.now none)
+    awaits_first c.args.bytes.now none
+
+pub returns-in-Unfinished : goal.returns-in-Unfinished
+returns-in-Unfinished c =
+    let front = c.in-Unfinished.ensures in awaits_head c.args.bytes.now front.0 (inr (inl (front.0, front.1))) front.2
 
 pub returns-in-Never : goal.returns-in-Never
 returns-in-Never c =

@@ -1,7 +1,9 @@
-use Rattle.std.proofs.Common.{ap, sym, subst, ℕ, ◌∙◌, ◌≡◌, ◌++◌, Some, None, List}
-use Rattle.httpmsg.specs.Stream.{Progress, IsCut}
-use Rattle.httpmsg.proofs.Leads.{cut_ended, fed_ended, fed_on, fed_nothing}
-use Rattle.httpmsg.proofs.cutter.Cutter.feed.Goals.{After-after_end, After-told}
+use Rattle.std.proofs.Common.{ap, sym, subst, ℕ, ◌∙◌, ◌≡◌, ◌++◌, Some, None, List, length, drop, arith, rules, Result, Ok, Err, OnOk}
+use Rattle.httpmsg.specs.Stream.{Progress, IsCut, Waits}
+use Rattle.httpmsg.specs.Cut.{Awaits}
+use Rattle.httpmsg.proofs.Cuts.{awaits_more, awaits_now}
+use Rattle.httpmsg.proofs.Leads.{cut_ended, fed_ended, fed_on, fed_nothing, fed_idle}
+use Rattle.httpmsg.proofs.cutter.Cutter.feed.Goals.{After-after_end, After-new, After-told}
 use Rattle.httpmsg.proofs.cutter.Cutter.feed.Goals as goal
 
 ended : (c : After-after_end) → c.args.self.now.end ≡ Some c.in-Some.end
@@ -17,23 +19,69 @@ returns-in-Some-clause-broken c = λ all ms cut b is. (
   ended c ∙ ap Some (c.after_end.ensures.broken b is),
 )
 
+was_open : (c : After-new) → c.args.self.now.end ≡ None
+was_open c = ap (λ (p : Progress). p.end) (sym c.self.view_is) ∙ c.in_default.is
+
+still_awaits : (c : After-new) → Awaits c.extend_from_slice.new.self.items c.self.inside.awaited
+still_awaits c =
+    let size : length c.extend_from_slice.new.self.items ≡ c.len.result = search rules in
+    let Awaited : List ℕ → Type 0 = λ x. Awaits x c.self.inside.awaited in
+    let joined = c.in_ok-extend_from_slice.ensures.items in
+    subst Awaited (sym joined)
+    (awaits_more c.self.inside.pending.items c.args.bytes.now c.self.inside.awaited (c.self.invariant.1 c.in_default.is)
+    (omega (arith, size, c.if-len-self.true, ap length joined)))
+
+pub invariant_of-self-then-len-self : goal.invariant_of-self-then-len-self
+invariant_of-self-then-len-self c = (c.self.invariant.0, λ unended. still_awaits c)
+
+pub returns-then-len-self-clause-ok : goal.returns-then-len-self-clause-ok
+returns-then-len-self-clause-ok c = λ all ms cut.
+    fed_idle all ms c.args.self.now c.args.bytes.now c.new.result.items
+    (record { pending = c.extend_from_slice.new.self.items; end = c.self.inside.end }) (was_open c) c.in_default.is
+    (c.in_ok-extend_from_slice.ensures.items ∙ ap (λ (p : Progress). p.pending ++ c.args.bytes.now) c.self.view_is)
+    (awaits_now _ _ (still_awaits c)).1 c.new.ensures.items cut
+
+pub returns-then-len-self-clause-waits : goal.returns-then-len-self-clause-waits
+returns-then-len-self-clause-waits c = λ unended. (awaits_now _ _ (still_awaits c)).0
+
 is_open : (c : After-told) → c.args.self.now.end ≡ None
 is_open c = ap (λ (p : Progress). p.end) (sym c.self.view_is) ∙ c.in_default.is
 
-cut_next : (c : After-told) → IsCut (c.args.self.now.pending ++ c.args.bytes.now) c.in_ok-piece.piece.messages.items
-    (record { pending = c.in_ok-piece.piece.pending.items; end = c.in_ok-piece.piece.end })
+cut_next : (c : After-told) → IsCut (c.args.self.now.pending ++ c.args.bytes.now) c.in-Ok.run'.messages.items
+    (record { pending = c.remove_front.new.bytes.items; end = c.in-Ok.run'.end })
 cut_next c =
-    let Cut : List ℕ → Type 0 = λ x. IsCut (x ++ c.args.bytes.now) c.in_ok-piece.piece.messages.items
-    (record { pending = c.in_ok-piece.piece.pending.items; end = c.in_ok-piece.piece.end })
+    let whole : c.deref.result.now ≡ c.args.self.now.pending ++ c.args.bytes.now =
+    c.deref.ensures.value ∙ c.in_ok-extend_from_slice.ensures.items ∙ ap (λ (p : Progress). p.pending ++ c.args.bytes.now) c.self.view_is
     in
-    subst Cut (c.deref.ensures.value ∙ ap (λ (p : Progress). p.pending) c.self.view_is) c.in_ok-piece.ensures.cut
+    let rest : drop c.in-Ok.run'.at c.deref.result.now ≡ c.remove_front.new.bytes.items =
+    ap (drop c.in-Ok.run'.at) c.deref.ensures.value ∙ sym c.remove_front.ensures
+    in
+    let Cut : List ℕ → Type 0 = λ x. IsCut x c.in-Ok.run'.messages.items
+    (record { pending = drop c.in-Ok.run'.at c.deref.result.now; end = c.in-Ok.run'.end })
+    in
+    let Left : List ℕ → Type 0 = λ x. IsCut (c.args.self.now.pending ++ c.args.bytes.now) c.in-Ok.run'.messages.items
+    (record { pending = x; end = c.in-Ok.run'.end })
+    in
+    subst Left rest (subst Cut whole c.in-Ok.ensures.cut.1)
 
-pub returns-clause-ok : goal.returns-clause-ok
-returns-clause-ok c = λ all ms cut.
-    fed_on (λ x. x.items) c.told.result all ms c.args.self.now c.args.bytes.now c.in_ok-piece.piece.messages.items _ (is_open c) c.told.ensures.ok cut (cut_next c)
+pub returns-in-Ok-clause-ok : goal.returns-in-Ok-clause-ok
+returns-in-Ok-clause-ok c = λ all ms cut.
+    fed_on (λ x. x.items) c.told.result all ms c.args.self.now c.args.bytes.now c.in-Ok.run'.messages.items _ (is_open c) c.told.ensures.ok cut (cut_next c)
 
-pub returns-clause-broken : goal.returns-clause-broken
-returns-clause-broken c = λ all ms cut b is. (
-  fed_nothing all ms c.args.self.now c.args.bytes.now c.in_ok-piece.piece.messages.items _ (is_open c) (c.told.ensures.broken b is).0 cut (cut_next c),
+pub returns-in-Ok-clause-broken : goal.returns-in-Ok-clause-broken
+returns-in-Ok-clause-broken c = λ all ms cut b is. (
+  fed_nothing all ms c.args.self.now c.args.bytes.now c.in-Ok.run'.messages.items _ (is_open c) (c.told.ensures.broken b is).0 cut (cut_next c),
   (c.told.ensures.broken b is).1,
 )
+
+when_ok : {R E : Type 0} (r : Result R E) (P : Type 0) → P → OnOk r P
+when_ok (Ok x) P p = p
+when_ok (Err e) P p = tt
+
+pub returns-in-Ok-clause-waits : goal.returns-in-Ok-clause-waits
+returns-in-Ok-clause-waits c =
+    let rest : drop c.in-Ok.run'.at c.deref.result.now ≡ c.remove_front.new.bytes.items =
+    ap (drop c.in-Ok.run'.at) c.deref.ensures.value ∙ sym c.remove_front.ensures
+    in
+    let Waiting : List ℕ → Type 0 = λ x. Waits x in
+    when_ok c.told.result _ (λ unended. subst Waiting rest (awaits_now _ _ (c.in-Ok.ensures.awaits unended)).0)
