@@ -9,7 +9,7 @@ use Rattle.httpmsg.specs.declared.front.Front.TheVariants.{Whole}
 use Rattle.httpmsg.specs.Head.{Head, head_of, method_of, says_close, content_length, fault_of}
 use Rattle.httpmsg.specs.Front.{IsFront}
 use Rattle.httpmsg.specs.Stream.{Message, message_of, BeginsWith, Takes, Waits, IsUnfinished, EndsAtOnce}
-use Rattle.httpmsg.specs.Cut.{IsAwaited, Awaits}
+use Rattle.httpmsg.specs.Cut.{IsLeast, Awaits}
 
 -- a head has a byte at least
 pub head_some : (h : RequestHead) → IsRequestHead h → 0 < length (print_request h)
@@ -67,7 +67,7 @@ awaits_body bytes view len (inside, (h, begins, is)) sound small short = record 
       let front : IsFront (bytes ++ more) (Whole view len) = front_more bytes more view len (inside, (h, begins, is)) in
       let rest : length (drop len (bytes ++ more)) < content_length view = omega (arith, below, front.0, length-drop len (bytes ++ more)) in
       waits (bytes ++ more) view len front sound rest;
-  is = inl (
+  least = inl (
     record {
       head = h;
       rest = drop len bytes;
@@ -88,7 +88,7 @@ awaits_head bytes few waits none = record {
   stays = λ more below.
       let Stays : List ℕ → Type 0 = λ x. Waits x × IsUnfinished x in
       subst Stays (sym (same more below)) (waits, λ h rest b. absurd (none h rest b));
-  is = inr (λ b. none b.head b.rest b.begins, refl);
+  least = inr (λ b. none b.head b.rest b.begins, refl);
 }
   where
     same : (more : List ℕ) → length (bytes ++ more) < length bytes + 1 → bytes ++ more ≡ bytes
@@ -111,10 +111,10 @@ awaits_more bytes more need a below = record {
   stays = λ others.
       let Stays : List ℕ → Type 0 = λ x. length x < need → Waits x × IsUnfinished x in
       subst Stays (sym (append_assoc bytes more others)) (a.stays (more ++ others));
-  is = later a.is;
+  least = later a.least;
 }
   where
-    later : IsAwaited bytes need → IsAwaited (bytes ++ more) need
+    later : IsLeast bytes need → IsLeast (bytes ++ more) need
     later (inl (b, size)) = inl (
       record {
         head = b.head;
@@ -127,8 +127,8 @@ awaits_more bytes more need a below = record {
     )
     later (inr (none, size)) =
         let empty : more ≡ [] = nil_from_length more (omega (arith, below, size, length-append bytes more)) in
-        let Awaited : List ℕ → Type 0 = λ x. IsAwaited x need in
-        subst Awaited (sym (ap (λ x. bytes ++ x) empty ∙ append-nil bytes)) (inr (none, size))
+        let Least : List ℕ → Type 0 = λ x. IsLeast x need in
+        subst Least (sym (ap (λ x. bytes ++ x) empty ∙ append-nil bytes)) (inr (none, size))
 
 -- what is awaited of the bytes themselves
 pub awaits_now : (bytes : List ℕ) (need : ℕ) → Awaits bytes need → Waits bytes × IsUnfinished bytes

@@ -3,6 +3,7 @@ pub mod Values
 pub mod Numbers
 pub mod Fronts
 pub mod Cuts
+pub mod Places
 pub mod Leads
 pub mod Flows
 pub mod Pieces

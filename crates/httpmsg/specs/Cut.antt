@@ -3,15 +3,18 @@ use Rattle.std.specs.Prelude.{◌≡◌, ℕ, ◌+◌, ◌<◌, ◌≤◌, ◌�
 use Rattle.httparse.specs.Grammar.{print_request}
 use Rattle.httpmsg.specs.declared.cutter.Next.{Next}
 use Rattle.httpmsg.specs.declared.cutter.Next.TheVariants.{Whole, Unfinished, Fails}
+use Rattle.httpmsg.specs.declared.cutter.Awaited.{Awaited}
+use Rattle.httpmsg.specs.declared.cutter.Awaited.TheVariants.{Bytes, Head}
 use Rattle.httpmsg.specs.declared.head.MessageFault.TheVariants as Fault
 use Rattle.httpmsg.specs.declared.head.End.{End}
 use Rattle.httpmsg.specs.declared.head.End.TheVariants.{Clean, Broken}
 use Rattle.httpmsg.specs.Head.{head_of, content_length}
+use Rattle.httpmsg.specs.Place.{IsAt}
 use Rattle.httpmsg.specs.Stream.{Message, Takes, LacksBody, Waits, IsUnfinished, EndsAtOnce, Progress, IsCut}
 
--- How many bytes must be there before more can be told of these: all of a message whose body is not there in full, and else one more than there are.
-abbrev pub IsAwaited : List ℕ → ℕ → Type 0
-IsAwaited bytes need =
+-- the fewest bytes of which more can be told: all of a message whose body is not there in full, and else one more than there are
+abbrev pub IsLeast : List ℕ → ℕ → Type 0
+IsLeast bytes need =
     ((b : LacksBody bytes) × (need ≡ length (print_request b.head) + content_length (head_of b.head)))
     ⊎ ((LacksBody bytes → ⊥) × (need ≡ length bytes + 1))
 
@@ -20,7 +23,12 @@ pub record Awaits (bytes : List ℕ) (need : ℕ) : Type 0 where
   pub short : length bytes < need
   pub few : need ≤ 24576
   pub stays : (more : List ℕ) → length (bytes ++ more) < need → Waits (bytes ++ more) × IsUnfinished (bytes ++ more)
-  pub is : IsAwaited bytes need
+  pub least : IsLeast bytes need
+
+-- what is awaited behind these bytes: so many in all, or the next one of a head that they begin
+abbrev pub IsAwaited : List ℕ → Awaited → Type 0
+IsAwaited bytes (Bytes need) = Awaits bytes need
+IsAwaited bytes (Head place) = (length bytes < 8192) × IsAt place bytes
 
 -- the bytes begin with a message of so many bytes, or with none before so many are there, or end the stream whatever follows
 abbrev pub IsNext : List ℕ → Next → Type 0

@@ -1,6 +1,7 @@
 pub mod Head
 pub mod Stream
 pub mod Front
+pub mod Place
 pub mod Cut
 pub mod Flow
 pub mod Response

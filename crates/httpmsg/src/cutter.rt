@@ -1,15 +1,16 @@
 //! Messages cut from the bytes of a connection as they come.
 
-ghost use Rattle.std.specs.Prelude.{◌≡◌, ◌≢◌, ◌+◌, ◌<◌, ◌≤◌, ◌⊎◌, ℕ, List, [], ◌++◌, length, vec_len, drop, IfOk, OnOk, IsErrOf, MatchResult, IsTrue, ◌↔◌, Option, Some, None};
+ghost use Rattle.std.specs.Prelude.{◌≡◌, ◌≢◌, ◌+◌, ◌<◌, ◌≤◌, ◌⊎◌, ℕ, List, [], ◌++◌, length, vec_len, drop, IfOk, OnOk, IfSome, IsErrOf, MatchResult, IsTrue, ◌↔◌, Option, Some, None};
 ghost use Rattle.httpmsg.specs.Head.{fault_of, content_length};
 ghost use Rattle.httpmsg.specs.Stream.{Message as MessageData, IsStream, StreamIsUnique, IsCut, Waits, is_head};
 ghost use Rattle.httpmsg.specs.declared.head.BrokenMessage.{BrokenMessage};
 ghost use Rattle.httpmsg.specs.Front.{IsFront};
-ghost use Rattle.httpmsg.specs.Cut.{IsNext, Awaits, Leads, end_of};
+ghost use Rattle.httpmsg.specs.Cut.{IsNext, Awaits, IsAwaited, Leads, end_of};
 
 use crate::front::{FIELD_ROOM, Front, read_front};
-use crate::head::{BrokenMessage, End, HeadView, MessageFault, Method};
+use crate::head::{BrokenMessage, End, HEAD_LIMIT, HeadView, MessageFault, Method};
 use crate::message::Message;
+use crate::place::Place;
 use httparse::spans::{EMPTY_HEADER_SPAN, HeaderSpan};
 use std::alloc::{AllocError, Global};
 use std::marker::Model;
@@ -127,6 +128,42 @@ fn remove_front(bytes: &mut Vec<u8>, count: usize)
     bytes.truncate(len - count);
 }
 
+/// What must come before more can be told of the bytes that are pending.
+#[derive(Clone, Copy)]
+pub(crate) enum Awaited {
+    /// So many bytes in all.
+    Bytes(usize),
+    /// The next byte of the head that they begin, which is read up to here.
+    Head(Place),
+}
+
+impl Awaited {
+    // What is awaited behind these bytes, of which so many must be there.
+    fn behind(bytes: &[u8], need: usize) -> Awaited
+        ensures { Awaits bytes.now need → IsAwaited bytes.now result }
+    {
+        if bytes.is_empty() || bytes.len() >= HEAD_LIMIT {
+            return Awaited::Bytes(need);
+        }
+        match Place::BeforeRequest.behind(bytes) {
+            Some(place) => Awaited::Head(place),
+            None => Awaited::Bytes(need),
+        }
+    }
+
+    // What is awaited once these bytes have come, so many with those before them, where they tell nothing.
+    fn after(self, bytes: &[u8], len: usize) -> Option<Awaited>
+        ensures { IfSome result (λ awaited. (pending : List ℕ) → length (pending ++ bytes.now) ≡ len → IsAwaited pending self
+            → IsAwaited (pending ++ bytes.now) awaited) }
+    {
+        match self {
+            Awaited::Bytes(need) if len < need => Some(self),
+            Awaited::Head(place) if len < HEAD_LIMIT => Some(Awaited::Head(place.behind(bytes)?)),
+            _ => None,
+        }
+    }
+}
+
 /// Why the bytes fed give no messages.
 #[derive(Clone, Copy)]
 pub enum CutFault {
@@ -175,8 +212,7 @@ fn after_end(alloc: Global, end: End) -> Result<Vec<Message>, CutFault>
 #[derive(Drop)]
 pub struct Cutter {
     pending: Vec<u8>,
-    // How many bytes must be pending before more can be told of them.
-    awaited: usize,
+    awaited: Awaited,
     room: Vec<HeaderSpan>,
     end: Option<End>,
 }
@@ -190,9 +226,9 @@ impl Model for Cutter {
 
     ghost view = { λ c. record { pending = c.pending.items; end = c.end } };
 
-    ghost use Rattle.httpmsg.specs.Cut.{Awaits};
+    ghost use Rattle.httpmsg.specs.Cut.{IsAwaited};
 
-    ghost invariant = { λ c. (length c.room.items ≡ 2731) × (c.end ≡ None → Awaits c.pending.items c.awaited) };
+    ghost invariant = { λ c. (length c.room.items ≡ 2731) × (c.end ≡ None → IsAwaited c.pending.items c.awaited) };
 }
 
 impl Cutter {
@@ -203,7 +239,7 @@ impl Cutter {
         let room = vec![in alloc; EMPTY_HEADER_SPAN; FIELD_ROOM]?;
         Ok(Cutter {
             pending: Vec::new(alloc),
-            awaited: 1,
+            awaited: Awaited::Bytes(1),
             room,
             end: None,
         })
@@ -231,13 +267,14 @@ impl Cutter {
         }
         let before = self.pending.len();
         self.pending.extend_from_slice(bytes)?;
-        if self.pending.len() < self.awaited {
+        if let Some(awaited) = self.awaited.after(bytes, self.pending.len()) {
+            self.awaited = awaited;
             return Ok(Vec::new(alloc));
         }
         match cut_all(alloc, &self.pending, &mut self.room) {
             Ok(run) => {
                 remove_front(&mut self.pending, run.at);
-                self.awaited = run.awaited;
+                self.awaited = Awaited::behind(&self.pending, run.awaited);
                 self.end = run.end;
                 told(run.messages, run.end)
             }

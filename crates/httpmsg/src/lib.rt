@@ -5,6 +5,7 @@ mod cutter;
 mod front;
 mod head;
 mod message;
+mod place;
 mod response;
 mod sheet;
 mod streams;

@@ -1,7 +1,8 @@
-use Rattle.std.proofs.Common.{ap, sym, subst, ℕ, ◌∙◌, ◌≡◌, ◌++◌, Some, None, List, length, drop, arith, rules, Result, Ok, Err, OnOk}
-use Rattle.httpmsg.specs.Stream.{Progress, IsCut, Waits}
-use Rattle.httpmsg.specs.Cut.{Awaits}
-use Rattle.httpmsg.proofs.Cuts.{awaits_more, awaits_now}
+use Rattle.std.proofs.Common.{ap, sym, subst, ℕ, ◌∙◌, ◌≡◌, ◌++◌, Some, None, List, length, drop, rules, Result, Ok, Err, OnOk}
+use Rattle.httpmsg.specs.Stream.{Progress, IsCut, IsUnfinished, Waits}
+use Rattle.httpmsg.specs.Cut.{IsAwaited}
+use Rattle.httpmsg.proofs.Cuts.{awaits_now}
+use Rattle.httpmsg.proofs.Places.{awaited_bytes}
 use Rattle.httpmsg.proofs.Leads.{cut_ended, fed_ended, fed_on, fed_nothing, fed_idle}
 use Rattle.httpmsg.proofs.cutter.Cutter.feed.Goals.{After-after_end, After-new, After-told}
 use Rattle.httpmsg.proofs.cutter.Cutter.feed.Goals as goal
@@ -22,27 +23,28 @@ returns-in-Some-clause-broken c = λ all ms cut b is. (
 was_open : (c : After-new) → c.args.self.now.end ≡ None
 was_open c = ap (λ (p : Progress). p.end) (sym c.self.view_is) ∙ c.in_default.is
 
-still_awaits : (c : After-new) → Awaits c.extend_from_slice.new.self.items c.self.inside.awaited
-still_awaits c =
-    let size : length c.extend_from_slice.new.self.items ≡ c.len.result = search rules in
-    let Awaited : List ℕ → Type 0 = λ x. Awaits x c.self.inside.awaited in
+still_awaited : (c : After-new) → IsAwaited c.extend_from_slice.new.self.items c.in-Some-after.awaited
+still_awaited c =
     let joined = c.in_ok-extend_from_slice.ensures.items in
-    subst Awaited (sym joined)
-    (awaits_more c.self.inside.pending.items c.args.bytes.now c.self.inside.awaited (c.self.invariant.1 c.in_default.is)
-    (omega (arith, size, c.if-len-self.true, ap length joined)))
+    let size : length c.extend_from_slice.new.self.items ≡ c.len.result = search rules in
+    let Here : List ℕ → Type 0 = λ x. IsAwaited x c.in-Some-after.awaited in
+    subst Here (sym joined)
+    (c.in-Some-after.ensures c.self.inside.pending.items (sym (ap length joined) ∙ size) (c.self.invariant.1 c.in_default.is))
 
-pub invariant_of-self-then-len-self : goal.invariant_of-self-then-len-self
-invariant_of-self-then-len-self c = (c.self.invariant.0, λ unended. still_awaits c)
+still_waits : (c : After-new) → Waits c.extend_from_slice.new.self.items × IsUnfinished c.extend_from_slice.new.self.items
+still_waits c =
+    let awaits = awaited_bytes c.extend_from_slice.new.self.items c.in-Some-after.awaited (still_awaited c) in
+    awaits_now c.extend_from_slice.new.self.items awaits.0 awaits.1
 
-pub returns-then-len-self-clause-ok : goal.returns-then-len-self-clause-ok
-returns-then-len-self-clause-ok c = λ all ms cut.
+pub returns-in-Some-after-clause-ok : goal.returns-in-Some-after-clause-ok
+returns-in-Some-after-clause-ok c = λ all ms cut.
     fed_idle all ms c.args.self.now c.args.bytes.now c.new.result.items
     (record { pending = c.extend_from_slice.new.self.items; end = c.self.inside.end }) (was_open c) c.in_default.is
     (c.in_ok-extend_from_slice.ensures.items ∙ ap (λ (p : Progress). p.pending ++ c.args.bytes.now) c.self.view_is)
-    (awaits_now _ _ (still_awaits c)).1 c.new.ensures.items cut
+    (still_waits c).1 c.new.ensures.items cut
 
-pub returns-then-len-self-clause-waits : goal.returns-then-len-self-clause-waits
-returns-then-len-self-clause-waits c = λ unended. (awaits_now _ _ (still_awaits c)).0
+pub returns-in-Some-after-clause-waits : goal.returns-in-Some-after-clause-waits
+returns-in-Some-after-clause-waits c = λ unended. (still_waits c).0
 
 is_open : (c : After-told) → c.args.self.now.end ≡ None
 is_open c = ap (λ (p : Progress). p.end) (sym c.self.view_is) ∙ c.in_default.is
