@@ -142,7 +142,7 @@ impl Awaited {
     fn behind(bytes: &[u8], need: usize) -> Awaited
         ensures { Awaits bytes.now need → IsAwaited bytes.now result }
     {
-        if bytes.is_empty() || bytes.len() >= HEAD_LIMIT {
+        if bytes.is_empty() || bytes.len() >= HEAD_LIMIT || bytes.len() + 1 < need {
             return Awaited::Bytes(need);
         }
         match Place::BeforeRequest.behind(bytes) {
