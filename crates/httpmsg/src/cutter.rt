@@ -158,7 +158,7 @@ impl Awaited {
     {
         match self {
             Awaited::Bytes(need) if len < need => Some(self),
-            Awaited::Head(place) if len < HEAD_LIMIT => Some(Awaited::Head(place.behind(bytes)?)),
+            Awaited::Head(place) if len < HEAD_LIMIT => place.behind(bytes).map(Awaited::Head),
             _ => None,
         }
     }

@@ -185,7 +185,10 @@ impl Place {
     {
         let mut place = self;
         for byte in bytes {
-            place = place.behind_byte(*byte)?;
+            match place.behind_byte(*byte) {
+                Some(next) => place = next,
+                None => return None,
+            }
         }
         Some(place)
     }
