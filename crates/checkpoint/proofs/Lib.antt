@@ -14,3 +14,6 @@ pub mod Chain
 pub mod Staging
 pub mod Installing
 pub mod Placing
+pub mod Buffering
+pub mod Paging
+pub mod Generations

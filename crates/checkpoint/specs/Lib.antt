@@ -7,3 +7,6 @@ pub mod Index
 pub mod Filling
 pub mod EntryList
 pub mod Install
+pub mod Writing
+pub mod PageWriter
+pub mod WriteFault

@@ -5,7 +5,6 @@ ghost use Rattle.checkpoint.specs.EntryList.{listed, entries_of};
 
 use crate::filling::{Entries, EntriesFault};
 use device::Device;
-use std::alloc::Global;
 
 /// Entries that lie in memory, walked in the order that they have there. No walk of theirs fails.
 #[derive(Drop)]
@@ -38,15 +37,13 @@ impl Entries for EntryList {
 
     ghost most = { λ list. length list.entries.items - list.passed };
 
+    ghost reads = { λ _ _. ⊥ };
+
     fn rewind(&mut self) {
         self.passed = 0;
     }
 
-    fn advance<D: Device>(
-        &mut self,
-        _alloc: Global,
-        _device: &mut D,
-    ) -> Result<bool, EntriesFault> {
+    fn advance<D: Device>(&mut self, _device: &mut D) -> Result<bool, EntriesFault> {
         if self.passed >= self.entries.len() {
             return Ok(false);
         }
@@ -61,4 +58,8 @@ impl Entries for EntryList {
     fn cell(&self) -> &[u8] {
         &self.entries[self.passed - 1].1
     }
+
+    ghost gives_same = { λ _ _ _ _ _ _ given. given };
+
+    ghost ahead_same = { λ _ _ _ _ _ _ there. there };
 }

@@ -1,6 +1,6 @@
 //! Entries that are cut into pages.
 
-ghost use Rattle.std.specs.Prelude.{◌≡◌, ◌<◌, ◌≤◌, ◌+◌, ◌++◌, ◌⊎◌, ℕ, List, [], ◌∷◌, map, length, IsTrue, IfOk, OnOk, OnErr, IfSome, IfNone, IsErrOf};
+ghost use Rattle.std.specs.Prelude.{◌≡◌, ◌<◌, ◌≤◌, ◌+◌, ◌++◌, ◌⊎◌, ℕ, List, [], ◌∷◌, map, length, slice_index, IsTrue, IfOk, OnOk, OnErr, IfSome, IfNone, IsErrOf};
 ghost use Rattle.device.specs.Disk.{HasFailed};
 ghost use Rattle.device.specs.Step.{Same};
 ghost use Rattle.device.specs.Run.{Ran};
@@ -54,7 +54,9 @@ impl<T: Drop> From<AllocFailed<T>> for EntriesFault {
 }
 
 /// Entries in ascending order, walked from the first to the last as often as is asked. They may lie on a device, so which they are is a
-/// matter of its content.
+/// matter of its content: of those bytes of it that a walk looks at, and of no others.
+///
+/// A walk takes no memory. Whoever makes the entries takes what their walks want.
 pub trait Entries {
     /// Over this content a walk gives these entries.
     ghost gives: { Self → List ℕ → List Entry → Type 0 };
@@ -71,17 +73,21 @@ pub trait Entries {
     /// The walk has at most so many entries before it, whatever the device holds.
     ghost most: { Self → ℕ };
 
+    /// A walk looks at the byte of the device's content that stands at this offset.
+    ghost reads: { Self → ℕ → Type 0 };
+
     /// Goes back, before the first entry.
     fn rewind(&mut self)
         ensures ahead { (content : List ℕ) (entries : List Entry) → gives self.old content entries → ahead self.new content entries }
-        ensures gives { (content : List ℕ) (entries : List Entry) → gives self.old content entries → gives self.new content entries };
+        ensures gives { (content : List ℕ) (entries : List Entry) → gives self.old content entries → gives self.new content entries }
+        ensures reads { (k : ℕ) → reads self.new k → reads self.old k };
 
-    /// Goes to the next entry, and whether there is one. Nothing is written.
+    /// Goes to the next entry, and whether there is one. Nothing is written, and no memory is taken.
     ///
     /// # Errors
     ///
-    /// `Device` where the device failed. `Damaged` where its content holds no such entries. `Memory` where there was none.
-    fn advance<D: Device>(&mut self, alloc: Global, device: &mut D) -> Result<bool, EntriesFault>
+    /// `Device` where the device failed. `Damaged` where its content holds no such entries.
+    fn advance<D: Device>(&mut self, device: &mut D) -> Result<bool, EntriesFault>
         ensures some { D.disk.keeps device.old → (entry : Entry) (entries : List Entry)
             → ahead self.old (D.disk.content device.old) (entry ∷ entries)
             → IfOk result (λ more. IsTrue more × (here self.new ≡ entry) × ahead self.new (D.disk.content device.old) entries) }
@@ -89,10 +95,11 @@ pub trait Entries {
         ensures stands { IfOk result (λ more. IsTrue more → stands self.new) }
         ensures most { IfOk result (λ more. IsTrue more → most self.new < most self.old) }
         ensures gives { (content : List ℕ) (entries : List Entry) → gives self.old content entries → gives self.new content entries }
+        ensures reads { (k : ℕ) → reads self.new k → reads self.old k }
         ensures ran { Ran D.disk device.old device.new Same }
         ensures damaged { D.disk.keeps device.old → IsErrOf result EntriesFault.Damaged
             → (entries : List Entry) → ahead self.old (D.disk.content device.old) entries → ⊥ }
-        ensures refusal { IsErrOf result EntriesFault.TooLong → ⊥ }
+        ensures refusal { OnErr result (IsErrOf result EntriesFault.Device ⊎ IsErrOf result EntriesFault.Damaged) }
         ensures cause { IsErrOf result EntriesFault.Device → HasFailed D.disk device.old device.new };
 
     /// The key of the entry that it stands at.
@@ -104,6 +111,14 @@ pub trait Entries {
     fn cell(&self) -> &[u8]
         requires { stands self.now }
         ensures { result.now ≡ (here self.now).1 };
+
+    /// A content that has the bytes which a walk looks at, and is no shorter, gives the same entries.
+    ghost gives_same: { (source : Self) (old new : List ℕ) (entries : List Entry) → length old ≤ length new
+        → ((k : ℕ) → reads source k → slice_index new k ≡ slice_index old k) → gives source old entries → gives source new entries };
+
+    /// And the walk goes on with the same entries.
+    ghost ahead_same: { (source : Self) (old new : List ℕ) (entries : List Entry) → length old ≤ length new
+        → ((k : ℕ) → reads source k → slice_index new k ≡ slice_index old k) → ahead source old entries → ahead source new entries };
 }
 
 // What of so many free bytes a cell and its slot leave, if they fit.
@@ -197,13 +212,14 @@ pub fn first_keys<D: Device, E: Entries>(
     ensures damaged { D.disk.keeps device.old → IsErrOf result EntriesFault.Damaged
         → (all : List Entry) → E.gives entries.old (D.disk.content device.old) all → ⊥ }
     ensures gives { (content : List ℕ) (all : List Entry) → E.gives entries.old content all → E.gives entries.new content all }
+    ensures reads { (k : ℕ) → E.reads entries.new k → E.reads entries.old k }
     ensures ran { Ran D.disk device.old device.new Same }
     ensures cause { IsErrOf result EntriesFault.Device → HasFailed D.disk device.old device.new }
 {
     let mut filling = Filling::new(alloc);
     entries.rewind();
     'walk: loop {
-        if !entries.advance(alloc, device)? {
+        if !entries.advance(device)? {
             return Ok(filling.into_first_keys());
         }
         filling.add(alloc, entries.key(), entries.cell())?;

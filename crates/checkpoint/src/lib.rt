@@ -12,18 +12,15 @@
 //! The pages of a root are read by [`scan`], each once, and their entries told to a [`Reader`]. Which key begins each page, of
 //! [`Entries`] that are cut into pages, is told by [`first_keys`].
 //!
-//! The next generation is written while the root that counts stays as it is. Its root is installed once its pages are there:
+//! [`write`] writes entries as the next generation, while the root that counts stays as it is:
 //!
 //! ```text
-//! let next = next_root(&root, log.last_gate(), pages, revision)?;
-//! clear_slot(&mut device, &root)?;
-//! // the pages are written from the sector next.first on
-//! install(&mut device, &next)?;
-//! let log = Log::restart(&device, next.log_start());
+//! let written = write(alloc, &mut device, &root, log.last_gate(), revision, &mut entries)?;
+//! let log = Log::restart(&device, written.root.log_start());
 //! ```
 //!
-//! At every moment of it a crash leaves the old generation, or the new one with an empty log, and after `install` answered `Ok` the new
-//! one.
+//! At every moment of it a crash leaves the old generation, or the new one with an empty log, and after it answered `Ok` the new one. Its
+//! steps are [`first_keys`], [`next_root`], [`clear_slot`], the pages, and [`install`].
 //!
 //! A new store is made on an empty device alone, and after its making answered `Ok` a crash leaves it as it is.
 #![tactic(auto)]
@@ -35,11 +32,13 @@ mod index;
 mod new_store;
 mod next;
 mod open;
+mod page_writer;
 mod reader;
 mod root;
 mod roots;
 mod scanning;
 mod sector;
+mod writing;
 
 pub use entry_list::EntryList;
 pub use filling::{Entries, EntriesFault, first_keys};
@@ -50,3 +49,4 @@ pub use open::{RootFault, counted_root};
 pub use reader::{ReadFault, Reader};
 pub use root::{Root, Slot};
 pub use scanning::{ScanFault, scan};
+pub use writing::{WriteFault, Written, write};

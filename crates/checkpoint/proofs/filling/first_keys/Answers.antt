@@ -47,6 +47,7 @@ walk-preserved g c =
     record {
       ran = same_then disk c.args.device.now c.walk.device c.advance.new.device inv.ran c.advance.ensures.ran;
       gives = λ x all gives. c.in_ok-advance.ensures.gives x all (inv.gives x all gives);
+      reads = λ k reads. inv.reads k (c.in_ok-advance.ensures.reads k reads);
       walked = λ keeps all gives.
           let same : now ≡ content = inv.ran.seen keeps in
           let kept = inv.ran.kept keeps in

@@ -10,6 +10,7 @@ abbrev pub invariant-walk : goal.invariant-walk
 invariant-walk g l = record {
   ran : Ran g.D.Device.disk l.fn.device l.device Same;
   gives : (content : List ℕ) (all : List Entry) → g.E.Entries.gives l.fn.entries content all → g.E.Entries.gives l.entries content all;
+  reads : (k : ℕ) → g.E.Entries.reads l.entries k → g.E.Entries.reads l.fn.entries k;
   walked : g.D.Device.disk.keeps l.fn.device → (all : List Entry) → g.E.Entries.gives l.fn.entries (g.D.Device.disk.content l.fn.device) all
       → Walked (g.E.Entries.ahead l.entries (g.D.Device.disk.content l.fn.device)) (keys_of l.filling.first_keys.items) l.filling.free all;
 }

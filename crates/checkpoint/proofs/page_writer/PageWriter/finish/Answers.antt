@@ -1,0 +1,33 @@
+use Rattle.std.proofs.Common.{arith, ◌+◌, ◌*◌, ◌++◌, ◌∷◌, [], List, ℕ, subst}
+use Rattle.pages.specs.Page.{Entry}
+use Rattle.checkpoint.specs.PageWriter.{IsFilled}
+use Rattle.checkpoint.proofs.Buffering.{torn_then, filled_all}
+use Rattle.checkpoint.proofs.Paging.{laid_ascends, laid_last_some}
+use Rattle.checkpoint.proofs.page_writer.PageWriter.finish.Goals as goal
+
+pub returns-in_err-flush-clause-ran : goal.returns-in_err-flush-clause-ran
+returns-in_err-flush-clause-ran g c =
+    torn_then g.D.Device.disk c.args.device.now c.end_page.new.device c.flush.new.device (512 * c.args.self.now.at)
+    (32768 * (c.args.self.now.filled + c.args.self.now.left)) (512 * c.end_page.new.self.at) (32768 * c.end_page.new.self.filled)
+    (omega (arith, c.in_ok-end_page.ensures.goes_on.at)) (omega (arith, c.in_ok-end_page.ensures.goes_on.end))
+    c.end_page.ensures.ran c.flush.ensures.ran
+
+pub returns-clause-ran : goal.returns-clause-ran
+returns-clause-ran g c =
+    torn_then g.D.Device.disk c.args.device.now c.end_page.new.device c.flush.new.device (512 * c.args.self.now.at)
+    (32768 * (c.args.self.now.filled + c.args.self.now.left)) (512 * c.end_page.new.self.at) (32768 * c.end_page.new.self.filled)
+    (omega (arith, c.in_ok-end_page.ensures.goes_on.at)) (omega (arith, c.in_ok-end_page.ensures.goes_on.end))
+    c.end_page.ensures.ran c.flush.ensures.ran
+
+pub returns-clause-pages : goal.returns-clause-pages
+returns-clause-pages g c keeps first all sorted laid =
+    let disk = g.D.Device.disk in
+    let old = c.args.self.now in
+    let content : List ℕ = disk.content c.args.device.now in
+    let kept = c.end_page.ensures.ran.kept keeps in
+    let Filled : List (List Entry) → Type 0 = λ ps. IsFilled c.flush.new.self first ps (disk.content c.flush.new.device) in
+    let ended = c.in_ok-end_page.ensures.filled keeps first laid.pages (laid_last_some old first all content laid)
+    (laid_ascends old first [] all content sorted laid) laid.filled
+    in
+    filled_all c.flush.new.self first all (disk.content c.flush.new.device)
+    (subst Filled laid.are (c.in_ok-flush.ensures.filled kept first (laid.pages ++ old.page ∷ []) ended)) c.in_ok-flush.ensures.empty
