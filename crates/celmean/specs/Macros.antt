@@ -71,6 +71,11 @@ reduced macro_of.Filter vs os = filtered vs os
 abbrev pub keys : Entries → List Value
 keys es = map (λ e. e.0) (entries es)
 
+-- the items of a list
+abbrev pub list_items : Outcome → Option (List Value)
+list_items (Gives (Sequence vs)) = Some (items vs)
+list_items _ = None
+
 -- what a macro goes over: a list's items, or a map's keys in their order
 abbrev pub range_of : Outcome → Option (List Value)
 range_of (Gives (Sequence vs)) = Some (items vs)

@@ -115,13 +115,14 @@ pub(crate) fn contained(value: &Value, of: &Value) -> Outcome
     }
 }
 
-fn values_of(alloc: Global, outcomes: &Vec<Outcome>) -> Result<Option<Vec<Value>>, AllocError>
-    ensures { IfOk result (λ o. option_map (λ v. values_seen v.items) o ≡ values_of (outcomes_seen outcomes.now.items)) }
+// The values, which are moved out of the outcomes.
+fn values_of(alloc: Global, outcomes: Vec<Outcome>) -> Result<Option<Vec<Value>>, AllocError>
+    ensures { IfOk result (λ o. option_map (λ v. values_seen v.items) o ≡ values_of (outcomes_seen outcomes.items)) }
 {
-    let mut values = Vec::new(alloc);
+    let mut values = Vec::with_capacity(alloc, outcomes.len())?;
     for outcome in outcomes {
         match outcome {
-            Outcome::Gives(value) => values.push(value.clone()?)?,
+            Outcome::Gives(value) => values.push(value)?,
             Outcome::Error => return Ok(None),
         }
     }
@@ -133,8 +134,8 @@ fn values_of(alloc: Global, outcomes: &Vec<Outcome>) -> Result<Option<Vec<Value>
 /// # Errors
 ///
 /// Where no memory is left.
-pub fn list_of(alloc: Global, outcomes: &Vec<Outcome>) -> Result<Outcome, AllocError>
-    ensures { IfOk result (λ o. outcome_of o ≡ list_of (outcomes_seen outcomes.now.items)) }
+pub fn list_of(alloc: Global, outcomes: Vec<Outcome>) -> Result<Outcome, AllocError>
+    ensures { IfOk result (λ o. outcome_of o ≡ list_of (outcomes_seen outcomes.items)) }
 {
     match values_of(alloc, outcomes)? {
         Some(values) => Ok(Outcome::Gives(Value::list(alloc, values)?)),

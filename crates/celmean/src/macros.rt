@@ -1,7 +1,7 @@
 //! Truth tables and macros, over the outcomes of all their parts.
 
 ghost use Rattle.std.specs.Prelude.{◌≡◌, ◌++◌, ◌∷◌, [], if◌then◌else◌, IfOk, OnOk, option_map};
-ghost use Rattle.celmean.specs.Macros.{is_true, is_false, is_truth, both, either, some_is, all_are, count_true, all_of, some_of, one_of, kept, filtered, reduced, keys, range_of};
+ghost use Rattle.celmean.specs.Macros.{is_true, is_false, is_truth, both, either, some_is, all_are, count_true, all_of, some_of, one_of, kept, filtered, reduced, keys, list_items, range_of};
 ghost use Rattle.celmean.specs.Value.{mapping};
 ghost use Rattle.celmean.specs.Seen.{value_of, values_seen, entries_seen, outcome_of, outcomes_seen};
 
@@ -228,16 +228,16 @@ pub fn reduced(
     alloc: Global,
     kind: Macro,
     items: &Vec<Value>,
-    outcomes: &Vec<Outcome>,
+    outcomes: Vec<Outcome>,
 ) -> Result<Outcome, AllocError>
-    ensures { IfOk result (λ o. outcome_of o ≡ reduced kind (values_seen items.now.items) (outcomes_seen outcomes.now.items)) }
+    ensures { IfOk result (λ o. outcome_of o ≡ reduced kind (values_seen items.now.items) (outcomes_seen outcomes.items)) }
 {
     match kind {
-        Macro::All => Ok(all_of(outcomes)),
-        Macro::Exists => Ok(some_of(outcomes)),
-        Macro::ExistsOne => Ok(one_of(outcomes)),
+        Macro::All => Ok(all_of(&outcomes)),
+        Macro::Exists => Ok(some_of(&outcomes)),
+        Macro::ExistsOne => Ok(one_of(&outcomes)),
         Macro::Map => list_of(alloc, outcomes),
-        Macro::Filter => filtered(alloc, items, outcomes),
+        Macro::Filter => filtered(alloc, items, &outcomes),
     }
 }
 
@@ -249,6 +249,20 @@ fn keys(alloc: Global, entries: &Vec<(Value, Value)>) -> Result<Vec<Value>, Allo
         keys.push(key.clone()?)?;
     }
     Ok(keys)
+}
+
+/// The items of a list, where they lie: what a macro over it goes over, without a copy.
+pub fn list_items(outcome: &Outcome) -> Option<&Vec<Value>>
+    ensures { option_map (λ v. values_seen v.now.items) result ≡ list_items (outcome_of outcome.now) }
+{
+    match outcome {
+        Outcome::Gives(value) => match value {
+            Value::List(items) => Some(items),
+            Value::Null | Value::Bool(_) | Value::Int(_) => None,
+            Value::Uint(_) | Value::Text(_) | Value::Map(_) => None,
+        },
+        Outcome::Error => None,
+    }
 }
 
 /// What a macro goes over: a list's items, or a map's keys in their order.

@@ -132,7 +132,7 @@ fn evaluate_list(
     ensures { IfOk result (λ o. outcome_of o ≡ mean (expr.Sequence (views items.now.items)) (environment_of environment.now)) }
 {
     let outcomes = evaluate_all(alloc, items, environment)?;
-    list_of(alloc, &outcomes)
+    list_of(alloc, outcomes)
 }
 
 #[cycle(evaluate)]
@@ -246,7 +246,7 @@ fn evaluate_over(
         return Ok(Outcome::Error);
     }
     let outcomes = evaluate_items(alloc, body, variable, items, environment)?;
-    reduced(alloc, kind, items, &outcomes)
+    reduced(alloc, kind, items, outcomes)
 }
 
 #[cycle(evaluate)]

@@ -75,7 +75,7 @@ impl Model for Key {
 }
 
 impl Key {
-    ghost use Rattle.names.specs.Key.{Key as KeyData, is_key, key_of, key_bytes};
+    ghost use Rattle.names.specs.Key.{Key as KeyData, is_key, key_of, key_bytes, key_cmp};
 
     /// The key of these parts. `NoKey` where the name is ill-formed, or the namespace does not fit
     /// the resource's scope.
@@ -141,6 +141,19 @@ impl Key {
         &self.name
     }
 
+    // How the key stands to another. A search compares many keys: what stands behind the first part that differs is not looked at.
+    fn order(&self, other: &Key) -> Ordering
+        ensures { result ≡ key_cmp self.now other.now }
+    {
+        match self.resource.number().cmp(&other.resource.number()) {
+            Ordering::Equal => match self.namespace.as_str().cmp(other.namespace.as_str()) {
+                Ordering::Equal => self.name.as_str().cmp(other.name.as_str()),
+                order => order,
+            },
+            order => order,
+        }
+    }
+
     /// The key's bytes: the resource's number, the namespace, a zero byte, the name.
     pub fn bytes(&self, alloc: Global) -> Result<Vec<u8>, AllocError>
         ensures { IfOk result (λ bytes. bytes.items ≡ key_bytes self.now) }
@@ -197,11 +210,7 @@ impl Ord for Key {
         ensures bytes { (a b : KeyData) → IsTrue (is_key a) → IsTrue (is_key b)
             → slice_cmp nat_cmp (key_bytes a) (key_bytes b) ≡ key_cmp a b }
     {
-        self.resource
-            .number()
-            .cmp(&other.resource.number())
-            .then(self.namespace.as_str().cmp(other.namespace.as_str()))
-            .then(self.name.as_str().cmp(other.name.as_str()))
+        self.order(other)
     }
 }
 

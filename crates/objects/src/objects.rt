@@ -40,6 +40,13 @@ fn only_of<'a, T>(
         .collect(alloc)
 }
 
+// All of the entries.
+fn each_of<T>(alloc: Global, entries: &[Entry<T>]) -> Result<Vec<&Entry<T>>, AllocError>
+    ensures { IfOk result (λ listed. map (λ entry. entry.now) listed.items ≡ entries.now) }
+{
+    entries.iter().collect(alloc)
+}
+
 /// What is stored, by key.
 #[derive(Drop)]
 pub struct Objects<T> {
@@ -159,7 +166,11 @@ impl<T> Objects<T> {
             IfOk result (λ listed. map (λ entry. entry.now) listed.items
             ≡ filter (λ entry. is_of resource text entry.0) self.now.entries) }
     {
-        only_of(alloc, self.entries_of(resource), resource, namespace)
+        let entries = self.entries_of(resource);
+        match namespace {
+            None => each_of(alloc, entries),
+            Some(_) => only_of(alloc, entries, resource, namespace),
+        }
     }
 
     // The entries of a resource.

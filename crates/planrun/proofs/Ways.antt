@@ -1,7 +1,8 @@
 -- Where control goes in a well-formed plan.
-use Rattle.std.proofs.Common.{◌≡◌, inl, inr, ℕ, ◌+◌, ◌<◌, ◌≤◌, true, List, ◌∷◌, length, map, get_or, Option, refl, sym, ap, ◌∙◌, arith}
+use Rattle.std.proofs.Common.{◌≡◌, inl, inr, ℕ, ◌+◌, ◌<◌, ◌≤◌, true, List, ◌∷◌, length, map, get_or, nat_lt, Option, refl, sym, ap, ◌∙◌, arith}
 use Rattle.std.specs.Prelude.{option_map}
 use Rattle.std.proofs.lemmas.List.{length-map}
+use Rattle.std.proofs.lemmas.Bool.Decides.{nat_tests}
 use Rattle.std.proofs.lemmas.Option.{slice_get-map, slice_get-get_or}
 use Rattle.celtree.specs.declared.tree.Macro.{Macro}
 use Rattle.instructions.specs.declared.instruction.Instruction.{Instruction}
@@ -60,6 +61,7 @@ enters vars code m end at stop depth height s =
     let deeper : length outer ≡ depth = s.comes_to.depth_is in
     let more : length (stop ∷ outer) ≡ depth + 1 = omega arith in
     let ends : at < end = (ahead vars code (Over m end) at stop depth height end s (inl refl)).0 in
+    let around : nat_lt depth 2 ≡ true = named vars code (Over m end) at stop depth height s in
     record {
       well_formed = s.well_formed;
       comes_to = record {
@@ -68,6 +70,7 @@ enters vars code m end at stop depth height s =
         depth_is = more;
       };
       before = omega arith;
+      shallow = grind (arith, nat_tests);
     }
 
 -- each body ends in the code

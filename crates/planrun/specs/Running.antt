@@ -1,12 +1,12 @@
 -- A machine as it runs a well-formed plan.
-use Rattle.std.specs.Prelude.{◌≡◌, ℕ, ◌+◌, ◌<◌, ◌≤◌, List, map, length, Some, slice_get}
+use Rattle.std.specs.Prelude.{◌≡◌, ℕ, ◌+◌, ◌<◌, ◌≤◌, List, length, Some, slice_get}
 use Rattle.celmean.specs.Value.{Value}
-use Rattle.celmean.specs.Seen.{value_of}
 use Rattle.instructions.specs.Op.{Op}
 use Rattle.instructions.specs.Seen.{ops_of}
 use Rattle.instructions.specs.Judging.{arrivals}
 use Rattle.instructions.specs.WellFormed.{Among, Comes, IsWellFormed}
 use Rattle.plan.specs.Machine.{World, Next, exec}
+use Rattle.planrun.specs.Seen.{slots_seen}
 use Rattle.planrun.specs.Worlds.{world_of}
 use Rattle.planrun.specs.declared.machine.Machine.{Machine}
 
@@ -18,14 +18,14 @@ abbrev pub ops : Machine → List Op
 ops m = ops_of m.code.now
 
 abbrev pub items_of : Machine → List Value
-items_of m = map (λ v. value_of v.now) m.slots.now
+items_of m = slots_seen m.slots
 
 -- how many variables are bound, and how many macros are around
 abbrev pub vars : Machine → ℕ
 vars m = length m.bindings.variables.now
 
 abbrev pub depth : Machine → ℕ
-depth m = length m.slots.now
+depth m = length (items_of m)
 
 -- what comes of so many instructions more
 abbrev pub next_of : Machine → ℕ → Next
@@ -44,11 +44,12 @@ pub record Stands (vars : ℕ) (code : List Op) (op : Op) (at stop depth height 
   pub inside : at < stop
   pub here : slice_get code at ≡ Some op
 
--- The body of a macro begins at a place, with an empty stack, in one macro more than these.
+-- The body of a macro begins at a place, with an empty stack, in one macro more than these, which are at most one.
 pub record Begins (vars : ℕ) (code : List Op) (first end depth : ℕ) : Type 0 where
   pub well_formed : IsWellFormed vars code
   pub comes_to : ComesTo code first end (depth + 1) 0
   pub before : first ≤ end
+  pub shallow : depth < 2
 
 -- A machine is ready: its plan is well formed for as many variables as are bound.
 abbrev pub IsReady : Machine → Type 0

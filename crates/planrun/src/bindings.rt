@@ -1,11 +1,10 @@
 //! What the names of an expression stand for.
 
-ghost use Rattle.std.specs.Prelude.{◌≡◌, ◌+◌, ◌<◌, [], ◌∷◌, ◌++◌, length, map, slice_get, IfOk};
-ghost use Rattle.celmean.specs.Value.{or_error};
+ghost use Rattle.std.specs.Prelude.{◌≡◌, ◌+◌, ◌<◌, [], ◌∷◌, ◌++◌, length, slice_get, Some, IfOk};
 ghost use Rattle.celmean.specs.Seen.{value_of, outcome_of, outcomes_seen};
 ghost use Rattle.instructions.specs.Bytes.{slot_number};
 ghost use Rattle.plan.specs.Machine.{or_missing, slot_value};
-ghost use Rattle.planrun.specs.Seen.{held_seen};
+ghost use Rattle.planrun.specs.Seen.{held_seen, slots_seen};
 ghost use Rattle.planrun.specs.Worlds.{name_seen};
 
 use crate::held::Held;
@@ -58,37 +57,61 @@ pub(crate) fn variable(place: usize, variables: &[Outcome]) -> Result<Outcome, A
     copy(&variables[place])
 }
 
-fn slot_at(place: usize, slots: &[&Value]) -> Result<Outcome, AllocError>
-    requires { place < length slots.now }
-    ensures { IfOk result (λ o. outcome_of o ≡ or_error (slice_get (map (λ s. value_of s.now) slots.now) place)) }
+/// The items of the macros around, the outermost first. Macros are at most two deep.
+#[derive(Clone, Copy)]
+pub(crate) enum Slots<'a> {
+    /// There is no macro around.
+    Empty,
+    /// The item of one.
+    One(&'a Value),
+    /// The item of the outer one, and that of the inner one.
+    Two(&'a Value, &'a Value),
+}
+
+// The item of the outer macro.
+fn outer_item<'a>(slots: &Slots<'a>) -> &'a Value
+    requires { 0 < length (slots_seen slots.now) }
+    ensures { slice_get (slots_seen slots.now) 0 ≡ Some (value_of result.now) }
 {
-    Ok(Outcome::Gives(slots[place].clone()?))
+    match *slots {
+        Slots::Empty => unreachable!(),
+        Slots::One(item) => item,
+        Slots::Two(item, _) => item,
+    }
+}
+
+// The item of the inner macro.
+fn inner_item<'a>(slots: &Slots<'a>) -> &'a Value
+    requires { 1 < length (slots_seen slots.now) }
+    ensures { slice_get (slots_seen slots.now) 1 ≡ Some (value_of result.now) }
+{
+    match *slots {
+        Slots::Empty | Slots::One(_) => unreachable!(),
+        Slots::Two(_, item) => item,
+    }
 }
 
 /// A copy of the item that the variable of a macro stands for.
-pub(crate) fn item_of(slot: Slot, slots: &[&Value]) -> Result<Outcome, AllocError>
-    requires { slot_number slot < length slots.now }
-    ensures { IfOk result (λ o. outcome_of o ≡ slot_value (map (λ v. value_of v.now) slots.now) slot) }
+pub(crate) fn item_of(slot: Slot, slots: &Slots<'_>) -> Result<Outcome, AllocError>
+    requires { slot_number slot < length (slots_seen slots.now) }
+    ensures { IfOk result (λ o. outcome_of o ≡ slot_value (slots_seen slots.now) slot) }
 {
-    match slot {
-        Slot::Outer => slot_at(0, slots),
-        Slot::Inner => slot_at(1, slots),
-    }
+    let item = match slot {
+        Slot::Outer => outer_item(slots),
+        Slot::Inner => inner_item(slots),
+    };
+    Ok(Outcome::Gives(item.clone()?))
 }
 
 /// The items of the macros around, with one more behind them.
-pub(crate) fn with_item<'a>(
-    alloc: Global,
-    slots: &[&'a Value],
-    item: &'a Value,
-) -> Result<Vec<&'a Value>, AllocError>
-    ensures items { IfOk result (λ v. map (λ s. value_of s.now) v.items ≡ map (λ s. value_of s.now) slots.now ++ value_of item.now ∷ []) }
-    ensures one_more { IfOk result (λ v. length v.items ≡ length slots.now + 1) }
+pub(crate) fn with_item<'a>(slots: Slots<'a>, item: &'a Value) -> Slots<'a>
+    requires { length (slots_seen slots) < 2 }
+    ensures items { slots_seen result ≡ slots_seen slots.entry ++ value_of item.now ∷ [] }
+    ensures one_more { length (slots_seen result) ≡ length (slots_seen slots.entry) + 1 }
 {
-    let mut all = Vec::new(alloc);
-    for slot in slots {
-        all.push(*slot)?;
+    match slots {
+        Slots::Empty => Slots::One(item),
+        Slots::One(outer) => Slots::Two(outer, item),
+        Slots::Two(_, _) => unreachable!(),
     }
-    all.push(item)?;
-    Ok(all)
 }

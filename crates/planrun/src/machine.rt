@@ -1,6 +1,6 @@
 //! The machine.
 
-ghost use Rattle.std.specs.Prelude.{◌≡◌, ◌+◌, ◌<◌, ◌≤◌, IsTrue, [], ◌∷◌, ◌++◌, if◌then◌else◌, List, map, length, slice_get, OnOk, IfOk};
+ghost use Rattle.std.specs.Prelude.{◌≡◌, ◌+◌, ◌<◌, ◌≤◌, IsTrue, [], ◌∷◌, ◌++◌, if◌then◌else◌, Some, List, map, length, slice_get, OnOk, IfOk};
 ghost use Rattle.celtree.specs.Tree.{Expr};
 ghost use Rattle.celmean.specs.Meaning.{Environment, mean};
 ghost use Rattle.celmean.specs.Value as seen;
@@ -16,14 +16,14 @@ ghost use Rattle.planrun.specs.Results.{IsRunOf};
 ghost use Rattle.planrun.specs.Deciding.{decides};
 ghost use Rattle.planrun.specs.Running.{items_of, world, ops, vars, depth, next_of, IsReady, IsAt, IsAtOp, BeginsBody, Leads};
 
-use crate::bindings::{Bindings, item_of, named, variable, with_item};
+use crate::bindings::{Bindings, Slots, item_of, named, variable, with_item};
 use crate::held::{Held, into_outcome, is_false, is_true};
 use crate::operations::{
     take_binary, take_both, take_call, take_either, take_field, take_has, take_index, take_list,
     take_map, take_unary,
 };
 use crate::stack::{pop, push, put, take_top, topmost};
-use celmean::{Outcome, Value, range_of, reduced};
+use celmean::{Outcome, Value, list_items, range_of, reduced};
 use celtree::Macro;
 use instructions::Instruction;
 use plancode::Verified;
@@ -34,19 +34,19 @@ const LONGEST_RANGE: usize = 1024;
 
 /// What instructions are run with.
 #[derive(Clone, Copy)]
-pub(crate) struct Machine<'a> {
+pub(crate) struct Machine<'a, 'c> {
     /// What the names stand for.
     pub bindings: Bindings<'a>,
     /// All instructions.
-    pub code: &'a [Instruction],
-    /// The items of the macros around, the outermost first.
-    pub slots: &'a [&'a Value],
+    pub code: &'c [Instruction],
+    /// The items of the macros around.
+    pub slots: Slots<'c>,
 }
 
 // An instruction that leads to the next one.
 fn advance<'a>(
     alloc: Global,
-    machine: &Machine<'a>,
+    machine: &Machine<'a, '_>,
     instruction: &Instruction,
     stack: &mut Vec<Held<'a>>,
 ) -> Result<(), AllocError>
@@ -68,7 +68,7 @@ fn advance<'a>(
                 variable(*place as usize, machine.bindings.variables)?,
             )
         }
-        Instruction::Slot(slot) => put(stack, item_of(*slot, machine.slots)?),
+        Instruction::Slot(slot) => put(stack, item_of(*slot, &machine.slots)?),
         Instruction::Field(name) => take_field(alloc, name, stack),
         Instruction::Has(name) => take_has(alloc, name, stack),
         Instruction::Index => take_index(alloc, stack),
@@ -119,7 +119,7 @@ fn target(taken: bool, to: u16, at: usize, stop: usize) -> usize
 // An instruction that leads to the next one, and the place of that.
 fn advance_from<'a>(
     alloc: Global,
-    machine: &Machine<'a>,
+    machine: &Machine<'a, '_>,
     instruction: &Instruction,
     at: usize,
     stop: usize,
@@ -138,7 +138,7 @@ fn advance_from<'a>(
 #[cycle(execute)]
 fn run_instruction<'a>(
     alloc: Global,
-    machine: &Machine<'a>,
+    machine: &Machine<'a, '_>,
     instruction: &Instruction,
     steps: usize,
     at: usize,
@@ -180,7 +180,7 @@ fn run_instruction<'a>(
 #[cycle(execute)]
 fn run_macro<'a>(
     alloc: Global,
-    machine: &Machine<'a>,
+    machine: &Machine<'a, '_>,
     kind: Macro,
     steps: usize,
     at: usize,
@@ -199,11 +199,11 @@ fn run_macro<'a>(
     Ok(end as usize)
 }
 
-// What a macro makes of what it goes over, with its body between two places.
+// What a macro makes of what it goes over, with its body between two places: the items of a list are not copied.
 #[cycle(execute)]
 fn over_range(
     alloc: Global,
-    machine: &Machine<'_>,
+    machine: &Machine<'_, '_>,
     kind: Macro,
     steps: usize,
     first: usize,
@@ -214,17 +214,35 @@ fn over_range(
     requires enough { end < first + steps }
     ensures { IfOk result (λ o. outcome_of o ≡ over_items kind (λ v. top (next_of machine.now steps first end (items_of machine.now ++ v ∷ []) [])) (range_of (outcome_of of.now))) }
 {
-    match range_of(alloc, of)? {
-        Some(items) => {
-            if items.len() > LONGEST_RANGE {
-                Ok(Outcome::Error)
-            } else {
-                let outcomes = run_bodies(alloc, machine, kind, steps, first, end, &items)?;
-                reduced(alloc, kind, &items, &outcomes)
-            }
-        }
-        None => Ok(Outcome::Error),
+    match list_items(of) {
+        Some(items) => over_items(alloc, machine, kind, steps, first, end, items),
+        None => match range_of(alloc, of)? {
+            Some(keys) => over_items(alloc, machine, kind, steps, first, end, &keys),
+            None => Ok(Outcome::Error),
+        },
     }
+}
+
+// What a macro makes of these items.
+#[cycle(execute)]
+fn over_items(
+    alloc: Global,
+    machine: &Machine<'_, '_>,
+    kind: Macro,
+    steps: usize,
+    first: usize,
+    end: usize,
+    items: &Vec<Value>,
+) -> Result<Outcome, AllocError>
+    requires body { BeginsBody machine.now first end }
+    requires enough { end < first + steps }
+    ensures { IfOk result (λ o. outcome_of o ≡ over_items kind (λ v. top (next_of machine.now steps first end (items_of machine.now ++ v ∷ []) [])) (Some (values_seen items.now.items))) }
+{
+    if items.len() > LONGEST_RANGE {
+        return Ok(Outcome::Error);
+    }
+    let outcomes = run_bodies(alloc, machine, kind, steps, first, end, items)?;
+    reduced(alloc, kind, items, outcomes)
 }
 
 // Whether the outcome of the body for an item decides what a macro gives, whatever the others are.
@@ -238,11 +256,12 @@ fn decides(kind: Macro, outcome: &Outcome) -> bool
     }
 }
 
-// The outcomes of a macro's body for the items, up to the first that decides what the macro gives.
+// The outcomes of a macro's body for the items, up to the first that decides what the macro gives. One stack serves all bodies, since
+// each leaves it empty.
 #[cycle(execute)]
-fn run_bodies(
+fn run_bodies<'a>(
     alloc: Global,
-    machine: &Machine<'_>,
+    machine: &Machine<'a, '_>,
     kind: Macro,
     steps: usize,
     first: usize,
@@ -254,8 +273,9 @@ fn run_bodies(
     ensures { IfOk result (λ v. reduced kind (values_seen items.now.items) (outcomes_seen v.items) ≡ reduced kind (values_seen items.now.items) (map (λ v. top (next_of machine.now steps first end (items_of machine.now ++ v ∷ []) [])) (values_seen items.now.items))) }
 {
     let mut outcomes = Vec::new(alloc);
+    let mut stack = Vec::new(alloc);
     for item in items {
-        let outcome = run_body(alloc, machine, steps, first, end, item)?;
+        let outcome = run_body(alloc, machine, steps, first, end, item, &mut stack)?;
         let decided = decides(kind, &outcome);
         outcomes.push(outcome)?;
         if decided {
@@ -265,36 +285,37 @@ fn run_bodies(
     Ok(outcomes)
 }
 
-// The outcome of a macro's body for an item.
+// The outcome of a macro's body for an item, on an empty stack.
 #[cycle(execute)]
-fn run_body(
+fn run_body<'a>(
     alloc: Global,
-    machine: &Machine<'_>,
+    machine: &Machine<'a, '_>,
     steps: usize,
     first: usize,
     end: usize,
     item: &Value,
+    stack: &mut Vec<Held<'a>>,
 ) -> Result<Outcome, AllocError>
     requires body { BeginsBody machine.now first end }
     requires enough { end < first + steps }
-    ensures { IfOk result (λ o. outcome_of o ≡ top (next_of machine.now steps first end (items_of machine.now ++ value_of item.now ∷ []) [])) }
+    requires empty { stack.old.items ≡ [] }
+    ensures outcome { IfOk result (λ o. outcome_of o ≡ top (next_of machine.now steps first end (items_of machine.now ++ value_of item.now ∷ []) [])) }
+    ensures empty { OnOk result (stack.new.items ≡ []) }
 {
-    let slots = with_item(alloc, machine.slots, item)?;
     let inner = Machine {
         bindings: machine.bindings,
         code: machine.code,
-        slots: &slots,
+        slots: with_item(machine.slots, item),
     };
-    let mut stack = Vec::new(alloc);
-    execute(alloc, &inner, steps, first, end, &mut stack)?;
-    take_top(alloc, &mut stack)
+    execute(alloc, &inner, steps, first, end, stack)?;
+    take_top(alloc, stack)
 }
 
 // The instruction at a place: where it leads.
 #[cycle(execute)]
 fn step_at<'a>(
     alloc: Global,
-    machine: &Machine<'a>,
+    machine: &Machine<'a, '_>,
     steps: usize,
     at: usize,
     stop: usize,
@@ -317,7 +338,7 @@ fn step_at<'a>(
 #[cycle(execute)]
 fn execute<'a>(
     alloc: Global,
-    machine: &Machine<'a>,
+    machine: &Machine<'a, '_>,
     steps: usize,
     at: usize,
     stop: usize,
@@ -357,7 +378,7 @@ pub fn run(alloc: Global, plan: &Verified, bindings: &Bindings<'_>) -> Result<Ou
     let machine = Machine {
         bindings: *bindings,
         code,
-        slots: &[],
+        slots: Slots::Empty,
     };
     let end = code.len();
     let mut stack = Vec::new(alloc);

@@ -63,7 +63,7 @@ pub(crate) fn take_list(
     ensures { OnOk result (stack_seen stack.new.items ≡ list_of (reverse (take count (stack_seen stack.old.items))) ∷ drop count (stack_seen stack.old.items)) }
 {
     let items = take_many(alloc, count, stack)?;
-    put(stack, list_of(alloc, &items)?)
+    put(stack, list_of(alloc, items)?)
 }
 
 // The two outcomes that were put first.

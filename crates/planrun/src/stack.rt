@@ -75,7 +75,8 @@ pub(crate) fn pop_outcomes(
 /// Takes the topmost outcome.
 pub(crate) fn take_top(alloc: Global, stack: &mut Vec<Held<'_>>) -> Result<Outcome, AllocError>
     requires { 1 ≤ length stack.old.items }
-    ensures { IfOk result (λ o. outcome_of o ≡ top (stack_seen stack.old.items)) }
+    ensures taken { IfOk result (λ o. outcome_of o ≡ top (stack_seen stack.old.items)) }
+    ensures shorter { length stack.new.items + 1 ≡ length stack.old.items }
 {
     into_outcome(alloc, pop(stack))
 }

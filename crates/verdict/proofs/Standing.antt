@@ -1,10 +1,9 @@
 -- Objects as they are held, beside those that they stand for.
 use Rattle.std.proofs.Common.{◌≡◌, true, false, cond, List, [], ◌∷◌, Option, Some, None, option_map, map, refl, sym, ap, ◌∙◌}
-use Rattle.std.specs.List.{AllByRecursion, filter, filter_map, cons_option}
+use Rattle.std.specs.List.{filter, filter_map, cons_option}
 use Rattle.std.specs.Ordering.{eq_by_cmp, is_eq, nat_cmp, ordering_then}
 use Rattle.std.specs.declared.cmp.Ordering.{Ordering}
 use Rattle.std.specs.Prelude.{IfSome}
-use Rattle.serde_json.specs.Data.{Data}
 use Rattle.documents.specs.Document.{shown}
 use Rattle.names.specs.Key.{Key, key_cmp}
 use Rattle.names.specs.Resource.{row}

@@ -8,12 +8,10 @@ use Rattle.policy.specs.Forms.{Text}
 use Rattle.policy.specs.Spec as spec
 use Rattle.policy.specs.declared.binding.Action.{Action}
 use Rattle.policy.specs.declared.binding.Action.TheVariants.{Warn}
-use Rattle.evaluation.specs.Denials.{Denial, Conditions, conditions}
-use Rattle.evaluation.specs.Environment.{seen}
-use Rattle.evaluation.specs.Trees.{conditions_of}
+use Rattle.evaluation.specs.Denials.{Denial}
 use Rattle.verdict.specs.Parameters.{Shown}
-use Rattle.verdict.specs.Verdict.{Verdict, admitted, denied, and_warn, warning, on_action, on_conditions, denial}
-use Rattle.verdict.specs.Turns.{after_warnings}
+use Rattle.verdict.specs.Verdict.{Verdict, admitted, denied, and_warn, warning, on_action, denial}
+use Rattle.verdict.specs.Turns.{after_warnings, asked}
 
 one_more : (ws : List Text) (t : Text) (rest : Verdict) → after_warnings ws (and_warn t rest) ≡ after_warnings (ws ++ t ∷ []) rest
 one_more ws t (admitted ts) = let p : ws ++ (t ∷ ts) ≡ (ws ++ t ∷ []) ++ ts = search (rules, common_steps) in ap admitted p
@@ -24,8 +22,6 @@ pub warned : (ws : List Text) (a : Action) (name : Text) (b : spec.Binding) (d :
 warned ws a name b d rest is = ap (λ (x : Action). after_warnings ws (on_action x name b d rest)) is ∙ one_more ws (warning b.policy name d.message) rest
 
 -- what is said of a write that is matched
-pub asked : (objects : Shown) (p : spec.Policy) (trees : List Expr) (b : spec.Binding) (w : Attempt) (found : Conditions) → is_matched p.constraints b.resources w ≡ true
-    → found ≡ conditions (conditions_of p trees) (seen w None) → on_conditions objects p trees b w found ≡ denial objects p trees b w
-asked objects p trees b w found matched is =
-    ap (λ (c : Conditions). on_conditions objects p trees b w c) is
-    ∙ sym (ap (λ (m : Bool). if m then on_conditions objects p trees b w (conditions (conditions_of p trees) (seen w None)) else None) matched)
+pub said : (objects : Shown) (p : spec.Policy) (trees : List Expr) (b : spec.Binding) (w : Attempt) → is_matched p.constraints b.resources w ≡ true
+    → asked objects p trees b w ≡ denial objects p trees b w
+said objects p trees b w matched = sym (ap (λ (m : Bool). if m then asked objects p trees b w else None) matched)

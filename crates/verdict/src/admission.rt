@@ -1,6 +1,6 @@
 //! The verdict on a write.
 
-ghost use Rattle.std.specs.Prelude.{◌≡◌, ◌≤◌, List, map, option_map, Some, None, IfOk, IsErrOf, string_bytes};
+ghost use Rattle.std.specs.Prelude.{◌≡◌, ◌≤◌, List, map, option_map, Some, None, IfOk, OnOk, IfSome, IsErrOf, string_bytes};
 ghost use Rattle.std.specs.List.{filter_map};
 ghost use Rattle.std.specs.Option.{option_map_or};
 ghost use Rattle.serde_json.specs.View.{view};
@@ -20,7 +20,7 @@ use crate::bound::Bound;
 use crate::lookup::{Found, Listed, Lookup, LookupFault};
 use crate::one_binding::denial;
 use crate::texts::warning;
-use evaluation::{Denial, request_document};
+use evaluation::Denial;
 use matching::Attempt;
 use policy::{Action, Reason};
 use serde_json::Value as Json;
@@ -65,7 +65,7 @@ impl<'a> Model for Named<'a> {
 fn bindings_among<'a>(alloc: Global, listed: &[Listed<'a>]) -> Result<Vec<Named<'a>>, AllocError>
     ensures { IfOk result (λ v. v.items ≡ filter_map held_binding (map listed_seen listed.now)) }
 {
-    let mut bindings = Vec::new(alloc);
+    let mut bindings = Vec::with_capacity(alloc, listed.len())?;
     for entry in listed {
         let found = entry.found;
         if let Some(bound) = found.bound {
@@ -98,9 +98,10 @@ fn denial_of<'a, L: Lookup<'a>>(
     found: &Found<'_>,
     bound: &Bound,
     attempt: &Attempt<'_>,
-    request: &Json,
+    request: &mut Option<Json>,
 ) -> Result<Option<Denial>, LookupFault>
-    requires told { view request.now ≡ request_of (attempt_seen attempt.now) }
+    requires told { IfSome request.old (λ d. view d ≡ request_of (attempt_seen attempt.now)) }
+    ensures told { OnOk result (IfSome request.new (λ d. view d ≡ request_of (attempt_seen attempt.now))) }
     ensures found { (objects : Objects) (object : Object) → L.shows lookup.old objects → HasTrees ValidatingAdmissionPolicy object → held_by found.now ≡ held object
         → IfOk result (λ o. option_map denial_seen o ≡ denial_by_policy objects (attempt_seen attempt.now) bound.now object) }
     ensures kept { (objects : Objects) → L.shows lookup.old objects → L.shows lookup.new objects }
@@ -132,9 +133,10 @@ fn denial_by<'a, L: Lookup<'a>>(
     lookup: &mut L,
     bound: &Bound,
     attempt: &Attempt<'_>,
-    request: &Json,
+    request: &mut Option<Json>,
 ) -> Result<Option<Denial>, LookupFault>
-    requires told { view request.now ≡ request_of (attempt_seen attempt.now) }
+    requires told { IfSome request.old (λ d. view d ≡ request_of (attempt_seen attempt.now)) }
+    ensures told { OnOk result (IfSome request.new (λ d. view d ≡ request_of (attempt_seen attempt.now))) }
     ensures found { (objects : Objects) → L.shows lookup.old objects → HaveTrees objects
         → IfOk result (λ o. option_map denial_seen o ≡ denial_by objects (attempt_seen attempt.now) bound.now) }
     ensures kept { (objects : Objects) → L.shows lookup.old objects → L.shows lookup.new objects }
@@ -179,15 +181,13 @@ fn decide(
     }
 }
 
-// The verdict of the bindings, one after another.
+// The verdict of the bindings, one after another. The write's document is made where a policy is asked for it, and once.
 fn verdict_of<'a, L: Lookup<'a>>(
     alloc: Global,
     lookup: &mut L,
     bindings: &[Named<'_>],
     attempt: &Attempt<'_>,
-    request: &Json,
 ) -> Result<Verdict, LookupFault>
-    requires told { view request.now ≡ request_of (attempt_seen attempt.now) }
     ensures found { (objects : Objects) → L.shows lookup.old objects → HaveTrees objects
         → IfOk result (λ v. verdict_seen v ≡ model.verdict_of (map (finding objects (attempt_seen attempt.now)) bindings.now)) }
     ensures kept { (objects : Objects) → L.shows lookup.old objects → L.shows lookup.new objects }
@@ -197,8 +197,9 @@ fn verdict_of<'a, L: Lookup<'a>>(
     ensures damaged { IsErrOf result LookupFault.Damaged → L.is_damaged lookup.new }
 {
     let mut warnings = Vec::new(alloc);
+    let mut request = None;
     for named in bindings {
-        if let Some(denial) = denial_by(alloc, lookup, named.bound, attempt, request)? {
+        if let Some(denial) = denial_by(alloc, lookup, named.bound, attempt, &mut request)? {
             if let Some(verdict) = decide(alloc, &mut warnings, named, denial)? {
                 return Ok(verdict);
             }
@@ -228,7 +229,6 @@ pub fn admit<'a, L: Lookup<'a>>(
     ensures device { IsErrOf result LookupFault.Device → HasGrown (L.failures lookup.old) (L.failures lookup.new) }
     ensures damaged { IsErrOf result LookupFault.Damaged → L.is_damaged lookup.new }
 {
-    let request = request_document(alloc, attempt)?;
     let bindings = bindings(alloc, lookup)?;
-    verdict_of(alloc, lookup, &bindings, attempt, &request)
+    verdict_of(alloc, lookup, &bindings, attempt)
 }

@@ -1,6 +1,6 @@
 //! What one binding of a policy says of a write.
 
-ghost use Rattle.std.specs.Prelude.{◌≡◌, ◌≤◌, ◌++◌, List, map, option_map, Some, None, IfOk, IsErrOf, string_bytes};
+ghost use Rattle.std.specs.Prelude.{◌≡◌, ◌≤◌, ◌++◌, List, map, option_map, Some, None, IfOk, OnOk, IfSome, IsErrOf, string_bytes};
 ghost use Rattle.serde_json.specs.View.{view};
 ghost use Rattle.celtree.specs.Tree.{Expr};
 ghost use Rattle.matching.specs.Rules.{attempt_seen};
@@ -11,13 +11,14 @@ ghost use Rattle.evaluation.specs.Ready.{AreReady};
 ghost use Rattle.evaluation.specs.Seen.{conditions_seen, denial_seen};
 ghost use Rattle.verdict.specs.Objects.{Objects, shown_objects};
 ghost use Rattle.verdict.specs.Verdict.{on_not_found, on_parameters, on_conditions, denial};
+ghost use Rattle.verdict.specs.Turns.{asked};
 ghost use Rattle.verdict.specs.Seen.{parameters_seen};
 ghost use Rattle.verdict.specs.Causes.{HasGrown};
 ghost use Rattle.verdict.specs.declared.lookup.LookupFault.TheVariants as LookupFault;
 
 use crate::lookup::{Lookup, LookupFault};
 use crate::parameters::{Parameters, parameters_of};
-use evaluation::{Conditions, Denial, conditions, evaluate, failure};
+use evaluation::{Conditions, Denial, conditions, evaluate, failure, request_document};
 use jsondoc::Doc;
 use matching::{Attempt, matches};
 use plancode::Verified;
@@ -151,8 +152,33 @@ fn on_conditions<'a, L: Lookup<'a>>(
     }
 }
 
+// The denial of a write that the policy and the binding are for, if they give one.
+fn asked<'a, L: Lookup<'a>>(
+    alloc: Global,
+    lookup: &mut L,
+    policy: &Policy,
+    plans: &[Verified],
+    binding: &Binding,
+    attempt: &Attempt<'_>,
+    request: &Json,
+) -> Result<Option<Denial>, LookupFault>
+    requires told { view request.now ≡ request_of (attempt_seen attempt.now) }
+    ensures found { (objects : Objects) (trees : List Expr) → L.shows lookup.old objects → AreReady (policy_seen policy.now) trees plans.now
+        → IfOk result (λ o. option_map denial_seen o ≡ asked (shown_objects objects) (policy_seen policy.now) trees (binding_seen binding.now) (attempt_seen attempt.now)) }
+    ensures kept { (objects : Objects) → L.shows lookup.old objects → L.shows lookup.new objects }
+    ensures goes { L.goes_to lookup.old lookup.new }
+    ensures counts { L.failures lookup.old ≤ L.failures lookup.new }
+    ensures device { IsErrOf result LookupFault.Device → HasGrown (L.failures lookup.old) (L.failures lookup.new) }
+    ensures damaged { IsErrOf result LookupFault.Damaged → L.is_damaged lookup.new }
+{
+    let found = conditions(alloc, policy, plans, attempt, request)?;
+    on_conditions(
+        alloc, lookup, policy, plans, binding, attempt, request, found,
+    )
+}
+
 /// The denial of a write by a policy with a binding, if they give one. `plans` are those of the policy's expressions, and `request`
-/// is the write's `request` document.
+/// is the write's `request` document, if it was made: it is made here for the first policy that is asked for the write.
 ///
 /// # Errors
 ///
@@ -164,9 +190,10 @@ pub(crate) fn denial<'a, L: Lookup<'a>>(
     plans: &[Verified],
     binding: &Binding,
     attempt: &Attempt<'_>,
-    request: &Json,
+    request: &mut Option<Json>,
 ) -> Result<Option<Denial>, LookupFault>
-    requires told { view request.now ≡ request_of (attempt_seen attempt.now) }
+    requires told { IfSome request.old (λ d. view d ≡ request_of (attempt_seen attempt.now)) }
+    ensures told { OnOk result (IfSome request.new (λ d. view d ≡ request_of (attempt_seen attempt.now))) }
     ensures found { (objects : Objects) (trees : List Expr) → L.shows lookup.old objects → AreReady (policy_seen policy.now) trees plans.now
         → IfOk result (λ o. option_map denial_seen o ≡ denial (shown_objects objects) (policy_seen policy.now) trees (binding_seen binding.now) (attempt_seen attempt.now)) }
     ensures kept { (objects : Objects) → L.shows lookup.old objects → L.shows lookup.new objects }
@@ -178,8 +205,11 @@ pub(crate) fn denial<'a, L: Lookup<'a>>(
     if !matches(&policy.constraints, &binding.resources, attempt) {
         return Ok(None);
     }
-    let found = conditions(alloc, policy, plans, attempt, request)?;
-    on_conditions(
-        alloc, lookup, policy, plans, binding, attempt, request, found,
-    )
+    let told = match request.take() {
+        Some(told) => told,
+        None => request_document(alloc, attempt)?,
+    };
+    let denial = asked(alloc, lookup, policy, plans, binding, attempt, &told)?;
+    *request = Some(told);
+    Ok(denial)
 }

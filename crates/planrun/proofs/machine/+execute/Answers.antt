@@ -32,21 +32,24 @@ run_bodies-returns-then-decided t c =
     let f = λ (v : seen.Value). top (next_of m c.args.steps c.args.first c.args.end (items_of m ++ v ∷ []) []) in
     rw c.in_ok-push.ensures.items
     (early c.args.kind f (values_seen c.args.items.now.items) c.args.items.now.items c.loop-item.item-index c.item-item.result c.loop-item.outcomes.items c.in_ok-outcome.outcome
-    (rw c.deref-item-items.ensures.value at c.loop-item-test.true) (rw c.deref-item-items.ensures.value at c.item-item.is) c.loop-item.invariant c.in_ok-outcome.ensures (sym c.if-decided.ensures))
+    (rw c.deref-item-items.ensures.value at c.loop-item-test.true) (rw c.deref-item-items.ensures.value at c.item-item.is) c.loop-item.invariant.gathered c.in_ok-outcome.ensures.outcome (sym c.if-decided.ensures))
 
 pub run_bodies-loop-item-preserved : goal.run_bodies-loop-item-preserved
 run_bodies-loop-item-preserved t c =
     let m = c.args.machine.now in
     let f = λ (v : seen.Value). top (next_of m c.args.steps c.args.first c.args.end (items_of m ++ v ∷ []) []) in
-    rw c.in_ok-push.ensures.items
-    (gathered f c.args.items.now.items c.loop-item.item-index (c.loop-item.item-index + 1) c.item-item.result c.loop-item.outcomes.items c.in_ok-outcome.outcome
-    (rw c.deref-item-items.ensures.value at c.loop-item-test.true) (rw c.deref-item-items.ensures.value at c.item-item.is) (omega arith) c.loop-item.invariant c.in_ok-outcome.ensures)
+    record {
+      gathered = rw c.in_ok-push.ensures.items
+          (gathered f c.args.items.now.items c.loop-item.item-index (c.loop-item.item-index + 1) c.item-item.result c.loop-item.outcomes.items c.in_ok-outcome.outcome
+          (rw c.deref-item-items.ensures.value at c.loop-item-test.true) (rw c.deref-item-items.ensures.value at c.item-item.is) (omega arith) c.loop-item.invariant.gathered c.in_ok-outcome.ensures.outcome);
+      empty = c.in_ok-outcome.ensures.empty;
+    }
 
 pub run_bodies-returns : goal.run_bodies-returns
 run_bodies-returns t c =
     let m = c.args.machine.now in
     let f = λ (v : seen.Value). top (next_of m c.args.steps c.args.first c.args.end (items_of m ++ v ∷ []) []) in
-    all_gathered c.args.kind f (values_seen c.args.items.now.items) c.args.items.now.items c.loop-item.item-index c.loop-item.outcomes.items (omega (arith, c.deref-item-items.ensures.len, c.loop-item-test.false)) c.loop-item.invariant
+    all_gathered c.args.kind f (values_seen c.args.items.now.items) c.args.items.now.items c.loop-item.item-index c.loop-item.outcomes.items (omega (arith, c.deref-item-items.ensures.len, c.loop-item-test.false)) c.loop-item.invariant.gathered
 
 pub run_instruction-topmost-requires : goal.run_instruction-topmost-requires
 run_instruction-topmost-requires t c = rw c.in-IfFalse.is at (operands _ _ _ _ _ _ _ c.requires.here)

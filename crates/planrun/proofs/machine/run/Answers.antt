@@ -17,7 +17,7 @@ returns-clause-machine c =
     let ran = rw c.new-stack.ensures.items at c.in_ok-execute.ensures.same in
     let whole = whole_run w c.instructions-code.result.now ∙ ap (λ ops. outcome w ops) c.instructions-code.ensures.same in
     IfOk-weaker c.take_top.result (λ o. outcome_of o ≡ top (stack_seen c.execute.new.stack.items)) (λ o. outcome_of o ≡ outcome w c.args.plan.now.ops)
-    (λ o g. g ∙ (ap top (sym ran) ∙ whole)) c.take_top.ensures
+    (λ o g. g ∙ (ap top (sym ran) ∙ whole)) c.take_top.ensures.taken
 
 pub returns-clause-meaning : goal.returns-clause-meaning
 returns-clause-meaning c = λ e env r.

@@ -1,5 +1,8 @@
 use Rattle.std.proofs.Common.{◌≡◌, ◌≤◌, map, drop, string_bytes}
+use Rattle.std.specs.Prelude.{IfSome}
+use Rattle.serde_json.specs.View.{view}
 use Rattle.matching.specs.Rules.{attempt_seen}
+use Rattle.evaluation.specs.Environment.{request_of}
 use Rattle.verdict.specs.Admission.{finding}
 use Rattle.verdict.specs.Objects.{Objects, HaveTrees}
 use Rattle.verdict.specs.Verdict.{verdict_of}
@@ -15,3 +18,4 @@ invariant-loop-named g l =
     × ((objects : Objects) → g.L.Lookup.shows l.fn.lookup objects → g.L.Lookup.shows l.lookup objects)
     × g.L.Lookup.goes_to l.fn.lookup l.lookup
     × (g.L.Lookup.failures l.fn.lookup ≤ g.L.Lookup.failures l.lookup)
+    × IfSome l.request (λ d. view d ≡ request_of (attempt_seen l.attempt))
