@@ -19,7 +19,8 @@ use Rattle.entries.specs.Entries.{object_entry, plan_entry, plan_entries, event_
 use Rattle.entries.specs.Holding.{CanHoldObject, CanHoldEvent, HasFewPlans, IsHoldable}
 use Rattle.entries.proofs.Ascending.{below_append, below_marks, below_plans, events_above}
 use Rattle.entries.proofs.One.{one_object, one_event}
-use Rattle.entries.proofs.Pieces.{AreAbove, split_plans}
+use Rattle.entries.proofs.Pieces.{split_plans}
+use Rattle.entries.specs.Reading.{AreAbove}
 
 -- the first entry is no object's
 abbrev BeginsOtherwise : List Entry → Type 0
