@@ -81,7 +81,7 @@ module _ {P : Type 0} (plans : Key × Stored P → List ℕ) where
 
   module _ (rules : Rules) where
     -- the plans behind a policy, and the events, are above the policy's own plans
-    above : (k : Key) (os : List (Key × Stored P)) (es : List (Event Document)) → IsTrue (is_key k) → k.resource ≡ ValidatingAdmissionPolicy
+    pub above : (k : Key) (os : List (Key × Stored P)) (es : List (Event Document)) → IsTrue (is_key k) → k.resource ≡ ValidatingAdmissionPolicy
         → AllByRecursion (CanHoldObject rules) os → AllByRecursion (HasFewPlans plans) os → below_all key_cmp k os ≡ true
         → AreAbove k (plans_among plans os ++ map event_entry es)
     above k os es is policy can few below i =

@@ -22,6 +22,11 @@ impl Model for KeptObject {
 
     ghost Value = { KeyData × Stored (List ℕ) };
 
+    ghost use Rattle.std.specs.Coded.{codes};
+    ghost use Rattle.jsondoc.specs.DataCode.{coded_data};
+
+    ghost coded = { Prim.hlevel (codes, coded_data) };
+
     ghost view = { λ o. (o.manifest.key, record { document = document_in o.manifest.body; beside = o.plans.items; revision = o.revision }) };
 }
 
@@ -40,6 +45,11 @@ impl Model for KeptView {
     ghost use Rattle.history.specs.View.{View};
 
     ghost Value = { View (List ℕ) };
+
+    ghost use Rattle.std.specs.Coded.{codes};
+    ghost use Rattle.jsondoc.specs.DataCode.{coded_data};
+
+    ghost coded = { Prim.hlevel (codes, coded_data) };
 
     ghost view = { λ v. record { objects = v.objects.items; revision = v.revision; events = v.events.items } };
 }

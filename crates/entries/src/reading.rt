@@ -12,7 +12,7 @@ ghost use Rattle.history.specs.declared.state.Stored.{Stored};
 ghost use Rattle.history.specs.View.{View};
 ghost use Rattle.pages.specs.Page.{Entry as EntryData};
 ghost use Rattle.entries.specs.declared.fault.EntryFault.TheVariants as EntryFault;
-ghost use Rattle.entries.specs.Entries.{plan_entries, event_entry, stored_entry, plans_among, entries_of};
+ghost use Rattle.entries.specs.Entries.{plan_entry, plan_entries, event_entry, stored_entry, plans_among, entries_of};
 ghost use Rattle.entries.specs.Holding.{IsStorableEvent, CanHoldObject, HasFewPlans, IsHoldable};
 ghost use Rattle.entries.specs.Laws.{bytes_beside};
 ghost use Rattle.entries.specs.Reading.{entry_read, IsReadObject, IsStorableStored, BeginsOtherwise, BeginsWithout, AreAbove, ArePlans, AreFollowed, IsReadView};
@@ -66,7 +66,8 @@ fn is_piece(
     number: usize,
     entry: &Entry,
 ) -> Result<bool, AllocError>
-    ensures { IfOk result (λ is. is ≡ false → BeginsWithout policy.now number (entry.now ∷ [])) }
+    ensures other { IfOk result (λ is. is ≡ false → BeginsWithout policy.now number (entry.now ∷ [])) }
+    ensures piece { IfOk result (λ is. IsTrue is → entry.now.0 ≡ (plan_entry policy.now [] number).0) }
     ensures few { IfOk result (λ is. IsTrue is → number < 65536) }
 {
     if number > 65535 {
@@ -195,9 +196,9 @@ pub fn read_view(alloc: Global, entries: &[Entry], revision: u64) -> Result<Kept
     ensures damaged { IsErrOf result EntryFault.Damaged
         → (rules : Rules) (v : View (List ℕ)) → IsHoldable bytes_beside rules v → v.revision ≡ revision → entries_of bytes_beside v ≢ entries.now }
 {
-    let objects = read_objects(alloc, entries)?;
-    let behind = &entries[objects.len()..];
-    let (objects, count) = with_plans(alloc, objects, behind)?;
+    let read = read_objects(alloc, entries)?;
+    let behind = &entries[read.len()..];
+    let (objects, count) = with_plans(alloc, read, behind)?;
     let events = read_events(alloc, &behind[count..])?;
     if !are_numbered(&events, revision) {
         return Err(EntryFault::Damaged);
