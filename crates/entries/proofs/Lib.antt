@@ -7,3 +7,4 @@ pub mod Pieces
 pub mod Views
 pub mod Adding
 pub mod Fitting
+pub mod FoundAgain

@@ -19,7 +19,8 @@ use Rattle.entries.specs.Entries.{object_entry, plan_entry, plan_entries, event_
 use Rattle.entries.specs.Holding.{CanHoldObject, CanHoldEvent, HasFewPlans, IsHoldable}
 use Rattle.entries.proofs.Ascending.{below_append, below_marks, below_plans, events_above}
 use Rattle.entries.proofs.One.{one_object, one_event}
-use Rattle.entries.proofs.Pieces.{AreAbove, split_plans}
+use Rattle.entries.proofs.Pieces.{split_plans}
+use Rattle.entries.specs.Reading.{AreAbove}
 
 -- the first entry is no object's
 abbrev BeginsOtherwise : List Entry → Type 0
@@ -80,7 +81,7 @@ module _ {P : Type 0} (plans : Key × Stored P → List ℕ) where
 
   module _ (rules : Rules) where
     -- the plans behind a policy, and the events, are above the policy's own plans
-    above : (k : Key) (os : List (Key × Stored P)) (es : List (Event Document)) → IsTrue (is_key k) → k.resource ≡ ValidatingAdmissionPolicy
+    pub above : (k : Key) (os : List (Key × Stored P)) (es : List (Event Document)) → IsTrue (is_key k) → k.resource ≡ ValidatingAdmissionPolicy
         → AllByRecursion (CanHoldObject rules) os → AllByRecursion (HasFewPlans plans) os → below_all key_cmp k os ≡ true
         → AreAbove k (plans_among plans os ++ map event_entry es)
     above k os es is policy can few below i =

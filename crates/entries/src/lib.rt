@@ -27,16 +27,20 @@ mod bytes;
 mod entry;
 mod event;
 mod fault;
+mod kept;
 mod laws;
 mod object;
 mod plans;
+mod reading;
 
 pub use entry::Entry;
 pub use event::{event_entry, read_event};
 pub use fault::EntryFault;
+pub use kept::{KeptObject, KeptView};
 pub use laws::{
     entries_ascend, entries_fit_pages, entries_have_one_view, entry_has_one_event,
     entry_has_one_object, histories_are_holdable,
 };
 pub use object::{StoredObject, object_entry, read_object};
 pub use plans::{plan_entries, read_piece};
+pub use reading::read_view;

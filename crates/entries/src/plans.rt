@@ -26,7 +26,7 @@ fn piece(plans: &[u8], number: usize) -> &[u8]
 }
 
 // The key of a piece of a policy's plans.
-fn piece_key(alloc: Global, key: &Key, number: u16) -> Result<Vec<u8>, AllocError>
+pub(crate) fn piece_key(alloc: Global, key: &Key, number: u16) -> Result<Vec<u8>, AllocError>
     ensures { IfOk result (λ v. v.items ≡ (2 ∷ key.now.name) ++ 0 ∷ big_bytes 2 number) }
 {
     let mut two = [0; 2];

@@ -1,6 +1,9 @@
-ghost use Rattle.std.specs.Prelude.{◌≡◌, ◌+◌, ◌^◌, ◌<◌, ◌≤◌, length, map, Some, None, IsTrue, IfOk, OnOk, IfErr, option_copied, option_map};
+ghost use Rattle.std.specs.Prelude.{◌≡◌, ◌+◌, ◌^◌, ◌<◌, ◌≤◌, ◌++◌, ◌∷◌, [], length, map, Some, None, IsTrue, IfOk, OnOk, OnErr, IfErr, option_copied, option_map};
+ghost use Rattle.std.specs.FinMap.{is_sorted};
 ghost use Rattle.std.specs.List.{filter};
-ghost use Rattle.objects.specs.Objects.{is_of};
+ghost use Rattle.circular_buffer.specs.Buffer.{keep_last};
+ghost use Rattle.names.specs.Key.{key_cmp};
+ghost use Rattle.objects.specs.Objects.{is_of, with_value};
 ghost use Rattle.std.specs.Option.{option_map_or};
 ghost use Rattle.requests.specs.Codes.{document_in};
 ghost use Rattle.requests.specs.Collection.{collection_of};
@@ -13,7 +16,7 @@ ghost use Rattle.history.specs.History as write;
 ghost use Rattle.history.specs.Listing.{objects_in, watch_conditions};
 ghost use Rattle.history.specs.Prepared.{IsReadyWrite, AreReady, write_of, writes_of};
 ghost use Rattle.history.specs.Reply.{status, showing};
-ghost use Rattle.window.specs.Window.{events_above};
+ghost use Rattle.window.specs.Window.{event_at, events_above};
 ghost use Rattle.history.specs.View.{empty, stored_at, exists, change_at, document_at, is_too_large, is_full, is_exhausted, after, after_all};
 
 use crate::prepared::{PreparedWrite, Put};
@@ -23,7 +26,7 @@ use objects::{Entry, Objects};
 use requests::{Collection, Manifest, Refusal};
 use std::alloc::{AllocError, Global};
 use std::marker::Model;
-use window::{Change, Events, Window, WindowFault};
+use window::{Change, Event, Events, Window, WindowFault};
 
 /// A stored document, what stands beside it, and the revision of its last write.
 #[derive(Drop)]
@@ -69,6 +72,69 @@ impl<P: Drop> Core<P> {
             objects: Objects::new(alloc),
             window: Window::new(alloc, rules)?,
         })
+    }
+
+    /// A store at a revision of which no object and no event is known yet.
+    pub fn behind(alloc: Global, rules: Rules, revision: u64) -> Result<Core<P>, AllocError>
+        requires { 0 < revision }
+        ensures rules { IfOk result (λ c. c.rules ≡ rules) }
+        ensures view { IfOk result (λ c. c.view ≡ record { objects = []; revision = revision; events = [] }) }
+    {
+        Ok(Core {
+            rules,
+            objects: Objects::new(alloc),
+            window: Window::behind(alloc, rules, revision)?,
+        })
+    }
+
+    /// Holds an object as it was stored, over one that is held at its key. It makes no event, and no revision.
+    pub fn hold(
+        &mut self,
+        alloc: Global,
+        key: &Key,
+        stored: Stored<P>,
+    ) -> Result<(), AllocError>
+        ensures rules { self.new.rules ≡ self.old.rules }
+        ensures view { OnOk result (self.new.view ≡ record {
+            objects = with_value key.now stored self.old.view.objects;
+            revision = self.old.view.revision;
+            events = self.old.view.events;
+        }) }
+        ensures unchanged { OnErr result (self.new.view ≡ self.old.view) }
+    {
+        self.objects.reserve(1)?;
+        let entry = Entry::new(alloc, key.clone()?, stored)?;
+        let _old = self.objects.put(entry);
+        Ok(())
+    }
+
+    /// Keeps an event that was, as that of the next revision. It changes no object.
+    pub fn keep(&mut self, event: Event<Document>)
+        requires { self.old.view.revision + 1 < 2 ^ 64 }
+        ensures rules { self.new.rules ≡ self.old.rules }
+        ensures view { self.new.view ≡ record {
+            objects = self.old.view.objects;
+            revision = self.old.view.revision + 1;
+            events = keep_last self.old.rules.window_events
+                (self.old.view.events ++ event_at (self.old.view.revision + 1) event.change event.key event.document ∷ []);
+        } }
+    {
+        self.window.push(event.change, event.key, event.document);
+    }
+
+    /// All objects, ascending by key.
+    pub fn objects(&self) -> &[Entry<Stored<P>>]
+        ensures value { result.now ≡ self.now.view.objects }
+        ensures ascending { IsTrue (is_sorted key_cmp self.now.view.objects) }
+    {
+        self.objects.entries()
+    }
+
+    /// The last events, oldest first.
+    pub fn events(&self) -> Events<'_, Document>
+        ensures { result ≡ self.now.view.events }
+    {
+        self.window.events()
     }
 
     /// The numbers that the store keeps to.

@@ -90,6 +90,14 @@ impl<T> Objects<T> {
         self.entries.len()
     }
 
+    /// All entries, ascending by key.
+    pub fn entries(&self) -> &[Entry<T>]
+        ensures value { result.now ≡ self.now.entries }
+        ensures ascending { IsTrue (is_sorted key_cmp self.now.entries) }
+    {
+        self.entries.as_slice()
+    }
+
     /// Whether there are no objects.
     pub fn is_empty(&self) -> bool
         ensures { IsTrue result ↔ (self.now.entries ≡ []) }

@@ -64,10 +64,17 @@ impl<D: Drop> Window<D> {
     pub fn new(alloc: Global, rules: Rules) -> Result<Window<D>, AllocError>
         ensures { IfOk result (IsWindowOf rules []) }
     {
-        Ok(Window {
-            ring: HeapCircularBuffer::with_capacity(alloc, rules.window_events)?,
-            revision: 1,
-        })
+        Window::behind(alloc, rules, 1)
+    }
+
+    /// The window of a store at a revision of which no event is known, with room for as many events as the rules keep. What is
+    /// pushed has the next revisions.
+    pub fn behind(alloc: Global, rules: Rules, revision: u64) -> Result<Window<D>, AllocError>
+        requires { 0 < revision }
+        ensures { IfOk result (λ window. window ≡ record { events = []; revision = revision; places = rules.window_events }) }
+    {
+        let ring = HeapCircularBuffer::with_capacity(alloc, rules.window_events)?;
+        Ok(Window { ring, revision })
     }
 
     /// The revision that the last write made, or 1 where there was none.
@@ -75,6 +82,15 @@ impl<D: Drop> Window<D> {
         ensures { result ≡ self.now.revision }
     {
         self.revision
+    }
+
+    /// All events of the window, oldest first. Takes no memory.
+    pub fn events(&self) -> Events<'_, D>
+        ensures { result ≡ self.now.events }
+    {
+        Events {
+            events: self.ring.iter(),
+        }
     }
 
     /// Adds the event of one more write. Takes no memory.
