@@ -134,6 +134,7 @@ fn of_entries(alloc: Global, word: &str, rest: &str) -> Result<String, Wrong> {
         "reads-event" => reads_event(alloc, rest),
         "pieces" => pieces(alloc, rest),
         "reads-piece" => reads_piece(alloc, rest),
+        "reads-view" => crate::view_lines::reads_view(alloc, rest),
         _ => of_records(alloc, word, rest),
     }
 }

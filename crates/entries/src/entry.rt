@@ -18,6 +18,13 @@ impl Model for Entry {
 impl Entry {
     ghost use Rattle.std.specs.Prelude.{◌≡◌};
 
+    /// A key with what stands under it.
+    pub fn new(key: Vec<u8>, cell: Vec<u8>) -> Entry
+        ensures { result ≡ (key.items, cell.items) }
+    {
+        Entry { key, cell }
+    }
+
     /// The key.
     pub fn key(&self) -> &[u8]
         ensures { result.now ≡ self.now.0 }

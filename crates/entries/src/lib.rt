@@ -17,6 +17,9 @@
 //! entry, and answer `Damaged` only where nothing well-formed has it; `read_piece` gathers plans, piece by piece. At most one object, or event, has an entry ([`entry_has_one_object`],
 //! [`entry_has_one_event`]).
 //!
+//! `read_view` reads all of a view from its entries, the bytes of its plans beside its objects, and answers `Damaged` only where no view that can be held has
+//! these entries and this revision.
+//!
 //! The entries of a view ascend ([`entries_ascend`]), each fits a page ([`entries_fit_pages`]), and at most one view has them, its plans among
 //! it ([`entries_have_one_view`]). What a history shows can be held ([`histories_are_holdable`]). These laws speak of views with the bytes of plans
 //! beside their documents, as records have them; the lemmas behind them (`entries_ascend`, `entries_fit`, `one_view_of` and `holdable` in

@@ -60,12 +60,7 @@ fn read_objects(alloc: Global, entries: &[Entry]) -> Result<Vec<StoredObject>, E
 }
 
 // Whether the entry has the key of the piece of a policy's plans with this number, of which there are 65536.
-fn is_piece(
-    alloc: Global,
-    policy: &Key,
-    number: usize,
-    entry: &Entry,
-) -> Result<bool, AllocError>
+fn is_piece(alloc: Global, policy: &Key, number: usize, entry: &Entry) -> Result<bool, AllocError>
     ensures other { IfOk result (λ is. is ≡ false → BeginsWithout policy.now number (entry.now ∷ [])) }
     ensures piece { IfOk result (λ is. IsTrue is → entry.now.0 ≡ (plan_entry policy.now [] number).0) }
     ensures few { IfOk result (λ is. IsTrue is → number < 65536) }
@@ -104,11 +99,7 @@ fn read_plans(
 }
 
 // The bytes of the plans that an object has, and how many of the first entries these are: none but for a policy.
-fn plans_of(
-    alloc: Global,
-    key: &Key,
-    entries: &[Entry],
-) -> Result<(Vec<u8>, usize), EntryFault>
+fn plans_of(alloc: Global, key: &Key, entries: &[Entry]) -> Result<(Vec<u8>, usize), EntryFault>
     ensures inside { IfOk result (λ r. r.1 ≤ length entries.now) }
     ensures entries { IfOk result (λ r. plan_entries key.now r.0.items ++ drop r.1 entries.now ≡ entries.now) }
     ensures few { IfOk result (λ r. (r.0.items ≢ [] → key.now.resource ≡ ValidatingAdmissionPolicy) × (length r.0.items ≤ 2 ^ 30)) }

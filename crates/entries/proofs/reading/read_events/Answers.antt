@@ -29,11 +29,10 @@ loop-entry-preserved c =
     let events : List (Event Document) = c.loop-entry.events.items in
     let inv = c.loop-entry.invariant in
     let told : ◌≡◌ {A = Entry} (c.key.result.now, c.cell.result.now) x = λ j. (c.key.ensures j, c.cell.ensures j) in
-    let now : c.push.new.self.items ≡ events ++ e ∷ [] = c.in_ok-push.ensures.items in
-    (
+    let now : c.push.new.self.items ≡ events ++ e ∷ [] = c.in_ok-push.ensures.items in (
       ap (map event_entry) now ∙ map_push event_entry events e
-      ∙ ap (λ (front : List Entry). front ++ event_entry e ∷ []) inv.0
-      ∙ ap (λ (y : Entry). take i all ++ y ∷ []) (c.in_ok-read_event.ensures.entry ∙ told ∙ c.entry-item.is)
-      ∙ sym (take_more all i x c.loop-entry-test.true),
+          ∙ ap (λ (front : List Entry). front ++ event_entry e ∷ []) inv.0
+          ∙ ap (λ (y : Entry). take i all ++ y ∷ []) (c.in_ok-read_event.ensures.entry ∙ told ∙ c.entry-item.is)
+          ∙ sym (take_more all i x c.loop-entry-test.true),
       subst (AllByRecursion IsStorableEvent) (sym now) (all-push IsStorableEvent events e inv.1 c.in_ok-read_event.ensures.form),
     )

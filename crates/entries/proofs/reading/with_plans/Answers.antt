@@ -62,36 +62,35 @@ loop-object-preserved c =
     ∙ ap (λ (back : List Entry). plan_entries c.key.result.now plans ++ back) (sym further)
     ∙ c.in_ok-plans.ensures.entries ∙ rest_is
     in
-    let Few : Key → Type 0 = λ k. (plans ≢ [] → k.resource ≡ ValidatingAdmissionPolicy) × (length plans ≤ 2 ^ 30) in
-    (
+    let Few : Key → Type 0 = λ k. (plans ≢ [] → k.resource ≡ ValidatingAdmissionPolicy) × (length plans ≤ 2 ^ 30) in (
       omega (arith, c.in_ok-plans.ensures.inside, ap length rest_is, length-drop at all, inv.0),
       ap (λ (ks : List Kept). map stored_entry ks ++ map entry_read next) now
-      ∙ ap (λ (es : List Entry). es ++ map entry_read next) (map_push stored_entry kept new)
-      ∙ append_assoc (map stored_entry kept) (entry_read o ∷ []) (map entry_read next)
-      ∙ ap (λ (os : List StoredObject). map stored_entry kept ++ map entry_read os) (sym step) ∙ inv.1,
+          ∙ ap (λ (es : List Entry). es ++ map entry_read next) (map_push stored_entry kept new)
+          ∙ append_assoc (map stored_entry kept) (entry_read o ∷ []) (map entry_read next)
+          ∙ ap (λ (os : List StoredObject). map stored_entry kept ++ map entry_read os) (sym step) ∙ inv.1,
       (λ can.
-      let both = inv.2 can in
-      let here : AllByRecursion IsReadObject (o ∷ next) = subst (AllByRecursion IsReadObject) step both.1 in
-      (subst (AllByRecursion IsStorableStored) (sym now) (all-push IsStorableStored kept new both.0 here.0), here.1)),
+          let both = inv.2 can in
+          let here : AllByRecursion IsReadObject (o ∷ next) = subst (AllByRecursion IsReadObject) step both.1 in
+          (subst (AllByRecursion IsStorableStored) (sym now) (all-push IsStorableStored kept new both.0 here.0), here.1)),
       ap (λ (ks : List Kept). plans_among bytes_beside ks ++ drop (at + count) all) now
-      ∙ ap (λ (es : List Entry). es ++ drop (at + count) all) (plans_push kept new)
-      ∙ append_assoc (plans_among bytes_beside kept) (plan_entries o.manifest.key plans) (drop (at + count) all)
-      ∙ ap (λ (es : List Entry). plans_among bytes_beside kept ++ es) read ∙ inv.3,
+          ∙ ap (λ (es : List Entry). es ++ drop (at + count) all) (plans_push kept new)
+          ∙ append_assoc (plans_among bytes_beside kept) (plan_entries o.manifest.key plans) (drop (at + count) all)
+          ∙ ap (λ (es : List Entry). plans_among bytes_beside kept ++ es) read ∙ inv.3,
       subst (AllByRecursion (HasFewPlans bytes_beside)) (sym now)
-      (all-push (HasFewPlans bytes_beside) kept new inv.4 (subst Few key c.in_ok-plans.ensures.few)),
+          (all-push (HasFewPlans bytes_beside) kept new inv.4 (subst Few key c.in_ok-plans.ensures.few)),
       (λ os rest can followed stored planned.
-      let ahead = inv.5 os rest can followed stored planned in
-      let f = ahead_first os kept rest left o next (drop at all) step (inv.2 can).1 ahead in
-      let behind : List Entry = plans_among bytes_beside f.others ++ rest in
-      let same_key : f.first.0 ≡ c.key.result.now = f.key ∙ sym key in
-      let found =
-      c.in_ok-plans.ensures.found f.first.1.beside behind (subst (λ (k : Key). ArePlans k f.first.1.beside behind) same_key f.plans)
-      (ap (λ (k : Key). plan_entries k f.first.1.beside ++ behind) (sym same_key) ∙ f.stand ∙ sym rest_is)
-      in
-      let same : f.first ≡ new = λ i. (f.key i, record { document = f.document i; beside = sym found.0 i; revision = f.revision i }) in
-      let parts : os ≡ c.push.new.self.items ++ f.others =
-      ahead.1 ∙ ap (λ (ks : List Kept). kept ++ ks) (f.parts ∙ ap (λ (k : Kept). k ∷ f.others) same)
-      ∙ sym (append_assoc kept (new ∷ []) f.others) ∙ ap (λ (ks : List Kept). ks ++ f.others) (sym now)
-      in
-      (f.others, parts, f.followed, f.read, sym found.1 ∙ further)),
+          let ahead = inv.5 os rest can followed stored planned in
+          let f = ahead_first os kept rest left o next (drop at all) step (inv.2 can).1 ahead in
+          let behind : List Entry = plans_among bytes_beside f.others ++ rest in
+          let same_key : f.first.0 ≡ c.key.result.now = f.key ∙ sym key in
+          let found =
+          c.in_ok-plans.ensures.found f.first.1.beside behind (subst (λ (k : Key). ArePlans k f.first.1.beside behind) same_key f.plans)
+          (ap (λ (k : Key). plan_entries k f.first.1.beside ++ behind) (sym same_key) ∙ f.stand ∙ sym rest_is)
+          in
+          let same : f.first ≡ new = λ i. (f.key i, record { document = f.document i; beside = sym found.0 i; revision = f.revision i }) in
+          let parts : os ≡ c.push.new.self.items ++ f.others =
+          ahead.1 ∙ ap (λ (ks : List Kept). kept ++ ks) (f.parts ∙ ap (λ (k : Kept). k ∷ f.others) same)
+          ∙ sym (append_assoc kept (new ∷ []) f.others) ∙ ap (λ (ks : List Kept). ks ++ f.others) (sym now)
+          in
+          (f.others, parts, f.followed, f.read, sym found.1 ∙ further)),
     )

@@ -25,5 +25,5 @@ invariant-loop-object l =
     × (plans_among bytes_beside l.kept.items ++ drop l.at l.entries ≡ l.entries)
     × AllByRecursion (HasFewPlans bytes_beside) l.kept.items
     × ((os : List (Key × Stored (List ℕ))) (rest : List Entry) → AllByRecursion IsReadObject l.fn.objects.items → AreFollowed os rest
-        → map stored_entry os ≡ map entry_read l.fn.objects.items → plans_among bytes_beside os ++ rest ≡ l.entries
-        → Ahead os rest l.kept.items left (drop l.at l.entries))
+    → map stored_entry os ≡ map entry_read l.fn.objects.items → plans_among bytes_beside os ++ rest ≡ l.entries
+    → Ahead os rest l.kept.items left (drop l.at l.entries))
