@@ -1,4 +1,4 @@
-use Rattle.std.proofs.Common.{rules, arith, ◌≡◌, ◌∙◌, sym, ap, subst, ◌-◌, true, ℕ, List, ◌++◌, map, take, drop, length}
+use Rattle.std.proofs.Common.{rules, arith, ◌≡◌, ◌∙◌, sym, subst, ◌-◌, true, ℕ, List, ◌++◌, map, take, drop, length}
 use Rattle.std.specs.Prelude.{IsErrOf}
 use Rattle.std.proofs.lemmas.List.{take_rest}
 use Rattle.window.specs.declared.event.Event.{Event}
