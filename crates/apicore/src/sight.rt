@@ -83,7 +83,7 @@ fn all_lent<'a>(
 ) -> Result<Vec<Listed<'a>>, AllocError>
     ensures { IfOk result (λ v. map listed_seen v.items ≡ map entry_held (map (λ entry. entry.now) entries.now)) }
 {
-    let mut listed = Vec::new(alloc);
+    let mut listed = Vec::with_capacity(alloc, entries.len())?;
     for entry in entries {
         listed.push(Listed {
             key: entry.key(),
