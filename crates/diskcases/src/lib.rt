@@ -16,6 +16,7 @@ mod payloads;
 mod record_lines;
 mod root_lines;
 mod scan_lines;
+mod writing_lines;
 
 use apicore::one_history;
 pub use bench::Disk;
