@@ -9,6 +9,7 @@ use crate::page_lines::{page, page_find, page_room, page_with};
 use crate::record_lines::{answered, cuts, damage_word, reads, replay};
 use crate::root_lines::{log_start, new_store, root, write_sector};
 use crate::scan_lines::{lay, scan_pages};
+use crate::writing_lines::write_entries;
 use cases::{Bench, Wrong, compare, first_word, number, shown, text};
 use device::{Device, MemDevice};
 use std::alloc::Global;
@@ -81,6 +82,7 @@ impl Disk {
             "root" => root(alloc, &mut self.device),
             "next" => next(alloc, &mut self.device, rest),
             "install" => install_next(alloc, &mut self.device, rest),
+            "write" => write_entries(alloc, &mut self.device, rest),
             "lay" => lay(alloc, &mut self.device, rest),
             "scan" => scan_pages(alloc, &mut self.device, rest),
             _ => self.of_the_log(alloc, word, rest),

@@ -12,8 +12,8 @@ use names::{Key, Resource};
 use std::alloc::Global;
 use window::{Change, Event};
 
-// An entry: `KEY ; CELL`, each spelled as a payload.
-fn entry_of(alloc: Global, line: &str) -> Result<(Vec<u8>, Vec<u8>), Wrong> {
+/// An entry: `KEY ; CELL`, each spelled as a payload.
+pub(crate) fn entry_of(alloc: Global, line: &str) -> Result<(Vec<u8>, Vec<u8>), Wrong> {
     match line.split_once(" ; ") {
         Some((key, cell)) => {
             let key = payload(alloc, key)?;

@@ -17,6 +17,7 @@ mod record_lines;
 mod root_lines;
 mod scan_lines;
 mod view_lines;
+mod writing_lines;
 
 use apicore::one_history;
 pub use bench::Disk;
