@@ -10,7 +10,7 @@ use Rattle.durable.specs.Settled.{device_of}
 use Rattle.httpmsg.specs.declared.head.End.{End}
 use Rattle.httpmsg.specs.Flow.{TookSome}
 use Rattle.httpmsg.specs.Stream.{Message, Progress, IsCut}
-use Rattle.httpmsg.proofs.Cuts.{empty_unfinished}
+use Rattle.httpmsg.proofs.Cuts.{awaits_first, awaits_now}
 use Rattle.api.specs.declared.fault.ServeFault.{ServeFault}
 use Rattle.api.specs.declared.fault.ServeFault.TheVariants.{Read, Write, Device, Memory, Damaged, Failed}
 use Rattle.api.specs.ReplyBytes.{closing_bytes, end_bytes}
@@ -43,7 +43,7 @@ module _ {I O D : Type 0} {g : Ghosts D} (rules : Rules) (gave : I → I → Lis
     read = [];
     ms = [];
     given = none_given;
-    cut = (refl, empty_unfinished [] refl);
+    cut = (refl, (awaits_now [] 1 (awaits_first [] refl)).1);
     answers = answers_none rules took o store v none_taken shows only_now;
   }
 
