@@ -25,7 +25,7 @@ fn piece(plans: &[u8], number: usize) -> &[u8]
     &rest[..rest.len().min(PIECE_BYTES)]
 }
 
-// The key of a piece of a policy's plans.
+/// The key of a piece of a policy's plans.
 pub(crate) fn piece_key(alloc: Global, key: &Key, number: u16) -> Result<Vec<u8>, AllocError>
     ensures { IfOk result (λ v. v.items ≡ (2 ∷ key.now.name) ++ 0 ∷ big_bytes 2 number) }
 {

@@ -88,17 +88,12 @@ impl<P: Drop> Core<P> {
     }
 
     /// Holds an object as it was stored, over one that is held at its key. It makes no event, and no revision.
-    pub fn hold(
-        &mut self,
-        alloc: Global,
-        key: &Key,
-        stored: Stored<P>,
-    ) -> Result<(), AllocError>
+    pub fn hold(&mut self, alloc: Global, key: &Key, stored: Stored<P>) -> Result<(), AllocError>
         ensures rules { self.new.rules ≡ self.old.rules }
         ensures view { OnOk result (self.new.view ≡ record {
-            objects = with_value key.now stored self.old.view.objects;
-            revision = self.old.view.revision;
-            events = self.old.view.events;
+          objects = with_value key.now stored self.old.view.objects;
+          revision = self.old.view.revision;
+          events = self.old.view.events;
         }) }
         ensures unchanged { OnErr result (self.new.view ≡ self.old.view) }
     {
@@ -113,10 +108,10 @@ impl<P: Drop> Core<P> {
         requires { self.old.view.revision + 1 < 2 ^ 64 }
         ensures rules { self.new.rules ≡ self.old.rules }
         ensures view { self.new.view ≡ record {
-            objects = self.old.view.objects;
-            revision = self.old.view.revision + 1;
-            events = keep_last self.old.rules.window_events
-                (self.old.view.events ++ event_at (self.old.view.revision + 1) event.change event.key event.document ∷ []);
+          objects = self.old.view.objects;
+          revision = self.old.view.revision + 1;
+          events = keep_last self.old.rules.window_events
+              (self.old.view.events ++ event_at (self.old.view.revision + 1) event.change event.key event.document ∷ []);
         } }
     {
         self.window.push(event.change, event.key, event.document);
