@@ -6,7 +6,7 @@ use Rattle.records.specs.declared.fault.RecordFault.TheVariants as record_fault
 use Rattle.planlist.specs.declared.reading.ReadPlansFault as plans_of
 use Rattle.planlist.specs.declared.reading.ReadPlansFault.TheVariants as plans_fault
 use Rattle.apicore.specs.declared.fault.RecoveryFault.{RecoveryFault}
-use Rattle.apicore.specs.declared.fault.RecoveryFault.TheVariants.{Damaged, Memory}
+use Rattle.apicore.specs.declared.fault.RecoveryFault.TheVariants.{Damaged, Plans, Memory}
 
 -- A payload that no write has is damage.
 abbrev pub of_record_fault : record_of.RecordFault → RecoveryFault
@@ -18,7 +18,7 @@ abbrev pub of_replay_fault : replay.ReplayFault → RecoveryFault
 of_replay_fault replay_fault.NotAllowed = Damaged
 of_replay_fault replay_fault.Memory = Memory
 
--- Bytes that no plans have are damage.
+-- Bytes that no plans have are damaged plans.
 abbrev pub of_plans_fault : plans_of.ReadPlansFault → RecoveryFault
-of_plans_fault plans_fault.Damaged = Damaged
+of_plans_fault plans_fault.Damaged = Plans
 of_plans_fault plans_fault.Memory = Memory

@@ -7,7 +7,9 @@ use Rattle.names.specs.Key.{Key, key_cmp}
 use Rattle.requests.specs.Request.{RequestHasForm}
 use Rattle.history.specs.History.{object_at}
 use Rattle.history.specs.Laws.{events_from}
+use Rattle.history.specs.View as seen
 use Rattle.history.specs.View.{stored_at, view, empty}
+use Rattle.apicore.specs.Beside.{Beside}
 use Rattle.apicore.specs.Prepared.{IsReadOf}
 use Rattle.apicore.specs.Standing.{View, History, IsHistory, IsView, AreAdmitted}
 use Rattle.apicore.specs.Step.{Asked, accepted, step, runs}
@@ -57,7 +59,8 @@ ViewDecides =
     (rules : Rules) (g h : History) (a : Asked) → view rules g ≡ view rules h
     → ((step rules g a).1 ≡ (step rules h a).1) × (view rules (step rules g a).0 ≡ view rules (step rules h a).0)
 
--- At most one history with plans has these payloads.
-abbrev pub AtMostOneHistory : Type 0
-AtMostOneHistory =
-    (rules : Rules) (g h : written.History) (payloads : List (List ℕ)) → written.IsWritten rules g payloads → written.IsWritten rules h payloads → g ≡ h
+-- At most one list of writes with plans has these payloads.
+abbrev pub AtMostOneList : Type 0
+AtMostOneList =
+    (rules : Rules) (v : seen.View Beside) (ws us : List written.Write) (payloads : List (List ℕ))
+    → written.IsWritten rules v ws payloads → written.IsWritten rules v us payloads → ws ≡ us

@@ -7,3 +7,4 @@ pub mod Sights
 pub mod Written
 pub mod Faults
 pub mod Laws
+pub mod Compiled

@@ -4,7 +4,7 @@ use Rattle.std.specs.List.{AllByRecursion}
 use Rattle.names.specs.declared.format.Rules.{Rules}
 use Rattle.history.specs.History as plain
 use Rattle.history.specs.History.{put, delete}
-use Rattle.history.specs.View.{AllFollow}
+use Rattle.history.specs.View.{View, AllMayFollow}
 use Rattle.records.specs.Payload as bytes
 use Rattle.records.specs.Payload.{writes_in}
 use Rattle.expressions.specs.Specification.{MayHavePlans}
@@ -40,10 +40,10 @@ pub record IsGroup (ws : List Write) : Type 0 where
   pub held : bytes.IsGroup (map recorded ws)
   pub plans : AllByRecursion HasPlans ws
 
--- The payloads are those of groups, in order, whose writes are this history.
-pub record IsWritten (rules : Rules) (h : History) (payloads : List (List ℕ)) : Type 0 where
+-- The payloads are those of groups, in order, whose writes are these, and may follow a store of which v is seen.
+pub record IsWritten (rules : Rules) (v : View Beside) (ws : List Write) (payloads : List (List ℕ)) : Type 0 where
   pub groups : List (List Write)
   pub payloads_are : payloads ≡ map payload groups
   pub grouped : AllByRecursion IsGroup groups
-  pub parts : h ≡ writes_in groups
-  pub history : AllFollow rules h
+  pub parts : ws ≡ writes_in groups
+  pub follow : AllMayFollow rules v ws

@@ -10,8 +10,10 @@ use std::fmt::{Display, Formatter};
 /// Why payloads give no store.
 #[derive(Clone, Copy)]
 pub enum RecoveryFault {
-    /// No history has these payloads.
+    /// No writes that may follow have these payloads.
     Damaged,
+    /// The bytes of a policy's plans are those of no plans that it may have.
+    Plans,
     /// There was no memory to take them.
     Memory,
 }
@@ -20,6 +22,7 @@ impl Display for RecoveryFault {
     fn fmt<W: fmt::Write>(&self, f: &mut Formatter<W>) -> fmt::Result {
         f.write_str(match self {
             RecoveryFault::Damaged => "damaged log",
+            RecoveryFault::Plans => "damaged plans",
             RecoveryFault::Memory => "out of memory",
         })
     }
@@ -68,7 +71,7 @@ impl From<ReadPlansFault> for RecoveryFault {
 
     fn from(fault: ReadPlansFault) -> RecoveryFault {
         match fault {
-            ReadPlansFault::Damaged => RecoveryFault::Damaged,
+            ReadPlansFault::Damaged => RecoveryFault::Plans,
             ReadPlansFault::Memory => RecoveryFault::Memory,
         }
     }

@@ -1,5 +1,5 @@
 // The laws of the definitions, each the contract of a function.
-ghost use Rattle.apicore.specs.Laws.{AtMostOneHistory, RevisionCounts, KeyHasLastWrite, EventsAreLast, ObjectsAscend, HistoriesShow, WritesFollow, AcceptedAreAdmitted, RunsAreSteps, ViewDecides};
+ghost use Rattle.apicore.specs.Laws.{AtMostOneList, RevisionCounts, KeyHasLastWrite, EventsAreLast, ObjectsAscend, HistoriesShow, WritesFollow, AcceptedAreAdmitted, RunsAreSteps, ViewDecides};
 
 /// The revision is one more than the number of writes.
 pub fn revision_counts()
@@ -46,7 +46,7 @@ pub fn view_decides()
     ensures { ViewDecides }
 {}
 
-/// At most one history has the payloads of a log.
-pub fn one_history()
-    ensures { AtMostOneHistory }
+/// At most one list of writes has the payloads of a log.
+pub fn payloads_have_one_list()
+    ensures { AtMostOneList }
 {}

@@ -13,14 +13,16 @@
 //!
 //! ```text
 //! let payloads = log.records(alloc, &mut device)?;
-//! let core = replayed(alloc, rules, &payloads)?;
+//! let core = replayed(alloc, core, &payloads)?;
 //! ```
 //!
-//! `replayed` gives what is seen of the history whose writes have these payloads, in order, and answers `Damaged` only where no
-//! history has them. At most one history has them.
+//! `replayed` gives what is seen of a store behind the writes that have these payloads, in order, and answers `Damaged` or `Plans` only where no
+//! writes that may follow have them. At most one list of writes has them. `has_own_plans` compiles the expressions of each policy, and
+//! compares their plans with those that stand beside it.
 #![tactic(auto)]
 
 mod beside;
+mod compiling;
 mod conflicts;
 mod fault;
 mod judging;
@@ -33,10 +35,11 @@ mod replay;
 mod sight;
 
 pub use beside::Beside;
+pub use compiling::has_own_plans;
 pub use fault::RecoveryFault;
 pub use laws::{
     accepted_are_admitted, events_are_last, histories_show, key_has_last_write, objects_ascend,
-    one_history, revision_counts, runs_are_steps, view_decides, writes_follow,
+    payloads_have_one_list, revision_counts, runs_are_steps, view_decides, writes_follow,
 };
 pub use prepared::{Core, Prepared};
 pub use preparing::prepare;

@@ -1,43 +1,49 @@
-ghost use Rattle.std.specs.Prelude.{◌≡◌, ℕ, List, map, IfOk, OnOk, IsErrOf};
-ghost use Rattle.history.specs.View.{view, after, after_all, MayFollow, AllMayFollow};
+ghost use Rattle.std.specs.Prelude.{◌≡◌, ◌⊎◌, ℕ, List, map, IfOk, OnOk, IsErrOf};
+ghost use Rattle.history.specs.View.{after, after_all, MayFollow, AllMayFollow};
 ghost use Rattle.history.specs.Mapped.{mapped};
 ghost use Rattle.requests.specs.Codes.{document_in};
 ghost use Rattle.history.specs.History.{put, delete};
 ghost use Rattle.apicore.specs.Standing.{recorded};
 ghost use Rattle.apicore.specs.Prepared.{plans_held};
 ghost use Rattle.apicore.specs.declared.fault.RecoveryFault.TheVariants as RecoveryFault;
-ghost use Rattle.apicore.specs.Written.{Write, History, payload, HasPlans, IsGroup, IsWritten};
+ghost use Rattle.apicore.specs.Written.{Write, payload, HasPlans, IsGroup, IsWritten};
 
 use crate::beside::Beside;
 use crate::fault::RecoveryFault;
 use crate::prepared::Core;
 use expressions::stored_plans;
-use names::{Key, Rules};
+use names::Key;
 use records::{StoredWrite, read_write};
 use requests::Manifest;
 use std::alloc::Global;
 
-/// The store that took the writes of a log with these payloads. `Damaged` where no history has them.
-pub fn replayed(alloc: Global, rules: Rules, payloads: &[Vec<u8>]) -> Result<Core, RecoveryFault>
-    ensures rules { IfOk result (λ core. core.rules ≡ rules) }
-    ensures found { IfOk result (λ core.
-        (h : History) × IsWritten rules h (map (λ p. p.items) payloads.now) × (mapped plans_held core.view ≡ view rules h)) }
-    ensures damaged { IsErrOf result RecoveryFault.Damaged
-        → (h : History) → IsWritten rules h (map (λ p. p.items) payloads.now) → ⊥ }
+/// The store, once it took the writes of a log with these payloads.
+///
+/// # Errors
+///
+/// `Plans` where the plans of a policy are none that it may have, `Damaged` where else no writes that may follow have these payloads, and
+/// `Memory` where there was none.
+pub fn replayed(alloc: Global, core: Core, payloads: &[Vec<u8>]) -> Result<Core, RecoveryFault>
+    ensures rules { IfOk result (λ new. new.rules ≡ core.rules) }
+    ensures found { IfOk result (λ new.
+        (ws : List Write) × IsWritten core.rules (mapped plans_held core.view) ws (map (λ p. p.items) payloads.now)
+        × (mapped plans_held new.view ≡ after_all core.rules (mapped plans_held core.view) ws)) }
+    ensures damaged { IsErrOf result RecoveryFault.Damaged ⊎ IsErrOf result RecoveryFault.Plans
+        → (ws : List Write) → IsWritten core.rules (mapped plans_held core.view) ws (map (λ p. p.items) payloads.now) → ⊥ }
 {
-    let mut core = Core::new(alloc, rules)?;
+    let mut core = core;
     for payload in payloads {
         replay(alloc, &mut core, payload)?;
     }
     Ok(core)
 }
 
-// Takes the writes that have a payload. `Damaged` where no group of writes that may follow has it.
+// Takes the writes that have a payload. `Damaged` or `Plans` where no group of writes that may follow has it.
 fn replay(alloc: Global, core: &mut Core, bytes: &[u8]) -> Result<(), RecoveryFault>
     ensures rules { core.new.rules ≡ core.old.rules }
     ensures taken { OnOk result ((ws : List Write) × IsGroup ws × (payload ws ≡ bytes.now)
         × AllMayFollow core.old.rules (mapped plans_held core.old.view) ws × (mapped plans_held core.new.view ≡ after_all core.old.rules (mapped plans_held core.old.view) ws)) }
-    ensures damaged { IsErrOf result RecoveryFault.Damaged
+    ensures damaged { IsErrOf result RecoveryFault.Damaged ⊎ IsErrOf result RecoveryFault.Plans
         → (ws : List Write) → IsGroup ws → payload ws ≡ bytes.now → AllMayFollow core.old.rules (mapped plans_held core.old.view) ws → ⊥ }
 {
     match read_write(alloc, bytes)? {
@@ -56,7 +62,7 @@ fn replay_put(
     ensures rules { core.new.rules ≡ core.old.rules }
     ensures taken { OnOk result ((w : Write) × HasPlans w × (recorded w ≡ put manifest.key (document_in manifest.body) plans.now)
         × MayFollow core.old.rules (mapped plans_held core.old.view) w × (mapped plans_held core.new.view ≡ after core.old.rules (mapped plans_held core.old.view) w)) }
-    ensures damaged { IsErrOf result RecoveryFault.Damaged
+    ensures damaged { IsErrOf result RecoveryFault.Damaged ⊎ IsErrOf result RecoveryFault.Plans
         → (w : Write) → HasPlans w → recorded w ≡ put manifest.key (document_in manifest.body) plans.now → MayFollow core.old.rules (mapped plans_held core.old.view) w → ⊥ }
 {
     let plans = stored_plans(
@@ -75,7 +81,7 @@ fn replay_delete(alloc: Global, core: &mut Core, key: &Key) -> Result<(), Recove
     ensures rules { core.new.rules ≡ core.old.rules }
     ensures taken { OnOk result (MayFollow core.old.rules (mapped plans_held core.old.view) (delete key.now)
         × (mapped plans_held core.new.view ≡ after core.old.rules (mapped plans_held core.old.view) (delete key.now))) }
-    ensures damaged { IsErrOf result RecoveryFault.Damaged → MayFollow core.old.rules (mapped plans_held core.old.view) (delete key.now) → ⊥ }
+    ensures damaged { IsErrOf result RecoveryFault.Damaged ⊎ IsErrOf result RecoveryFault.Plans → MayFollow core.old.rules (mapped plans_held core.old.view) (delete key.now) → ⊥ }
 {
     core.replay_delete(alloc, key)?;
     Ok(())

@@ -186,10 +186,12 @@ fn write_generation<D: Device, E: Entries>(
         → OnOk result (length (D.disk.content device.new) ≡ 512 * log_start next.now + 512) }
     ensures behind { D.disk.keeps device.old → (next.now.first ≡ 8 → ⊥) → OnOk result
         (length (D.disk.content device.new) ≡ max (length (D.disk.content device.old)) (512 * log_start next.now + 512)) }
+    ensures room { OnOk result (log_start next.now < 2 ^ 54) }
     ensures gives { (content : List ℕ) (all : List Entry) → E.gives entries.old content all → E.gives entries.new content all }
     ensures refusal { OnErr result (IsErrOf result WriteFault.Device ⊎ IsErrOf result WriteFault.Damaged) }
     ensures kept { D.disk.keeps device.old → D.disk.keeps device.new }
     ensures had_kept { D.disk.keeps device.new → D.disk.keeps device.old }
+    ensures count { D.disk.failures device.old ≤ D.disk.failures device.new }
     ensures cause { IsErrOf result WriteFault.Device → HasFailed D.disk device.old device.new }
 {
     clear_slot(device, current)?;
@@ -244,6 +246,7 @@ pub fn write<D: Device, E: Entries>(
     ensures place { IfOk result (λ written. IsPlace current.now.first last_gate written.root.pages written.root.first) }
     ensures pages { IfOk result (λ written. written.root.pages ≡ length written.first_keys.items) }
     ensures revision { IfOk result (λ written. written.root.revision ≡ revision) }
+    ensures room { IfOk result (λ written. log_start written.root < 2 ^ 54) }
     ensures front { D.disk.keeps device.old → IfOk result (λ written. written.root.first ≡ 8
         → length (D.disk.content device.new) ≡ 512 * log_start written.root + 512) }
     ensures behind { D.disk.keeps device.old → IfOk result (λ written. (written.root.first ≡ 8 → ⊥)
@@ -264,6 +267,7 @@ pub fn write<D: Device, E: Entries>(
     ensures gives { (content : List ℕ) (all : List Entry) → E.gives entries.old content all → E.gives entries.new content all }
     ensures kept { D.disk.keeps device.old → D.disk.keeps device.new }
     ensures had_kept { D.disk.keeps device.new → D.disk.keeps device.old }
+    ensures count { D.disk.failures device.old ≤ D.disk.failures device.new }
 {
     let first_keys = first_keys(alloc, device, entries)?;
     let root = next_of(current, last_gate, &first_keys, revision)?;

@@ -3,6 +3,8 @@ use Rattle.std.specs.Prelude.{◌≡◌, ◌≤◌, ◌+◌, ℕ, List, [], ◌+
 use Rattle.std.specs.List.{AllByRecursion}
 use Rattle.device.specs.declared.device.Device.{Ghosts}
 use Rattle.device.specs.Disk.{LeavesOnly}
+use Rattle.gatelog.specs.declared.gate_log.Log.{Log}
+use Rattle.checkpoint.specs.declared.root.Root.{Root}
 use Rattle.names.specs.declared.format.Rules.{Rules}
 use Rattle.requests.specs.Request.{Request}
 use Rattle.history.specs.Reply.{Reply}
@@ -50,6 +52,14 @@ module _ {D : Type 0} {g : Ghosts D} where
   -- what a store holds of its objects, with their plans
   abbrev pub shown : Store D g → seen.View Beside
   shown store = store.core.view
+
+  -- the root that counts on it
+  abbrev pub root_of : Store D g → Root
+  root_of store = store.root
+
+  -- the log behind the root's pages
+  abbrev pub log_of : Store D g → Log
+  log_of store = store.log
 
   -- At every moment since old a crash leaves the history, followed by some first ones of the writes.
   abbrev pub LeavesSome : Rules → (old new : Store D g) → History → List Write → Type 0

@@ -1,33 +1,36 @@
 //! What is found on a device that is opened.
 
-ghost use Rattle.std.specs.Prelude.{◌≡◌, ◌≢◌, false, ℕ, List, map, IfOk, OnOk, OnErr, IsErrOf};
+ghost use Rattle.std.specs.Prelude.{◌≡◌, ◌≢◌, ◌<◌, ◌≤◌, ◌*◌, ◌^◌, false, ℕ, List, length, map, IfOk, OnOk, OnErr, IsErrOf};
 ghost use Rattle.device.specs.Disk.{Only, HasFailed};
 ghost use Rattle.device.specs.Step.{Same};
 ghost use Rattle.device.specs.Run.{Ran};
 ghost use Rattle.gatelog.specs.Log.{HoldsLog};
-ghost use Rattle.checkpoint.specs.Root.{HoldsRoot};
+ghost use Rattle.checkpoint.specs.Root.{log_start};
 ghost use Rattle.names.specs.declared.format.Rules.{Rules};
-ghost use Rattle.apicore.specs.Standing.{History};
+ghost use Rattle.apicore.specs.Standing.{History, IsHistory};
 ghost use Rattle.durable.specs.declared.fault.Damage.{Damage};
 ghost use Rattle.durable.specs.declared.fault.Fault.TheVariants as Fault;
 ghost use Rattle.durable.specs.Opened.{IsLogOf, IsReplayed};
 ghost use Rattle.apicore.specs.Prepared.{Shows};
 ghost use Rattle.history.specs.View.{view};
-ghost use Rattle.durable.specs.Rules.{first_rules};
-ghost use Rattle.durable.specs.Stands.{StandsFor};
+ghost use Rattle.snapshots.specs.Keeping.{IsHeld};
+ghost use Rattle.durable.specs.Rules.{first_rules, AreOfFormat};
+ghost use Rattle.durable.specs.Stands.{HoldsBase, StandsFor};
 
-use crate::fault::{Damage, Fault};
-use apicore::{Core, RecoveryFault, replayed};
-use checkpoint::{Root, counted_root};
+use crate::fault::Fault;
+use apicore::{Core, replayed};
+use checkpoint::{Root, counted_root, scan};
 use device::Device;
 use gatelog::Log;
 use names::{Format, Rules};
+use snapshots::{Gathered, restored};
 use std::alloc::Global;
 
-/// What is shown of a history, and the log that it was read from.
+/// What is shown of a history, and the root and the log that it was read from.
 #[derive(Drop)]
 pub(crate) struct Opened {
     pub(crate) core: Core,
+    pub(crate) root: Root,
     pub(crate) log: Log,
 }
 
@@ -39,22 +42,24 @@ fn rules() -> Rules
     Format::First.rules()
 }
 
-// The root that counts, which has no pages.
-fn root_without_pages<D: Device>(device: &mut D) -> Result<Root, Fault>
-    ensures found { D.disk.keeps device.old → IfOk result (HoldsRoot (D.disk.content device.old)) }
-    ensures no_pages { IfOk result (λ root. root.pages ≡ 0) }
-    ensures revision { IfOk result (λ root. root.revision ≡ 1) }
+// The core that shows what the pages of a root keep.
+fn read_base<D: Device>(alloc: Global, device: &mut D, root: &Root) -> Result<Core, Fault>
+    requires small { log_start root.now < 2 ^ 54 }
+    requires inside { D.disk.keeps device.old → 512 * log_start root.now ≤ length (D.disk.content device.old) }
+    ensures rules { IfOk result (λ core. core.rules ≡ first_rules) }
+    ensures held { IfOk result (λ core. IsHeld core.rules core.view) }
+    ensures found { D.disk.keeps device.old → (rules : Rules) (base : History) → AreOfFormat rules → IsHistory rules base
+        → HoldsBase rules (D.disk.content device.old) root.now base → IfOk result (λ core. Shows core.view (view rules base)) }
     ensures damaged { D.disk.keeps device.old → (damage : Damage) → IsErrOf result (Fault.Damaged damage)
-        → (rules : Rules) (h : History) → StandsFor rules (D.disk.content device.old) h → ⊥ }
+        → (rules : Rules) (base : History) → AreOfFormat rules → IsHistory rules base
+        → HoldsBase rules (D.disk.content device.old) root.now base → ⊥ }
     ensures ran { Ran D.disk device.old device.new Same }
-    ensures refusal { (result ≢ Err Fault.Failed) × (result ≢ Err Fault.Memory) }
+    ensures refusal { (result ≢ Err Fault.Failed) × (result ≢ Err Fault.Exhausted) }
     ensures cause { IsErrOf result Fault.Device → HasFailed D.disk device.old device.new }
 {
-    let root = counted_root(device)?;
-    if root.pages != 0 || root.revision != 1 {
-        return Err(Fault::Damaged(Damage::Root));
-    }
-    Ok(root)
+    let mut told = Gathered::new(alloc);
+    scan(alloc, device, root, &mut told)?;
+    Ok(restored(alloc, rules(), told.entries(), root.revision)?)
 }
 
 // The log at a gate, and its payloads.
@@ -64,7 +69,7 @@ fn read_log<D: Device>(alloc: Global, device: &mut D, at: u64) -> Result<(Log, V
     ensures damaged { D.disk.keeps device.old → (damage : Damage) → IsErrOf result (Fault.Damaged damage)
         → (payloads : List (List ℕ)) (last : ℕ) → HoldsLog at payloads last (D.disk.content device.old) → ⊥ }
     ensures ran { Ran D.disk device.old device.new Same }
-    ensures refusal { result ≢ Err Fault.Failed }
+    ensures refusal { (result ≢ Err Fault.Failed) × (result ≢ Err Fault.Exhausted) }
     ensures cause { IsErrOf result Fault.Device → HasFailed D.disk device.old device.new }
 {
     let mut log = Log::open(device, at)?;
@@ -76,44 +81,38 @@ fn read_log<D: Device>(alloc: Global, device: &mut D, at: u64) -> Result<(Log, V
 fn read_store<D: Device>(alloc: Global, device: &mut D) -> Result<Opened, Fault>
     ensures rules { IfOk result (λ opened. opened.core.rules ≡ first_rules) }
     ensures works { IfOk result (λ opened. opened.log.failed ≡ false) }
+    ensures in_data { IfOk result (λ opened. 8 ≤ opened.log.start) }
     ensures found { D.disk.keeps device.old → (rules : Rules) (h : History) → StandsFor rules (D.disk.content device.old) h
         → IfOk result (λ opened. (opened.core.rules ≡ rules) × Shows opened.core.view (view rules h)) }
     ensures replayed { IfOk result (λ opened. IsReplayed opened.core.rules opened.core.view) }
-    ensures log { D.disk.keeps device.old → IfOk result (λ opened. IsLogOf (D.disk.content device.old) opened.log) }
+    ensures log { D.disk.keeps device.old → IfOk result (λ opened. IsLogOf (D.disk.content device.old) opened.root opened.log) }
     ensures damaged { D.disk.keeps device.old → (damage : Damage) → IsErrOf result (Fault.Damaged damage)
         → (rules : Rules) (h : History) → StandsFor rules (D.disk.content device.old) h → ⊥ }
     ensures ran { Ran D.disk device.old device.new Same }
-    ensures refusal { result ≢ Err Fault.Failed }
+    ensures refusal { (result ≢ Err Fault.Failed) × (result ≢ Err Fault.Exhausted) }
     ensures cause { IsErrOf result Fault.Device → HasFailed D.disk device.old device.new }
 {
-    let root = match root_without_pages(device) {
-        Ok(root) => root,
-        Err(fault) => return Err(fault),
-    };
-    let (log, payloads) = match read_log(alloc, device, root.log_start()) {
-        Ok(found) => found,
-        Err(fault) => return Err(fault),
-    };
-    match replayed(alloc, rules(), &payloads) {
-        Ok(core) => Ok(Opened { core, log }),
-        Err(RecoveryFault::Damaged) => Err(Fault::Damaged(Damage::Log)),
-        Err(RecoveryFault::Memory) => Err(Fault::Memory),
-    }
+    let root = counted_root(device)?;
+    let base = read_base(alloc, device, &root)?;
+    let (log, payloads) = read_log(alloc, device, root.log_start())?;
+    let core = replayed(alloc, base, &payloads)?;
+    Ok(Opened { core, root, log })
 }
 
 /// Syncs a device, and reads the store on it. Nothing is written.
 pub(crate) fn synced_store<D: Device>(alloc: Global, device: &mut D) -> Result<Opened, Fault>
     ensures rules { IfOk result (λ opened. opened.core.rules ≡ first_rules) }
     ensures works { IfOk result (λ opened. opened.log.failed ≡ false) }
+    ensures in_data { IfOk result (λ opened. 8 ≤ opened.log.start) }
     ensures found { D.disk.keeps device.old → (rules : Rules) (h : History) → StandsFor rules (D.disk.content device.old) h
         → IfOk result (λ opened. (opened.core.rules ≡ rules) × Shows opened.core.view (view rules h)) }
     ensures replayed { IfOk result (λ opened. IsReplayed opened.core.rules opened.core.view) }
-    ensures log { D.disk.keeps device.old → IfOk result (λ opened. IsLogOf (D.disk.content device.old) opened.log) }
+    ensures log { D.disk.keeps device.old → IfOk result (λ opened. IsLogOf (D.disk.content device.old) opened.root opened.log) }
     ensures durable { D.disk.keeps device.old → OnOk result (Only (D.disk.content device.new) (D.disk.left device.new)) }
     ensures damaged { D.disk.keeps device.old → (damage : Damage) → IsErrOf result (Fault.Damaged damage)
         → (rules : Rules) (h : History) → StandsFor rules (D.disk.content device.old) h → ⊥ }
     ensures ran { Ran D.disk device.old device.new Same }
-    ensures refusal { result ≢ Err Fault.Failed }
+    ensures refusal { (result ≢ Err Fault.Failed) × (result ≢ Err Fault.Exhausted) }
     ensures cause { IsErrOf result Fault.Device → HasFailed D.disk device.old device.new }
 {
     if device.sync().is_err() {

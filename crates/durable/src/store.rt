@@ -1,16 +1,19 @@
-ghost use Rattle.std.specs.Prelude.{◌≡◌, ◌≢◌, ◌≤◌, ◌+◌, ◌^◌, ◌++◌, ◌∷◌, [], List, ℕ, length, take, map, true, false, is_ok, None, Some, IsSome, IfSome, IfOk, IfErr, OnOk, OnErr, IsErrOf, ◌⊎◌};
+ghost use Rattle.std.specs.Prelude.{◌≡◌, ◌≢◌, ◌≤◌, ◌+◌, ◌-◌, ◌^◌, ◌++◌, ◌∷◌, [], List, ℕ, length, take, map, true, false, is_ok, None, Some, IsSome, IfSome, IfOk, IfErr, OnOk, OnErr, IsErrOf, ◌⊎◌};
 ghost use Rattle.durable.specs.Rules.{AreOfFormat};
 ghost use Rattle.durable.specs.Opened.{IsReplayed};
 ghost use Rattle.durable.specs.Ready.{IsReady};
 
-use crate::Fault;
+use crate::compacted::{Checked, Compacted};
+use crate::fault::{Damage, Fault};
 use crate::opening::synced_store;
 use crate::record::record_of;
-use apicore::{Core, Prepared, prepare};
+use apicore::{Core, Prepared, has_own_plans, prepare};
+use checkpoint::{EntryList, Root, WriteFault, write};
 use device::Device;
 use gatelog::{Body, Log};
 use history::Reply;
 use requests::Request;
+use snapshots::entries_in;
 use std::alloc::Global;
 
 /// A store of objects on a device.
@@ -18,27 +21,36 @@ use std::alloc::Global;
 pub struct Store<D: Device> {
     device: D,
     core: Core,
+    root: Root,
     log: Log,
     serves: bool,
     ghost limits: { core.rules.text_limit_bytes ≤ 2 ^ 24 },
+    ghost in_data: { 8 ≤ log.start },
     ghost works: { serves ≡ true → log.failed ≡ false },
-    ghost ready: { serves ≡ true → D.disk.keeps device → ∥ IsReady D.disk device log ∥₁ },
+    ghost ready: { serves ≡ true → D.disk.keeps device → ∥ IsReady D.disk device root log ∥₁ },
 }
 
 impl<D: Device> Store<D> {
     ghost use Rattle.device.specs.Disk.{LeavesOnly, HasCause, HasFailed};
     ghost use Rattle.device.specs.Run.{Stands};
+    ghost use Rattle.std.specs.List.{AllByRecursion};
+    ghost use Rattle.gatelog.specs.Log.{HoldsLog};
     ghost use Rattle.gatelog.specs.Payload.{payload_of};
+    ghost use Rattle.checkpoint.specs.Root.{log_start, HoldsRoot};
     ghost use Rattle.names.specs.declared.format.Rules.{Rules};
     ghost use Rattle.requests.specs.RequestOf.{request_of};
     ghost use Rattle.history.specs.Prepared.{AreReady, writes_of};
     ghost use Rattle.history.specs.View.{view, after_all};
     ghost use Rattle.apicore.specs.Standing.{Write, History, View, AllMayFollow};
+    ghost use Rattle.apicore.specs.Compiled.{HasOwnPlans};
+    ghost use Rattle.durable.specs.declared.fault.Damage.{Damage};
+    ghost use Rattle.durable.specs.declared.fault.Damage.TheVariants as Damage;
     ghost use Rattle.durable.specs.declared.fault.Fault.TheVariants as Fault;
+    ghost use Rattle.durable.specs.Compacted.{IsToldOf, IsCheckOf};
     ghost use Rattle.durable.specs.Recorded.{payload, IsGroup};
     ghost use Rattle.durable.specs.Ready.{HoldsHistory};
     ghost use Rattle.durable.specs.Stands.{StandsFor};
-    ghost use Rattle.durable.specs.Settled.{device_of, serves, kept_rules, shown, ServesAt, IsFound, IsSettledAt, LeavesSome, HasReplied, HasFailedAt, HasServed, HasStopped};
+    ghost use Rattle.durable.specs.Settled.{device_of, root_of, log_of, serves, kept_rules, shown, ServesAt, IsFound, IsSettledAt, IsLeftAt, LeavesSome, HasReplied, HasFailedAt, HasServed, HasStopped};
 
     /// Opens the store on a device: syncs it, reads it, and writes nothing. With a refusal it gives the device back.
     ///
@@ -63,7 +75,7 @@ impl<D: Device> Store<D> {
         ensures left_err { D.disk.keeps device → IfErr result (λ e. (c : List ℕ) → D.disk.left e.1 c → D.disk.left device c) }
         ensures refusal { (rules : Rules) (h : History) → D.disk.keeps device → StandsFor rules (D.disk.content device) h
             → IfErr result (λ e. (e.0 ≡ Fault.Device) ⊎ (e.0 ≡ Fault.Memory)) }
-        ensures never_failed { IfErr result (λ e. e.0 ≢ Fault.Failed) }
+        ensures never_failed { IfErr result (λ e. (e.0 ≢ Fault.Failed) × (e.0 ≢ Fault.Exhausted)) }
         ensures cause { IfErr result (λ e. e.0 ≡ Fault.Device → HasFailed D.disk device e.1) }
     {
         let mut device = device;
@@ -71,6 +83,7 @@ impl<D: Device> Store<D> {
             Ok(opened) => Ok(Store {
                 device,
                 core: opened.core,
+                root: opened.root,
                 log: opened.log,
                 serves: true,
             }),
@@ -150,6 +163,7 @@ impl<D: Device> Store<D> {
     fn append(&mut self, body: Body) -> Result<(), Fault>
         requires { serves self.old ≡ true }
         ensures core { self.new.core ≡ self.old.core }
+        ensures root { self.new.root ≡ self.old.root }
         ensures stands { (rules : Rules) (h : History) (ws : List Write) → HoldsHistory rules D.disk (device_of self.old) h → AllMayFollow rules (view rules h) ws → IsGroup ws
             → payload_of body ≡ payload ws → Stands D.disk (device_of self.old) (device_of self.new) (IsFound rules h [] ws) (IsFound rules h [] ws) }
         ensures appended { (rules : Rules) (h : History) (ws : List Write) → HoldsHistory rules D.disk (device_of self.old) h → AllMayFollow rules (view rules h) ws → IsGroup ws
@@ -201,5 +215,106 @@ impl<D: Device> Store<D> {
             }
         }
         (replies, None)
+    }
+    /// Writes what the store shows as the next generation, with an empty log. What it shows stays as it is.
+    ///
+    /// # Errors
+    ///
+    /// `Memory`, and `Exhausted` only where the generation is 2^64 - 1: nothing changed. `Device` only where the device failed in this call: the
+    /// old generation counts or the new one, and the store answers `Failed` from then on. `Damaged` never from a store that shows the view
+    /// of a history. `Failed` after a failure, with no call of the device.
+    pub fn compact(&mut self, alloc: Global) -> Result<Compacted, Fault>
+        ensures settled { (rules : Rules) (h : History) → IsSettledAt rules self.old h → OnOk result (IsSettledAt rules self.new h) }
+        ensures serving { (rules : Rules) (v : View) → ServesAt rules self.old v → OnOk result (ServesAt rules self.new v) }
+
+        // The root that counts is the next one, and no record stands behind it.
+        ensures counts { (rules : Rules) (h : History) → IsSettledAt rules self.old h
+            → OnOk result (HoldsRoot (D.disk.content (device_of self.new)) (root_of self.new)
+            × HoldsLog (log_start (root_of self.new)) [] (log_start (root_of self.new)) (D.disk.content (device_of self.new))) }
+        ensures next { OnOk result ((root_of self.new).generation ≡ (root_of self.old).generation + 1) }
+        ensures empty { OnOk result (((log_of self.new).start ≡ log_start (root_of self.new)) × ((log_of self.new).last ≡ (log_of self.new).start)) }
+        ensures told { IfOk result (IsToldOf (root_of self.new)) }
+
+        // At every moment a crash leaves the history.
+        ensures any_moment { (rules : Rules) (h : History) → IsSettledAt rules self.old h → LeavesSome rules self.old self.new h [] }
+        ensures device { (rules : Rules) (h : History) → IsSettledAt rules self.old h → IsErrOf result Fault.Device → IsLeftAt rules self.new h [] [] }
+
+        ensures memory_serving { (rules : Rules) (v : View) → ServesAt rules self.old v → IsErrOf result Fault.Memory ⊎ IsErrOf result Fault.Exhausted
+            → ServesAt rules self.new v }
+        ensures memory { (rules : Rules) (h : History) → IsSettledAt rules self.old h → IsErrOf result Fault.Memory ⊎ IsErrOf result Fault.Exhausted
+            → IsSettledAt rules self.new h × (D.disk.content (device_of self.new) ≡ D.disk.content (device_of self.old)) }
+        ensures greatest { IsErrOf result Fault.Exhausted → (root_of self.old).generation ≡ 2 ^ 64 - 1 }
+        ensures damaged { (damage : Damage) → IsErrOf result (Fault.Damaged damage) → (rules : Rules) (h : History) → IsSettledAt rules self.old h → ⊥ }
+
+        ensures failed { serves self.old ≡ false → IsErrOf result Fault.Failed × (self.new ≡ self.old) }
+        ensures failed_only { IsErrOf result Fault.Failed → serves self.old ≡ false }
+        ensures goes_on { OnOk result (serves self.new ≡ true) }
+        ensures stops { IsErrOf result Fault.Device → serves self.new ≡ false }
+        ensures cause { IsErrOf result Fault.Device → HasFailed D.disk (device_of self.old) (device_of self.new) }
+        ensures count { D.disk.failures (device_of self.old) ≤ D.disk.failures (device_of self.new) }
+    {
+        if !self.serves {
+            return Err(Fault::Failed);
+        }
+        let mut entries = entries_in(alloc, &self.core)?;
+        self.write_next(alloc, &mut entries)
+    }
+
+    // Writes the entries as the next generation. After a failure the store serves no more.
+    fn write_next(&mut self, alloc: Global, entries: &mut EntryList) -> Result<Compacted, Fault>
+        requires { serves self.old ≡ true }
+    {
+        self.serves = false;
+        let (last_gate, revision) = (self.log.last_gate(), self.core.revision());
+        match write(alloc, &mut self.device, &self.root, last_gate, revision, entries) {
+            Ok(written) => Ok(self.start_over(written.root)),
+            Err(fault) => {
+                self.serves = matches!(fault, WriteFault::Memory | WriteFault::Exhausted);
+                Err(Fault::from(fault))
+            }
+        }
+    }
+
+    // Begins the generation of a root that counts, whose log is empty.
+    fn start_over(&mut self, root: Root) -> Compacted {
+        self.log = Log::restart(&self.device, root.log_start());
+        self.root = root;
+        self.serves = true;
+        Compacted {
+            generation: root.generation,
+            pages: root.pages,
+            first: root.first,
+        }
+    }
+
+    /// Compares the plans of each policy with those of its expressions, which are read, typed and compiled again, and tells what the store has.
+    /// The device is not touched: opening has read all that counts on it.
+    ///
+    /// # Errors
+    ///
+    /// `Memory` changes nothing. `Damaged` where plans are not those of their expressions, and never from a store that shows the view of a
+    /// history; the store answers `Failed` from then on. `Failed` after a failure.
+    pub fn check(&mut self, alloc: Global) -> Result<Checked, Fault>
+        ensures told { IfOk result (IsCheckOf (root_of self.old) (shown self.old)) }
+        ensures plans { OnOk result (AllByRecursion HasOwnPlans (shown self.old).objects) }
+        ensures unchanged { OnOk result (self.new ≡ self.old) }
+        ensures memory { IsErrOf result Fault.Memory → self.new ≡ self.old }
+        ensures device { device_of self.new ≡ device_of self.old }
+        ensures damaged { (damage : Damage) → IsErrOf result (Fault.Damaged damage) → (rules : Rules) (v : View) → ServesAt rules self.old v → ⊥ }
+        ensures refusal { serves self.old ≡ true → OnErr result (IsErrOf result Fault.Memory ⊎ IsErrOf result (Fault.Damaged Damage.Plan)) }
+        ensures failed { serves self.old ≡ false → IsErrOf result Fault.Failed × (self.new ≡ self.old) }
+    {
+        if !self.serves {
+            return Err(Fault::Failed);
+        }
+        if !has_own_plans(alloc, &self.core)? {
+            self.serves = false;
+            return Err(Fault::Damaged(Damage::Plan));
+        }
+        Ok(Checked {
+            revision: self.core.revision(),
+            objects: self.core.object_count(),
+            generation: self.root.generation,
+        })
     }
 }

@@ -38,4 +38,11 @@ impl Entry {
     {
         &self.cell
     }
+
+    /// The key, and what stands under it.
+    pub fn into_parts(self) -> (Vec<u8>, Vec<u8>)
+        ensures { (result.0.items, result.1.items) ≡ self }
+    {
+        (self.key, self.cell)
+    }
 }

@@ -1,0 +1,55 @@
+//! Whether plans are those of the expressions beside which they stand.
+
+ghost use Rattle.std.specs.Prelude.{◌≡◌, false, IsTrue, IfOk};
+ghost use Rattle.std.specs.List.{AllByRecursion};
+ghost use Rattle.apicore.specs.Compiled.{HasOwnPlans};
+ghost use Rattle.apicore.specs.Prepared.{Shows};
+ghost use Rattle.apicore.specs.Standing.{View, IsView};
+
+use crate::beside::Beside;
+use crate::prepared::Core;
+use expressions::{Specification, plans_bytes, specification_of};
+use history::Stored;
+use names::{Key, Resource};
+use plancode::Verified;
+use std::alloc::{AllocError, Global};
+
+// Whether two lists of plans have the same bytes, as those of an object of a resource.
+fn have_same_bytes(
+    alloc: Global,
+    resource: Resource,
+    held: &[Verified],
+    own: &[Verified],
+) -> Result<bool, AllocError> {
+    match (plans_bytes(alloc, resource, held), plans_bytes(alloc, resource, own)) {
+        (Ok(held), Ok(own)) => Ok(held == own),
+        // Plans that may be held are never too long, so memory was wanting.
+        _ => Err(AllocError),
+    }
+}
+
+// Whether the plans of an object are those of its own expressions.
+fn has_own(alloc: Global, key: &Key, stored: &Stored<Beside>) -> Result<bool, AllocError>
+{
+    match specification_of(alloc, key.resource(), stored.document.json())? {
+        Specification::Sound(plans) => have_same_bytes(alloc, key.resource(), stored.beside.plans(), &plans),
+        Specification::BadSpec | Specification::BadExpression(_) => Ok(false),
+    }
+}
+
+/// Whether each object that is held has the plans of its own expressions: they are read, typed and compiled again, and the bytes compared.
+///
+/// # Errors
+///
+/// Where there was no memory.
+pub fn has_own_plans(alloc: Global, core: &Core) -> Result<bool, AllocError>
+    ensures yes { IfOk result (λ has. IsTrue has → AllByRecursion HasOwnPlans core.now.view.objects) }
+    ensures no { IfOk result (λ has. has ≡ false → (v : View) → Shows core.now.view v → IsView v → ⊥) }
+{
+    for held in core.objects() {
+        if !has_own(alloc, held.key(), held.value())? {
+            return Ok(false);
+        }
+    }
+    Ok(true)
+}

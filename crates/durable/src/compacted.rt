@@ -1,0 +1,21 @@
+//! What is told of a store as a whole.
+
+/// The generation that a compaction wrote.
+#[derive(Clone, Copy)]
+pub struct Compacted {
+    pub generation: u64,
+    /// How many pages it has, of 64 sectors each.
+    pub pages: u32,
+    /// Its first sector.
+    pub first: u64,
+}
+
+/// What was found of a store that is whole.
+#[derive(Clone, Copy)]
+pub struct Checked {
+    /// That of the last write, 1 where there was none.
+    pub revision: u64,
+    /// How many objects are stored.
+    pub objects: usize,
+    pub generation: u64,
+}

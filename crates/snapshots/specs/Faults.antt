@@ -1,0 +1,17 @@
+-- How the faults of the layers below are told.
+use Rattle.entries.specs.declared.fault.EntryFault as entry
+use Rattle.entries.specs.declared.fault.EntryFault.TheVariants as entry_fault
+use Rattle.planlist.specs.declared.reading.ReadPlansFault as plans_of
+use Rattle.planlist.specs.declared.reading.ReadPlansFault.TheVariants as plans_fault
+use Rattle.snapshots.specs.declared.fault.SnapshotFault.{SnapshotFault}
+use Rattle.snapshots.specs.declared.fault.SnapshotFault.TheVariants.{Entry, Plans, Memory}
+
+-- Entries of no view are damage.
+abbrev pub of_entry_fault : entry.EntryFault → SnapshotFault
+of_entry_fault entry_fault.Damaged = Entry
+of_entry_fault entry_fault.Memory = Memory
+
+-- So are bytes of no plans.
+abbrev pub of_plans_fault : plans_of.ReadPlansFault → SnapshotFault
+of_plans_fault plans_fault.Damaged = Plans
+of_plans_fault plans_fault.Memory = Memory

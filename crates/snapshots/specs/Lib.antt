@@ -1,0 +1,4 @@
+pub mod Keeping
+pub mod Gathered
+pub mod Faults
+pub mod Laws
