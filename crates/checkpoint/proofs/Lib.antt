@@ -9,6 +9,7 @@ pub mod Hearing
 pub mod Taking
 pub mod Cutting
 pub mod Passing
+pub mod Ascending
 pub mod Steps
 pub mod Chain
 pub mod Staging

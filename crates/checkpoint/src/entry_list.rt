@@ -1,9 +1,12 @@
 //! Entries that lie in memory.
 
-ghost use Rattle.std.specs.Prelude.{◌≡◌};
+ghost use Rattle.std.specs.Prelude.{◌≡◌, ◌↔◌, IsTrue};
+ghost use Rattle.std.specs.FinMap.{is_sorted};
+ghost use Rattle.pages.specs.Page.{bytes_cmp};
 ghost use Rattle.checkpoint.specs.EntryList.{listed, entries_of};
 
 use crate::filling::{Entries, EntriesFault};
+use crate::index::is_below;
 use device::Device;
 
 /// Entries that lie in memory, walked in the order that they have there. No walk of theirs fails.
@@ -20,6 +23,18 @@ impl EntryList {
         ensures { entries_of result ≡ listed entries.items }
     {
         EntryList { entries, passed: 0 }
+    }
+
+    /// Whether the keys ascend.
+    pub fn ascends(&self) -> bool
+        ensures { IsTrue result ↔ IsTrue (is_sorted bytes_cmp (entries_of self.now)) }
+    {
+        for at in 1..self.entries.len() {
+            if !is_below(&self.entries[at - 1].0, &self.entries[at].0) {
+                return false;
+            }
+        }
+        true
     }
 }
 

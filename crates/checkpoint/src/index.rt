@@ -17,8 +17,8 @@ pub(crate) struct Index {
     pub(crate) last_key: Vec<u8>,
 }
 
-// Whether a key is below another one.
-fn is_below(key: &[u8], other: &[u8]) -> bool
+/// Whether a key is below another one.
+pub(crate) fn is_below(key: &[u8], other: &[u8]) -> bool
     ensures { IsTrue result ↔ (bytes_cmp key.now other.now ≡ Less) }
 {
     key.cmp(other).is_lt()

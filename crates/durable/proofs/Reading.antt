@@ -1,5 +1,5 @@
 -- What reading a device tells of the history that its content stands for.
-use Rattle.std.proofs.Common.{arith, ◌≡◌, ◌≤◌, ◌^◌, ◌∙◌, sym, ap, subst, ◌++◌, ℕ, List, [], ◌∷◌, refl, map}
+use Rattle.std.proofs.Common.{arith, ◌≡◌, ◌≤◌, ◌<◌, ◌^◌, ◌∙◌, sym, ap, subst, ◌++◌, ℕ, List, [], ◌∷◌, refl, map}
 use Rattle.std.proofs.lemmas.List.{map-append}
 use Rattle.std.specs.List.{AllByRecursion}
 use Rattle.gatelog.specs.Log.{HoldsLog}
@@ -15,21 +15,24 @@ use Rattle.history.specs.History.{put, delete}
 use Rattle.history.specs.View as seen
 use Rattle.history.specs.View.{view, after, after_all, empty}
 use Rattle.history.proofs.Mapping.{all_mapped, all_follow_mapped}
+use Rattle.history.proofs.ViewLemmas.{after_all-append}
 use Rattle.apicore.specs.Beside.{Beside}
 use Rattle.apicore.specs.Standing.{Write, History, View, PutsTrees, HasTrees, AllMayFollow, IsHistory, plans_beside, with_plans, write_with_plans}
 use Rattle.records.specs.Payload.{writes_in}
 use Rattle.apicore.specs.Written as written
 use Rattle.apicore.specs.Written.{IsWritten}
-use Rattle.apicore.proofs.Histories.{one_history as payloads_one}
+use Rattle.apicore.proofs.Histories.{one_list}
 use Rattle.durable.specs.Recorded.{payload, IsGroup}
 use Rattle.apicore.proofs.Following.{AllMayFollow-first, AllMayFollow-others}
 use Rattle.apicore.proofs.Staying.{histories_show}
-use Rattle.durable.specs.Laws.{AtMostOneHistory, AtMostOneView, ReplayedIsShown}
+use Rattle.snapshots.specs.Keeping.{entries_of, IsKeepable}
+use Rattle.snapshots.proofs.Kept.{kept, one_kept_view}
+use Rattle.durable.specs.Laws.{AtMostOneView, ReplayedIsShown}
 use Rattle.names.specs.declared.format.Format.{Format}
 use Rattle.names.specs.declared.format.Format.TheVariants.{First}
 use Rattle.names.specs.Format.{rules_of}
 use Rattle.durable.specs.Rules.{first_rules, AreOfFormat}
-use Rattle.durable.specs.Stands.{StandsFor}
+use Rattle.durable.specs.Stands.{HoldsBase, StandsFor}
 
 -- ---- with plans for trees
 
@@ -107,70 +110,120 @@ first_small = omega arith
 pub first_numbers : (rules : Rules) → AreOfFormat rules → rules ≡ first_rules
 first_numbers rules numbers = numbers.are ∙ rules_of_first numbers.format
 
+pub kept_size : first_rules.text_limit_bytes ≤ 16384
+unfolding first_rules
+kept_size = omega arith
+
+last_below : first_rules.greatest_revision < 2 ^ 64
+unfolding first_rules
+last_below = omega arith
+
+pub of_first : (rules : Rules) → AreOfFormat rules → (P : Rules → Type 0) → P first_rules → P rules
+of_first rules numbers P holds = subst P (sym (first_numbers rules numbers)) holds
+
+-- what a history of a format shows can be kept
+pub history_kept : (rules : Rules) (h : History) → AreOfFormat rules → IsHistory rules h → IsKeepable rules (view rules h)
+history_kept rules h numbers history =
+    let Small : Rules → Type 0 = λ r. r.text_limit_bytes ≤ 2 ^ 24 in
+    let Last : Rules → Type 0 = λ r. r.greatest_revision < 2 ^ 64 in
+    kept rules h (of_first rules numbers Small first_small) (of_first rules numbers Last last_below) history
+
 -- ---- what is read
 
-module _ (rules : Rules) (content : List ℕ) (h : History) (stands : StandsFor rules content h) (root : Root) (counts : HoldsRoot content root) where
-  -- the log of the history stands behind the root that counts
-  pub log_here : HoldsLog (log_start root) (map payload stands.groups) stands.last content
-  log_here =
-      let From : Root → Type 0 = λ r. HoldsLog (log_start r) (map payload stands.groups) stands.last content in
-      subst From (one_counts content stands.root root stands.counts.counts counts.counts) stands.log
+module _ (rules : Rules) (content : List ℕ) (h : History) (stands : StandsFor rules content h) where
+  in_parts : IsHistory rules (stands.base ++ writes_in stands.groups)
+  in_parts = let At : History → Type 0 = λ g. IsHistory rules g in subst At stands.parts stands.history
 
-  -- so it is none where none is there
-  pub no_log_here : ((payloads : List (List ℕ)) (last : ℕ) → HoldsLog (log_start root) payloads last content → ⊥) → ⊥
-  no_log_here none = none (map payload stands.groups) stands.last log_here
+  -- the checkpoint keeps a history
+  pub base_is : IsHistory rules stands.base
+  base_is = AllMayFollow-first rules empty stands.base (writes_in stands.groups) in_parts
 
-  later_is : IsHistory rules (writes_in stands.groups)
-  later_is =
-      let At : History → Type 0 = λ g. IsHistory rules g in
-      subst At (stands.parts ∙ ap (λ (g : History). g ++ writes_in stands.groups) stands.checkpoint.no_writes) stands.history
+  -- and the later writes may follow it
+  pub later_follow : AllMayFollow rules (view rules stands.base) (writes_in stands.groups)
+  later_follow = AllMayFollow-others rules empty stands.base (writes_in stands.groups) in_parts
 
-  -- and its payloads are those that are read
-  pub written_here : (payloads : List (List ℕ)) (last : ℕ) → HoldsLog (log_start root) payloads last content → IsWritten rules (map write_with_plans (writes_in stands.groups)) payloads
-  written_here payloads last log = record {
-    groups = all_with_plans stands.groups;
-    payloads_are = (at_most_one (log_start root) content payloads (map payload stands.groups) last stands.last log log_here).0 ∙ sym (payloads_same stands.groups);
-    grouped = grouped_with rules empty stands.groups stands.grouped later_is;
-    parts = parts_same stands.groups;
-    history = all_follow_mapped plans_beside rules empty (writes_in stands.groups) (follow_plainly rules empty (writes_in stands.groups) later_is);
-  }
+  pub base_kept : IsKeepable rules (view rules stands.base)
+  base_kept = history_kept rules stands.base stands.numbers base_is
 
-  -- what was read of them shows the history
-  pub shows_here : (payloads : List (List ℕ)) (last : ℕ) (held : seen.View Beside) → HoldsLog (log_start root) payloads last content
-      → (g : written.History) × IsWritten rules g payloads × (held ≡ view rules g) → held ≡ with_plans (view rules h)
-  shows_here payloads last held log found =
-      let same : found.0 ≡ map write_with_plans (writes_in stands.groups) = payloads_one rules found.0 (map write_with_plans (writes_in stands.groups)) payloads found.1 (written_here payloads last log) in
-      found.2 ∙ ap (λ (g : written.History). view rules g) same ∙ sym (all_mapped plans_beside rules empty (writes_in stands.groups))
-      ∙ ap (λ (g : History). with_plans (view rules g)) (sym (stands.parts ∙ ap (λ (b : History). b ++ writes_in stands.groups) stands.checkpoint.no_writes))
+  seen_in_parts : after_all rules (view rules stands.base) (writes_in stands.groups) ≡ view rules h
+  seen_in_parts = sym (after_all-append rules empty stands.base (writes_in stands.groups)) ∙ ap (λ (g : History). view rules g) (sym stands.parts)
 
--- under the same numbers a content stands for one history
-one_history_of : (rules : Rules) (content : List ℕ) (g h : History) → StandsFor rules content g → StandsFor rules content h → g ≡ h
-one_history_of rules content g h first second =
-    let written = written_here rules content g first second.root second.counts (map payload second.groups) second.last second.log in
-    let own = written_here rules content h second second.root second.counts (map payload second.groups) second.last second.log in
-    let held : map write_with_plans (writes_in first.groups) ≡ map write_with_plans (writes_in second.groups) =
-    payloads_one rules (map write_with_plans (writes_in first.groups)) (map write_with_plans (writes_in second.groups)) (map payload second.groups) written own in
-    let same : writes_in first.groups ≡ writes_in second.groups =
-    same_writes rules empty empty (writes_in first.groups) (writes_in second.groups) (later_is rules content g first second.root second.counts) (later_is rules content h second second.root second.counts) held in
-    first.parts ∙ ap (λ (b : History). b ++ writes_in first.groups) first.checkpoint.no_writes ∙ same
-    ∙ sym (second.parts ∙ ap (λ (b : History). b ++ writes_in second.groups) second.checkpoint.no_writes)
+  module _ (root : Root) (counts : HoldsRoot content root) where
+    root_here : stands.root ≡ root
+    root_here = one_counts content stands.root root stands.counts.counts counts.counts
+
+    -- the pages of the root that counts keep that history
+    pub base_here : HoldsBase rules content root stands.base
+    base_here = let Of : Root → Type 0 = λ r. HoldsBase rules content r stands.base in subst Of root_here stands.checkpoint
+
+    -- the log of the history stands behind the root that counts
+    pub log_here : HoldsLog (log_start root) (map payload stands.groups) stands.last content
+    log_here =
+        let From : Root → Type 0 = λ r. HoldsLog (log_start r) (map payload stands.groups) stands.last content in
+        subst From root_here stands.log
+
+    -- so it is none where none is there
+    pub no_log_here : ((payloads : List (List ℕ)) (last : ℕ) → HoldsLog (log_start root) payloads last content → ⊥) → ⊥
+    no_log_here none = none (map payload stands.groups) stands.last log_here
+
+    -- and its payloads are those that are read
+    pub written_here : (payloads : List (List ℕ)) (last : ℕ) → HoldsLog (log_start root) payloads last content
+        → IsWritten rules (with_plans (view rules stands.base)) (map write_with_plans (writes_in stands.groups)) payloads
+    written_here payloads last log = record {
+      groups = all_with_plans stands.groups;
+      payloads_are = (at_most_one (log_start root) content payloads (map payload stands.groups) last stands.last log log_here).0 ∙ sym (payloads_same stands.groups);
+      grouped = grouped_with rules (view rules stands.base) stands.groups stands.grouped later_follow;
+      parts = parts_same stands.groups;
+      follow = all_follow_mapped plans_beside rules (view rules stands.base) (writes_in stands.groups)
+          (follow_plainly rules (view rules stands.base) (writes_in stands.groups) later_follow);
+    }
+
+    -- what was read of them, over what the checkpoint keeps, shows the history
+    pub shows_here : (payloads : List (List ℕ)) (last : ℕ) (base held : seen.View Beside) → base ≡ with_plans (view rules stands.base)
+        → HoldsLog (log_start root) payloads last content
+        → (ws : List written.Write) × IsWritten rules base ws payloads × (held ≡ after_all rules base ws) → held ≡ with_plans (view rules h)
+    shows_here payloads last base held shown log found =
+        let v : View = view rules stands.base in
+        let later : List written.Write = map write_with_plans (writes_in stands.groups) in
+        let Of : seen.View Beside → Type 0 = λ b. IsWritten rules b later payloads in
+        let same : found.0 ≡ later = one_list rules base found.0 later payloads found.1 (subst Of (sym shown) (written_here payloads last log)) in
+        found.2 ∙ ap (λ (b : seen.View Beside). after_all rules b found.0) shown
+        ∙ ap (λ (ws : List written.Write). after_all rules (with_plans v) ws) same
+        ∙ sym (all_mapped plans_beside rules v (writes_in stands.groups))
+        ∙ ap with_plans seen_in_parts
+
+-- under the same numbers a content stands for histories of one view
+one_view_of : (rules : Rules) (content : List ℕ) (g h : History) → StandsFor rules content g → StandsFor rules content h → view rules g ≡ view rules h
+one_view_of rules content g h first second =
+    let a : View = view rules first.base in
+    let b : View = view rules second.base in
+    let us : List Write = writes_in first.groups in
+    let ws : List Write = writes_in second.groups in
+    let here : HoldsBase rules content second.root first.base = base_here rules content g first second.root second.counts in
+    let entries : entries_of a ≡ entries_of b = sym here.pages.are ∙ second.checkpoint.pages.are in
+    let bases : a ≡ b = one_kept_view rules a b (base_kept rules content g first) (base_kept rules content h second) entries (sym here.revision ∙ second.checkpoint.revision) in
+    let payloads : List (List ℕ) = map payload second.groups in
+    let Of : View → Type 0 = λ v. IsWritten rules (with_plans v) (map write_with_plans us) payloads in
+    let written = subst Of bases (written_here rules content g first second.root second.counts payloads second.last second.log) in
+    let own = written_here rules content h second second.root second.counts payloads second.last second.log in
+    let held : map write_with_plans us ≡ map write_with_plans ws = one_list rules (with_plans b) (map write_with_plans us) (map write_with_plans ws) payloads written own in
+    let same : us ≡ ws = same_writes rules a b us ws (later_follow rules content g first) (later_follow rules content h second) held in
+    sym (seen_in_parts rules content g first) ∙ ap (λ (v : View). after_all rules v us) bases ∙ ap (λ (xs : List Write). after_all rules b xs) same
+    ∙ seen_in_parts rules content h second
 
 -- and the numbers are those of the one format
-pub one_history : AtMostOneHistory
-one_history first second content g h one other =
-    let same : first ≡ second = first_numbers first one.numbers ∙ sym (first_numbers second other.numbers) in
-    let Stands : Rules → Type 0 = λ rules. StandsFor rules content g in
-    (same, one_history_of second content g h (subst Stands same one) other)
-
--- so its histories have one view
 pub one_view : AtMostOneView
 one_view first second content g h one other =
-    let same = one_history first second content g h one other in
-    ap (λ (rules : Rules). view rules g) same.0 ∙ ap (view second) same.1
+    let same : first ≡ second = first_numbers first one.numbers ∙ sym (first_numbers second other.numbers) in
+    let Stands : Rules → Type 0 = λ rules. StandsFor rules content g in
+    (same, ap (λ (rules : Rules). view rules g) same ∙ one_view_of second content g h (subst Stands same one) other)
 
--- what the writes of a history left, with the plans of its trees, shows the view of that history
+-- what was read of a checkpoint and of the writes behind it, with the plans of their trees, shows the view of the history that they are of
 pub replayed_is_shown : ReplayedIsShown
-replayed_is_shown rules held h history is same = (
-  is.shows ∙ ap (λ (ws : List (plain.Write Beside)). view rules ws) same ∙ sym (all_mapped plans_beside rules empty h),
-  histories_show rules h history,
+replayed_is_shown rules held base ws history is base_same writes_same = (
+  is.shows ∙ ap (λ (b : seen.View Beside). after_all rules b is.writes) base_same
+      ∙ ap (λ (us : List written.Write). after_all rules (with_plans (view rules base)) us) writes_same
+      ∙ sym (all_mapped plans_beside rules (view rules base) ws)
+      ∙ ap with_plans (sym (after_all-append rules empty base ws)),
+  histories_show rules (base ++ ws) history,
 )

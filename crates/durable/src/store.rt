@@ -1,4 +1,4 @@
-ghost use Rattle.std.specs.Prelude.{◌≡◌, ◌≢◌, ◌≤◌, ◌+◌, ◌-◌, ◌^◌, ◌++◌, ◌∷◌, [], List, ℕ, length, take, map, true, false, is_ok, None, Some, IsSome, IfSome, IfOk, IfErr, OnOk, OnErr, IsErrOf, ◌⊎◌};
+ghost use Rattle.std.specs.Prelude.{◌≡◌, ◌≢◌, ◌≤◌, ◌+◌, ◌-◌, ◌^◌, ◌<◌, IsTrue, ◌++◌, ◌∷◌, [], List, ℕ, length, take, map, true, false, is_ok, None, Some, IsSome, IfSome, IfOk, IfErr, OnOk, OnErr, IsErrOf, ◌⊎◌};
 ghost use Rattle.durable.specs.Rules.{AreOfFormat};
 ghost use Rattle.durable.specs.Opened.{IsReplayed};
 ghost use Rattle.durable.specs.Ready.{IsReady};
@@ -32,8 +32,13 @@ pub struct Store<D: Device> {
 
 impl<D: Device> Store<D> {
     ghost use Rattle.device.specs.Disk.{LeavesOnly, HasCause, HasFailed};
-    ghost use Rattle.device.specs.Run.{Stands};
+    ghost use Rattle.device.specs.Run.{Ran, Stands};
+    ghost use Rattle.std.specs.FinMap.{is_sorted};
     ghost use Rattle.std.specs.List.{AllByRecursion};
+    ghost use Rattle.device.specs.Step.{Same};
+    ghost use Rattle.pages.specs.Page.{bytes_cmp};
+    ghost use Rattle.checkpoint.specs.EntryList.{entries_of as in_list};
+    ghost use Rattle.snapshots.specs.Keeping.{entries_of};
     ghost use Rattle.gatelog.specs.Log.{HoldsLog};
     ghost use Rattle.gatelog.specs.Payload.{payload_of};
     ghost use Rattle.checkpoint.specs.Root.{log_start, HoldsRoot};
@@ -48,7 +53,7 @@ impl<D: Device> Store<D> {
     ghost use Rattle.durable.specs.declared.fault.Fault.TheVariants as Fault;
     ghost use Rattle.durable.specs.Compacted.{IsToldOf, IsCheckOf};
     ghost use Rattle.durable.specs.Recorded.{payload, IsGroup};
-    ghost use Rattle.durable.specs.Ready.{HoldsHistory};
+    ghost use Rattle.durable.specs.Ready.{IsReadyAt, HoldsHistory};
     ghost use Rattle.durable.specs.Stands.{StandsFor};
     ghost use Rattle.durable.specs.Settled.{device_of, root_of, log_of, serves, kept_rules, shown, ServesAt, IsFound, IsSettledAt, IsLeftAt, LeavesSome, HasReplied, HasFailedAt, HasServed, HasStopped};
 
@@ -257,12 +262,47 @@ impl<D: Device> Store<D> {
             return Err(Fault::Failed);
         }
         let mut entries = entries_in(alloc, &self.core)?;
+        if !entries.ascends() {
+            return Err(self.stop_at(Damage::Entry));
+        }
         self.write_next(alloc, &mut entries)
     }
 
-    // Writes the entries as the next generation. After a failure the store serves no more.
+    // Stops serving, for what was found damaged.
+    fn stop_at(&mut self, damage: Damage) -> Fault
+        ensures fault { result ≡ Fault.Damaged damage }
+        ensures device { device_of self.new ≡ device_of self.old }
+        ensures stops { serves self.new ≡ false }
+    {
+        self.serves = false;
+        Fault::Damaged(damage)
+    }
+
+    // Writes ascending entries as the next generation. After a failure the store serves no more.
     fn write_next(&mut self, alloc: Global, entries: &mut EntryList) -> Result<Compacted, Fault>
-        requires { serves self.old ≡ true }
+        requires serves { serves self.old ≡ true }
+        requires ascending { IsTrue (is_sorted bytes_cmp (in_list entries.old)) }
+        ensures core { self.new.core ≡ self.old.core }
+        ensures stands { (rules : Rules) (h : History) → HoldsHistory rules D.disk (device_of self.old) h → (shown self.old).revision ≡ (view rules h).revision
+            → in_list entries.old ≡ entries_of (view rules h)
+            → Stands D.disk (device_of self.old) (device_of self.new) (λ c. StandsFor rules c h) (λ c. StandsFor rules c h) }
+        ensures counts { (rules : Rules) (h : History) → HoldsHistory rules D.disk (device_of self.old) h → (shown self.old).revision ≡ (view rules h).revision
+            → in_list entries.old ≡ entries_of (view rules h)
+            → OnOk result (HoldsRoot (D.disk.content (device_of self.new)) (root_of self.new)
+            × HoldsLog (log_start (root_of self.new)) [] (log_start (root_of self.new)) (D.disk.content (device_of self.new))) }
+        ensures damaged { (rules : Rules) (h : History) (damage : Damage) → HoldsHistory rules D.disk (device_of self.old) h → (shown self.old).revision ≡ (view rules h).revision
+            → in_list entries.old ≡ entries_of (view rules h) → IsErrOf result (Fault.Damaged damage) → ⊥ }
+        ensures next { OnOk result ((root_of self.new).generation ≡ (root_of self.old).generation + 1) }
+        ensures empty { OnOk result (((log_of self.new).start ≡ log_start (root_of self.new)) × ((log_of self.new).last ≡ (log_of self.new).start)) }
+        ensures told { IfOk result (IsToldOf (root_of self.new)) }
+        ensures serves { OnOk result (serves self.new ≡ true) }
+        ensures unchanged { IsErrOf result Fault.Memory ⊎ IsErrOf result Fault.Exhausted
+            → Ran D.disk (device_of self.old) (device_of self.new) Same × (serves self.new ≡ true) }
+        ensures greatest { IsErrOf result Fault.Exhausted → (root_of self.old).generation ≡ 2 ^ 64 - 1 }
+        ensures stops { IsErrOf result Fault.Device → serves self.new ≡ false }
+        ensures refusal { result ≢ Err Fault.Failed }
+        ensures cause { IsErrOf result Fault.Device → HasFailed D.disk (device_of self.old) (device_of self.new) }
+        ensures count { D.disk.failures (device_of self.old) ≤ D.disk.failures (device_of self.new) }
     {
         self.serves = false;
         let (last_gate, revision) = (self.log.last_gate(), self.core.revision());
@@ -276,7 +316,17 @@ impl<D: Device> Store<D> {
     }
 
     // Begins the generation of a root that counts, whose log is empty.
-    fn start_over(&mut self, root: Root) -> Compacted {
+    fn start_over(&mut self, root: Root) -> Compacted
+        requires in_data { 8 ≤ root.first }
+        requires room { log_start root < 2 ^ 54 }
+        requires in_use { D.disk.keeps (device_of self.old) → ∥ IsReadyAt D.disk (device_of self.old) root ∥₁ }
+        ensures core { self.new.core ≡ self.old.core }
+        ensures device { device_of self.new ≡ device_of self.old }
+        ensures root { root_of self.new ≡ root }
+        ensures empty { ((log_of self.new).start ≡ log_start root) × ((log_of self.new).last ≡ log_start root) }
+        ensures told { IsToldOf root result }
+        ensures serves { serves self.new ≡ true }
+    {
         self.log = Log::restart(&self.device, root.log_start());
         self.root = root;
         self.serves = true;
@@ -308,8 +358,7 @@ impl<D: Device> Store<D> {
             return Err(Fault::Failed);
         }
         if !has_own_plans(alloc, &self.core)? {
-            self.serves = false;
-            return Err(Fault::Damaged(Damage::Plan));
+            return Err(self.stop_at(Damage::Plan));
         }
         Ok(Checked {
             revision: self.core.revision(),
