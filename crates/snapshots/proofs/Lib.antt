@@ -1,0 +1,7 @@
+pub mod Sorted
+pub mod InBytes
+pub mod Held
+pub mod Shown
+pub mod MadeAgain
+pub mod Events
+pub mod Histories
