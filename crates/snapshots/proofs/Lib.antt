@@ -1,1 +1,7 @@
-pub mod Kept
+pub mod Sorted
+pub mod InBytes
+pub mod Held
+pub mod Shown
+pub mod MadeAgain
+pub mod Events
+pub mod Histories

@@ -1,39 +1,94 @@
 //! The entries of a store.
 
-ghost use Rattle.std.specs.Prelude.{◌≡◌, IfOk};
-ghost use Rattle.checkpoint.specs.EntryList.{entries_of as in_list};
+ghost use Rattle.std.specs.Prelude.{◌≡◌, ◌≤◌, ◌^◌, ◌++◌, length, map, IfOk, OnOk};
+ghost use Rattle.checkpoint.specs.EntryList.{listed, entries_of as in_list};
+ghost use Rattle.entries.specs.Entries.{plan_entries, stored_entry, event_entry, plans_among};
 ghost use Rattle.apicore.specs.Prepared.{Shows};
 ghost use Rattle.apicore.specs.Standing.{View};
-ghost use Rattle.snapshots.specs.Keeping.{entries_of, held_entries};
+ghost use Rattle.snapshots.specs.Keeping.{entries_of, held_plans, held_entries};
 
 use apicore::{Beside, Core};
 use checkpoint::EntryList;
-use entries::{Entry, event_entry, object_entry, plan_entries};
+use documents::Document;
+use entries::{event_entry, object_entry, plan_entries};
 use expressions::plans_bytes;
 use history::Stored;
 use names::Key;
+use objects::Entry;
 use std::alloc::{AllocError, Global};
+use window::Events;
 
 // More bytes of plans than a policy can have.
 const MOST_PLAN_BYTES: usize = 1 << 30;
+
+// Adds the entries of objects.
+fn add_objects(
+    alloc: Global,
+    entries: &mut Vec<(Vec<u8>, Vec<u8>)>,
+    objects: &[Entry<Stored<Beside>>],
+) -> Result<(), AllocError>
+    ensures { OnOk result (listed entries.new.items ≡ listed entries.old.items ++ map stored_entry objects.now) }
+{
+    for held in objects {
+        let stored = held.value();
+        let entry = object_entry(alloc, held.key(), &stored.document, stored.revision)?;
+        entries.push(entry.into_parts())?;
+    }
+    Ok(())
+}
+
+// The bytes of the plans that stand beside an object.
+fn bytes_of(alloc: Global, held: &Entry<Stored<Beside>>) -> Result<Vec<u8>, AllocError>
+    ensures bytes { IfOk result (λ bytes. bytes.items ≡ held_plans held.now) }
+    ensures few { IfOk result (λ bytes. length bytes.items ≤ 2 ^ 30) }
+{
+    let plans = held.value().beside.plans();
+    match plans_bytes(alloc, held.key().resource(), plans) {
+        Ok(bytes) if bytes.len() <= MOST_PLAN_BYTES => Ok(bytes),
+        // Plans that may be held are never too many, so memory was wanting.
+        _ => Err(AllocError),
+    }
+}
 
 // Adds the entries of the plans that stand beside an object.
 fn add_plans(
     alloc: Global,
     entries: &mut Vec<(Vec<u8>, Vec<u8>)>,
-    key: &Key,
-    stored: &Stored<Beside>,
-) -> Result<(), AllocError> {
-    let plans = match plans_bytes(alloc, key.resource(), stored.beside.plans()) {
-        Ok(plans) => plans,
-        // Plans that may be held are never too long, so memory was wanting.
-        Err(_) => return Err(AllocError),
-    };
-    if plans.len() > MOST_PLAN_BYTES {
-        return Err(AllocError);
-    }
-    for piece in plan_entries(alloc, key, &plans)? {
+    held: &Entry<Stored<Beside>>,
+) -> Result<(), AllocError>
+    ensures { OnOk result (listed entries.new.items ≡ listed entries.old.items ++ plan_entries held.now.0 (held_plans held.now)) }
+{
+    let bytes = bytes_of(alloc, held)?;
+    for piece in plan_entries(alloc, held.key(), &bytes)? {
         entries.push(piece.into_parts())?;
+    }
+    Ok(())
+}
+
+// Adds those of the plans that stand beside objects.
+fn add_all_plans(
+    alloc: Global,
+    entries: &mut Vec<(Vec<u8>, Vec<u8>)>,
+    objects: &[Entry<Stored<Beside>>],
+) -> Result<(), AllocError>
+    ensures { OnOk result (listed entries.new.items ≡ listed entries.old.items ++ plans_among held_plans objects.now) }
+{
+    for held in objects {
+        add_plans(alloc, entries, held)?;
+    }
+    Ok(())
+}
+
+// Adds the entries of events.
+fn add_events(
+    alloc: Global,
+    entries: &mut Vec<(Vec<u8>, Vec<u8>)>,
+    events: Events<'_, Document>,
+) -> Result<(), AllocError>
+    ensures { OnOk result (listed entries.new.items ≡ listed entries.old.items ++ map event_entry events.entry) }
+{
+    for event in events {
+        entries.push(event_entry(alloc, event)?.into_parts())?;
     }
     Ok(())
 }
@@ -48,16 +103,8 @@ pub fn entries_in(alloc: Global, core: &Core) -> Result<EntryList, AllocError>
     ensures shown { (v : View) → Shows core.now.view v → IfOk result (λ list. in_list list ≡ entries_of v) }
 {
     let mut entries = Vec::new(alloc);
-    for held in core.objects() {
-        let stored = held.value();
-        let entry = object_entry(alloc, held.key(), &stored.document, stored.revision)?;
-        entries.push(entry.into_parts())?;
-    }
-    for held in core.objects() {
-        add_plans(alloc, &mut entries, held.key(), held.value())?;
-    }
-    for event in core.events() {
-        entries.push(event_entry(alloc, event)?.into_parts())?;
-    }
+    add_objects(alloc, &mut entries, core.objects())?;
+    add_all_plans(alloc, &mut entries, core.objects())?;
+    add_events(alloc, &mut entries, core.events())?;
     Ok(EntryList::new(entries))
 }

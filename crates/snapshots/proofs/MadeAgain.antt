@@ -1,0 +1,82 @@
+-- A store that holds what was read from entries.
+use Rattle.std.proofs.Common.{arith, ◌≡◌, ◌∙◌, sym, ap, subst, refl, ◌⊎◌, inl, inr, ⊎_elim, ◌+◌, ◌-◌, ◌≤◌, min, ℕ, List, [], ◌++◌, length, map}
+use Rattle.std.specs.FinMap.{is_sorted}
+use Rattle.std.specs.List.{AllByRecursion}
+use Rattle.names.specs.declared.format.Rules.{Rules}
+use Rattle.window.specs.declared.event.Event.{Event}
+use Rattle.window.specs.Window.{AreNumberedFrom}
+use Rattle.documents.specs.Document.{Document}
+use Rattle.history.specs.View as seen
+use Rattle.entries.specs.declared.fault.EntryFault.{EntryFault}
+use Rattle.entries.specs.declared.fault.EntryFault.TheVariants as EntryFault
+use Rattle.entries.specs.Entries.{entries_of as view_entries}
+use Rattle.entries.specs.Holding.{IsStorableEvent}
+use Rattle.entries.specs.Laws.{bytes_beside}
+use Rattle.entries.specs.Reading.{IsReadView}
+use Rattle.apicore.specs.Beside.{Beside}
+use Rattle.apicore.specs.Standing.{View}
+use Rattle.snapshots.specs.declared.fault.SnapshotFault.TheVariants as SnapshotFault
+use Rattle.snapshots.specs.Faults.{of_entry_fault}
+use Rattle.snapshots.specs.Keeping.{tree_plans, held_plans, held_entries, HasLastEvents, IsHeld}
+use Rattle.snapshots.specs.Restoring.{in_bytes, view_in_bytes, AreHeldOf, with_events}
+use Rattle.snapshots.proofs.Held.{Object, Kept, held_objects}
+use Rattle.snapshots.proofs.InBytes.{entries_in_bytes}
+
+abbrev Held : Type 0
+Held = seen.View Beside
+
+abbrev KeptView : Type 0
+KeptView = seen.View (List ℕ)
+
+abbrev Told : Type 0
+Told = Event Document
+
+-- damage is told where entries are damaged
+pub entry_damaged : (e : EntryFault) → (of_entry_fault e ≡ SnapshotFault.Entry) ⊎ (of_entry_fault e ≡ SnapshotFault.Plans) → e ≡ EntryFault.Damaged
+entry_damaged EntryFault.Damaged told = refl
+entry_damaged EntryFault.Memory told = ⊎_elim (λ same. cc) (λ same. cc) told
+
+pub last_in_bytes : (rules : Rules) (v : View) → HasLastEvents rules v → HasLastEvents rules (view_in_bytes tree_plans v)
+last_in_bytes rules v last = record { begun = last.begun; events = last.events }
+
+-- It holds the view that was read.
+pub record IsRestoredOf (held : Held) (kept : KeptView) : Type 0 where
+  pub objects : AreHeldOf held.objects kept.objects
+  pub revision : held.revision ≡ kept.revision
+  pub events : held.events ≡ kept.events
+
+pub restored_of : (rules : Rules) (kept : KeptView) (objects : List Kept) (events : List Told) (behind core new : Held) → HasLastEvents rules kept
+    → objects ≡ kept.objects → events ≡ kept.events → behind.revision ≡ kept.revision - length kept.events → behind.events ≡ []
+    → AreHeldOf core.objects objects → core.revision ≡ behind.revision → core.events ≡ behind.events → new ≡ with_events core events
+    → IsRestoredOf new kept
+restored_of rules kept objects events behind core new last same told number none held kept_number kept_none is =
+    let these : new.objects ≡ core.objects = ap (λ (v : Held). v.objects) is in
+    let few : length kept.events ≤ kept.revision = omega (arith, last.begun, last.events) in
+    let all : AreHeldOf core.objects kept.objects = subst (AreHeldOf core.objects) same held in
+    record {
+      objects = subst (λ (os : List Object). AreHeldOf os kept.objects) (sym these) all;
+      revision = ap (λ (v : Held). v.revision) is ∙ omega (arith, number, kept_number, few, ap length told);
+      events = ap (λ (v : Held). v.events) is ∙ (λ i. (kept_none ∙ none) i ++ told i);
+    }
+
+-- so it is held as it may be
+pub held_restored : (rules : Rules) (held : Held) (kept : KeptView) → IsRestoredOf held kept → IsReadView kept → HasLastEvents rules kept → IsHeld rules held
+held_restored rules held kept is read last =
+    let Numbered : ℕ → List Told → Type 0 = λ r es. AreNumberedFrom (r - length es) es in
+    let there : Numbered held.revision kept.events = subst (λ r. Numbered r kept.events) (sym is.revision) read.numbered in
+    record {
+      ascends = is.objects.ascends;
+      objects = held_objects held.objects kept.objects is.objects read.objects;
+      events = subst (AllByRecursion IsStorableEvent) (sym is.events) read.events;
+      numbered = subst (Numbered held.revision) (sym is.events) there;
+      last = record {
+        begun = omega (arith, is.revision, last.begun);
+        events = ap length is.events ∙ last.events ∙ ap (λ (r : ℕ). min rules.window_events (r - 1)) (sym is.revision);
+      };
+    }
+
+-- and it has the entries of the view
+pub entries_restored : (held : Held) (kept : KeptView) → IsRestoredOf held kept → held_entries held ≡ view_entries bytes_beside kept
+entries_restored held kept is =
+    sym (entries_in_bytes held_plans held)
+    ∙ (λ i. view_entries bytes_beside (record { objects = is.objects.are i; revision = is.revision i; events = is.events i }))
