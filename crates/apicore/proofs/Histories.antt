@@ -1,4 +1,4 @@
--- Histories and the payloads that they have.
+-- Writes and the payloads that they have.
 use Rattle.std.proofs.Common.{◌≡◌, ℕ, ◌+◌, ◌<◌, List, [], ◌∷◌, ◌++◌, length, map, get_or, take, drop, refl, sym, ap, subst, ◌∙◌, Result, Ok, Err, OnOk}
 use Rattle.std.proofs.lemmas.List.{map-append, map_push, drop_more, take-append-drop}
 use Rattle.std.specs.List.{AllByRecursion}
@@ -8,7 +8,7 @@ use Rattle.documents.specs.Document.{Document}
 use Rattle.history.specs.History as plain
 use Rattle.history.specs.History.{put, delete}
 use Rattle.history.specs.View as seen
-use Rattle.history.specs.View.{view, empty, after, after_all, MayPut, MayFollow, AllMayFollow}
+use Rattle.history.specs.View.{after, after_all, MayPut, MayFollow, AllMayFollow}
 use Rattle.history.proofs.ViewLemmas.{after_all-append, AllMayFollow-append}
 use Rattle.records.proofs.Writes as bytes
 use Rattle.records.specs.Payload as bytes_form
@@ -18,7 +18,7 @@ use Rattle.expressions.specs.Specification.{MayHavePlans, plans_bytes}
 use Rattle.apicore.specs.Beside.{Beside, spelled}
 use Rattle.apicore.specs.Standing.{recorded}
 use Rattle.expressions.proofs.Listed.{one_stored_list}
-use Rattle.apicore.specs.Written.{Write, History, payload, HasPlans, AllStorable, IsGroup, IsWritten}
+use Rattle.apicore.specs.Written.{Write, payload, HasPlans, AllStorable, IsGroup, IsWritten}
 
 abbrev View : Type 0
 View = seen.View Beside
@@ -68,34 +68,31 @@ groups_storable : (groups : List (List Write)) → AllByRecursion IsGroup groups
 groups_storable [] all = tt
 groups_storable (ws ∷ groups) all = AllStorable-append ws (writes_in groups) (group_storable ws all.0.held.storable all.0.plans) (groups_storable groups all.1)
 
--- a record can hold each write of a history that has payloads
-pub written_storable : (rules : Rules) (h : History) (payloads : List (List ℕ)) → IsWritten rules h payloads → AllStorable h
-written_storable rules h payloads written = subst AllStorable (sym written.parts) (groups_storable written.groups written.grouped)
+-- a record can hold each of the writes that have payloads
+pub written_storable : (rules : Rules) (v : View) (ws : List Write) (payloads : List (List ℕ)) → IsWritten rules v ws payloads → AllStorable ws
+written_storable rules v ws payloads written = subst AllStorable (sym written.parts) (groups_storable written.groups written.grouped)
 
--- ---- how a history grows
+-- ---- how the writes grow
 
 abbrev payloads_with : List (List ℕ) → List ℕ → List (List ℕ)
 payloads_with front bytes = front ++ bytes ∷ []
 
--- no payloads are those of the empty history
-pub IsWritten-none : (rules : Rules) → IsWritten rules [] []
-IsWritten-none rules = record { groups = []; payloads_are = refl; grouped = tt; parts = refl; history = tt }
+-- no payloads are those of no writes
+pub IsWritten-none : (rules : Rules) (v : View) → IsWritten rules v [] []
+IsWritten-none rules v = record { groups = []; payloads_are = refl; grouped = tt; parts = refl; follow = tt }
 
 -- one more group of writes that may follow has one more payload
-pub IsWritten-push : (rules : Rules) (h : History) (payloads : List (List ℕ)) (ws : List Write) → IsWritten rules h payloads → AllMayFollow rules (view rules h) ws → IsGroup ws
-    → IsWritten rules (h ++ ws) (payloads ++ payload ws ∷ [])
-IsWritten-push rules h payloads ws written follow group = record {
-  groups = written.groups ++ ws ∷ [];
-  payloads_are = ap (λ ps. ps ++ payload ws ∷ []) written.payloads_are ∙ sym (map_push payload written.groups ws);
-  grouped = all-push IsGroup written.groups ws written.grouped group;
-  parts = ap (λ (g : History). g ++ ws) written.parts ∙ sym (writes_in-push written.groups ws);
-  history = AllMayFollow-append rules empty h ws written.history follow;
+pub IsWritten-push : (rules : Rules) (v : View) (ws : List Write) (payloads : List (List ℕ)) (us : List Write) → IsWritten rules v ws payloads
+    → AllMayFollow rules (after_all rules v ws) us → IsGroup us → IsWritten rules v (ws ++ us) (payloads ++ payload us ∷ [])
+IsWritten-push rules v ws payloads us written follow group = record {
+  groups = written.groups ++ us ∷ [];
+  payloads_are = ap (λ ps. ps ++ payload us ∷ []) written.payloads_are ∙ sym (map_push payload written.groups us);
+  grouped = all-push IsGroup written.groups us written.grouped group;
+  parts = ap (λ (xs : List Write). xs ++ us) written.parts ∙ sym (writes_in-push written.groups us);
+  follow = AllMayFollow-append rules v ws us written.follow follow;
 }
 
-view-append : (rules : Rules) (h : History) (ws : List Write) → view rules (h ++ ws) ≡ after_all rules (view rules h) ws
-view-append rules h ws = after_all-append rules empty h ws
-
--- ---- at most one history
+-- ---- at most one list
 
 same_groups : (gs hs : List (List Write)) → AllByRecursion IsGroup gs → AllByRecursion IsGroup hs → map payload gs ≡ map payload hs → gs ≡ hs
 same_groups [] [] a b same = refl
@@ -108,11 +105,11 @@ same_groups (v ∷ gs) (w ∷ hs) a b same =
     let others : gs ≡ hs = same_groups gs hs a.1 b.1 rest in
     λ i. one i ∷ others i
 
-pub one_history : (rules : Rules) (g h : History) (payloads : List (List ℕ)) → IsWritten rules g payloads → IsWritten rules h payloads → g ≡ h
-one_history rules g h payloads a b =
+pub one_list : (rules : Rules) (v : View) (ws us : List Write) (payloads : List (List ℕ)) → IsWritten rules v ws payloads → IsWritten rules v us payloads → ws ≡ us
+one_list rules v ws us payloads a b =
     a.parts ∙ ap (λ (groups : List (List Write)). writes_in groups) (same_groups a.groups b.groups a.grouped b.grouped (sym a.payloads_are ∙ b.payloads_are)) ∙ sym b.parts
 
--- ---- a history that goes on
+-- ---- writes that go on
 
 -- the first of writes that may follow may follow
 first_follow : (rules : Rules) (v : View) (ws us : List Write) → AllMayFollow rules v (ws ++ us) → AllMayFollow rules v ws
@@ -146,36 +143,36 @@ goes_on rules v (us ∷ gs) (ws ∷ hs) bytes rest a b follow same =
     subst Next (sym (after_all-append rules v us (writes_in gs)))
     (goes_on rules (after_all rules v us) gs hs bytes rest a.1 b.1 (subst Follow one (others_follow rules v ws (writes_in hs) follow)) others)
 
--- a history of more payloads goes on, after the history of the first, with a group of the next
-next_group : (rules : Rules) (g h : History) (front : List (List ℕ)) (bytes : List ℕ) (rest : List (List ℕ)) → IsWritten rules g front
-    → IsWritten rules h (front ++ bytes ∷ rest) → IsNext rules (view rules g) bytes
-next_group rules g h front bytes rest a b =
-    let Next : History → Type 0 = λ x. IsNext rules (view rules x) bytes in
+-- the writes of more payloads go on, after the writes of the first, with a group of the next
+next_group : (rules : Rules) (v : View) (ws us : List Write) (front : List (List ℕ)) (bytes : List ℕ) (rest : List (List ℕ)) → IsWritten rules v ws front
+    → IsWritten rules v us (front ++ bytes ∷ rest) → IsNext rules (after_all rules v ws) bytes
+next_group rules v ws us front bytes rest a b =
+    let Next : List Write → Type 0 = λ x. IsNext rules (after_all rules v x) bytes in
     subst Next (sym a.parts)
-    (goes_on rules empty a.groups b.groups bytes rest a.grouped b.grouped (subst (λ (x : History). AllMayFollow rules empty x) b.parts b.history)
+    (goes_on rules v a.groups b.groups bytes rest a.grouped b.grouped (subst (λ (x : List Write). AllMayFollow rules v x) b.parts b.follow)
     (sym b.payloads_are ∙ ap (λ ps. ps ++ bytes ∷ rest) a.payloads_are))
 
 -- ---- one payload more, where a store has the rules and the view
 
--- the history of the payloads before, and the writes that were taken
-pub grown : (rules own : Rules) (v new : View) (h : History) (front more : List (List ℕ)) (bytes : List ℕ) (ws : List Write) → own ≡ rules → IsWritten rules h front
-    → v ≡ view rules h → IsGroup ws → payload ws ≡ bytes → AllMayFollow own v ws → new ≡ after_all own v ws → more ≡ front ++ bytes ∷ []
-    → (g : History) × IsWritten rules g more × (new ≡ view rules g)
-grown rules own v new h front more bytes ws rules_are written seen group is follow taken more_is =
-    let Follow : Rules → View → Type 0 = λ r x. AllMayFollow r x ws in
-    let may : AllMayFollow rules (view rules h) ws = subst (λ x. Follow rules x) seen (subst (λ r. Follow r v) rules_are follow) in
-    let same : payloads_with front (payload ws) ≡ more = ap (payloads_with front) is ∙ sym more_is in (
-      h ++ ws,
-      subst (IsWritten rules (h ++ ws)) same (IsWritten-push rules h front ws written may group),
-      taken ∙ (λ i. after_all (rules_are i) (seen i) ws) ∙ sym (view-append rules h ws),
+-- the writes of the payloads before, and those that were taken
+pub grown : (rules own : Rules) (first v new : View) (ws : List Write) (front more : List (List ℕ)) (bytes : List ℕ) (us : List Write) → own ≡ rules
+    → IsWritten rules first ws front → v ≡ after_all rules first ws → IsGroup us → payload us ≡ bytes → AllMayFollow own v us → new ≡ after_all own v us
+    → more ≡ front ++ bytes ∷ [] → (xs : List Write) × IsWritten rules first xs more × (new ≡ after_all rules first xs)
+grown rules own first v new ws front more bytes us rules_are written seen group is follow taken more_is =
+    let Follow : Rules → View → Type 0 = λ r x. AllMayFollow r x us in
+    let may : AllMayFollow rules (after_all rules first ws) us = subst (λ x. Follow rules x) seen (subst (λ r. Follow r v) rules_are follow) in
+    let same : payloads_with front (payload us) ≡ more = ap (payloads_with front) is ∙ sym more_is in (
+      ws ++ us,
+      subst (IsWritten rules first (ws ++ us)) same (IsWritten-push rules first ws front us written may group),
+      taken ∙ (λ i. after_all (rules_are i) (seen i) us) ∙ sym (after_all-append rules first ws us),
     )
 
--- no history has these payloads, where no group of the next may follow
-pub stuck : (rules own : Rules) (v : View) (g h : History) (front all : List (List ℕ)) (bytes : List ℕ) (rest : List (List ℕ)) → own ≡ rules → v ≡ view rules g
-    → IsWritten rules g front → IsWritten rules h all → all ≡ front ++ bytes ∷ rest
-    → ((ws : List Write) → IsGroup ws → payload ws ≡ bytes → AllMayFollow own v ws → ⊥) → ⊥
-stuck rules own v g h front all bytes rest rules_are seen written other all_is none =
-    let next = next_group rules g h front bytes rest written (subst (IsWritten rules h) all_is other) in
+-- no writes have these payloads, where no group of the next may follow
+pub stuck : (rules own : Rules) (first v : View) (ws us : List Write) (front all : List (List ℕ)) (bytes : List ℕ) (rest : List (List ℕ)) → own ≡ rules
+    → v ≡ after_all rules first ws → IsWritten rules first ws front → IsWritten rules first us all → all ≡ front ++ bytes ∷ rest
+    → ((xs : List Write) → IsGroup xs → payload xs ≡ bytes → AllMayFollow own v xs → ⊥) → ⊥
+stuck rules own first v ws us front all bytes rest rules_are seen written other all_is none =
+    let next = next_group rules first ws us front bytes rest written (subst (IsWritten rules first us) all_is other) in
     let Follow : Rules → View → Type 0 = λ r x. AllMayFollow r x next.writes in
     none next.writes next.group next.payload_is
     (subst (λ r. Follow r v) (sym rules_are) (subst (λ x. Follow rules x) (sym seen) next.follow))
