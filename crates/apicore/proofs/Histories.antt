@@ -222,9 +222,3 @@ recorded_delete (delete l) k is = let key : l ≡ k = cc in λ i. delete (key i)
 pub on_ok_to : {T E : Type 0} (r : Result T E) (P Q : Type 0) → (P → Q) → OnOk r P → OnOk r Q
 on_ok_to (Ok x) P Q to holds = to holds
 on_ok_to (Err e) P Q to holds = holds
-
-pub one_list : (rules : Rules) (v : View) (ws us : List Write) (payloads : List (List ℕ)) → IsWritten rules v ws payloads → IsWritten rules v us payloads → ws ≡ us
-one_list rules v ws us payloads a b = ?
-
-pub writes_storable : (rules : Rules) (v : View) (ws : List Write) (payloads : List (List ℕ)) → IsWritten rules v ws payloads → AllStorable ws
-writes_storable rules v ws payloads written = ?

@@ -26,7 +26,8 @@ use Rattle.durable.specs.Recorded.{payload, IsGroup}
 use Rattle.apicore.proofs.Following.{AllMayFollow-first, AllMayFollow-others}
 use Rattle.apicore.proofs.Staying.{histories_show}
 use Rattle.snapshots.specs.Keeping.{entries_of, IsKeepable}
-use Rattle.snapshots.proofs.Kept.{kept, one_kept_view}
+use Rattle.snapshots.proofs.Histories.{histories_are_kept}
+use Rattle.snapshots.proofs.Kept.{entries_have_one_view}
 use Rattle.durable.specs.Laws.{AtMostOneView, ReplayedIsShown}
 use Rattle.names.specs.declared.format.Format.{Format}
 use Rattle.names.specs.declared.format.Format.TheVariants.{First}
@@ -126,7 +127,7 @@ pub history_kept : (rules : Rules) (h : History) → AreOfFormat rules → IsHis
 history_kept rules h numbers history =
     let Small : Rules → Type 0 = λ r. r.text_limit_bytes ≤ 2 ^ 24 in
     let Last : Rules → Type 0 = λ r. r.greatest_revision < 2 ^ 64 in
-    kept rules h (of_first rules numbers Small first_small) (of_first rules numbers Last last_below) history
+    histories_are_kept rules h (of_first rules numbers Small first_small) (of_first rules numbers Last last_below) history
 
 -- ---- what is read
 
@@ -201,7 +202,7 @@ one_view_of rules content g h first second =
     let ws : List Write = writes_in second.groups in
     let here : HoldsBase rules content second.root first.base = base_here rules content g first second.root second.counts in
     let entries : entries_of a ≡ entries_of b = sym here.pages.are ∙ second.checkpoint.pages.are in
-    let bases : a ≡ b = one_kept_view rules a b (base_kept rules content g first) (base_kept rules content h second) entries (sym here.revision ∙ second.checkpoint.revision) in
+    let bases : a ≡ b = entries_have_one_view rules a b (base_kept rules content g first) (base_kept rules content h second) entries (sym here.revision ∙ second.checkpoint.revision) in
     let payloads : List (List ℕ) = map payload second.groups in
     let Of : View → Type 0 = λ v. IsWritten rules (with_plans v) (map write_with_plans us) payloads in
     let written = subst Of bases (written_here rules content g first second.root second.counts payloads second.last second.log) in

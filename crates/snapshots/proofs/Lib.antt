@@ -5,3 +5,4 @@ pub mod Shown
 pub mod MadeAgain
 pub mod Events
 pub mod Histories
+pub mod Kept

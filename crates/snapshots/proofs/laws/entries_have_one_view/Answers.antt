@@ -1,25 +1,5 @@
-use Rattle.std.proofs.Common.{◌≡◌, subst, sym, List}
-use Rattle.celtree.specs.Tree.{Expr}
-use Rattle.names.specs.Key.{Key}
-use Rattle.documents.specs.Document.{Document}
-use Rattle.history.specs.declared.state.Stored.{Stored}
-use Rattle.expressions.specs.Specification.{IsSpecification, sound}
-use Rattle.entries.proofs.Views.{one_view_of}
-use Rattle.apicore.specs.Standing.{HasTrees}
-use Rattle.snapshots.specs.Keeping.{tree_plans}
+use Rattle.snapshots.proofs.Kept as proof
 use Rattle.snapshots.proofs.laws.entries_have_one_view.Goals as goal
 
-abbrev Planted : Type 0
-Planted = Key × Stored (List Expr)
-
-abbrev Stands : Planted → Type 0
-Stands o = HasTrees o.0.resource o.1.document.json o.1.beside
-
--- a document has one list of trees
-one_list : (o p : Planted) → Stands o → Stands p → o.0 ≡ p.0 → o.1.document ≡ p.1.document → tree_plans o ≡ tree_plans p → o.1.beside ≡ p.1.beside
-one_list o p a b key document plans =
-    let Are : Key → Document → Type 0 = λ k d. IsSpecification k.resource d.json (sound o.1.beside) in
-    b.alone o.1.beside (subst (Are p.0) document (subst (λ k. Are k o.1.document) key a.spelled))
-
 pub returns : goal.returns
-returns c rules v w a b same revision = one_view_of tree_plans rules Stands one_list v w a.holdable b.holdable a.trees b.trees same revision
+returns c = proof.entries_have_one_view

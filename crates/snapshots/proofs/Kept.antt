@@ -1,0 +1,42 @@
+-- What is promised of the entries of a view.
+use Rattle.std.proofs.Common.{◌≡◌, ◌≤◌, subst, List, [], ◌∷◌}
+use Rattle.std.specs.List.{AllByRecursion}
+use Rattle.celtree.specs.Tree.{Expr}
+use Rattle.names.specs.Key.{Key}
+use Rattle.documents.specs.Document.{Document}
+use Rattle.history.specs.declared.state.Stored.{Stored}
+use Rattle.expressions.specs.Specification.{IsSpecification, sound}
+use Rattle.pages.specs.Page.{Entry}
+use Rattle.checkpoint.specs.Filling.{AllFit}
+use Rattle.entries.proofs.Ascending as ascending
+use Rattle.entries.proofs.Fitting as fitting
+use Rattle.entries.proofs.Fitting.{Fits}
+use Rattle.entries.proofs.Views.{one_view_of}
+use Rattle.apicore.specs.Standing.{HasTrees}
+use Rattle.snapshots.specs.Keeping.{tree_plans, entries_of}
+use Rattle.snapshots.specs.Laws.{AtMostOneView, EntriesAscend, EntriesFit}
+
+abbrev Planted : Type 0
+Planted = Key × Stored (List Expr)
+
+abbrev Stands : Planted → Type 0
+Stands o = HasTrees o.0.resource o.1.document.json o.1.beside
+
+-- a document has one list of trees
+one_list : (o p : Planted) → Stands o → Stands p → o.0 ≡ p.0 → o.1.document ≡ p.1.document → tree_plans o ≡ tree_plans p → o.1.beside ≡ p.1.beside
+one_list o p a b key document plans =
+    let Are : Key → Document → Type 0 = λ k d. IsSpecification k.resource d.json (sound o.1.beside) in
+    b.alone o.1.beside (subst (Are p.0) document (subst (λ k. Are k o.1.document) key a.spelled))
+
+pub entries_have_one_view : AtMostOneView
+entries_have_one_view rules v w a b same revision = one_view_of tree_plans rules Stands one_list v w a.holdable b.holdable a.trees b.trees same revision
+
+pub entries_ascend : EntriesAscend
+entries_ascend rules v keepable = ascending.entries_ascend tree_plans rules v keepable.holdable
+
+all_fit : (es : List Entry) → AllByRecursion Fits es → AllFit es
+all_fit [] all = tt
+all_fit (e ∷ es) all = (all.0, all_fit es all.1)
+
+pub entries_fit : EntriesFit
+entries_fit rules v limit keepable = all_fit (entries_of v) (fitting.entries_fit tree_plans rules limit v keepable.holdable)
