@@ -1,4 +1,5 @@
-ghost use Rattle.std.specs.Prelude.{◌≡◌, ◌≢◌, ◌≤◌, ◌+◌, ◌-◌, ◌^◌, ◌<◌, IsTrue, ◌++◌, ◌∷◌, [], List, ℕ, length, take, map, true, false, is_ok, None, Some, IsSome, IfSome, IfOk, IfErr, OnOk, OnErr, IsErrOf, ◌⊎◌};
+ghost use Rattle.std.specs.Prelude.{◌≡◌, ◌≢◌, ◌≤◌, ◌+◌, ◌-◌, ◌^◌, ◌<◌, IsTrue, ◌++◌, ◌∷◌, [], List, ℕ, length, take, map, true, false, is_ok, None, Some, IsSome, IfSome, IfOk, IfErr, OnOk, OnErr, IsErrOf, ◌⊎◌, ◌↔◌};
+ghost use Rattle.checkpoint.specs.declared.writing.WriteFault.TheVariants as WriteFault;
 ghost use Rattle.durable.specs.Rules.{AreOfFormat};
 ghost use Rattle.durable.specs.Opened.{IsReplayed};
 ghost use Rattle.durable.specs.Ready.{IsReady};
@@ -15,6 +16,13 @@ use history::Reply;
 use requests::Request;
 use snapshots::entries_in;
 use std::alloc::Global;
+
+// Whether nothing was written where this is told.
+fn changed_nothing(fault: WriteFault) -> bool
+    ensures { IsTrue result ↔ ((fault ≡ WriteFault.Memory) ⊎ (fault ≡ WriteFault.Exhausted)) }
+{
+    matches!(fault, WriteFault::Memory | WriteFault::Exhausted)
+}
 
 /// A store of objects on a device.
 #[derive(Drop)]
@@ -309,7 +317,7 @@ impl<D: Device> Store<D> {
         match write(alloc, &mut self.device, &self.root, last_gate, revision, entries) {
             Ok(written) => Ok(self.start_over(written.root)),
             Err(fault) => {
-                self.serves = matches!(fault, WriteFault::Memory | WriteFault::Exhausted);
+                self.serves = changed_nothing(fault);
                 Err(Fault::from(fault))
             }
         }

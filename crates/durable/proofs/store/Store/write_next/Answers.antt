@@ -1,56 +1,124 @@
-use Rattle.std.proofs.Common.{rules, ◌≡◌, ◌≢◌, ◌≤◌, ◌+◌, ◌-◌, ◌^◌, ◌<◌, IsTrue, ◌++◌, ◌∷◌, [], List, ℕ, length, take, map, true, false, is_ok, None, Some, IsSome, IfSome, IfOk, IfErr, OnOk, OnErr, IsErrOf, ◌⊎◌, ◌*◌, ◌/◌, ◌%◌, Bool, nat_eq, nat_lt, slice_index_or, slice_set, bit_and, bit_or, Fits, w8, w32, w64, Bor, MutBor}
-use Rattle.durable.specs.Rules.{AreOfFormat}
-use Rattle.durable.specs.Opened.{IsReplayed}
-use Rattle.durable.specs.Ready.{IsReady, IsReadyAt, HoldsHistory}
-use Rattle.device.specs.Disk.{LeavesOnly, HasCause, HasFailed}
-use Rattle.device.specs.Run.{Ran, Stands}
-use Rattle.std.specs.FinMap.{is_sorted}
-use Rattle.std.specs.List.{AllByRecursion}
-use Rattle.device.specs.Step.{Same}
-use Rattle.pages.specs.Page.{bytes_cmp}
-use Rattle.checkpoint.specs.EntryList.{entries_of as in_list}
-use Rattle.snapshots.specs.Keeping.{entries_of}
-use Rattle.gatelog.specs.Log.{HoldsLog}
-use Rattle.gatelog.specs.Payload.{payload_of}
+use Rattle.std.proofs.Common.{arith, ◌≡◌, ◌∙◌, ◌≤◌, refl, sym, ap, subst, ⊎_elim, ℕ, List, [], Err}
+use Rattle.std.proofs.Math.Logic.{∥∥₁_elim, ∥∥₁_prop}
+use Rattle.std.proofs.lemmas.Grind.{merely}
+use Rattle.device.specs.Run.{Stands}
+use Rattle.checkpoint.specs.Filling.{AllFit}
 use Rattle.checkpoint.specs.Root.{log_start, HoldsRoot}
+use Rattle.gatelog.specs.Log.{HoldsLog}
+use Rattle.checkpoint.specs.declared.root.Root.{Root}
+use Rattle.pages.specs.Page.{Entry}
 use Rattle.names.specs.declared.format.Rules.{Rules}
-use Rattle.requests.specs.RequestOf.{request_of}
-use Rattle.history.specs.Prepared.{AreReady, writes_of}
-use Rattle.history.specs.View.{view, after_all}
-use Rattle.apicore.specs.Standing.{Write, History, View, AllMayFollow}
-use Rattle.apicore.specs.Compiled.{HasOwnPlans}
-use Rattle.durable.specs.declared.fault.Damage.{Damage}
-use Rattle.durable.specs.declared.fault.Fault.TheVariants as Fault
-use Rattle.durable.specs.Compacted.{IsToldOf, IsCheckOf}
-use Rattle.durable.specs.Recorded.{payload, IsGroup}
+use Rattle.snapshots.specs.Keeping.{entries_of}
+use Rattle.snapshots.proofs.Kept.{entries_fit}
+use Rattle.history.specs.View.{view}
 use Rattle.durable.specs.Stands.{StandsFor}
-use Rattle.durable.specs.Settled.{device_of, root_of, log_of, serves, kept_rules, shown, ServesAt, IsFound, IsSettledAt, IsLeftAt, LeavesSome, HasReplied, HasFailedAt, HasServed, HasStopped}
+use Rattle.checkpoint.specs.EntryList.{entries_of as in_list}
+use Rattle.durable.specs.declared.fault.Fault.TheVariants as Fault
+use Rattle.durable.specs.Settled.{root_of}
+use Rattle.durable.proofs.Keeping.{reaches}
+use Rattle.durable.proofs.Compacting.{ready_in_use, ready_same, list_source, generation_in_use, stands_either, stands_written, written_counts, damaged_or_long}
+use Rattle.durable.proofs.Reading.{history_kept, of_first, kept_size}
 use Rattle.durable.proofs.store.Store.write_next.Goals as goal
 
--- src/store.rt:309:15
 pub write-requires-clause-inside : goal.write-requires-clause-inside
-write-requires-clause-inside g c = ?
+write-requires-clause-inside g c keeps =
+    let store = c.args.self.now in
+    omega (arith, c.last_gate-last_gate.ensures, reaches g.D.Device.disk store.device store.root store.log (store.ready c.requires.serves keeps))
 
--- src/store.rt:310:31
 pub start_over-requires-clause-in_use : goal.start_over-requires-clause-in_use
-start_over-requires-clause-in_use g c = ?
+start_over-requires-clause-in_use g c keeps =
+    let store = c.args.self.now in
+    let disk = g.D.Device.disk in
+    let last = c.last_gate-last_gate.result in
+    let entries = c.args.entries.now in
+    let kept = c.write.ensures.had_kept keeps in
+    ∥∥₁_elim (store.ready c.requires.serves kept) ∥∥₁_prop
+    (λ ready.
+    let used = ready_in_use disk store.device store.root store.log last c.last_gate-last_gate.ensures ready in
+    let source = list_source store.root last (disk.content store.device) entries c.requires.ascending in
+    let stands = c.in-Ok.ensures.written kept _ used source in
+    let next = c.in-Ok.ensures.in_use kept _ used source in
+    merely (record { counts = stands.seen.holds; closed = stands.seen.closed; durable = next.durable }))
 
--- src/store.rt:312:17
 pub invariant_of-self-in-Err : goal.invariant_of-self-in-Err
-invariant_of-self-in-Err g c = ?
+invariant_of-self-in-Err g c =
+    let store = c.args.self.now in
+    let disk = g.D.Device.disk in
+    record {
+      limits = store.limits;
+      in_data = store.in_data;
+      works = λ _. store.works c.requires.serves;
+      ready = λ serves keeps.
+          let kept = c.write.ensures.had_kept keeps in
+          let fault = c.changed_nothing-self.ensures.0 serves in
+          let run = ⊎_elim (λ memory. c.write.ensures.memory (c.in-Err.is ∙ ap Err memory)) (λ exhausted. c.write.ensures.exhausted (c.in-Err.is ∙ ap Err exhausted)) fault in
+          ∥∥₁_elim (store.ready c.requires.serves kept) ∥∥₁_prop
+          (λ ready. merely (ready_same disk store.device c.write.new.device store.root store.log kept run ready));
+    }
 
--- src/store.rt:282:5
 pub returns-in-Ok-clause-stands : goal.returns-in-Ok-clause-stands
-returns-in-Ok-clause-stands g c = ?
+returns-in-Ok-clause-stands g c rules h held revision entries =
+    let store = c.args.self.now in
+    let disk = g.D.Device.disk in
+    let last = c.last_gate-last_gate.result in
+    let list = c.args.entries.now in
+    let all : List Entry = in_list list in
+    let ready = store.ready c.requires.serves held.keeps in
+    let works = store.works c.requires.serves in
+    let used = generation_in_use disk store.device c.write.new.device rules h store.root store.log last c.revision-revision.result all ready works held c.last_gate-last_gate.ensures
+    (c.revision-revision.ensures ∙ revision) entries in
+    let stands = stands_written disk store.device c.write.new.device rules h store.root store.log last c.revision-revision.result all ready works held c.last_gate-last_gate.ensures
+    (c.revision-revision.ensures ∙ revision) entries c.in-Ok.written.root c.in-Ok.ensures.revision
+    (c.in-Ok.ensures.written held.keeps all used (list_source store.root last (disk.content store.device) list c.requires.ascending)) in
+    let To : g.row.D.Denot → Type 0 = λ device. Stands {D = g.row.D.Denot} disk store.device device (λ x. StandsFor rules x h) (λ x. StandsFor rules x h) in
+    subst To (sym c.start_over.ensures.device) stands
 
--- src/store.rt:282:5
 pub returns-in-Ok-clause-counts : goal.returns-in-Ok-clause-counts
-returns-in-Ok-clause-counts g c = ?
+returns-in-Ok-clause-counts g c rules h held revision entries =
+    let store = c.args.self.now in
+    let disk = g.D.Device.disk in
+    let last = c.last_gate-last_gate.result in
+    let list = c.args.entries.now in
+    let all : List Entry = in_list list in
+    let root = c.in-Ok.written.root in
+    let used = generation_in_use disk store.device c.write.new.device rules h store.root store.log last c.revision-revision.result all (store.ready c.requires.serves held.keeps)
+    (store.works c.requires.serves) held c.last_gate-last_gate.ensures (c.revision-revision.ensures ∙ revision) entries in
+    let written = c.in-Ok.ensures.written held.keeps all used (list_source store.root last (disk.content store.device) list c.requires.ascending) in
+    let Counts : g.row.D.Denot → Root → Type 0 = λ device r. HoldsRoot (disk.content device) r × HoldsLog (log_start r) [] (log_start r) (disk.content device) in
+    subst (λ device. Counts device (root_of c.start_over.new.self)) (sym c.start_over.ensures.device)
+    (subst (Counts c.write.new.device) (sym c.start_over.ensures.root) (written_counts root all (disk.content c.write.new.device) written.seen))
 
--- src/store.rt:282:5
-pub returns-after-matches-clause-stands : goal.returns-after-matches-clause-stands
-returns-after-matches-clause-stands g c = ?
+pub returns-in-Err-clause-stands : goal.returns-in-Err-clause-stands
+returns-in-Err-clause-stands g c rules h held revision entries =
+    let store = c.args.self.now in
+    let disk = g.D.Device.disk in
+    let last = c.last_gate-last_gate.result in
+    let list = c.args.entries.now in
+    let all : List Entry = in_list list in
+    let ready = store.ready c.requires.serves held.keeps in
+    let works = store.works c.requires.serves in
+    let used = generation_in_use disk store.device c.write.new.device rules h store.root store.log last c.revision-revision.result all ready works held c.last_gate-last_gate.ensures
+    (c.revision-revision.ensures ∙ revision) entries in
+    stands_either disk store.device c.write.new.device rules h store.root store.log last c.revision-revision.result all ready works held c.last_gate-last_gate.ensures
+    (c.revision-revision.ensures ∙ revision) entries
+    (c.write.ensures.any_moment held.keeps all used (list_source store.root last (disk.content store.device) list c.requires.ascending))
 
--- src/store.rt:282:5
-pub returns-after-matches-clause-damaged : goal.returns-after-matches-clause-damaged
-returns-after-matches-clause-damaged g c = ?
+pub returns-in-Err-clause-damaged : goal.returns-in-Err-clause-damaged
+returns-in-Err-clause-damaged g c rules h damage held revision entries told =
+    let store = c.args.self.now in
+    let disk = g.D.Device.disk in
+    let last = c.last_gate-last_gate.result in
+    let list = c.args.entries.now in
+    let all : List Entry = in_list list in
+    let used = generation_in_use disk store.device c.write.new.device rules h store.root store.log last c.revision-revision.result all (store.ready c.requires.serves held.keeps)
+    (store.works c.requires.serves) held c.last_gate-last_gate.ensures (c.revision-revision.ensures ∙ revision) entries in
+    let source = list_source store.root last (disk.content store.device) list c.requires.ascending in
+    let Fit : List Entry → Type 0 = λ es. AllFit es in
+    let Small : Rules → Type 0 = λ r. r.text_limit_bytes ≤ 16384 in
+    let fit : AllFit all =
+    subst Fit (sym entries) (entries_fit rules (view rules h) (of_first rules held.read.numbers Small kept_size) (history_kept rules h held.read.numbers held.read.history)) in
+    let same : c.from.result ≡ Fault.Damaged damage = cc in
+    ⊎_elim
+    (λ is. c.write.ensures.damaged held.keeps all used source (c.in-Err.is ∙ ap Err is))
+    (λ is. c.write.ensures.fits held.keeps all refl (c.in-Err.is ∙ ap Err is) fit)
+    (damaged_or_long c.in-Err.fault damage (sym c.from.ensures ∙ same))
