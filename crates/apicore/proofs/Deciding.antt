@@ -207,10 +207,15 @@ held_of r d (stands.sound trees) short held = (held, few_bytes r d (plans_in d t
 held_of r d stands.bad_spec short held = tt
 held_of r d (stands.bad_expression t) short held = tt
 
+abbrev trees_in : Specification Expr → List Expr
+trees_in (stands.sound trees) = trees
+trees_in stands.bad_spec = []
+trees_in (stands.bad_expression t) = []
+
 pub read_of : (r : Resource) (d : Data) (found : Specification Judged) (is : IsCompiled r d found) → AreShort d found → MayBeHeld r d found → IsRead r d is.meant
 read_of r d found is short held = record {
   stands = is.stands;
-  alone = is.alone;
+  alone = λ trees other same also. ap trees_in (sym (is.alone other also) ∙ same);
   held = held_of r d is.meant (subst (AreShort d) is.plans short) (subst (MayBeHeld r d) is.plans held);
 }
 

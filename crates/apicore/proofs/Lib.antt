@@ -5,3 +5,4 @@ pub mod Showing
 pub mod Finding
 pub mod Deciding
 pub mod Histories
+pub mod Owning

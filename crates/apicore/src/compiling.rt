@@ -1,10 +1,13 @@
 //! Whether plans are those of the expressions beside which they stand.
 
-ghost use Rattle.std.specs.Prelude.{◌≡◌, false, IsTrue, IfOk};
+ghost use Rattle.std.specs.Prelude.{◌≡◌, List, false, IsTrue, IfOk};
 ghost use Rattle.std.specs.List.{AllByRecursion};
+ghost use Rattle.celtree.specs.Tree.{Expr};
+ghost use Rattle.expressions.specs.Specification.{plans_bytes};
+ghost use Rattle.apicore.specs.Beside.{beside_of};
 ghost use Rattle.apicore.specs.Compiled.{HasOwnPlans};
 ghost use Rattle.apicore.specs.Prepared.{Shows};
-ghost use Rattle.apicore.specs.Standing.{View, IsView};
+ghost use Rattle.apicore.specs.Standing.{View, IsView, HasTrees};
 
 use crate::beside::Beside;
 use crate::prepared::Core;
@@ -20,9 +23,15 @@ fn have_same_bytes(
     resource: Resource,
     held: &[Verified],
     own: &[Verified],
-) -> Result<bool, AllocError> {
-    match (plans_bytes(alloc, resource, held), plans_bytes(alloc, resource, own)) {
-        (Ok(held), Ok(own)) => Ok(held == own),
+) -> Result<bool, AllocError>
+    ensures yes { IfOk result (λ same. IsTrue same → plans_bytes resource held.now ≡ plans_bytes resource own.now) }
+    ensures no { IfOk result (λ same. same ≡ false → plans_bytes resource held.now ≡ plans_bytes resource own.now → ⊥) }
+{
+    match (
+        plans_bytes(alloc, resource, held),
+        plans_bytes(alloc, resource, own),
+    ) {
+        (Ok(held), Ok(own)) => Ok(held.as_slice() == own.as_slice()),
         // Plans that may be held are never too long, so memory was wanting.
         _ => Err(AllocError),
     }
@@ -30,9 +39,17 @@ fn have_same_bytes(
 
 // Whether the plans of an object are those of its own expressions.
 fn has_own(alloc: Global, key: &Key, stored: &Stored<Beside>) -> Result<bool, AllocError>
+    ensures yes { IfOk result (λ has. IsTrue has → HasOwnPlans (key.now, stored.now)) }
+    ensures no { IfOk result (λ has. has ≡ false → (trees : List Expr) → HasTrees key.now.resource stored.now.document.json trees
+        → stored.now.beside ≡ beside_of stored.now.document.json trees → ⊥) }
 {
     match specification_of(alloc, key.resource(), stored.document.json())? {
-        Specification::Sound(plans) => have_same_bytes(alloc, key.resource(), stored.beside.plans(), &plans),
+        Specification::Sound(plans) => have_same_bytes(
+            alloc,
+            key.resource(),
+            stored.beside.plans(),
+            &plans,
+        ),
         Specification::BadSpec | Specification::BadExpression(_) => Ok(false),
     }
 }

@@ -11,5 +11,5 @@ use Rattle.expressions.specs.Seen.{IsFaultOf, IsFaultAmong}
 -- the fault of a policy's expressions is that of its document
 pub fault_of_document : (d : Data) (p : Policy) (f : PolicyFault) → policy_of d ≡ Some p → IsFaultAmong p (sources p) f → IsFaultOf d f
 fault_of_document d p BadSpec form h = absurd h
-fault_of_document d p (BadExpression text) form h = record { policy = p; form = form; bad = h }
+fault_of_document d p (BadExpression text) form h = record { policy = p; form = form; bad = h.0; none = h.1 }
 fault_of_document d p Memory form h = tt

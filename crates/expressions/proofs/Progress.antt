@@ -7,7 +7,7 @@ use Rattle.celtypes.specs.Types.{ValueType}
 use Rattle.plan.specs.Seen.{IsSmall}
 use Rattle.policy.specs.Spec.{Policy}
 use Rattle.expressions.specs.Expressions.{Variables, Source, and_declared}
-use Rattle.expressions.specs.Typed.{AreTyped, IsBad, IsFirstBad}
+use Rattle.expressions.specs.Typed.{AreTyped, IsBad, IsFirstBad, AreUntyped}
 use Rattle.expressions.specs.Trees.{IsNext}
 
 -- Of the expressions ss the first ones spell the trees in done. Behind them these variables are declared, and the rest is to come.
@@ -59,10 +59,16 @@ goes_on {p} {ss} {vs} {ws} {done} {s} {e} {rest} so_far next = record {
   small = small_push done e so_far.small next.small;
 }
 
--- a bad expression is the first
+-- behind a bad expression no trees are typed
+none_typed : (p : Policy) (vs : Variables) (s : Source) (rest : List Source) (es : List Expr) → IsBad p vs s → AreTyped p vs (s ∷ rest) es → ⊥
+none_typed p vs s rest [] bad h = h
+none_typed p vs s rest (e ∷ es) bad h = bad e h.0 h.1
+
+-- a bad expression is the first, and no trees are typed
 pub stops : {p : Policy} {ss : List Source} {vs : Variables} {done : List Expr} {s : Source} {rest : List Source}
-    → Progress p ss vs done (s ∷ rest) → IsBad p vs s → IsFirstBad p [] ss s.text
-stops {s = s} so_far bad = so_far.bad s.text (inl (refl, bad))
+    → Progress p ss vs done (s ∷ rest) → IsBad p vs s → IsFirstBad p [] ss s.text × AreUntyped p ss
+stops {p} {vs = vs} {s = s} {rest = rest} so_far bad =
+    (so_far.bad s.text (inl (refl, bad)), λ trees typed. let was = so_far.alone trees typed in none_typed p vs s rest was.0 bad was.2)
 
 -- all expressions have their trees
 pub ends_typed : {p : Policy} {ss : List Source} {vs : Variables} {done : List Expr} → Progress p ss vs done [] → AreTyped p [] ss done

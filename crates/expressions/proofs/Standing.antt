@@ -11,10 +11,10 @@ use Rattle.plancode.specs.Plans.{Judged}
 use Rattle.policy.specs.Bindings.{binding_of}
 use Rattle.policy.specs.Policies.{policy_of}
 use Rattle.policy.specs.Forms.{Text}
-use Rattle.policy.specs.Spec.{Policy}
+use Rattle.policy.specs.Spec.{Policy, Binding}
 use Rattle.expressions.specs.Expressions.{Source, sources}
 use Rattle.expressions.specs.Plans.{each_plan, plans_of}
-use Rattle.expressions.specs.Typed.{AreTyped, IsFirstBad}
+use Rattle.expressions.specs.Typed.{AreTyped, IsFirstBad, AreUntyped}
 use Rattle.expressions.specs.Places.{policy_in}
 use Rattle.expressions.specs.Specification.{Specification, sound, bad_spec, bad_expression, IsSpecification, IsCompiled}
 
@@ -26,11 +26,6 @@ no_plans_in : (p : Option Policy) → option_map_or (λ q. plans_of q []) p [] �
 no_plans_in None = refl
 no_plans_in (Some p) = no_plans (sources p)
 
-abbrev trees_in : Specification Expr → List Expr
-trees_in (sound trees) = trees
-trees_in bad_spec = []
-trees_in (bad_expression text) = []
-
 -- ---- bindings
 
 pub sound_binding : (d : Data) → IsTrue (is_some (binding_of d)) → IsCompiled ValidatingAdmissionPolicyBinding d (sound [])
@@ -38,11 +33,16 @@ sound_binding d is = record {
   meant = sound [];
   stands = (is, refl);
   plans = ap sound (sym (no_plans_in (policy_of d)));
-  alone = λ trees other same also. also.1 ∙ ap trees_in same;
+  alone = λ trees also. ap sound (sym also.1);
 }
 
 pub bad_binding : (d : Data) → binding_of d ≡ None → IsCompiled ValidatingAdmissionPolicyBinding d bad_spec
-bad_binding d is = record { meant = bad_spec; stands = is; plans = refl; alone = λ trees other same also. cc }
+bad_binding d is = record {
+  meant = bad_spec;
+  stands = is;
+  plans = refl;
+  alone = λ trees also. let There : Option Binding → Type 0 = λ o. IsTrue (is_some o) in let never : There None = subst There is also.0 in cc;
+}
 
 -- ---- other resources
 
@@ -51,7 +51,7 @@ other r d only is = record {
   meant = sound [];
   stands = is;
   plans = ap sound (sym (no_plans_in (policy_of d)));
-  alone = λ trees more same also. ap trees_in (only (sound more) also) ∙ ap trees_in same;
+  alone = λ trees also. sym (only (sound trees) also);
 }
 
 pub config_map : (d : Data) → IsCompiled ConfigMap d (sound [])
@@ -106,10 +106,22 @@ pub same_policy : (d : Data) (p q : Policy) → policy_of d ≡ Some p → polic
 same_policy d p q is counted = (few_of (policy_of d) p q is counted).1
 
 pub bad_policy : (d : Data) → policy_in d ≡ None → IsCompiled ValidatingAdmissionPolicy d bad_spec
-bad_policy d is = record { meant = bad_spec; stands = is; plans = refl; alone = λ trees other same also. cc }
+bad_policy d is = record { meant = bad_spec; stands = is; plans = refl; alone = λ trees also. let also_is = also.1 in cc }
 
-pub bad_expression_in : (d : Data) (p : Policy) (text : Text) → policy_in d ≡ Some p → IsFirstBad p [] (sources p) text → IsCompiled ValidatingAdmissionPolicy d (bad_expression text)
-bad_expression_in d p text is bad = record { meant = bad_expression text; stands = (p, is, bad); plans = refl; alone = λ trees other same also. cc }
+no_trees : (d : Data) (p : Policy) (trees : List Expr) → policy_in d ≡ Some p → AreUntyped p (sources p) → (q : Policy) → policy_in d ≡ Some q → AreTyped q [] (sources q) trees → ⊥
+no_trees d p trees is none q also typed =
+    let same : q ≡ p = cc in
+    let P : Policy → Type 0 = λ x. AreTyped x [] (sources x) trees in
+    none trees (subst P same typed)
+
+pub bad_expression_in : (d : Data) (p : Policy) (text : Text) → policy_in d ≡ Some p → IsFirstBad p [] (sources p) text → AreUntyped p (sources p)
+    → IsCompiled ValidatingAdmissionPolicy d (bad_expression text)
+bad_expression_in d p text is bad none = record {
+  meant = bad_expression text;
+  stands = (p, is, bad);
+  plans = refl;
+  alone = λ trees also. absurd (no_trees d p trees is none also.0 also.1 also.2);
+}
 
 the_trees : (d : Data) (p : Policy) (trees other : List Expr) → policy_in d ≡ Some p → ((more : List Expr) → AreTyped p [] (sources p) more → more ≡ trees)
     → (q : Policy) → policy_in d ≡ Some q → AreTyped q [] (sources q) other → other ≡ trees
@@ -124,5 +136,5 @@ sound_policy d p trees plans is typed alone same = record {
   meant = sound trees;
   stands = (p, is, typed);
   plans = ap sound (same ∙ ap (λ o. option_map_or (λ q. plans_of q trees) o []) (sym (spelled_policy d p is)));
-  alone = λ these other meant also. the_trees d p trees other is alone also.0 also.1 also.2 ∙ ap trees_in meant;
+  alone = λ these also. ap sound (sym (the_trees d p trees these is alone also.0 also.1 also.2));
 }

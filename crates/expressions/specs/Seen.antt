@@ -12,7 +12,7 @@ use Rattle.expressions.specs.declared.source.Place as code_place
 use Rattle.expressions.specs.declared.source.Place.TheVariants as place
 use Rattle.expressions.specs.declared.source.Source as code_source
 use Rattle.expressions.specs.Expressions.{Place, condition, variable, validation, message, Source}
-use Rattle.expressions.specs.Typed.{IsFirstBad, HasBadExpression}
+use Rattle.expressions.specs.Typed.{IsFirstBad, AreUntyped, HasBadExpression}
 
 abbrev pub place_seen : code_place.Place → Place
 place_seen place.Condition = condition
@@ -35,5 +35,5 @@ IsFaultOf document Memory = Unit {0}
 -- the fault is that of the policy's expressions
 abbrev pub IsFaultAmong : Policy → List Source → PolicyFault → Type 0
 IsFaultAmong p ss BadSpec = ⊥
-IsFaultAmong p ss (BadExpression text) = IsFirstBad p [] ss (string_bytes text)
+IsFaultAmong p ss (BadExpression text) = IsFirstBad p [] ss (string_bytes text) × AreUntyped p ss
 IsFaultAmong p ss Memory = Unit {0}

@@ -59,12 +59,12 @@ compiled d (sound trees) = sound (plans_in d trees)
 compiled d bad_spec = bad_spec
 compiled d (bad_expression text) = bad_expression text
 
--- It is what stands in the object, compiled. The expressions spell no other trees.
+-- It is what stands in the object, compiled. Where the expressions spell trees, it is these that stand there.
 pub record IsCompiled (r : Resource) (d : Data) (s : Specification Judged) : Type 0 where
   pub meant : Specification Expr
   pub stands : IsSpecification r d meant
   pub plans : s ≡ compiled d meant
-  pub alone : (trees other : List Expr) → meant ≡ sound trees → IsSpecification r d (sound other) → other ≡ trees
+  pub alone : (trees : List Expr) → IsSpecification r d (sound trees) → meant ≡ sound trees
 
 -- the list of the plans has at most 22 bytes for each byte of the document's text, and two for their number
 abbrev pub AreShort : Data → Specification Judged → Type 0

@@ -34,6 +34,10 @@ IsFirstBad p vs (s ∷ ss) text =
     ((s.text ≡ text) × IsBad p vs s)
     ⊎ ((e : Expr) × (t : ValueType) × IsTyped p vs s e t × IsFirstBad p (and_declared s.place t vs) ss text)
 
+-- the expressions spell no trees with types as they must have
+abbrev pub AreUntyped : Policy → List Source → Type 0
+AreUntyped p ss = (trees : List Expr) → AreTyped p [] ss trees → ⊥
+
 -- the document is this policy, and its expressions spell these trees
 pub record IsPolicy (document : Data) (p : Policy) (trees : List Expr) : Type 0 where
   pub form : policy_of document ≡ Some p
@@ -44,3 +48,4 @@ pub record HasBadExpression (document : Data) (text : Text) : Type 0 where
   pub policy : Policy
   pub form : policy_of document ≡ Some policy
   pub bad : IsFirstBad policy [] (sources policy) text
+  pub none : AreUntyped policy (sources policy)
