@@ -1,64 +1,52 @@
-use Rattle.std.proofs.Common.{rules, ◌≡◌, ◌≢◌, ◌≤◌, ◌+◌, ◌-◌, ◌^◌, ◌<◌, IsTrue, ◌++◌, ◌∷◌, [], List, ℕ, length, take, map, true, false, is_ok, None, Some, IsSome, IfSome, IfOk, IfErr, OnOk, OnErr, IsErrOf, ◌⊎◌, ◌*◌, ◌/◌, ◌%◌, Bool, nat_eq, nat_lt, slice_index_or, slice_set, bit_and, bit_or, Fits, w8, w32, w64, Bor, MutBor}
-use Rattle.durable.specs.Rules.{AreOfFormat}
-use Rattle.durable.specs.Opened.{IsReplayed}
-use Rattle.durable.specs.Ready.{IsReady, IsReadyAt, HoldsHistory}
-use Rattle.device.specs.Disk.{LeavesOnly, HasCause, HasFailed}
-use Rattle.device.specs.Run.{Ran, Stands}
+use Rattle.std.proofs.Common.{◌≡◌, ◌∙◌, refl, sym, ap, subst, List, [], true, false, Bool}
 use Rattle.std.specs.FinMap.{is_sorted}
-use Rattle.std.specs.List.{AllByRecursion}
-use Rattle.device.specs.Step.{Same}
-use Rattle.pages.specs.Page.{bytes_cmp}
+use Rattle.device.specs.Disk.{LeavesOnly}
+use Rattle.device.proofs.Moments.{weaker}
+use Rattle.pages.specs.Page.{Entry, bytes_cmp}
 use Rattle.checkpoint.specs.EntryList.{entries_of as in_list}
 use Rattle.snapshots.specs.Keeping.{entries_of}
-use Rattle.gatelog.specs.Log.{HoldsLog}
-use Rattle.gatelog.specs.Payload.{payload_of}
-use Rattle.checkpoint.specs.Root.{log_start, HoldsRoot}
-use Rattle.names.specs.declared.format.Rules.{Rules}
-use Rattle.requests.specs.RequestOf.{request_of}
-use Rattle.history.specs.Prepared.{AreReady, writes_of}
-use Rattle.history.specs.View.{view, after_all}
-use Rattle.apicore.specs.Standing.{Write, History, View, AllMayFollow}
-use Rattle.apicore.specs.Compiled.{HasOwnPlans}
-use Rattle.durable.specs.declared.fault.Damage.{Damage}
-use Rattle.durable.specs.declared.fault.Fault.TheVariants as Fault
-use Rattle.durable.specs.Compacted.{IsToldOf, IsCheckOf}
-use Rattle.durable.specs.Recorded.{payload, IsGroup}
+use Rattle.snapshots.proofs.Kept.{entries_ascend}
+use Rattle.history.specs.View.{view}
 use Rattle.durable.specs.Stands.{StandsFor}
-use Rattle.durable.specs.Settled.{device_of, root_of, log_of, serves, kept_rules, shown, ServesAt, IsFound, IsSettledAt, IsLeftAt, LeavesSome, HasReplied, HasFailedAt, HasServed, HasStopped}
+use Rattle.durable.specs.Settled.{IsFound}
+use Rattle.durable.proofs.Answering.{held}
+use Rattle.durable.proofs.Findings.{found_none, leaves-idle}
+use Rattle.durable.proofs.Reading.{history_kept}
 use Rattle.durable.proofs.store.Store.compact.Goals as goal
 
--- src/store.rt:264:27
 pub returns-in_err-entries-clause-any_moment : goal.returns-in_err-entries-clause-any_moment
-returns-in_err-entries-clause-any_moment g c = ?
+returns-in_err-entries-clause-any_moment g c rules h settled =
+    leaves-idle rules c.args.self.now h [] (λ content since. g.met.D.Device.only_now c.args.self.now.device content settled.keeps since) settled
 
--- src/store.rt:266:13
 pub returns-then-not-ascends-clause-any_moment : goal.returns-then-not-ascends-clause-any_moment
-returns-then-not-ascends-clause-any_moment g c = ?
+returns-then-not-ascends-clause-any_moment g c rules h settled =
+    let store = c.args.self.now in
+    let idle = leaves-idle rules store h [] (λ content since. g.met.D.Device.only_now store.device content settled.keeps since) settled in
+    let To : g.row.D.Denot → Type 0 = λ device. LeavesOnly {D = g.row.D.Denot} g.D.Device.disk store.device device (IsFound rules h [] []) in
+    subst To (sym c.stop_at.ensures.device) idle
 
--- src/store.rt:266:13
 pub returns-then-not-ascends-clause-damaged : goal.returns-then-not-ascends-clause-damaged
-returns-then-not-ascends-clause-damaged g c = ?
+returns-then-not-ascends-clause-damaged g c damage told rules h settled =
+    let Sorted : List Entry → Type 0 = λ es. is_sorted bytes_cmp es ≡ true in
+    let shown : in_list c.in_ok-entries.entries ≡ entries_of (view rules h) = c.in_ok-entries.ensures.shown (view rules h) settled.shows in
+    let ascends = c.ascends.ensures.1 (subst Sorted (sym shown) (entries_ascend rules (view rules h) (history_kept rules h settled.read.numbers settled.read.history))) in
+    let never : ◌≡◌ {A = Bool} true false = sym ascends ∙ c.if-not-ascends.true in
+    cc
 
--- src/store.rt:231:5
 pub returns-clause-settled : goal.returns-clause-settled
-returns-clause-settled g c = ?
+returns-clause-settled g c rules h settled = ?
 
--- src/store.rt:231:5
 pub returns-clause-counts : goal.returns-clause-counts
-returns-clause-counts g c = ?
+returns-clause-counts g c rules h settled = ?
 
--- src/store.rt:231:5
 pub returns-clause-any_moment : goal.returns-clause-any_moment
-returns-clause-any_moment g c = ?
+returns-clause-any_moment g c rules h settled = ?
 
--- src/store.rt:231:5
 pub returns-clause-device : goal.returns-clause-device
-returns-clause-device g c = ?
+returns-clause-device g c rules h settled told = ?
 
--- src/store.rt:231:5
 pub returns-clause-memory : goal.returns-clause-memory
-returns-clause-memory g c = ?
+returns-clause-memory g c rules h settled told = ?
 
--- src/store.rt:231:5
 pub returns-clause-damaged : goal.returns-clause-damaged
-returns-clause-damaged g c = ?
+returns-clause-damaged g c damage told rules h settled = ?
