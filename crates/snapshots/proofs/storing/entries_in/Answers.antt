@@ -1,10 +1,9 @@
-use Rattle.std.proofs.Common.{◌≡◌, ◌∙◌, List, ◌++◌, map, append_assoc}
+use Rattle.std.proofs.Common.{◌≡◌, ◌∙◌, ◌++◌, map, append_assoc}
 use Rattle.history.specs.View.{View}
-use Rattle.pages.specs.Page.{Entry}
-use Rattle.checkpoint.specs.EntryList.{listed, entries_of}
+use Rattle.checkpoint.specs.EntryList.{listed}
 use Rattle.entries.specs.Entries.{stored_entry, plans_among, event_entry}
 use Rattle.apicore.specs.Beside.{Beside}
-use Rattle.snapshots.specs.Keeping.{held_plans, held_entries}
+use Rattle.snapshots.specs.Keeping.{held_plans}
 use Rattle.snapshots.proofs.Shown.{entries_shown}
 use Rattle.snapshots.proofs.storing.entries_in.Goals as goal
 
