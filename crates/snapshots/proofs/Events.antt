@@ -1,5 +1,5 @@
 -- Events are kept as they were.
-use Rattle.std.proofs.Common.{arith, ◌≡◌, ◌∙◌, sym, ap, subst, refl, ◌+◌, ◌-◌, ◌≤◌, ◌<◌, ℕ, List, [], ◌∷◌, ◌++◌, length, append_assoc, append-nil, length-append}
+use Rattle.std.proofs.Common.{arith, ◌≡◌, ◌∙◌, sym, ap, subst, refl, ◌+◌, ◌-◌, ◌≤◌, ℕ, List, [], ◌∷◌, ◌++◌, length, append_assoc, append-nil, length-append}
 use Rattle.circular_buffer.specs.Buffer.{keep_last}
 use Rattle.window.specs.declared.event.Event.{Event}
 use Rattle.window.specs.Window.{event_at, AreNumberedFrom}

@@ -6,7 +6,6 @@ use Rattle.names.specs.Key.{Key, key_cmp}
 use Rattle.documents.specs.Document.{Document}
 use Rattle.history.specs.declared.state.Stored.{Stored}
 use Rattle.history.specs.View.{View}
-use Rattle.plancode.specs.Plans.{Judged}
 use Rattle.expressions.specs.Specification.{plans_bytes, MayHavePlans}
 use Rattle.expressions.proofs.Listed.{one_stored_list}
 use Rattle.entries.specs.Holding.{IsStorableObject}

@@ -1,5 +1,5 @@
 -- What a history shows can be kept.
-use Rattle.std.proofs.Common.{arith, ◌≡◌, ◌≢◌, ◌∙◌, sym, ap, subst, refl, ◌+◌, ◌-◌, ◌*◌, ◌^◌, ◌≤◌, ◌<◌, min, suc, ℕ, List, [], ◌∷◌, ◌++◌, length, length-drop}
+use Rattle.std.proofs.Common.{arith, ◌≡◌, ◌≢◌, ◌∙◌, ap, refl, ◌+◌, ◌-◌, ◌^◌, ◌≤◌, suc, ℕ, List, [], ◌∷◌, length, length-drop}
 use Rattle.std.specs.List.{AllByRecursion}
 use Rattle.circular_buffer.specs.Buffer.{keep_last}
 use Rattle.celtree.specs.Tree.{Expr}
@@ -18,9 +18,9 @@ use Rattle.plancode.specs.Plans.{Judged}
 use Rattle.expressions.specs.Specification.{plans_in, plans_bytes}
 use Rattle.entries.specs.Holding.{CanHoldObject, HasFewPlans, IsHoldable}
 use Rattle.entries.proofs.Histories.{holdable}
-use Rattle.apicore.specs.Standing.{Write, View, History, HasTrees, AllMayFollow, IsHistory, HaveTrees}
+use Rattle.apicore.specs.Standing.{Write, View, History, HasTrees, AllMayFollow, HaveTrees}
 use Rattle.apicore.proofs.Staying.{histories_show}
-use Rattle.snapshots.specs.Keeping.{tree_plans, HasLastEvents, IsKeepable}
+use Rattle.snapshots.specs.Keeping.{tree_plans, HasLastEvents}
 use Rattle.snapshots.specs.Laws.{HistoriesAreKept}
 
 abbrev Planted : Type 0

@@ -1,6 +1,5 @@
 -- A store that holds what was read from entries.
-use Rattle.std.proofs.Common.{arith, ◌≡◌, ◌∙◌, sym, ap, subst, refl, ◌⊎◌, inl, inr, ⊎_elim, ◌+◌, ◌-◌, ◌≤◌, min, ℕ, List, [], ◌++◌, length, map}
-use Rattle.std.specs.FinMap.{is_sorted}
+use Rattle.std.proofs.Common.{arith, ◌≡◌, ◌∙◌, sym, ap, subst, refl, ◌⊎◌, ⊎_elim, ◌-◌, ◌≤◌, min, ℕ, List, [], ◌++◌, length}
 use Rattle.std.specs.List.{AllByRecursion}
 use Rattle.names.specs.declared.format.Rules.{Rules}
 use Rattle.window.specs.declared.event.Event.{Event}
@@ -8,7 +7,6 @@ use Rattle.window.specs.Window.{AreNumberedFrom}
 use Rattle.documents.specs.Document.{Document}
 use Rattle.history.specs.View as seen
 use Rattle.entries.specs.declared.fault.EntryFault.{EntryFault}
-use Rattle.entries.specs.declared.fault.EntryFault.TheVariants as EntryFault
 use Rattle.entries.specs.Entries.{entries_of as view_entries}
 use Rattle.entries.specs.Holding.{IsStorableEvent}
 use Rattle.entries.specs.Laws.{bytes_beside}
@@ -18,7 +16,7 @@ use Rattle.apicore.specs.Standing.{View}
 use Rattle.snapshots.specs.declared.fault.SnapshotFault.TheVariants as SnapshotFault
 use Rattle.snapshots.specs.Faults.{of_entry_fault}
 use Rattle.snapshots.specs.Keeping.{tree_plans, held_plans, held_entries, HasLastEvents, IsHeld}
-use Rattle.snapshots.specs.Restoring.{in_bytes, view_in_bytes, AreHeldOf, with_events}
+use Rattle.snapshots.specs.Restoring.{view_in_bytes, AreHeldOf, with_events}
 use Rattle.snapshots.proofs.Held.{Object, Kept, held_objects}
 use Rattle.snapshots.proofs.InBytes.{entries_in_bytes}
 

@@ -1,5 +1,5 @@
 -- What a store shows that holds what entries keep of a view.
-use Rattle.std.proofs.Common.{◌≡◌, ◌∙◌, sym, ap, refl, Bool, true, ◌&&◌, ℕ, List, [], ◌∷◌, map}
+use Rattle.std.proofs.Common.{◌≡◌, ◌∙◌, sym, ap, refl, Bool, ◌&&◌, ℕ, List, [], ◌∷◌, map}
 use Rattle.std.specs.FinMap.{is_sorted}
 use Rattle.std.specs.FinMap.Entries.{below_all}
 use Rattle.std.specs.List.{AllByRecursion}
@@ -7,12 +7,10 @@ use Rattle.std.specs.Ordering.{is_lt}
 use Rattle.celtree.specs.Tree.{Expr}
 use Rattle.names.specs.declared.format.Rules.{Rules}
 use Rattle.names.specs.Key.{Key, key_cmp}
-use Rattle.window.specs.declared.event.Event.{Event}
 use Rattle.documents.specs.Document.{Document}
 use Rattle.history.specs.declared.state.Stored.{Stored}
-use Rattle.history.specs.Mapped.{one, each, mapped}
+use Rattle.history.specs.Mapped.{each, mapped}
 use Rattle.history.specs.View as seen
-use Rattle.pages.specs.Page.{Entry}
 use Rattle.entries.specs.Entries.{entries_of as view_entries}
 use Rattle.entries.specs.Laws.{bytes_beside}
 use Rattle.apicore.specs.Beside.{Beside}

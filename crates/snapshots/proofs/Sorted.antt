@@ -1,5 +1,5 @@
 -- One more key behind those of ascending ones.
-use Rattle.std.proofs.Common.{arith, ◌≡◌, ◌∙◌, sym, ap, refl, ◌-◌, suc, ℕ, Bool, true, false, ◌&&◌, List, [], ◌∷◌, ◌++◌, map, length, Ordering, Less, Equal, Greater}
+use Rattle.std.proofs.Common.{arith, ◌≡◌, ◌∙◌, sym, ap, refl, ◌-◌, suc, ℕ, Bool, true, false, ◌&&◌, List, [], ◌∷◌, ◌++◌, length, Ordering, Less, Greater}
 use Rattle.std.proofs.lemmas.Bool.{and_parts}
 use Rattle.std.specs.FinMap.{is_sorted}
 use Rattle.std.specs.FinMap.Entries.{below_all, by_order}

@@ -71,16 +71,16 @@ fn hold(alloc: Global, core: &mut Core, object: &KeptObject) -> Result<(), Snaps
 }
 
 // Holds objects, where none is held.
-fn hold_all(alloc: Global, core: &mut Core, objects: Vec<KeptObject>) -> Result<(), SnapshotFault>
+fn hold_all(alloc: Global, core: &mut Core, objects: &[KeptObject]) -> Result<(), SnapshotFault>
     requires { core.old.view.objects ≡ [] }
     ensures rules { core.new.rules ≡ core.old.rules }
-    ensures held { OnOk result (AreHeldOf core.new.view.objects objects.items) }
+    ensures held { OnOk result (AreHeldOf core.new.view.objects objects.now) }
     ensures revision { OnOk result (core.new.view.revision ≡ core.old.view.revision) }
     ensures events { OnOk result (core.new.view.events ≡ core.old.view.events) }
-    ensures damaged { IsDamaged result → (os : List (KeyData × StoredData BesideData)) → AreHeldOf os objects.items → ⊥ }
+    ensures damaged { IsDamaged result → (os : List (KeyData × StoredData BesideData)) → AreHeldOf os objects.now → ⊥ }
 {
     for object in objects {
-        hold(alloc, core, &object)?;
+        hold(alloc, core, object)?;
     }
     Ok(())
 }
@@ -146,9 +146,11 @@ pub fn restored(
     let view = read_view(alloc, entries, revision)?;
     let mut core = core_behind(alloc, rules, &view)?;
     let KeptView {
-        objects, events, ..
+        objects,
+        events,
+        ..
     } = view;
-    hold_all(alloc, &mut core, objects)?;
+    hold_all(alloc, &mut core, &objects)?;
     keep_all(&mut core, events);
     Ok(core)
 }

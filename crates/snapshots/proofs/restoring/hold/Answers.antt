@@ -1,11 +1,11 @@
-use Rattle.std.proofs.Common.{◌≡◌, ◌∙◌, sym, ap, true, List, [], ◌∷◌, ◌++◌}
+use Rattle.std.proofs.Common.{◌≡◌, ◌∙◌, sym, ap, true, [], ◌∷◌, ◌++◌}
 use Rattle.std.specs.FinMap.{is_sorted}
 use Rattle.names.specs.Key.{Key, key_cmp}
 use Rattle.history.specs.View.{View}
 use Rattle.objects.specs.Objects.{with_value}
 use Rattle.history.specs.declared.state.Stored.{Stored}
 use Rattle.apicore.specs.Beside.{Beside}
-use Rattle.snapshots.proofs.Held.{Object, Kept}
+use Rattle.snapshots.proofs.Held.{Kept}
 use Rattle.snapshots.proofs.Sorted.{with_value_last}
 use Rattle.snapshots.proofs.restoring.hold.Goals as goal
 

@@ -1,11 +1,8 @@
 use Rattle.std.proofs.Common.{rules, ◌≡◌, ◌∙◌, sym, ap, subst, ◌⊎◌, inl, inr, ⊎_elim, ℕ, List}
-use Rattle.std.specs.Prelude.{Err, IsErrOf}
-use Rattle.pages.specs.Page.{Entry}
-use Rattle.names.specs.declared.format.Rules.{Rules}
+use Rattle.std.specs.Prelude.{IsErrOf}
 use Rattle.history.specs.View as seen
 use Rattle.entries.specs.declared.fault.EntryFault.{EntryFault}
-use Rattle.entries.specs.declared.fault.EntryFault.TheVariants as EntryFault
-use Rattle.apicore.specs.Standing.{View, with_plans}
+use Rattle.apicore.specs.Standing.{with_plans}
 use Rattle.snapshots.specs.declared.fault.SnapshotFault.TheVariants as SnapshotFault
 use Rattle.snapshots.specs.Faults.{of_entry_fault}
 use Rattle.snapshots.specs.Keeping.{tree_plans, HasLastEvents}
@@ -13,7 +10,7 @@ use Rattle.snapshots.specs.Restoring.{IsDamaged, view_in_bytes, AreHeldOf}
 use Rattle.snapshots.proofs.Held.{Kept}
 use Rattle.snapshots.proofs.InBytes.{entries_in_bytes, holdable_in_bytes}
 use Rattle.snapshots.proofs.Shown.{shown_held, shows_kept}
-use Rattle.snapshots.proofs.MadeAgain.{IsRestoredOf, entry_damaged, last_in_bytes, restored_of, held_restored, entries_restored}
+use Rattle.snapshots.proofs.MadeAgain.{entry_damaged, last_in_bytes, restored_of, held_restored, entries_restored}
 use Rattle.snapshots.proofs.restoring.restored.Goals as goal
 
 abbrev KeptView : Type 0
@@ -46,31 +43,32 @@ returns-in_err-hold_all-clause-damaged c is_damaged v keepable same revision =
     c.in_ok-view.ensures.found c.args.rules (view_in_bytes tree_plans v) (holdable_in_bytes tree_plans c.args.rules v keepable.holdable)
     (entries_in_bytes tree_plans v ∙ same) revision
     in
-    let objects : (view_in_bytes tree_plans v).objects ≡ c.view.inside.objects.items = ap (λ (u : KeptView). u.objects) (sym found ∙ sym c.view.view_is) in
+    let objects : (view_in_bytes tree_plans v).objects ≡ c.deref.result.now =
+    ap (λ (u : KeptView). u.objects) (sym found ∙ sym c.view.view_is) ∙ sym c.deref.ensures.value
+    in
     c.hold_all.ensures.damaged told (with_plans v).objects
     (subst (λ (ks : List Kept). AreHeldOf (with_plans v).objects ks) objects (shown_held c.args.rules v keepable))
 
--- the store holds the view that was read
-whole : (c : goal.After-keep_all) → IsRestoredOf c.keep_all.new.core.view c.in_ok-view.view
-whole c =
+pub returns : goal.returns
+returns c =
     let kept : KeptView = c.in_ok-view.view in
-    restored_of c.args.rules kept c.view.inside.objects.items c.view.inside.events.items c.in_ok-core.core.view c.hold_all.new.core.view c.keep_all.new.core.view
-    c.in_ok-core.ensures.last (ap (λ (u : KeptView). u.objects) c.view.view_is) (ap (λ (u : KeptView). u.events) c.view.view_is)
+    let held = c.keep_all.new.core.view in
+    let is =
+    restored_of c.args.rules kept c.deref.result.now c.view.inside.events.items c.in_ok-core.core.view c.hold_all.new.core.view held c.in_ok-core.ensures.last
+    (c.deref.ensures.value ∙ ap (λ (u : KeptView). u.objects) c.view.view_is) (ap (λ (u : KeptView). u.events) c.view.view_is)
     (ap (λ u. u.revision) c.in_ok-core.ensures.view) (ap (λ u. u.events) c.in_ok-core.ensures.view)
     c.in_ok-hold_all.ensures.held c.in_ok-hold_all.ensures.revision c.in_ok-hold_all.ensures.events c.keep_all.ensures.view
-
-pub returns-clause-held : goal.returns-clause-held
-returns-clause-held c =
-    held_restored c.args.rules c.keep_all.new.core.view c.in_ok-view.view (whole c) c.in_ok-view.ensures.storable c.in_ok-core.ensures.last
-
-pub returns-clause-entries : goal.returns-clause-entries
-returns-clause-entries c = entries_restored c.keep_all.new.core.view c.in_ok-view.view (whole c) ∙ c.in_ok-view.ensures.entries
-
-pub returns-clause-found : goal.returns-clause-found
-returns-clause-found c v keepable same revision =
-    let is = whole c in
-    let found =
-    c.in_ok-view.ensures.found c.args.rules (view_in_bytes tree_plans v) (holdable_in_bytes tree_plans c.args.rules v keepable.holdable)
-    (entries_in_bytes tree_plans v ∙ same) revision
     in
-    shows_kept c.args.rules v c.keep_all.new.core.view c.in_ok-view.view keepable found is.objects is.revision is.events
+    record {
+      rules = search rules;
+      held = held_restored c.args.rules held kept is c.in_ok-view.ensures.storable c.in_ok-core.ensures.last;
+      entries = entries_restored held kept is ∙ c.in_ok-view.ensures.entries;
+      revision = is.revision ∙ c.in_ok-view.ensures.revision;
+      found = λ v keepable same revision.
+          let found =
+          c.in_ok-view.ensures.found c.args.rules (view_in_bytes tree_plans v) (holdable_in_bytes tree_plans c.args.rules v keepable.holdable)
+          (entries_in_bytes tree_plans v ∙ same) revision
+          in
+          shows_kept c.args.rules v held kept keepable found is.objects is.revision is.events;
+      damaged = search rules;
+    }
