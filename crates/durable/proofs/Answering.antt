@@ -13,6 +13,7 @@ use Rattle.history.specs.History.{put, delete}
 use Rattle.history.specs.Mapped.{mapped, mapped_write}
 use Rattle.history.specs.Prepared.{write_of, writes_of}
 use Rattle.history.specs.declared.prepared.PreparedWrite.{PreparedWrite}
+use Rattle.history.specs.State.{State}
 use Rattle.history.specs.View as seen
 use Rattle.history.specs.View.{view, empty, after_all}
 use Rattle.history.proofs.Mapping.{all_mapped}
@@ -31,6 +32,7 @@ use Rattle.durable.specs.Recorded.{payload, IsGroup}
 use Rattle.durable.specs.declared.store.Store.{Store}
 use Rattle.durable.specs.Ready.{HoldsHistory}
 use Rattle.durable.specs.RecordOf.{IsRecordOf}
+use Rattle.durable.specs.Stands.{StandsFor}
 use Rattle.durable.specs.Settled.{IsFound, ServesAt, IsSettledAt, LeavesSome, HasReplied, HasFailedAt, device_of, serves, kept_rules, shown}
 use Rattle.durable.proofs.Findings.{leaves-idle}
 
@@ -56,6 +58,20 @@ view-after rules h ws = sym (after_all-append rules empty h ws)
 -- a settled store's device holds its history
 pub held : {D : Type 0} {g : Ghosts D} (rules : Rules) (store : Store D g) (h : History) → IsSettledAt rules store h → HoldsHistory rules g.disk (device_of store) h
 held rules store h settled = record { keeps = settled.keeps; read = settled.read; left = settled.left }
+
+-- A store that shows what it showed is settled at the history that its device holds.
+pub settled_by : {D : Type 0} {g : Ghosts D} (rules : Rules) (old new : Store D g) (h : History) → IsSettledAt rules old h → new.core ≡ old.core → serves new ≡ true
+    → Stands g.disk (device_of old) (device_of new) (λ c. StandsFor rules c h) (λ c. StandsFor rules c h) → IsSettledAt rules new h
+settled_by rules old new h settled same working stands =
+    let Shown : State Beside → Type 0 = λ core. Shows core.view (view rules h) in
+    record {
+      working = working;
+      rules_are = ap (λ (core : State Beside). core.rules) same ∙ settled.rules_are;
+      keeps = stands.kept;
+      shows = subst Shown (sym same) settled.shows;
+      read = stands.seen;
+      left = stands.crash;
+    }
 
 -- and the other way round
 pub settled_from : {D : Type 0} {g : Ghosts D} (rules : Rules) (store : Store D g) (h : History) → serves store ≡ true → kept_rules store ≡ rules → Shows (shown store) (view rules h)

@@ -8,8 +8,9 @@ use Rattle.snapshots.specs.Keeping.{entries_of}
 use Rattle.snapshots.proofs.Kept.{entries_ascend}
 use Rattle.history.specs.View.{view}
 use Rattle.durable.specs.Stands.{StandsFor}
-use Rattle.durable.specs.Settled.{IsFound}
-use Rattle.durable.proofs.Answering.{held}
+use Rattle.apicore.proofs.Histories.{on_ok_to}
+use Rattle.durable.specs.Settled.{device_of, IsFound}
+use Rattle.durable.proofs.Answering.{held, settled_by}
 use Rattle.durable.proofs.Findings.{found_none, leaves-idle}
 use Rattle.durable.proofs.Reading.{history_kept}
 use Rattle.durable.proofs.store.Store.compact.Goals as goal
@@ -34,19 +35,54 @@ returns-then-not-ascends-clause-damaged g c damage told rules h settled =
     cc
 
 pub returns-clause-settled : goal.returns-clause-settled
-returns-clause-settled g c rules h settled = ?
+returns-clause-settled g c rules h settled =
+    let store = c.args.self.now in
+    let shown : in_list c.in_ok-entries.entries ≡ entries_of (view rules h) = c.in_ok-entries.ensures.shown (view rules h) settled.shows in
+    let revision : store.core.view.revision ≡ (view rules h).revision = ap (λ v. v.revision) settled.shows in
+    let stands = c.write_next.ensures.stands rules h (held rules store h settled) revision shown in
+    on_ok_to c.write_next.result _ _ (λ serves. settled_by rules store c.write_next.new.self h settled c.write_next.ensures.core serves stands) c.write_next.ensures.serves
 
 pub returns-clause-counts : goal.returns-clause-counts
-returns-clause-counts g c rules h settled = ?
+returns-clause-counts g c rules h settled =
+    let store = c.args.self.now in
+    let shown : in_list c.in_ok-entries.entries ≡ entries_of (view rules h) = c.in_ok-entries.ensures.shown (view rules h) settled.shows in
+    let revision : store.core.view.revision ≡ (view rules h).revision = ap (λ v. v.revision) settled.shows in
+    c.write_next.ensures.counts rules h (held rules store h settled) revision shown
 
 pub returns-clause-any_moment : goal.returns-clause-any_moment
-returns-clause-any_moment g c rules h settled = ?
+returns-clause-any_moment g c rules h settled =
+    let store = c.args.self.now in
+    let shown : in_list c.in_ok-entries.entries ≡ entries_of (view rules h) = c.in_ok-entries.ensures.shown (view rules h) settled.shows in
+    let revision : store.core.view.revision ≡ (view rules h).revision = ap (λ v. v.revision) settled.shows in
+    let stands = c.write_next.ensures.stands rules h (held rules store h settled) revision shown in
+    weaker g.D.Device.disk store.device (device_of c.write_next.new.self) (λ x. StandsFor rules x h) (IsFound rules h [] []) stands.moments
+    (λ x found. found_none rules h [] x found)
 
 pub returns-clause-device : goal.returns-clause-device
-returns-clause-device g c rules h settled told = ?
+returns-clause-device g c rules h settled told =
+    let store = c.args.self.now in
+    let shown : in_list c.in_ok-entries.entries ≡ entries_of (view rules h) = c.in_ok-entries.ensures.shown (view rules h) settled.shows in
+    let revision : store.core.view.revision ≡ (view rules h).revision = ap (λ v. v.revision) settled.shows in
+    let stands = c.write_next.ensures.stands rules h (held rules store h settled) revision shown in
+    record {
+      stopped = c.write_next.ensures.stops told;
+      keeps = stands.kept;
+      read = found_none rules h [] _ stands.seen;
+      left = λ x left. found_none rules h [] x (stands.crash x left);
+    }
 
 pub returns-clause-memory : goal.returns-clause-memory
-returns-clause-memory g c rules h settled told = ?
+returns-clause-memory g c rules h settled told =
+    let store = c.args.self.now in
+    let shown : in_list c.in_ok-entries.entries ≡ entries_of (view rules h) = c.in_ok-entries.ensures.shown (view rules h) settled.shows in
+    let revision : store.core.view.revision ≡ (view rules h).revision = ap (λ v. v.revision) settled.shows in
+    let stands = c.write_next.ensures.stands rules h (held rules store h settled) revision shown in
+    let unchanged = c.write_next.ensures.unchanged told in
+    (settled_by rules store c.write_next.new.self h settled c.write_next.ensures.core unchanged.1 stands, unchanged.0.seen settled.keeps)
 
 pub returns-clause-damaged : goal.returns-clause-damaged
-returns-clause-damaged g c damage told rules h settled = ?
+returns-clause-damaged g c damage told rules h settled =
+    let store = c.args.self.now in
+    let shown : in_list c.in_ok-entries.entries ≡ entries_of (view rules h) = c.in_ok-entries.ensures.shown (view rules h) settled.shows in
+    let revision : store.core.view.revision ≡ (view rules h).revision = ap (λ v. v.revision) settled.shows in
+    c.write_next.ensures.damaged rules h damage (held rules store h settled) revision shown told
