@@ -7,6 +7,7 @@ use Rattle.device.specs.declared.file_device.CreateFault as file_create
 use Rattle.device.specs.declared.file_device.CreateFault.TheVariants as file_create_fault
 use Rattle.device.specs.declared.file_device.OpenFault as file_open
 use Rattle.device.specs.declared.file_device.OpenFault.TheVariants as file_open_fault
+use Rattle.durable.specs.declared.fault.Damage.{Damage}
 use Rattle.durable.specs.declared.fault.Damage.TheVariants as damage
 use Rattle.durable.specs.declared.fault.Fault as store
 use Rattle.durable.specs.declared.fault.Fault.TheVariants as store_fault
@@ -18,13 +19,17 @@ use Rattle.gated.specs.declared.problem.Problem.TheVariants as problem
 use Rattle.gated.specs.declared.status.Status.{Status}
 use Rattle.gated.specs.declared.status.Status.TheVariants as status
 
--- its line on standard error, behind the program's name
+-- what is told of it: in its line on standard error behind the program's name, and of damage that a check finds in a line of the output
 abbrev pub text_of : Problem → List ℕ
 text_of problem.FileExists = codes "file exists"
 text_of problem.NoStore = codes "no store"
 text_of (problem.Damaged damage.Header) = codes "damaged: header"
 text_of (problem.Damaged damage.Root) = codes "damaged: root"
+text_of (problem.Damaged damage.Page) = codes "damaged: page"
+text_of (problem.Damaged damage.Entry) = codes "damaged: entry"
 text_of (problem.Damaged damage.Log) = codes "damaged: log"
+text_of (problem.Damaged damage.Plan) = codes "damaged: plan"
+text_of problem.Exhausted = codes "generation exhausted"
 text_of problem.DeviceFailed = codes "device failed"
 text_of problem.StreamFailed = codes "input or output failed"
 text_of problem.OutOfMemory = codes "out of memory"
@@ -43,6 +48,7 @@ abbrev pub status_of : Problem → Status
 status_of problem.FileExists = status.NoStore
 status_of problem.NoStore = status.NoStore
 status_of (problem.Damaged d) = status.NoStore
+status_of problem.Exhausted = status.NoStore
 status_of problem.DeviceFailed = status.Failed
 status_of problem.StreamFailed = status.Failed
 status_of problem.OutOfMemory = status.OutOfMemory
@@ -55,6 +61,17 @@ Tells took failures old new status.Usage = (text : List ℕ) × TookSome took ol
 Tells took failures old new status.NoStore = (p : Problem) × (status_of p ≡ status.NoStore) × TellsAll took failures old new (line_of p)
 Tells took failures old new status.Failed = (p : Problem) × (status_of p ≡ status.Failed) × TellsAll took failures old new (line_of p)
 Tells took failures old new status.OutOfMemory = (p : Problem) × (status_of p ≡ status.OutOfMemory) × TellsAll took failures old new (line_of p)
+
+-- Damage is told in a line of the output, and the program ends so.
+pub record FindsDamage {O : Type 0} (took : O → O → List ℕ → Type 0) (old new : O) (result : Status) : Type 0 where
+  pub damage : Damage
+  pub line : took old new (text_of (problem.Damaged damage) ++ codes "\n")
+  pub status : result ≡ status.NoStore
+
+-- Damage is told in a line of the output, and nothing is told of errors.
+pub record TellsDamage {O E : Type 0} (took : O → O → List ℕ → Type 0) (old new : O) (errors_old errors_new : E) (result : Status) : Type 0 where
+  pub found : FindsDamage took old new result
+  pub quiet : errors_new ≡ errors_old
 
 -- ---- the problem that a fault is
 
@@ -77,6 +94,7 @@ of_store store_fault.Device = problem.DeviceFailed
 of_store store_fault.Memory = problem.OutOfMemory
 of_store (store_fault.Damaged d) = problem.Damaged d
 of_store store_fault.Failed = problem.DeviceFailed
+of_store store_fault.Exhausted = problem.Exhausted
 
 abbrev pub of_serve : serve.ServeFault → Problem
 of_serve serve_fault.Read = problem.StreamFailed

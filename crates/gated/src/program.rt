@@ -1,19 +1,20 @@
 //! What the program does.
 
-ghost use Rattle.std.specs.Prelude.{◌≡◌, ◌≢◌, IsErrOf};
+ghost use Rattle.std.specs.Prelude.{◌≡◌, ◌≢◌, ◌⊎◌, true, map, IfOk, IsErrOf};
 ghost use Rattle.clap.specs.Words.{kind_of};
 ghost use Rattle.durable.specs.declared.fault.Damage.{Damage};
-ghost use Rattle.gated.specs.Problem.{Tells};
+ghost use Rattle.gated.specs.CommandLine.{AskForCheck, is_check};
+ghost use Rattle.gated.specs.Problem.{FindsDamage, Tells, TellsDamage};
 
 use crate::command::{Verb, command};
 use crate::listening::serve_connections;
-use crate::problem::{Problem, tell};
+use crate::problem::{Problem, print, tell};
 use crate::status::Status;
 use api::serve;
 use clap::Error;
 use clap::error::ErrorKind;
 use device::FileDevice;
-use durable::{Store, create};
+use durable::{Checked, Compacted, Store, create};
 use httpmsg::{Input, Output, write_all};
 use std::alloc::Global;
 use std::convert::AsStr;
@@ -97,6 +98,105 @@ fn serve_file<R: Files<File = File> + Net<Stream = TcpStream, Listener = TcpList
     serve_connections(alloc, &listener, connections, idle, &mut store)
 }
 
+// Writes what the store in a file shows as its next generation, and tells of it on the output.
+fn compact<R: Files<File = File>, O: Output>(
+    files: &R,
+    alloc: Global,
+    file: &str,
+    output: &mut O,
+) -> Result<(), Problem>
+    ensures no_file_made { IsErrOf result Problem.FileExists → ⊥ }
+{
+    let mut store = open_store(files, alloc, file)?;
+    let Compacted { generation, pages, first } = store.compact(alloc)?;
+    match format!(in alloc; "generation {generation}, {pages} pages at sector {first}") {
+        Ok(line) => print(output, line.as_str()),
+        Err(_) => Err(Problem::OutOfMemory),
+    }
+}
+
+// What is found of the store in a file.
+fn look<R: Files<File = File>>(files: &R, alloc: Global, file: &str) -> Result<Checked, Problem>
+    ensures no_file_made { IsErrOf result Problem.FileExists → ⊥ }
+    ensures no_stream { IsErrOf result Problem.StreamFailed → ⊥ }
+{
+    let mut store = open_store(files, alloc, file)?;
+    Ok(store.check(alloc)?)
+}
+
+// Tells on the output that a store is whole.
+fn print_sound<O: Output>(alloc: Global, checked: Checked, output: &mut O) -> Result<(), Problem>
+    ensures no_file_made { IsErrOf result Problem.FileExists → ⊥ }
+    ensures no_damage { (damage : Damage) → IsErrOf result (Problem.Damaged damage) → ⊥ }
+{
+    let Checked { revision, objects, generation } = checked;
+    match format!(in alloc; "ok: format 1, revision {revision}, objects {objects}, generation {generation}") {
+        Ok(line) => print(output, line.as_str()),
+        Err(_) => Err(Problem::OutOfMemory),
+    }
+}
+
+// Tells on the output whether the store in a file is whole, or what of it is damaged, and says how the program ends.
+fn check<R: Files<File = File>, O: Output>(
+    files: &R,
+    alloc: Global,
+    file: &str,
+    output: &mut O,
+) -> Result<Status, Problem>
+    ensures no_file_made { IsErrOf result Problem.FileExists → ⊥ }
+    ensures no_damage { (damage : Damage) → IsErrOf result (Problem.Damaged damage) → ⊥ }
+    ensures ends { IfOk result (λ status. (status ≡ Status.Success) ⊎ FindsDamage O.took output.old output.new status) }
+{
+    match look(files, alloc, file) {
+        Ok(checked) => {
+            print_sound(alloc, checked, output)?;
+            Ok(Status::Success)
+        }
+        Err(Problem::Damaged(damage)) => {
+            print(output, Problem::Damaged(damage).text())?;
+            Ok(Status::NoStore)
+        }
+        Err(problem) => Err(problem),
+    }
+}
+
+// Does what a verb asks for, and says how the program ends.
+fn done<
+    R: Files<File = File> + Net<Stream = TcpStream, Listener = TcpListener>,
+    I: Input,
+    O: Output,
+>(
+    runtime: &R,
+    alloc: Global,
+    verb: Verb<'_>,
+    input: &mut I,
+    output: &mut O,
+) -> Result<Status, Problem>
+    ensures { IfOk result (λ status. (status ≡ Status.Success) ⊎ ((is_check verb ≡ true) × FindsDamage O.took output.old output.new status)) }
+{
+    match verb {
+        Verb::Create { file } => create_store(runtime, file)?,
+        Verb::Replay { file } => replay(runtime, alloc, file, input, output)?,
+        Verb::Serve {
+            file,
+            address,
+            connections,
+            idle_seconds,
+        } => serve_file(
+            runtime,
+            alloc,
+            file,
+            address,
+            connections,
+            idle_seconds,
+            output,
+        )?,
+        Verb::Compact { file } => compact(runtime, alloc, file, output)?,
+        Verb::Check { file } => return check(runtime, alloc, file, output),
+    }
+    Ok(Status::Success)
+}
+
 // Tells what is wrong with the command line.
 fn refuse<E: Output>(alloc: Global, error: &Error, errors: &mut E) -> Status
     ensures told { Tells E.took E.failures errors.old errors.new result }
@@ -117,7 +217,7 @@ fn refuse<E: Output>(alloc: Global, error: &Error, errors: &mut E) -> Status
 }
 
 /// Does what the words ask for, of which the first is the program's name, and says how the program ends. Each end but success is told of
-/// on `errors`.
+/// on `errors`, but for damage that a check finds: that is told on `output`.
 pub fn program<
     R: Files<File = File> + Net<Stream = TcpStream, Listener = TcpListener>,
     S: AsStr,
@@ -125,31 +225,14 @@ pub fn program<
     O: Output,
     E: Output,
 >(runtime: &R, alloc: Global, words: &[S], input: &mut I, output: &mut O, errors: &mut E) -> Status
-    ensures { Tells E.took E.failures errors.old errors.new result }
+    ensures { Tells E.took E.failures errors.old errors.new result
+        ⊎ (AskForCheck (map S.text words.now) × TellsDamage O.took output.old output.new errors.old errors.new result) }
 {
-    let done = match command(alloc, words) {
-        Ok(Verb::Create { file }) => create_store(runtime, file),
-        Ok(Verb::Replay { file }) => replay(runtime, alloc, file, input, output),
-        Ok(
-            Verb::Serve {
-                file,
-                address,
-                connections,
-                idle_seconds,
-            },
-        ) => serve_file(
-            runtime,
-            alloc,
-            file,
-            address,
-            connections,
-            idle_seconds,
-            output,
-        ),
-        Err(error) => return refuse(alloc, &error, errors),
-    };
-    match done {
-        Ok(()) => Status::Success,
-        Err(problem) => tell(problem, errors),
+    match command(alloc, words) {
+        Ok(verb) => match done(runtime, alloc, verb, input, output) {
+            Ok(status) => status,
+            Err(problem) => tell(problem, errors),
+        },
+        Err(error) => refuse(alloc, &error, errors),
     }
 }
