@@ -108,7 +108,11 @@ fn compact<R: Files<File = File>, O: Output>(
     ensures no_file_made { IsErrOf result Problem.FileExists → ⊥ }
 {
     let mut store = open_store(files, alloc, file)?;
-    let Compacted { generation, pages, first } = store.compact(alloc)?;
+    let Compacted {
+        generation,
+        pages,
+        first,
+    } = store.compact(alloc)?;
     match format!(in alloc; "generation {generation}, {pages} pages at sector {first}") {
         Ok(line) => print(output, line.as_str()),
         Err(_) => Err(Problem::OutOfMemory),
@@ -129,8 +133,14 @@ fn print_sound<O: Output>(alloc: Global, checked: Checked, output: &mut O) -> Re
     ensures no_file_made { IsErrOf result Problem.FileExists → ⊥ }
     ensures no_damage { (damage : Damage) → IsErrOf result (Problem.Damaged damage) → ⊥ }
 {
-    let Checked { revision, objects, generation } = checked;
-    match format!(in alloc; "ok: format 1, revision {revision}, objects {objects}, generation {generation}") {
+    let Checked {
+        revision,
+        objects,
+        generation,
+    } = checked;
+    match format!(in alloc;
+        "ok: format 1, revision {revision}, objects {objects}, generation {generation}"
+    ) {
         Ok(line) => print(output, line.as_str()),
         Err(_) => Err(Problem::OutOfMemory),
     }

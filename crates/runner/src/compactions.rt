@@ -15,7 +15,10 @@ const LOOK: &str =
 
 fn compacts(alloc: Global, place: &mut Place) -> Result<(), Wrong> {
     let told = place.compact(alloc)?;
-    wanted(told.starts_with("generation "), "the store is not compacted")
+    wanted(
+        told.starts_with("generation "),
+        "the store is not compacted",
+    )
 }
 
 // A new store with these writes, compacted so many times.
@@ -67,9 +70,15 @@ fn stopped(
 // Asks that the compaction fails, and each call behind it.
 fn fails(alloc: Global, place: &mut Place) -> Result<(), Wrong> {
     let first = place.compact(alloc)?;
-    wanted(first.as_str() == "device failed", "the compaction does not fail")?;
+    wanted(
+        first.as_str() == "device failed",
+        "the compaction does not fail",
+    )?;
     for again in [place.compact(alloc)?, place.check(alloc)?] {
-        wanted(again.as_str() == "device failed before", "the store goes on")?;
+        wanted(
+            again.as_str() == "device failed before",
+            "the store goes on",
+        )?;
     }
     Ok(())
 }
