@@ -72,10 +72,6 @@ is_check (Serve file address connections idle_seconds) = false
 is_check (Compact file) = false
 is_check (Check file) = true
 
--- The words, of which the first is the program's name, ask for a check.
-abbrev pub AskForCheck : List Text → Type 0
-AskForCheck words = (rows : List Row) × (subcommand_of gated_line words ≡ Some (codes "check", rows))
-
 -- a verb's file
 abbrev pub file_of : Verb → Text
 file_of (Create file) = file.now

@@ -7,7 +7,6 @@ use Rattle.device.specs.declared.file_device.CreateFault as file_create
 use Rattle.device.specs.declared.file_device.CreateFault.TheVariants as file_create_fault
 use Rattle.device.specs.declared.file_device.OpenFault as file_open
 use Rattle.device.specs.declared.file_device.OpenFault.TheVariants as file_open_fault
-use Rattle.durable.specs.declared.fault.Damage.{Damage}
 use Rattle.durable.specs.declared.fault.Damage.TheVariants as damage
 use Rattle.durable.specs.declared.fault.Fault as store
 use Rattle.durable.specs.declared.fault.Fault.TheVariants as store_fault
@@ -61,17 +60,6 @@ Tells took failures old new status.Usage = (text : List ℕ) × TookSome took ol
 Tells took failures old new status.NoStore = (p : Problem) × (status_of p ≡ status.NoStore) × TellsAll took failures old new (line_of p)
 Tells took failures old new status.Failed = (p : Problem) × (status_of p ≡ status.Failed) × TellsAll took failures old new (line_of p)
 Tells took failures old new status.OutOfMemory = (p : Problem) × (status_of p ≡ status.OutOfMemory) × TellsAll took failures old new (line_of p)
-
--- Damage is told in a line of the output, and the program ends so.
-pub record FindsDamage {O : Type 0} (took : O → O → List ℕ → Type 0) (old new : O) (result : Status) : Type 0 where
-  pub damage : Damage
-  pub line : took old new (text_of (problem.Damaged damage) ++ codes "\n")
-  pub status : result ≡ status.NoStore
-
--- Damage is told in a line of the output, and nothing is told of errors.
-pub record TellsDamage {O E : Type 0} (took : O → O → List ℕ → Type 0) (old new : O) (errors_old errors_new : E) (result : Status) : Type 0 where
-  pub found : FindsDamage took old new result
-  pub quiet : errors_new ≡ errors_old
 
 -- ---- the problem that a fault is
 

@@ -1,6 +1,7 @@
 //! What keeps the program from doing what it was asked.
 
 ghost use Rattle.std.specs.Prelude.{◌≡◌, codes, ◌++◌, OnOk, OnErr};
+ghost use Rattle.gated.specs.Telling.{HasLine};
 ghost use Rattle.gated.specs.Problem.{text_of, line_of, TellsAll, status_of, of_file_create, of_file_open, of_store_create, of_store, of_serve};
 ghost use Rattle.httpmsg.specs.Flow.{HasCause, Writes};
 
@@ -131,7 +132,7 @@ pub fn tell<E: Output>(problem: Problem, errors: &mut E) -> Status
 
 /// Writes a text in a line to the output.
 pub fn print<O: Output>(output: &mut O, text: &str) -> Result<(), Problem>
-    ensures written { OnOk result (O.took output.old output.new (text.now ++ codes "\n")) }
+    ensures line { OnOk result (HasLine O.took output.old output.new text.now) }
     ensures refusal { OnErr result (result ≡ Err Problem.StreamFailed) }
 {
     if write_all(output, text.as_bytes()).is_err() {

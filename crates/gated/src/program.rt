@@ -1,10 +1,13 @@
 //! What the program does.
 
-ghost use Rattle.std.specs.Prelude.{◌≡◌, ◌≢◌, ◌⊎◌, true, map, IfOk, IsErrOf};
+ghost use Rattle.std.specs.Prelude.{◌≡◌, ◌≢◌, ◌⊎◌, map, IfOk, OnOk, OnErr, IsErrOf};
 ghost use Rattle.clap.specs.Words.{kind_of};
+ghost use Rattle.durable.specs.declared.compacted.Compacted.{Compacted as CompactedData};
 ghost use Rattle.durable.specs.declared.fault.Damage.{Damage};
-ghost use Rattle.gated.specs.CommandLine.{AskForCheck, is_check};
-ghost use Rattle.gated.specs.Problem.{FindsDamage, Tells, TellsDamage};
+ghost use Rattle.gated.specs.declared.command.Verb.{Verb as VerbData};
+ghost use Rattle.gated.specs.CommandLine.{AskFor};
+ghost use Rattle.gated.specs.Problem.{Tells};
+ghost use Rattle.gated.specs.Telling.{HasLine, EndsCheck, IsDone, checked_text, compacted_text};
 
 use crate::command::{Verb, command};
 use crate::listening::serve_connections;
@@ -98,6 +101,26 @@ fn serve_file<R: Files<File = File> + Net<Stream = TcpStream, Listener = TcpList
     serve_connections(alloc, &listener, connections, idle, &mut store)
 }
 
+// Tells of a generation that was written.
+fn print_compacted<O: Output>(
+    alloc: Global,
+    compacted: &Compacted,
+    output: &mut O,
+) -> Result<(), Problem>
+    ensures line { OnOk result (HasLine O.took output.old output.new (compacted_text compacted.now)) }
+    ensures refusal { OnErr result (IsErrOf result Problem.StreamFailed ⊎ IsErrOf result Problem.OutOfMemory) }
+{
+    let Compacted {
+        generation,
+        pages,
+        first,
+    } = *compacted;
+    match format!(in alloc; "generation {generation}, {pages} pages at sector {first}") {
+        Ok(line) => print(output, line.as_str()),
+        Err(_) => Err(Problem::OutOfMemory),
+    }
+}
+
 // Writes what the store in a file shows as its next generation, and tells of it on the output.
 fn compact<R: Files<File = File>, O: Output>(
     files: &R,
@@ -105,18 +128,12 @@ fn compact<R: Files<File = File>, O: Output>(
     file: &str,
     output: &mut O,
 ) -> Result<(), Problem>
+    ensures line { OnOk result ((c : CompactedData) × HasLine O.took output.old output.new (compacted_text c)) }
     ensures no_file_made { IsErrOf result Problem.FileExists → ⊥ }
 {
     let mut store = open_store(files, alloc, file)?;
-    let Compacted {
-        generation,
-        pages,
-        first,
-    } = store.compact(alloc)?;
-    match format!(in alloc; "generation {generation}, {pages} pages at sector {first}") {
-        Ok(line) => print(output, line.as_str()),
-        Err(_) => Err(Problem::OutOfMemory),
-    }
+    let compacted = store.compact(alloc)?;
+    print_compacted(alloc, &compacted, output)
 }
 
 // What is found of the store in a file.
@@ -128,16 +145,16 @@ fn look<R: Files<File = File>>(files: &R, alloc: Global, file: &str) -> Result<C
     Ok(store.check(alloc)?)
 }
 
-// Tells on the output that a store is whole.
-fn print_sound<O: Output>(alloc: Global, checked: Checked, output: &mut O) -> Result<(), Problem>
-    ensures no_file_made { IsErrOf result Problem.FileExists → ⊥ }
-    ensures no_damage { (damage : Damage) → IsErrOf result (Problem.Damaged damage) → ⊥ }
+// Tells of a store that is whole.
+fn print_checked<O: Output>(alloc: Global, checked: &Checked, output: &mut O) -> Result<(), Problem>
+    ensures line { OnOk result (HasLine O.took output.old output.new (checked_text checked.now)) }
+    ensures refusal { OnErr result (IsErrOf result Problem.StreamFailed ⊎ IsErrOf result Problem.OutOfMemory) }
 {
     let Checked {
         revision,
         objects,
         generation,
-    } = checked;
+    } = *checked;
     match format!(in alloc;
         "ok: format 1, revision {revision}, objects {objects}, generation {generation}"
     ) {
@@ -153,13 +170,13 @@ fn check<R: Files<File = File>, O: Output>(
     file: &str,
     output: &mut O,
 ) -> Result<Status, Problem>
+    ensures ends { IfOk result (λ status. EndsCheck O.took output.old output.new status) }
     ensures no_file_made { IsErrOf result Problem.FileExists → ⊥ }
     ensures no_damage { (damage : Damage) → IsErrOf result (Problem.Damaged damage) → ⊥ }
-    ensures ends { IfOk result (λ status. (status ≡ Status.Success) ⊎ FindsDamage O.took output.old output.new status) }
 {
     match look(files, alloc, file) {
         Ok(checked) => {
-            print_sound(alloc, checked, output)?;
+            print_checked(alloc, &checked, output)?;
             Ok(Status::Success)
         }
         Err(Problem::Damaged(damage)) => {
@@ -182,7 +199,7 @@ fn done<
     input: &mut I,
     output: &mut O,
 ) -> Result<Status, Problem>
-    ensures { IfOk result (λ status. (status ≡ Status.Success) ⊎ ((is_check verb ≡ true) × FindsDamage O.took output.old output.new status)) }
+    ensures { IfOk result (λ status. IsDone O.took output.old output.new verb status) }
 {
     match verb {
         Verb::Create { file } => create_store(runtime, file)?,
@@ -226,8 +243,8 @@ fn refuse<E: Output>(alloc: Global, error: &Error, errors: &mut E) -> Status
     }
 }
 
-/// Does what the words ask for, of which the first is the program's name, and says how the program ends. Each end but success is told of
-/// on `errors`, but for damage that a check finds: that is told on `output`.
+/// Does what the words ask for, of which the first is the program's name, and says how the program ends. Nothing is told on `errors` where
+/// that was done, and where a check finds damage, which it tells on `output`; each other end is told on `errors`.
 pub fn program<
     R: Files<File = File> + Net<Stream = TcpStream, Listener = TcpListener>,
     S: AsStr,
@@ -235,8 +252,8 @@ pub fn program<
     O: Output,
     E: Output,
 >(runtime: &R, alloc: Global, words: &[S], input: &mut I, output: &mut O, errors: &mut E) -> Status
-    ensures { Tells E.took E.failures errors.old errors.new result
-        ⊎ (AskForCheck (map S.text words.now) × TellsDamage O.took output.old output.new errors.old errors.new result) }
+    ensures { ((errors.new ≡ errors.old) × (verb : VerbData) × AskFor (map S.text words.now) verb × IsDone O.took output.old output.new verb result)
+        ⊎ ((result ≢ Status.Success) × Tells E.took E.failures errors.old errors.new result) }
 {
     match command(alloc, words) {
         Ok(verb) => match done(runtime, alloc, verb, input, output) {
