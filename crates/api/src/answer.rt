@@ -47,6 +47,7 @@ fn reply_to<D: Device>(
         Err(Fault::Device) => Err(ServeFault::Device),
         Err(Fault::Damaged(damage)) => Err(ServeFault::Damaged(damage)),
         Err(Fault::Failed) => Err(ServeFault::Failed),
+        Err(Fault::Exhausted) => unreachable!("a request begins no generation"),
     }
 }
 

@@ -19,7 +19,7 @@ mod scan_lines;
 mod view_lines;
 mod writing_lines;
 
-use apicore::one_history;
+use apicore::payloads_have_one_list;
 pub use bench::Disk;
 pub use file_devices::check_files;
 use records::payload_has_one_group;
@@ -27,5 +27,5 @@ use records::payload_has_one_group;
 /// The laws of records.
 pub fn laws_of_records() {
     payload_has_one_group();
-    one_history();
+    payloads_have_one_list();
 }

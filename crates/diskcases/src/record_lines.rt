@@ -79,7 +79,8 @@ fn store(alloc: Global, line: &str) -> Result<Result<Core, RecoveryFault>, Wrong
         ..Format::First.rules()
     };
     let log = payloads(alloc, rest)?;
-    Ok(replayed(alloc, rules, log.as_slice()))
+    let empty = Core::new(alloc, rules)?;
+    Ok(replayed(alloc, empty, log.as_slice()))
 }
 
 /// `replay LIMIT PAYLOAD ; ..`: the revision and the number of objects of the store.
@@ -130,6 +131,7 @@ pub fn damage_word(alloc: Global, line: &str) -> Result<String, Wrong> {
     match line {
         "record memory" => shown(alloc, &RecordFault::Memory),
         "recovery memory" => shown(alloc, &RecoveryFault::Memory),
+        "recovery plans" => shown(alloc, &RecoveryFault::Plans),
         _ => text(alloc, "no such fault"),
     }
 }

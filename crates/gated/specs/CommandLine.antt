@@ -1,12 +1,12 @@
 -- The command line, and what its words ask for.
-use Rattle.std.specs.Prelude.{◌≡◌, ℕ, true, false, List, [], ◌∷◌, Some, codes}
+use Rattle.std.specs.Prelude.{◌≡◌, ℕ, Bool, true, false, List, [], ◌∷◌, Some, codes}
 use Rattle.std.specs.Str.Parse.{digits_value, without_leading_plus}
 use Rattle.clap.specs.Words.{App, Row, Rule, Shape, Text, first_of, new_rule, one_of, subcommand_of}
 use Rattle.clap.specs.Simple.{new_shape}
 use Rattle.clap.specs.declared.builder.action.ArgAction.TheVariants.{Set}
 use Rattle.clap.specs.declared.builder.value_parser.ValueParser.TheVariants as parser
 use Rattle.gated.specs.declared.command.Verb.{Verb}
-use Rattle.gated.specs.declared.command.Verb.TheVariants.{Create, Replay, Serve}
+use Rattle.gated.specs.declared.command.Verb.TheVariants.{Create, Replay, Serve, Compact, Check}
 
 -- ---- the line
 
@@ -37,11 +37,11 @@ over_file name = record (new_shape name) { rules = file_rule ∷ [] }
 abbrev pub serve_shape : Shape
 serve_shape = record (new_shape (codes "serve")) { rules = file_rule ∷ listen_rule ∷ conns_rule ∷ idle_rule ∷ [] }
 
--- `gated create FILE`, `gated replay FILE` and `gated serve FILE OPTION..`; `gated` alone is refused
+-- `gated COMMAND FILE`, where the command is create, replay, compact or check, and `gated serve FILE OPTION..`; `gated` alone is refused
 unfoldable pub gated_line : App
 gated_line = record {
   top = record (new_shape (codes "gated")) { is_leaf = false; has_version = true; subcommand_required = true };
-  subs = over_file (codes "create") ∷ over_file (codes "replay") ∷ serve_shape ∷ [];
+  subs = over_file (codes "create") ∷ over_file (codes "replay") ∷ serve_shape ∷ over_file (codes "compact") ∷ over_file (codes "check") ∷ [];
 }
 
 -- ---- what is asked
@@ -57,13 +57,25 @@ IsAsked name rows (Replay file) = (name ≡ codes "replay") × (first_of (codes 
 IsAsked name rows (Serve file address connections idle_seconds) =
     (name ≡ codes "serve") × (first_of (codes "file") rows ≡ Some file.now) × (first_of (codes "listen") rows ≡ Some address.now)
     × HasNumber (codes "conns") rows connections × HasNumber (codes "idle") rows idle_seconds
+IsAsked name rows (Compact file) = (name ≡ codes "compact") × (first_of (codes "file") rows ≡ Some file.now)
+IsAsked name rows (Check file) = (name ≡ codes "check") × (first_of (codes "file") rows ≡ Some file.now)
 
 -- The words, of which the first is the program's name, name the verb's command, and its fields are what stands behind the name.
 abbrev pub AskFor : List Text → Verb → Type 0
 AskFor words verb = (name : Text) × (rows : List Row) × (subcommand_of gated_line words ≡ Some (name, rows)) × IsAsked name rows verb
+
+-- Whether a verb is that of a check.
+abbrev pub is_check : Verb → Bool
+is_check (Create file) = false
+is_check (Replay file) = false
+is_check (Serve file address connections idle_seconds) = false
+is_check (Compact file) = false
+is_check (Check file) = true
 
 -- a verb's file
 abbrev pub file_of : Verb → Text
 file_of (Create file) = file.now
 file_of (Replay file) = file.now
 file_of (Serve file address connections idle_seconds) = file.now
+file_of (Compact file) = file.now
+file_of (Check file) = file.now

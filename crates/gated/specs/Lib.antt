@@ -1,3 +1,4 @@
 pub mod Status
 pub mod Problem
 pub mod CommandLine
+pub mod Telling

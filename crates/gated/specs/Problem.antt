@@ -18,13 +18,17 @@ use Rattle.gated.specs.declared.problem.Problem.TheVariants as problem
 use Rattle.gated.specs.declared.status.Status.{Status}
 use Rattle.gated.specs.declared.status.Status.TheVariants as status
 
--- its line on standard error, behind the program's name
+-- what is told of it: in its line on standard error behind the program's name, and of damage that a check finds in a line of the output
 abbrev pub text_of : Problem → List ℕ
 text_of problem.FileExists = codes "file exists"
 text_of problem.NoStore = codes "no store"
 text_of (problem.Damaged damage.Header) = codes "damaged: header"
 text_of (problem.Damaged damage.Root) = codes "damaged: root"
+text_of (problem.Damaged damage.Page) = codes "damaged: page"
+text_of (problem.Damaged damage.Entry) = codes "damaged: entry"
 text_of (problem.Damaged damage.Log) = codes "damaged: log"
+text_of (problem.Damaged damage.Plan) = codes "damaged: plan"
+text_of problem.Exhausted = codes "generation exhausted"
 text_of problem.DeviceFailed = codes "device failed"
 text_of problem.StreamFailed = codes "input or output failed"
 text_of problem.OutOfMemory = codes "out of memory"
@@ -43,6 +47,7 @@ abbrev pub status_of : Problem → Status
 status_of problem.FileExists = status.NoStore
 status_of problem.NoStore = status.NoStore
 status_of (problem.Damaged d) = status.NoStore
+status_of problem.Exhausted = status.NoStore
 status_of problem.DeviceFailed = status.Failed
 status_of problem.StreamFailed = status.Failed
 status_of problem.OutOfMemory = status.OutOfMemory
@@ -77,6 +82,7 @@ of_store store_fault.Device = problem.DeviceFailed
 of_store store_fault.Memory = problem.OutOfMemory
 of_store (store_fault.Damaged d) = problem.Damaged d
 of_store store_fault.Failed = problem.DeviceFailed
+of_store store_fault.Exhausted = problem.Exhausted
 
 abbrev pub of_serve : serve.ServeFault → Problem
 of_serve serve_fault.Read = problem.StreamFailed

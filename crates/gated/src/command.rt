@@ -29,6 +29,14 @@ pub enum Verb<'a> {
         connections: u16,
         idle_seconds: u32,
     },
+    /// Write what the store shows as its next generation.
+    Compact {
+        file: &'a str,
+    },
+    /// Tell whether the store is whole.
+    Check {
+        file: &'a str,
+    },
 }
 
 // A subcommand that takes a file, whose help ends in an example.
@@ -104,7 +112,7 @@ fn line<'a>(alloc: Global) -> Result<Command<'a>, AllocError>
 {
     Command::new(alloc, "gated")
         .about("A small Kubernetes-style API server over one crash-safe file")
-        .version("0.4.0")
+        .version("0.5.0")
         .subcommand_required(true)
         .subcommand(over_file(
             alloc,
@@ -118,7 +126,19 @@ fn line<'a>(alloc: Global) -> Result<Command<'a>, AllocError>
             "Answers the HTTP requests on standard input",
             "Example: gated replay store.db < requests.http",
         )?)?
-        .subcommand(serve_line(alloc)?)
+        .subcommand(serve_line(alloc)?)?
+        .subcommand(over_file(
+            alloc,
+            "compact",
+            "Writes what the store holds anew, without the writes that led there",
+            "Example: gated compact store.db",
+        )?)?
+        .subcommand(over_file(
+            alloc,
+            "check",
+            "Reads the store and tells whether it is whole",
+            "Example: gated check store.db",
+        )?)
 }
 
 // The verb of a subcommand.
@@ -135,6 +155,8 @@ fn verb_of<'a>(name: &str, matches: &ArgMatches<'a>) -> Option<Verb<'a>>
             connections: matches.get_one::<u16>("conns")?,
             idle_seconds: matches.get_one::<u32>("idle")?,
         }),
+        "compact" => Some(Verb::Compact { file }),
+        "check" => Some(Verb::Check { file }),
         _ => None,
     }
 }

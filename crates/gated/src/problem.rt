@@ -1,6 +1,7 @@
 //! What keeps the program from doing what it was asked.
 
-ghost use Rattle.std.specs.Prelude.{◌≡◌, codes, ◌++◌};
+ghost use Rattle.std.specs.Prelude.{◌≡◌, codes, ◌++◌, OnOk, OnErr};
+ghost use Rattle.gated.specs.Telling.{HasLine};
 ghost use Rattle.gated.specs.Problem.{text_of, line_of, TellsAll, status_of, of_file_create, of_file_open, of_store_create, of_store, of_serve};
 ghost use Rattle.httpmsg.specs.Flow.{HasCause, Writes};
 
@@ -16,6 +17,8 @@ pub enum Problem {
     FileExists,
     NoStore,
     Damaged(Damage),
+    /// The store's generation is the greatest one, so that no next one can be written.
+    Exhausted,
     DeviceFailed,
     /// The input or the output failed.
     StreamFailed,
@@ -32,7 +35,11 @@ impl Problem {
             Problem::NoStore => "no store",
             Problem::Damaged(Damage::Header) => "damaged: header",
             Problem::Damaged(Damage::Root) => "damaged: root",
+            Problem::Damaged(Damage::Page) => "damaged: page",
+            Problem::Damaged(Damage::Entry) => "damaged: entry",
             Problem::Damaged(Damage::Log) => "damaged: log",
+            Problem::Damaged(Damage::Plan) => "damaged: plan",
+            Problem::Exhausted => "generation exhausted",
             Problem::DeviceFailed => "device failed",
             Problem::StreamFailed => "input or output failed",
             Problem::OutOfMemory => "out of memory",
@@ -44,7 +51,8 @@ impl Problem {
         ensures { result ≡ status_of self }
     {
         match self {
-            Problem::FileExists | Problem::NoStore | Problem::Damaged(_) => Status::NoStore,
+            Problem::FileExists | Problem::NoStore => Status::NoStore,
+            Problem::Damaged(_) | Problem::Exhausted => Status::NoStore,
             Problem::DeviceFailed | Problem::StreamFailed => Status::Failed,
             Problem::OutOfMemory => Status::OutOfMemory,
         }
@@ -94,6 +102,7 @@ impl From<Fault> for Problem {
             Fault::Device | Fault::Failed => Problem::DeviceFailed,
             Fault::Memory => Problem::OutOfMemory,
             Fault::Damaged(damage) => Problem::Damaged(damage),
+            Fault::Exhausted => Problem::Exhausted,
         }
     }
 }
@@ -119,6 +128,17 @@ pub fn tell<E: Output>(problem: Problem, errors: &mut E) -> Status
     // Nothing can be told of a failure to tell.
     let _ = write_line(errors, problem.text());
     problem.status()
+}
+
+/// Writes a text in a line to the output.
+pub fn print<O: Output>(output: &mut O, text: &str) -> Result<(), Problem>
+    ensures line { OnOk result (HasLine O.took output.old output.new text.now) }
+    ensures refusal { OnErr result (result ≡ Err Problem.StreamFailed) }
+{
+    if write_all(output, text.as_bytes()).is_err() {
+        return Err(Problem::StreamFailed);
+    }
+    write_all(output, b"\n").map_err(|_| Problem::StreamFailed)
 }
 
 // Writes the program's name and a text in a line.

@@ -1,19 +1,23 @@
 //! What the program does.
 
-ghost use Rattle.std.specs.Prelude.{◌≡◌, ◌≢◌, IsErrOf};
+ghost use Rattle.std.specs.Prelude.{◌≡◌, ◌≢◌, ◌⊎◌, map, IfOk, OnOk, OnErr, IsErrOf};
 ghost use Rattle.clap.specs.Words.{kind_of};
+ghost use Rattle.durable.specs.declared.compacted.Compacted.{Compacted as CompactedData};
 ghost use Rattle.durable.specs.declared.fault.Damage.{Damage};
+ghost use Rattle.gated.specs.declared.command.Verb.{Verb as VerbData};
+ghost use Rattle.gated.specs.CommandLine.{AskFor};
 ghost use Rattle.gated.specs.Problem.{Tells};
+ghost use Rattle.gated.specs.Telling.{HasLine, EndsCheck, IsDone, checked_text, compacted_text};
 
 use crate::command::{Verb, command};
 use crate::listening::serve_connections;
-use crate::problem::{Problem, tell};
+use crate::problem::{Problem, print, tell};
 use crate::status::Status;
 use api::serve;
 use clap::Error;
 use clap::error::ErrorKind;
 use device::FileDevice;
-use durable::{Store, create};
+use durable::{Checked, Compacted, Store, create};
 use httpmsg::{Input, Output, write_all};
 use std::alloc::Global;
 use std::convert::AsStr;
@@ -97,6 +101,129 @@ fn serve_file<R: Files<File = File> + Net<Stream = TcpStream, Listener = TcpList
     serve_connections(alloc, &listener, connections, idle, &mut store)
 }
 
+// Tells of a generation that was written.
+fn print_compacted<O: Output>(
+    alloc: Global,
+    compacted: &Compacted,
+    output: &mut O,
+) -> Result<(), Problem>
+    ensures line { OnOk result (HasLine O.took output.old output.new (compacted_text compacted.now)) }
+    ensures refusal { OnErr result (IsErrOf result Problem.StreamFailed ⊎ IsErrOf result Problem.OutOfMemory) }
+{
+    let Compacted {
+        generation,
+        pages,
+        first,
+    } = *compacted;
+    match format!(in alloc; "generation {generation}, {pages} pages at sector {first}") {
+        Ok(line) => print(output, line.as_str()),
+        Err(_) => Err(Problem::OutOfMemory),
+    }
+}
+
+// Writes what the store in a file shows as its next generation, and tells of it on the output.
+fn compact<R: Files<File = File>, O: Output>(
+    files: &R,
+    alloc: Global,
+    file: &str,
+    output: &mut O,
+) -> Result<(), Problem>
+    ensures line { OnOk result ((c : CompactedData) × HasLine O.took output.old output.new (compacted_text c)) }
+    ensures no_file_made { IsErrOf result Problem.FileExists → ⊥ }
+{
+    let mut store = open_store(files, alloc, file)?;
+    let compacted = store.compact(alloc)?;
+    print_compacted(alloc, &compacted, output)
+}
+
+// What is found of the store in a file.
+fn look<R: Files<File = File>>(files: &R, alloc: Global, file: &str) -> Result<Checked, Problem>
+    ensures no_file_made { IsErrOf result Problem.FileExists → ⊥ }
+    ensures no_stream { IsErrOf result Problem.StreamFailed → ⊥ }
+{
+    let mut store = open_store(files, alloc, file)?;
+    Ok(store.check(alloc)?)
+}
+
+// Tells of a store that is whole.
+fn print_checked<O: Output>(alloc: Global, checked: &Checked, output: &mut O) -> Result<(), Problem>
+    ensures line { OnOk result (HasLine O.took output.old output.new (checked_text checked.now)) }
+    ensures refusal { OnErr result (IsErrOf result Problem.StreamFailed ⊎ IsErrOf result Problem.OutOfMemory) }
+{
+    let Checked {
+        revision,
+        objects,
+        generation,
+    } = *checked;
+    match format!(in alloc;
+        "ok: format 1, revision {revision}, objects {objects}, generation {generation}"
+    ) {
+        Ok(line) => print(output, line.as_str()),
+        Err(_) => Err(Problem::OutOfMemory),
+    }
+}
+
+// Tells on the output whether the store in a file is whole, or what of it is damaged, and says how the program ends.
+fn check<R: Files<File = File>, O: Output>(
+    files: &R,
+    alloc: Global,
+    file: &str,
+    output: &mut O,
+) -> Result<Status, Problem>
+    ensures ends { IfOk result (λ status. EndsCheck O.took output.old output.new status) }
+    ensures no_file_made { IsErrOf result Problem.FileExists → ⊥ }
+    ensures no_damage { (damage : Damage) → IsErrOf result (Problem.Damaged damage) → ⊥ }
+{
+    match look(files, alloc, file) {
+        Ok(checked) => {
+            print_checked(alloc, &checked, output)?;
+            Ok(Status::Success)
+        }
+        Err(Problem::Damaged(damage)) => {
+            print(output, Problem::Damaged(damage).text())?;
+            Ok(Status::NoStore)
+        }
+        Err(problem) => Err(problem),
+    }
+}
+
+// Does what a verb asks for, and says how the program ends.
+fn done<
+    R: Files<File = File> + Net<Stream = TcpStream, Listener = TcpListener>,
+    I: Input,
+    O: Output,
+>(
+    runtime: &R,
+    alloc: Global,
+    verb: Verb<'_>,
+    input: &mut I,
+    output: &mut O,
+) -> Result<Status, Problem>
+    ensures { IfOk result (λ status. IsDone O.took output.old output.new verb status) }
+{
+    match verb {
+        Verb::Create { file } => create_store(runtime, file)?,
+        Verb::Replay { file } => replay(runtime, alloc, file, input, output)?,
+        Verb::Serve {
+            file,
+            address,
+            connections,
+            idle_seconds,
+        } => serve_file(
+            runtime,
+            alloc,
+            file,
+            address,
+            connections,
+            idle_seconds,
+            output,
+        )?,
+        Verb::Compact { file } => compact(runtime, alloc, file, output)?,
+        Verb::Check { file } => return check(runtime, alloc, file, output),
+    }
+    Ok(Status::Success)
+}
+
 // Tells what is wrong with the command line.
 fn refuse<E: Output>(alloc: Global, error: &Error, errors: &mut E) -> Status
     ensures told { Tells E.took E.failures errors.old errors.new result }
@@ -116,8 +243,8 @@ fn refuse<E: Output>(alloc: Global, error: &Error, errors: &mut E) -> Status
     }
 }
 
-/// Does what the words ask for, of which the first is the program's name, and says how the program ends. Each end but success is told of
-/// on `errors`.
+/// Does what the words ask for, of which the first is the program's name, and says how the program ends. Nothing is told on `errors` where
+/// that was done, and where a check finds damage, which it tells on `output`; each other end is told on `errors`.
 pub fn program<
     R: Files<File = File> + Net<Stream = TcpStream, Listener = TcpListener>,
     S: AsStr,
@@ -125,31 +252,14 @@ pub fn program<
     O: Output,
     E: Output,
 >(runtime: &R, alloc: Global, words: &[S], input: &mut I, output: &mut O, errors: &mut E) -> Status
-    ensures { Tells E.took E.failures errors.old errors.new result }
+    ensures { ((errors.new ≡ errors.old) × (verb : VerbData) × AskFor (map S.text words.now) verb × IsDone O.took output.old output.new verb result)
+        ⊎ ((result ≢ Status.Success) × Tells E.took E.failures errors.old errors.new result) }
 {
-    let done = match command(alloc, words) {
-        Ok(Verb::Create { file }) => create_store(runtime, file),
-        Ok(Verb::Replay { file }) => replay(runtime, alloc, file, input, output),
-        Ok(
-            Verb::Serve {
-                file,
-                address,
-                connections,
-                idle_seconds,
-            },
-        ) => serve_file(
-            runtime,
-            alloc,
-            file,
-            address,
-            connections,
-            idle_seconds,
-            output,
-        ),
-        Err(error) => return refuse(alloc, &error, errors),
-    };
-    match done {
-        Ok(()) => Status::Success,
-        Err(problem) => tell(problem, errors),
+    match command(alloc, words) {
+        Ok(verb) => match done(runtime, alloc, verb, input, output) {
+            Ok(status) => status,
+            Err(problem) => tell(problem, errors),
+        },
+        Err(error) => refuse(alloc, &error, errors),
     }
 }

@@ -1,5 +1,6 @@
 //! What a case stands on, what was sent to it, and the questions by their words.
 
+use crate::compactions::{compaction_damage, compaction_failures, compaction_stops};
 use crate::device_lines::{crash, of_the_device};
 use crate::place::Place;
 use crate::refusals::{at_hand, fault};
@@ -45,6 +46,9 @@ impl Service for Stand {
             "writers" => writers(alloc, self.all_sent.as_str()),
             "readers" => readers(alloc, self.all_sent.as_str(), rest),
             "stops" => stops(alloc, self.writes.as_slice(), rest),
+            "compaction-stops" => compaction_stops(alloc, self.writes.as_slice(), rest),
+            "compaction-failures" => compaction_failures(alloc, self.writes.as_slice(), rest),
+            "compaction-damage" => compaction_damage(alloc, self.writes.as_slice(), rest),
             "at-hand" => at_hand(alloc, rest),
             "fault" => fault(alloc, rest),
             _ => of_the_place(alloc, &mut self.place, word, rest),
@@ -56,6 +60,8 @@ fn of_the_place(alloc: Global, place: &mut Place, word: &str, rest: &str) -> Res
     match word {
         "open" => place.open(alloc),
         "settled" => place.settled(alloc),
+        "compact" => place.compact(alloc),
+        "check" => place.check(alloc),
         "crash" => crash(alloc, place, rest),
         _ => of_the_device(alloc, place.device()?, word, rest),
     }

@@ -20,20 +20,30 @@ fn ended<E: Display + Drop>(alloc: Global, done: Result<(), E>) -> Result<String
     }
 }
 
-// The byte of two hex digits.
-fn byte(word: &str) -> Result<u8, Wrong> {
+/// The byte of two hex digits.
+pub fn byte(word: &str) -> Result<u8, Wrong> {
     match u8::from_str_radix(word, 16) {
         Ok(byte) => Ok(byte),
         Err(_) => Err(Wrong::Told("a byte is two hex digits")),
     }
 }
 
-// Overwrites a sector with a byte throughout, if it is there.
-fn put(device: &mut MemDevice, at: u64, with: u8) -> Result<(), DeviceFault> {
+/// Overwrites a sector with a byte throughout, if it is there.
+pub fn put(device: &mut MemDevice, at: u64, with: u8) -> Result<(), DeviceFault> {
     if at >= device.len()? {
         return Err(DeviceFault);
     }
     device.write(at, &[with; 512])
+}
+
+// Overwrites bytes of a sector from a place on, if they are there.
+fn change(device: &mut MemDevice, at: u64, from: usize, with: &[u8]) -> Result<(), DeviceFault> {
+    let mut bytes = read_sector(device, at)?;
+    match bytes.get_mut(from..) {
+        Some(rest) if with.len() <= rest.len() => rest[..with.len()].copy_from_slice(with),
+        _ => return Err(DeviceFault),
+    }
+    device.write(at, &bytes)
 }
 
 // Appends a record with this payload to the log of a store.
@@ -146,6 +156,12 @@ pub fn of_the_device(
             let (at, with) = (words.number(), byte(words.rest())?);
             words.end()?;
             ended(alloc, put(device, at, with))
+        }
+        "change" => {
+            let (at, from) = (words.number(), words.number());
+            words.end()?;
+            let with = bytes(alloc, words.rest())?;
+            ended(alloc, change(device, at, from as usize, &with))
         }
         "noise" => ended(alloc, device.write(0, &[byte(rest)?; 4608])),
         "append" => ended(alloc, append(alloc, device, &bytes(alloc, rest)?)),

@@ -11,6 +11,7 @@
 #![tactic(auto)]
 
 mod bench;
+mod compactions;
 mod device_lines;
 mod endings;
 mod place;
@@ -23,7 +24,7 @@ use bench::Stand;
 use cases::{Report, Wrong, paths, run_file};
 use celcases::{Expressions, laws_of_expressions};
 use diskcases::{Disk, check_files, laws_of_records};
-use durable::{one_history, one_view};
+use durable::one_view;
 use policycases::{Policies, View, laws_of_policies, laws_of_views};
 use rowcases::{Exchange, Rows, laws_of_requests};
 use std::alloc::Global;
@@ -74,7 +75,6 @@ fn run_all<R: Files + Env + Print + Alloc<A = Global> + Clone + Drop>(
 // The laws of a store and of what it is served by.
 fn laws_of_stores() {
     one_view();
-    one_history();
     answers_are_runs();
 }
 

@@ -2,9 +2,9 @@
 
 use crate::endings::with_end;
 use api::{ServeFault, serve};
-use cases::{Wrong, shown, text, wanted, yes_or_no};
+use cases::{TextBuilder, Wrong, shown, text, wanted, yes_or_no};
 use device::{MemDevice, Pick};
-use durable::{Store, create};
+use durable::{Checked, Compacted, Store, create};
 use httpmsg::{End, Input, Output, Std};
 use requests::Request;
 use std::alloc::Global;
@@ -69,6 +69,30 @@ pub fn run(
     Ok(replies.len())
 }
 
+// `generation G, P pages at sector S`
+fn compacted_text(alloc: Global, told: Compacted) -> Result<String, Wrong> {
+    let mut line = TextBuilder::new(alloc);
+    line.push("generation ");
+    line.show(&told.generation);
+    line.push(", ");
+    line.show(&told.pages);
+    line.push(" pages at sector ");
+    line.show(&told.first);
+    line.end()
+}
+
+// `revision R, objects K, generation G`
+fn checked_text(alloc: Global, told: Checked) -> Result<String, Wrong> {
+    let mut line = TextBuilder::new(alloc);
+    line.push("revision ");
+    line.show(&told.revision);
+    line.push(", objects ");
+    line.show(&told.objects);
+    line.push(", generation ");
+    line.show(&told.generation);
+    line.end()
+}
+
 impl Place {
     /// A new store, opened.
     pub fn new(alloc: Global, room_sectors: u64) -> Result<Place, Wrong> {
@@ -123,6 +147,22 @@ impl Place {
                 *self = Place::Shut(device);
                 shown(alloc, &fault)
             }
+        }
+    }
+
+    /// `compact`: writes the next generation of the open store, and gives what is told of it.
+    pub fn compact(&mut self, alloc: Global) -> Result<String, Wrong> {
+        match self.store()?.compact(alloc) {
+            Ok(told) => compacted_text(alloc, told),
+            Err(fault) => shown(alloc, &fault),
+        }
+    }
+
+    /// `check`: what is told of the open store as a whole.
+    pub fn check(&mut self, alloc: Global) -> Result<String, Wrong> {
+        match self.store()?.check(alloc) {
+            Ok(told) => checked_text(alloc, told),
+            Err(fault) => shown(alloc, &fault),
         }
     }
 

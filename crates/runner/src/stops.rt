@@ -15,8 +15,8 @@ const ROOM_SECTORS: u64 = 24;
 const LIST: &str =
     "GET /api/v1/configmaps HTTP/1.1\r\nHost: x\r\n\r\nGET /apis/admissionregistration.k8s.io/v1/validatingadmissionpolicies HTTP/1.1\r\nHost: x\r\n\r\n";
 
-// What the two sectors that one sync leaves open become: both alike, or one of them as it was.
-const PICKS: [[Pick; 2]; 10] = [
+/// What two sectors that one sync leaves open become: both alike, or one of them as it was.
+pub const PICKS: [[Pick; 2]; 10] = [
     [Pick::Old, Pick::Old],
     [Pick::New, Pick::New],
     [Pick::Fill(0xA5), Pick::Fill(0xA5)],
@@ -72,8 +72,8 @@ fn push_listed(alloc: Global, place: &mut Place, lists: &mut Vec<String>) -> Res
     Ok(())
 }
 
-// Makes a write, which must be taken.
-fn make(alloc: Global, place: &mut Place, write: &str) -> Result<(), Wrong> {
+/// Makes a write, which must be taken.
+pub fn make(alloc: Global, place: &mut Place, write: &str) -> Result<(), Wrong> {
     let written = place.serve(alloc, write)?;
     wanted(is_taken(written.as_str()), "a write is refused")
 }

@@ -19,5 +19,11 @@ returns c =
     let with_replay = c.in_ok-subcommand-2.ensures.shape c.in_ok-over_file-2.ensures.local
     ∙ ap₂ with_subcommand with_create (ap (λ (a : App). a.top) c.in_ok-over_file-2.ensures.app)
     in
-    IfOk-weaker c.subcommand-3.result _ _ (λ r h. h.shape c.in_ok-serve_line.ensures.local
-    ∙ ap₂ with_subcommand with_replay (ap (λ (a : App). a.top) c.in_ok-serve_line.ensures.app)) c.subcommand-3.ensures
+    let with_serve = c.in_ok-subcommand-3.ensures.shape c.in_ok-serve_line.ensures.local
+    ∙ ap₂ with_subcommand with_replay (ap (λ (a : App). a.top) c.in_ok-serve_line.ensures.app)
+    in
+    let with_compact = c.in_ok-subcommand-4.ensures.shape c.in_ok-over_file-3.ensures.local
+    ∙ ap₂ with_subcommand with_serve (ap (λ (a : App). a.top) c.in_ok-over_file-3.ensures.app)
+    in
+    IfOk-weaker c.subcommand-5.result _ _ (λ r h. h.shape c.in_ok-over_file-4.ensures.local
+    ∙ ap₂ with_subcommand with_compact (ap (λ (a : App). a.top) c.in_ok-over_file-4.ensures.app)) c.subcommand-5.ensures

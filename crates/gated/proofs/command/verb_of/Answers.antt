@@ -16,6 +16,16 @@ returns-in-replay c =
     let file : option_map (λ s. s.now) c.get_str.result ≡ Some c.in_ok-file.file.now = search rules in
     (search rules, sym (first_value-rows (found_of c.args.matches.now) (codes "file")) ∙ sym c.get_str.ensures ∙ file)
 
+pub returns-in-compact : goal.returns-in-compact
+returns-in-compact c =
+    let file : option_map (λ s. s.now) c.get_str.result ≡ Some c.in_ok-file.file.now = search rules in
+    (search rules, sym (first_value-rows (found_of c.args.matches.now) (codes "file")) ∙ sym c.get_str.ensures ∙ file)
+
+pub returns-in-check : goal.returns-in-check
+returns-in-check c =
+    let file : option_map (λ s. s.now) c.get_str.result ≡ Some c.in_ok-file.file.now = search rules in
+    (search rules, sym (first_value-rows (found_of c.args.matches.now) (codes "file")) ∙ sym c.get_str.ensures ∙ file)
+
 pub returns-in_ok-get_one-in-serve-2 : goal.returns-in_ok-get_one-in-serve-2
 returns-in_ok-get_one-in-serve-2 c =
     let found = found_of c.args.matches.now in
