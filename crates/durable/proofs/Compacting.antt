@@ -1,5 +1,5 @@
 -- What the writing of the next generation leaves of a history.
-use Rattle.std.proofs.Common.{arith, ◌≡◌, ◌∙◌, refl, sym, ap, subst, ◌≤◌, ◌+◌, ◌*◌, ◌++◌, ◌⊎◌, inl, inr, ⊎_elim, ℕ, List, [], false, length, map, take, IsTrue}
+use Rattle.std.proofs.Common.{arith, ◌≡◌, ◌∙◌, refl, sym, ap, subst, ◌+◌, ◌*◌, ◌⊎◌, inl, inr, ⊎_elim, ℕ, List, [], false, map, take, IsTrue}
 use Rattle.std.specs.FinMap.{is_sorted}
 use Rattle.device.specs.Disk.{Disk}
 use Rattle.device.specs.Step.{Same}
@@ -16,7 +16,7 @@ use Rattle.gatelog.specs.Log.{IsClosed, HoldsLog}
 use Rattle.gatelog.proofs.Logs.{inside, HoldsLog-stays}
 use Rattle.checkpoint.specs.declared.root.Root.{Root}
 use Rattle.checkpoint.specs.Root.{log_start, HoldsRoot}
-use Rattle.checkpoint.specs.Install.{IsNext, IsBefore, IsInUse}
+use Rattle.checkpoint.specs.Install.{IsBefore, IsInUse}
 use Rattle.checkpoint.specs.Writing.{IsSource, IsWritten, IsBeforeOrWritten}
 use Rattle.checkpoint.proofs.Chain.{stands_moments}
 use Rattle.names.specs.declared.format.Rules.{Rules}

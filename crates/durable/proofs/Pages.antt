@@ -1,5 +1,5 @@
 -- The pages of a generation stay while their bytes stay.
-use Rattle.std.proofs.Common.{arith, refl, ◌≡◌, ◌∙◌, sym, ap, subst, ◌≤◌, ◌+◌, ◌*◌, ◌∷◌, ℕ, zero, suc, List, [], length}
+use Rattle.std.proofs.Common.{arith, refl, ◌≡◌, ◌∙◌, sym, ap, subst, ◌≤◌, ◌+◌, ◌*◌, ◌∷◌, ℕ, zero, suc, List, length}
 use Rattle.gatelog.specs.Record.{part}
 use Rattle.gatelog.proofs.Parts.{Agree, part-agree}
 use Rattle.pages.specs.Page.{Entry, entries_in, IsSound}

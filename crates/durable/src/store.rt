@@ -314,7 +314,14 @@ impl<D: Device> Store<D> {
     {
         self.serves = false;
         let (last_gate, revision) = (self.log.last_gate(), self.core.revision());
-        match write(alloc, &mut self.device, &self.root, last_gate, revision, entries) {
+        match write(
+            alloc,
+            &mut self.device,
+            &self.root,
+            last_gate,
+            revision,
+            entries,
+        ) {
             Ok(written) => Ok(self.start_over(written.root)),
             Err(fault) => {
                 self.serves = changed_nothing(fault);

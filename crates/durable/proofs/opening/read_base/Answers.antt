@@ -1,6 +1,4 @@
-use Rattle.std.proofs.Common.{◌≡◌, ◌∙◌, refl, sym, ap, ⊎_elim, inl, inr, List, Err}
-use Rattle.pages.specs.Page.{Entry}
-use Rattle.snapshots.specs.Keeping.{entries_of}
+use Rattle.std.proofs.Common.{◌∙◌, sym, ap, ⊎_elim, inl, inr, Err}
 use Rattle.history.specs.View.{view}
 use Rattle.durable.specs.declared.fault.Fault.TheVariants as Fault
 use Rattle.durable.proofs.Bases.{base_pages, base_keepable, base_told, page_or_entry, entry_or_plans, err_is}

@@ -3,7 +3,7 @@ use Rattle.gatelog.specs.Log.{HoldsLog}
 use Rattle.checkpoint.specs.Root.{log_start}
 use Rattle.names.specs.declared.format.Rules.{Rules}
 use Rattle.apicore.specs.Beside.{Beside}
-use Rattle.apicore.specs.Standing.{History, with_plans, write_with_plans}
+use Rattle.apicore.specs.Standing.{with_plans, write_with_plans}
 use Rattle.apicore.specs.Prepared.{plans_held}
 use Rattle.history.specs.Mapped.{mapped}
 use Rattle.history.specs.View as seen

@@ -1,6 +1,5 @@
-use Rattle.std.proofs.Common.{arith, ◌≡◌, ◌∙◌, refl, sym, ap, subst, ◌+◌, ◌-◌, ◌<◌, ℕ, List, Bool, true, false, length, take}
+use Rattle.std.proofs.Common.{arith, ◌≡◌, ◌∙◌, refl, sym, ap, subst, ◌-◌, ℕ, List, Bool, true, false, take}
 use Rattle.std.specs.FinMap.{is_sorted}
-use Rattle.std.specs.declared.cmp.Ordering.TheVariants.{Less}
 use Rattle.std.proofs.lemmas.List.{take_all}
 use Rattle.pages.specs.Page.{Entry, bytes_cmp}
 use Rattle.checkpoint.specs.EntryList.{entries_of}

@@ -1,4 +1,4 @@
-use Rattle.std.proofs.Common.{◌≡◌, ◌∙◌, refl, sym, ap, subst, List, [], true, false, Bool}
+use Rattle.std.proofs.Common.{◌≡◌, ◌∙◌, sym, ap, subst, List, [], true, false, Bool}
 use Rattle.std.specs.FinMap.{is_sorted}
 use Rattle.device.specs.Disk.{LeavesOnly}
 use Rattle.device.proofs.Moments.{weaker}

@@ -1,4 +1,4 @@
-use Rattle.std.proofs.Common.{arith, ◌≡◌, ◌∙◌, ap, subst}
+use Rattle.std.proofs.Common.{arith, ◌∙◌}
 use Rattle.std.proofs.Math.Logic.{∥∥₁_elim, ∥∥₁_prop}
 use Rattle.std.proofs.lemmas.Grind.{merely}
 use Rattle.durable.proofs.Compacting.{ready_anew}

@@ -1,4 +1,4 @@
-use Rattle.std.proofs.Common.{arith, ◌≡◌, ◌∙◌, ◌≤◌, refl, sym, ap, subst, ⊎_elim, ℕ, List, [], Err}
+use Rattle.std.proofs.Common.{arith, ◌≡◌, ◌∙◌, ◌≤◌, refl, sym, ap, subst, ⊎_elim, List, [], Err}
 use Rattle.std.proofs.Math.Logic.{∥∥₁_elim, ∥∥₁_prop}
 use Rattle.std.proofs.lemmas.Grind.{merely}
 use Rattle.device.specs.Run.{Stands}
@@ -8,7 +8,6 @@ use Rattle.gatelog.specs.Log.{HoldsLog}
 use Rattle.checkpoint.specs.declared.root.Root.{Root}
 use Rattle.pages.specs.Page.{Entry}
 use Rattle.names.specs.declared.format.Rules.{Rules}
-use Rattle.snapshots.specs.Keeping.{entries_of}
 use Rattle.snapshots.proofs.Kept.{entries_fit}
 use Rattle.history.specs.View.{view}
 use Rattle.durable.specs.Stands.{StandsFor}
