@@ -245,6 +245,8 @@ impl<D: Device> Store<D> {
             → OnOk result (HoldsRoot (D.disk.content (device_of self.new)) (root_of self.new)
             × HoldsLog (log_start (root_of self.new)) [] (log_start (root_of self.new)) (D.disk.content (device_of self.new))) }
         ensures next { OnOk result ((root_of self.new).generation ≡ (root_of self.old).generation + 1) }
+        ensures counted { (rules : Rules) (h : History) (settled : IsSettledAt rules self.old h)
+            → OnOk result ((root_of self.new).generation ≡ settled.read.root.generation + 1) }
         ensures empty { OnOk result (((log_of self.new).start ≡ log_start (root_of self.new)) × ((log_of self.new).last ≡ (log_of self.new).start)) }
         ensures told { IfOk result (IsToldOf (root_of self.new)) }
 
@@ -361,6 +363,8 @@ impl<D: Device> Store<D> {
     /// history; the store answers `Failed` from then on. `Failed` after a failure.
     pub fn check(&mut self, alloc: Global) -> Result<Checked, Fault>
         ensures told { IfOk result (IsCheckOf (root_of self.old) (shown self.old)) }
+        ensures counted { (rules : Rules) (h : History) (settled : IsSettledAt rules self.old h)
+            → IfOk result (λ c. c.generation ≡ settled.read.root.generation) }
         ensures plans { OnOk result (AllByRecursion HasOwnPlans (shown self.old).objects) }
         ensures unchanged { OnOk result (self.new ≡ self.old) }
         ensures memory { IsErrOf result Fault.Memory → self.new ≡ self.old }

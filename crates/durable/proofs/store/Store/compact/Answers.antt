@@ -1,4 +1,4 @@
-use Rattle.std.proofs.Common.{◌≡◌, ◌∙◌, sym, ap, subst, List, [], true, false, Bool}
+use Rattle.std.proofs.Common.{◌+◌, ◌≡◌, ◌∙◌, sym, ap, subst, List, [], true, false, Bool}
 use Rattle.std.specs.FinMap.{is_sorted}
 use Rattle.device.specs.Disk.{LeavesOnly}
 use Rattle.device.proofs.Moments.{weaker}
@@ -12,6 +12,8 @@ use Rattle.apicore.proofs.Histories.{on_ok_to}
 use Rattle.durable.specs.Settled.{device_of, IsFound}
 use Rattle.durable.proofs.Answering.{held, settled_by}
 use Rattle.durable.proofs.Findings.{found_none, leaves-idle}
+use Rattle.checkpoint.specs.declared.root.Root.{Root}
+use Rattle.durable.proofs.Keeping.{root_is}
 use Rattle.durable.proofs.Reading.{history_kept}
 use Rattle.durable.proofs.store.Store.compact.Goals as goal
 
@@ -48,6 +50,12 @@ returns-clause-counts g c rules h settled =
     let shown : in_list c.in_ok-entries.entries ≡ entries_of (view rules h) = c.in_ok-entries.ensures.shown (view rules h) settled.shows in
     let revision : store.core.view.revision ≡ (view rules h).revision = ap (λ v. v.revision) settled.shows in
     c.write_next.ensures.counts rules h (held rules store h settled) revision shown
+
+pub returns-clause-counted : goal.returns-clause-counted
+returns-clause-counted g c rules h settled =
+    let store = c.args.self.now in
+    let same = root_is g.D.Device.disk store.device store.root store.log (store.ready settled.working settled.keeps) settled.read.root settled.read.counts in
+    on_ok_to c.write_next.result _ _ (λ next. next ∙ ap (λ (r : Root). r.generation + 1) same) c.write_next.ensures.next
 
 pub returns-clause-any_moment : goal.returns-clause-any_moment
 returns-clause-any_moment g c rules h settled =
