@@ -1,2 +1,3 @@
 pub mod Verbs
 pub mod FileInWords
+pub mod Tellings

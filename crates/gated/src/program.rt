@@ -199,7 +199,7 @@ fn done<
     input: &mut I,
     output: &mut O,
 ) -> Result<Status, Problem>
-    ensures { IfOk result (λ status. IsDone O.took output.old output.new verb status) }
+    ensures { IfOk result (λ status. IsDone O.took output.old output.new verb.entry status) }
 {
     match verb {
         Verb::Create { file } => create_store(runtime, file)?,
