@@ -39,9 +39,11 @@ pub fn put(device: &mut MemDevice, at: u64, with: u8) -> Result<(), DeviceFault>
 // Overwrites bytes of a sector from a place on, if they are there.
 fn change(device: &mut MemDevice, at: u64, from: usize, with: &[u8]) -> Result<(), DeviceFault> {
     let mut bytes = read_sector(device, at)?;
-    match bytes.get_mut(from..) {
-        Some(rest) if with.len() <= rest.len() => rest[..with.len()].copy_from_slice(with),
-        _ => return Err(DeviceFault),
+    for (place, byte) in with.iter().enumerate() {
+        match bytes.get_mut(from.saturating_add(place)) {
+            Some(old) => *old = *byte,
+            None => return Err(DeviceFault),
+        }
     }
     device.write(at, &bytes)
 }
