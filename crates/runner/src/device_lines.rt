@@ -45,6 +45,9 @@ fn change(device: &mut MemDevice, at: u64, from: usize, with: &[u8]) -> Result<(
             None => return Err(DeviceFault),
         }
     }
+    if at >= device.len()? {
+        return Err(DeviceFault);
+    }
     device.write(at, &bytes)
 }
 
