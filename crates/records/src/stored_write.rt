@@ -13,7 +13,7 @@ ghost use Rattle.records.specs.WriteOf.{write_of};
 
 use crate::RecordFault;
 use crate::kind::split_kind;
-use crate::write_payload::{DELETE, PUT};
+use crate::write_bytes::{DELETE, PUT};
 use fields::{long_field, short_field};
 use names::Key;
 use requests::Manifest;
