@@ -2,6 +2,7 @@
 use Rattle.std.proofs.Common.{arith, ◌≡◌, ◌∙◌, sym, ap, subst, ◌+◌, ◌<◌, ◌++◌, ℕ, List, [], ◌∷◌, length, refl, map, take, get_or}
 use Rattle.std.proofs.lemmas.List.{append-nil, append_assoc, length-append, nil_from_length, map-append, take-map}
 use Rattle.std.proofs.lemmas.Grind.{take_at_read}
+use Rattle.std.proofs.Math.Seq.{take-append_seam}
 use Rattle.device.specs.declared.device.Device.{Ghosts}
 use Rattle.device.proofs.Moments.{followed_by}
 use Rattle.names.specs.declared.format.Rules.{Rules}
@@ -13,7 +14,7 @@ use Rattle.apicore.specs.Step.{Asked, writes, reply, accepted, replies}
 use Rattle.apicore.proofs.Admitting.{accepted_admitted}
 use Rattle.durable.specs.declared.store.Store.{Store}
 use Rattle.durable.specs.Stands.{StandsFor}
-use Rattle.durable.specs.Settled.{added, ServesAt, IsFound, IsSettledAt, IsLeftAt, LeavesSome, HasReplyAt, HasAnsweredAt, HasServedAs, HasStoppedAs, device_of}
+use Rattle.durable.specs.Settled.{added, ServesAt, IsFound, IsSettledAt, IsLeftAt, LeavesSome, HasAnsweredAt, HasServedAs, HasStoppedAs, device_of}
 use Rattle.durable.proofs.Findings.{leaves-idle}
 
 -- ---- what is found, for longer lists of writes
@@ -33,6 +34,16 @@ found_behind rules h us ws c found = record {
   rest = found.rest;
   parts = ap (λ (w : List Write). us ++ w) found.parts;
   stands = let Of : History → Type 0 = λ x. StandsFor rules c x in subst Of (append_assoc h us found.more) found.stands;
+}
+
+-- the same behind writes that were kept
+found_further : (rules : Rules) (h : History) (us kept ws : List Write) (c : List ℕ) → IsFound rules (h ++ us) kept ws c → IsFound rules h (us ++ kept) (us ++ ws) c
+found_further rules h us kept ws c found = record {
+  more = found.more;
+  rest = found.rest;
+  parts = ap (λ (w : List Write). us ++ w) found.parts ∙ sym (append_assoc us kept (found.more ++ found.rest));
+  stands = let Of : History → Type 0 = λ x. StandsFor rules c x in
+      subst Of (append_assoc h us (kept ++ found.more) ∙ ap (λ (w : List Write). h ++ w) (sym (append_assoc us kept found.more))) found.stands;
 }
 
 pub found_first : (rules : Rules) (h : History) (us ws : List Write) (c : List ℕ) → IsFound rules h us ws c → IsFound rules h [] ws c
@@ -72,11 +83,6 @@ pub added-append : (rules : Rules) (h : History) (rs qs : List Asked) → added 
 added-append rules h rs qs =
     accepted-append rules (view rules h) rs qs ∙ ap (λ x. added rules h rs ++ accepted rules x qs) (view-added rules h (added rules h rs))
 
-pub added-one : (rules : Rules) (h : History) (rs : List Asked) (r : Asked)
-    → added rules h (rs ++ r ∷ []) ≡ added rules h rs ++ writes rules (view rules (h ++ added rules h rs)) r
-added-one rules h rs r =
-    added-append rules h rs (r ∷ []) ∙ ap (λ (w : List Write). added rules h rs ++ w) (append-nil (writes rules (view rules (h ++ added rules h rs)) r))
-
 -- ---- runs of a store
 
 module _ {D : Type 0} {g : Ghosts D} (rules : Rules) (old mid new : Store D g) (h : History) (done : List Asked)
@@ -92,46 +98,38 @@ module _ {D : Type 0} {g : Ghosts D} (rules : Rules) (old mid new : Store D g) (
       followed_by g.disk (device_of old) (device_of mid) (device_of new) (IsFound rules h [] us) (IsFound rules (h ++ us) [] ws) (IsFound rules h [] all)
       so_far.moments next first_to second_to
 
-  -- one request more
-  pub served_more : (r : Asked) → IsSettledAt rules new ((h ++ added rules h done) ++ writes rules (view rules (h ++ added rules h done)) r)
-      → LeavesSome rules mid new (h ++ added rules h done) (writes rules (view rules (h ++ added rules h done)) r)
-      → HasServedAs rules old new h (done ++ r ∷ [])
+  -- requests more
+  pub served_then : (more : List Asked) → HasServedAs rules mid new (h ++ added rules h done) more → HasServedAs rules old new h (done ++ more)
   unfolding us
-  served_more r settled next =
-      let ws : List Write = writes rules (view rules (h ++ us)) r in
-      let both : added rules h (done ++ r ∷ []) ≡ us ++ ws = added-one rules h done r in
+  served_then more next =
+      let ws : List Write = added rules (h ++ us) more in
+      let both : added rules h (done ++ more) ≡ us ++ ws = added-append rules h done more in
       let At : History → Type 0 = λ x. IsSettledAt rules new x in
       let Leaves : List Write → Type 0 = λ x. LeavesSome rules old new h x in
       record {
-        settled = subst At (append_assoc h us ws ∙ ap (λ (w : List Write). h ++ w) (sym both)) settled;
-        moments = subst Leaves (sym both) (moments_then ws (us ++ ws) next (λ c found. found_wider rules h [] us ws c found)
+        settled = subst At (append_assoc h us ws ∙ ap (λ (w : List Write). h ++ w) (sym both)) next.settled;
+        moments = subst Leaves (sym both) (moments_then ws (us ++ ws) next.moments (λ c found. found_wider rules h [] us ws c found)
             (λ c found. found_first rules h us (us ++ ws) c (found_behind rules h us ws c found)));
       }
 
-  -- a request that changed nothing
-  pub served_same : IsSettledAt rules new (h ++ added rules h done) → LeavesSome rules mid new (h ++ added rules h done) [] → HasServedAs rules old new h done
+  -- the device failed in further requests
+  pub stopped_then : (more all : List Asked) → HasStoppedAs rules mid new (h ++ added rules h done) more all → HasStoppedAs rules old new h (done ++ more) (done ++ all)
   unfolding us
-  served_same settled next = record {
-    settled = settled;
-    moments = moments_then [] us next (λ c found. found)
-        (λ c found. let Of : List Write → Type 0 = λ x. IsFound rules h us x c in
-        found_first rules h us us c (subst Of (append-nil us) (found_behind rules h us [] c found)));
-  }
-
-  -- the device failed in a further request
-  pub stopped_at : (r : Asked) → IsLeftAt rules new (h ++ added rules h done) [] (writes rules (view rules (h ++ added rules h done)) r)
-      → LeavesSome rules mid new (h ++ added rules h done) (writes rules (view rules (h ++ added rules h done)) r)
-      → HasStoppedAs rules old new h done (done ++ r ∷ [])
-  unfolding us
-  stopped_at r left next =
-      let ws : List Write = writes rules (view rules (h ++ us)) r in
-      let both : added rules h (done ++ r ∷ []) ≡ us ++ ws = added-one rules h done r in
-      let Left : List Write → Type 0 = λ x. IsLeftAt rules new h us x in
+  stopped_then more all next =
+      let kept : List Write = added rules (h ++ us) more in
+      let ws : List Write = added rules (h ++ us) all in
+      let both : added rules h (done ++ all) ≡ us ++ ws = added-append rules h done all in
+      let Left : List Write → List Write → Type 0 = λ x y. IsLeftAt rules new h x y in
       let Leaves : List Write → Type 0 = λ x. LeavesSome rules old new h x in
       record {
-        left = subst Left (sym both)
-            (record { stopped = left.stopped; keeps = left.keeps; read = found_behind rules h us ws _ left.read; left = λ c l. found_behind rules h us ws c (left.left c l) });
-        moments = subst Leaves (sym both) (moments_then ws (us ++ ws) next (λ c found. found_wider rules h [] us ws c found)
+        left = subst (λ x. Left x (added rules h (done ++ all))) (sym (added-append rules h done more)) (subst (Left (us ++ kept)) (sym both)
+            (record {
+              stopped = next.left.stopped;
+              keeps = next.left.keeps;
+              read = found_further rules h us kept ws _ next.left.read;
+              left = λ c l. found_further rules h us kept ws c (next.left.left c l);
+            }));
+        moments = subst Leaves (sym both) (moments_then ws (us ++ ws) next.moments (λ c found. found_wider rules h [] us ws c found)
             (λ c found. found_first rules h us (us ++ ws) c (found_behind rules h us ws c found)));
       }
 
@@ -145,43 +143,45 @@ served_none rules store h only_now settled =
 
 -- ---- runs by what is shown
 
-view_one : (rules : Rules) (v : View) (rs : List Asked) (r : Asked)
-    → after_all rules v (accepted rules v (rs ++ r ∷ []))
-    ≡ after_all rules (after_all rules v (accepted rules v rs)) (writes rules (after_all rules v (accepted rules v rs)) r)
-view_one rules v rs r =
+-- what is seen behind further requests
+pub view_then : (rules : Rules) (v : View) (rs qs : List Asked)
+    → after_all rules v (accepted rules v (rs ++ qs))
+    ≡ after_all rules (after_all rules v (accepted rules v rs)) (accepted rules (after_all rules v (accepted rules v rs)) qs)
+view_then rules v rs qs =
     let us : List Write = accepted rules v rs in
-    let ws : List Write = writes rules (after_all rules v us) r in
-    ap (after_all rules v) (accepted-append rules v rs (r ∷ []) ∙ ap (λ (w : List Write). us ++ w) (append-nil ws)) ∙ after_all-append rules v us ws
+    ap (after_all rules v) (accepted-append rules v rs qs) ∙ after_all-append rules v us (accepted rules (after_all rules v us) qs)
 
 no_parts : (us ws : List Write) → us ++ ws ≡ [] → (us ≡ []) × (ws ≡ [])
 no_parts us ws none =
     let sum : length us + length ws ≡ 0 = sym (length-append us ws) ∙ ap length none in
     (nil_from_length us (omega (arith, sum)), nil_from_length ws (omega (arith, sum)))
 
--- where requests write nothing, neither do the first of them nor the last
-pub none_in_none : (rules : Rules) (v : View) (rs : List Asked) (r : Asked) → accepted rules v (rs ++ r ∷ []) ≡ []
-    → (accepted rules v rs ≡ []) × (writes rules (after_all rules v (accepted rules v rs)) r ≡ [])
-none_in_none rules v rs r none =
+-- where requests write nothing, neither do the first of them nor the others
+pub none_in_none : (rules : Rules) (v : View) (rs qs : List Asked) → accepted rules v (rs ++ qs) ≡ []
+    → (accepted rules v rs ≡ []) × (accepted rules (after_all rules v (accepted rules v rs)) qs ≡ [])
+none_in_none rules v rs qs none =
     let us : List Write = accepted rules v rs in
-    let ws : List Write = writes rules (after_all rules v us) r in
-    no_parts us ws (sym (accepted-append rules v rs (r ∷ []) ∙ ap (λ (w : List Write). us ++ w) (append-nil ws)) ∙ none)
+    no_parts us (accepted rules (after_all rules v us) qs) (sym (accepted-append rules v rs qs) ∙ none)
 
 pub answered_none : {D : Type 0} {g : Ghosts D} (rules : Rules) (store : Store D g) (v : View) → ServesAt rules store v → HasAnsweredAt rules store store v [] []
 answered_none rules store v serving = record { serving = serving; answered = refl; untouched = λ none. refl; admitted = tt }
 
--- one request more
-pub answered_more : {D : Type 0} {g : Ghosts D} (rules : Rules) (old mid new : Store D g) (v : View) (done : List Asked) (given : List Reply)
-    → HasAnsweredAt rules old mid v done given → (r : Asked) (said : Reply) → HasReplyAt rules mid new (after_all rules v (accepted rules v done)) r said
-    → HasAnsweredAt rules old new v (done ++ r ∷ []) (given ++ said ∷ [])
-answered_more rules old mid new v done given so_far r said next = record {
-  serving = subst (ServesAt rules new) (sym (view_one rules v done r)) next.serving;
-  answered = ap (λ (x : List Reply). x ++ said ∷ []) so_far.answered ∙ ap (λ x. replies rules v done ++ x ∷ []) next.reply
-      ∙ sym (replies-append rules v done (r ∷ []));
-  untouched = λ none. let parts = none_in_none rules v done r none in next.untouched parts.1 ∙ so_far.untouched parts.0;
-  admitted = accepted_admitted rules v (done ++ r ∷ []);
+-- requests more
+pub answered_then : {D : Type 0} {g : Ghosts D} (rules : Rules) (old mid new : Store D g) (v : View) (done more : List Asked) (given answers : List Reply)
+    → HasAnsweredAt rules old mid v done given → HasAnsweredAt rules mid new (after_all rules v (accepted rules v done)) more answers
+    → HasAnsweredAt rules old new v (done ++ more) (given ++ answers)
+answered_then rules old mid new v done more given answers so_far next = record {
+  serving = subst (ServesAt rules new) (sym (view_then rules v done more)) next.serving;
+  answered = (λ i. so_far.answered i ++ next.answered i) ∙ sym (replies-append rules v done more);
+  untouched = λ none. let parts = none_in_none rules v done more none in next.untouched parts.1 ∙ so_far.untouched parts.0;
+  admitted = accepted_admitted rules v (done ++ more);
 }
 
 -- ---- the requests of a slice
+
+-- so many first ones of a list are its front, where that has as many
+pub first_of : {A : Type 0} (all front back : List A) (n : ℕ) → all ≡ front ++ back → n ≡ length front → take n all ≡ front
+first_of all front back n split is = ap (take n) split ∙ ap (λ k. take k (front ++ back)) is ∙ take-append_seam front back
 
 module _ {A B : Type 0} (f : A → B) (xs : List A) (i : ℕ) (x : A) (below : i < length xs) (is : x ≡ get_or xs i x) where
   pub take-next : take (i + 1) (map f xs) ≡ take i (map f xs) ++ f x ∷ []

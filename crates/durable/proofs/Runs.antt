@@ -1,6 +1,6 @@
 -- A run with what stands in the documents of its requests.
-use Rattle.std.proofs.Common.{arith, ◌≡◌, ◌∙◌, ap, sym, subst, ◌+◌, ◌++◌, ℕ, List, [], ◌∷◌, length, take, refl}
-use Rattle.std.proofs.lemmas.List.{map-append}
+use Rattle.std.proofs.Common.{arith, ◌≡◌, ◌∙◌, ap, sym, subst, ◌+◌, ◌≤◌, ◌++◌, ℕ, List, [], ◌∷◌, length, take, drop, refl}
+use Rattle.std.proofs.lemmas.List.{append_assoc, map-append, length-append, length-take-le, take-append-drop}
 use Rattle.std.specs.List.{AllByRecursion}
 use Rattle.device.specs.declared.device.Device.{Ghosts}
 use Rattle.names.specs.declared.format.Rules.{Rules}
@@ -12,8 +12,8 @@ use Rattle.apicore.specs.Step.{Asked, accepted}
 use Rattle.apicore.specs.Prepared.{IsReadOf}
 use Rattle.apicore.proofs.Admitting.{accepted_admitted}
 use Rattle.durable.specs.declared.store.Store.{Store}
-use Rattle.durable.specs.Settled.{added, AreAsked, ServesAt, IsSettledAt, LeavesSome, HasReplied, HasFailedAt, HasServed, HasStopped, device_of}
-use Rattle.durable.proofs.Running.{served_none, served_more, served_same, stopped_at, answered_none, answered_more, none_in_none}
+use Rattle.durable.specs.Settled.{added, AreAsked, ServesAt, IsSettledAt, HasStoppedAs, HasServed, HasStopped, device_of}
+use Rattle.durable.proofs.Running.{served_none, served_then, stopped_then, replies-append, answered_none, answered_then, none_in_none, first_of}
 
 abbrev Read : Asked → Type 0
 Read a = IsReadOf a.request a.specification
@@ -22,10 +22,11 @@ read-append : (xs ys : List Asked) → AllByRecursion Read xs → AllByRecursion
 read-append [] ys first more = more
 read-append (x ∷ xs) ys first more = (first.0, read-append xs ys first.1 more)
 
-asked_more : (requests : List Request) (asked : List Asked) (a : Asked) → AreAsked requests asked → Read a → AreAsked (requests ++ a.request ∷ []) (asked ++ a ∷ [])
-asked_more requests asked a are read = record {
-  are = map-append (λ (x : Asked). x.request) asked (a ∷ []) ∙ ap (λ (rs : List Request). rs ++ a.request ∷ []) are.are;
-  read = read-append asked (a ∷ []) are.read (read, tt);
+-- requests of which the first and the others are asked
+asked_then : (requests more : List Request) (asked others : List Asked) → AreAsked requests asked → AreAsked more others → AreAsked (requests ++ more) (asked ++ others)
+asked_then requests more asked others are next = record {
+  are = map-append (λ (x : Asked). x.request) asked others ∙ (λ i. are.are i ++ next.are i);
+  read = read-append asked others are.read next.read;
 }
 
 -- nothing was asked
@@ -39,59 +40,53 @@ run_none store only_now = record {
   settled = λ rules h settled. served_none rules store h (λ c since. only_now c settled.keeps since) settled;
 }
 
-module _ {D : Type 0} {g : Ghosts D} (old mid new : Store D g) (done : List Request) (given : List Reply) (so_far : HasServed old mid done given) where
-  -- one request more
-  pub run_more : (r : Request) (said : Reply) → HasReplied mid new r said → HasServed old new (done ++ r ∷ []) (given ++ said ∷ [])
-  run_more r said replied =
-      let a : Asked = record { request = r; specification = replied.specification } in
-      record {
-        asked = so_far.asked ++ a ∷ [];
-        are = asked_more done so_far.asked a so_far.are replied.read;
-        shown = λ rules v serving.
-            let before = so_far.shown rules v serving in
-            answered_more rules old mid new v so_far.asked given before a said (replied.shown rules (after_all rules v (accepted rules v so_far.asked)) before.serving);
-        settled = λ rules h settled.
-            let before = so_far.settled rules h settled in
-            let next = replied.settled rules (h ++ added rules h so_far.asked) before.settled in
-            served_more rules old mid new h so_far.asked before a next.settled next.moments;
-      }
-
-  -- a request that changed nothing
-  pub run_same : ((rules : Rules) (v : View) → ServesAt rules mid v → ServesAt rules new v × (device_of new ≡ device_of mid))
-      → ((rules : Rules) (h : History) → IsSettledAt rules mid h → IsSettledAt rules new h × LeavesSome rules mid new h []) → HasServed old new done given
-  run_same serving_still settled_still = record {
-    asked = so_far.asked;
-    are = so_far.are;
+module _ {D : Type 0} {g : Ghosts D} (old mid new : Store D g) (done : List Request) (given answers : List Reply) (so_far : HasServed old mid done given) where
+  -- requests more
+  pub run_then : (more : List Request) → HasServed mid new more answers → HasServed old new (done ++ more) (given ++ answers)
+  run_then more next = record {
+    asked = so_far.asked ++ next.asked;
+    are = asked_then done more so_far.asked next.asked so_far.are next.are;
     shown = λ rules v serving.
         let before = so_far.shown rules v serving in
-        let next = serving_still rules (after_all rules v (accepted rules v so_far.asked)) before.serving in
-        record { serving = next.0; answered = before.answered; untouched = λ none. next.1 ∙ before.untouched none; admitted = before.admitted };
+        answered_then rules old mid new v so_far.asked next.asked given answers before (next.shown rules (after_all rules v (accepted rules v so_far.asked)) before.serving);
     settled = λ rules h settled.
         let before = so_far.settled rules h settled in
-        let next = settled_still rules (h ++ added rules h so_far.asked) before.settled in
-        served_same rules old mid new h so_far.asked before next.0 next.1;
+        served_then rules old mid new h so_far.asked before next.asked (next.settled rules (h ++ added rules h so_far.asked) before.settled);
   }
 
-  -- the device failed in a further request
-  pub run_stopped : (all : List Request) (r : Request) → HasFailedAt mid new r → take (length given + 1) all ≡ done ++ r ∷ [] → HasStopped old new all given
-  run_stopped all r failed reached =
-      let a : Asked = record { request = r; specification = failed.specification } in
+  -- the device failed in further requests
+  pub run_stopped : (group later all : List Request) → length given ≡ length done → all ≡ done ++ (group ++ later) → (next : HasStopped mid new group answers)
+      → length answers + length next.failing ≤ length group → HasStopped old new all (given ++ answers)
+  run_stopped group later all one_each split next within =
+      let count : ℕ = length answers + length next.failing in
+      let reached : take (length (given ++ answers) + length next.failing) all ≡ done ++ take count group =
+      first_of all (done ++ take count group) (drop count group ++ later) (length (given ++ answers) + length next.failing)
+      (split ∙ ap (λ (rs : List Request). done ++ (rs ++ later)) (sym (take-append-drop count group)) ∙ ap (λ (rs : List Request). done ++ rs) (append_assoc (take count group) (drop count group) later)
+      ∙ sym (append_assoc done (take count group) (drop count group ++ later)))
+      (omega (arith, one_each, length-append given answers, length-append done (take count group), length-take-le count group within))
+      in
+      let Are : List Request → List Asked → Type 0 = λ rs asked. AreAsked rs asked in
       record {
-        asked = so_far.asked;
-        failing = a ∷ [];
-        some = omega arith;
-        few = omega arith;
-        are = subst (λ (rs : List Request). AreAsked rs (so_far.asked ++ a ∷ [])) (sym reached) (asked_more done so_far.asked a so_far.are failed.read);
+        asked = so_far.asked ++ next.asked;
+        failing = next.failing;
+        some = next.some;
+        few = next.few;
+        are = subst (λ rs. Are rs ((so_far.asked ++ next.asked) ++ next.failing)) (sym reached)
+            (subst (Are (done ++ take count group)) (sym (append_assoc so_far.asked next.asked next.failing))
+            (asked_then done (take count group) so_far.asked (next.asked ++ next.failing) so_far.are next.are));
         shown = λ rules v serving.
-            let before = so_far.shown rules v serving in (
-              before.answered,
+            let before = so_far.shown rules v serving in
+            let further = next.shown rules (after_all rules v (accepted rules v so_far.asked)) before.serving in
+            let All : List Asked → Type 0 = λ asked. accepted rules v asked ≡ [] in (
+              (λ i. before.answered i ++ further.0 i) ∙ sym (replies-append rules v so_far.asked next.asked),
               (λ none.
-                  let parts = none_in_none rules v so_far.asked a none in
-                  failed.untouched rules (after_all rules v (accepted rules v so_far.asked)) before.serving parts.1 ∙ before.untouched parts.0),
-              accepted_admitted rules v (so_far.asked ++ a ∷ []),
+                  let parts = none_in_none rules v so_far.asked (next.asked ++ next.failing) (subst All (append_assoc so_far.asked next.asked next.failing) none) in
+                  further.1 parts.1 ∙ before.untouched parts.0),
+              accepted_admitted rules v ((so_far.asked ++ next.asked) ++ next.failing),
             );
         stopped = λ rules h settled.
             let before = so_far.settled rules h settled in
-            let next = failed.left rules (h ++ added rules h so_far.asked) before.settled in
-            stopped_at rules old mid new h so_far.asked before a next.0 next.1;
+            let Stopped : List Asked → Type 0 = λ all. HasStoppedAs rules old new h (so_far.asked ++ next.asked) all in
+            subst Stopped (sym (append_assoc so_far.asked next.asked next.failing))
+            (stopped_then rules old mid new h so_far.asked before next.asked (next.asked ++ next.failing) (next.stopped rules (h ++ added rules h so_far.asked) before.settled));
       }

@@ -1,44 +1,57 @@
-//! The record of a write that is prepared.
+//! The writes of a group of requests, gathered for one record.
 
-ghost use Rattle.std.specs.Prelude.{◌≡◌, [], ◌∷◌, IfOk, OnErr};
-ghost use Rattle.gatelog.specs.Payload.{payload_of};
+ghost use Rattle.std.specs.Prelude.{◌≡◌, ◌<◌, ◌≤◌, ◌+◌, ◌++◌, ◌∷◌, [], ℕ, List, OnOk, OnErr};
+ghost use Rattle.history.specs.History.{Write as Recorded};
 ghost use Rattle.history.specs.Mapped.{mapped_write};
 ghost use Rattle.history.specs.Prepared.{write_of};
-ghost use Rattle.records.specs.Payload.{payload};
 ghost use Rattle.apicore.specs.Standing.{recorded};
 ghost use Rattle.apicore.specs.Prepared.{plans_held};
+ghost use Rattle.records.specs.Gathered.{Gathers, Stays, count_of};
+ghost use Rattle.records.specs.Payload.{group_limit};
 ghost use Rattle.durable.specs.declared.fault.Fault.TheVariants as Fault;
-ghost use Rattle.durable.specs.RecordOf.{IsRecordOf};
+ghost use Rattle.durable.specs.Gathered.{prepared_in_record};
 
 use crate::Fault;
 use apicore::Beside;
 use expressions::plans_bytes;
-use gatelog::{Body, LogFault};
+use gatelog::LogFault;
 use history::PreparedWrite;
-use records::{delete_payload, put_payload};
+use records::Group;
 use std::alloc::Global;
 
-/// The body of the record of a write, if there is one.
-pub(crate) fn record_of(
+/// Gathers a write, if there is one. Where memory is refused the group stays as it was.
+pub(crate) fn gather(
     alloc: Global,
+    group: &mut Group,
     write: &Option<PreparedWrite<Beside>>,
-) -> Result<Option<Body>, Fault>
-    ensures record { IfOk result (λ body. IsRecordOf write.now body) }
+) -> Result<(), Fault>
+    requires { count_of group.old < group_limit }
+    ensures gathered { (ws : List (Recorded (List ℕ))) → Gathers group.old ws → OnOk result (Gathers group.new (ws ++ prepared_in_record write.now)) }
+    ensures same { OnErr result (Stays group.old group.new) }
     ensures refusal { OnErr result (result ≡ Err Fault.Memory) }
+    ensures count { count_of group.new ≤ count_of group.old + 1 }
 {
     let Some(write) = write else {
-        return Ok(None);
+        return Ok(());
     };
-    match body_of(alloc, write) {
-        Ok(body) => Ok(Some(body)),
-        // A text within the limit is never too long for a record, so memory was wanting.
+    match add(alloc, group, write) {
+        Ok(()) => Ok(()),
+        // Texts within the limit are never too long for a record, so memory was wanting.
         Err(_) => Err(Fault::Memory),
     }
 }
 
-// The body that holds the payload of a write.
-fn body_of(alloc: Global, write: &PreparedWrite<Beside>) -> Result<Body, LogFault>
-    ensures { IfOk result (λ body. payload_of body ≡ payload (recorded (mapped_write plans_held (write_of write.now)) ∷ [])) }
+// Adds a write to a group.
+fn add(
+    alloc: Global,
+    group: &mut Group,
+    write: &PreparedWrite<Beside>,
+) -> Result<(), LogFault>
+    requires { count_of group.old < group_limit }
+    ensures added { (ws : List (Recorded (List ℕ))) → Gathers group.old ws
+        → OnOk result (Gathers group.new (ws ++ recorded (mapped_write plans_held (write_of write.now)) ∷ [])) }
+    ensures same { OnErr result (Stays group.old group.new) }
+    ensures count { count_of group.new ≤ count_of group.old + 1 }
 {
     match write {
         PreparedWrite::Put(put) => {
@@ -47,8 +60,8 @@ fn body_of(alloc: Global, write: &PreparedWrite<Beside>) -> Result<Body, LogFaul
                 // Plans that may be held are never too long, so memory was wanting.
                 Err(_) => return Err(LogFault::Memory),
             };
-            put_payload(alloc, put.key(), put.text(), &plans)
+            group.put(alloc, put.key(), put.text(), &plans)
         }
-        PreparedWrite::Delete(key, _) => delete_payload(alloc, key),
+        PreparedWrite::Delete(key, _) => group.delete(alloc, key),
     }
 }

@@ -7,12 +7,13 @@ ghost use Rattle.durable.specs.Ready.{IsReady};
 use crate::compacted::{Checked, Compacted};
 use crate::fault::{Damage, Fault};
 use crate::opening::synced_store;
-use crate::record::record_of;
+use crate::record::gather;
 use apicore::{Core, Prepared, has_own_plans, prepare};
 use checkpoint::{EntryList, Root, WriteFault, write};
 use device::Device;
 use gatelog::{Body, Log};
 use history::Reply;
+use records::{GROUP_LIMIT, Group};
 use requests::Request;
 use snapshots::entries_in;
 use std::alloc::Global;
@@ -49,11 +50,13 @@ impl<D: Device> Store<D> {
     ghost use Rattle.snapshots.specs.Keeping.{entries_of};
     ghost use Rattle.gatelog.specs.Log.{HoldsLog};
     ghost use Rattle.gatelog.specs.Payload.{payload_of};
+    ghost use Rattle.std.specs.Vec.{vec_capacity};
     ghost use Rattle.checkpoint.specs.Root.{log_start, HoldsRoot};
     ghost use Rattle.names.specs.declared.format.Rules.{Rules};
     ghost use Rattle.requests.specs.RequestOf.{request_of};
-    ghost use Rattle.history.specs.Prepared.{AreReady, writes_of};
-    ghost use Rattle.history.specs.View.{view, after_all};
+    ghost use Rattle.history.specs.View.{view};
+    ghost use Rattle.records.specs.Gathered.{Gathers, count_of};
+    ghost use Rattle.records.specs.Payload.{group_limit};
     ghost use Rattle.apicore.specs.Standing.{Write, History, View, AllMayFollow};
     ghost use Rattle.apicore.specs.Compiled.{HasOwnPlans};
     ghost use Rattle.durable.specs.declared.fault.Damage.{Damage};
@@ -61,6 +64,7 @@ impl<D: Device> Store<D> {
     ghost use Rattle.durable.specs.declared.fault.Fault.TheVariants as Fault;
     ghost use Rattle.durable.specs.Compacted.{IsToldOf, IsCheckOf};
     ghost use Rattle.durable.specs.Recorded.{payload, IsGroup};
+    ghost use Rattle.durable.specs.Gathered.{in_record, CanBeAppended, HasStepped, StaysAs, HasGatheredMore, HasAnswered};
     ghost use Rattle.durable.specs.Ready.{IsReadyAt, HoldsHistory};
     ghost use Rattle.durable.specs.Stands.{StandsFor};
     ghost use Rattle.durable.specs.Settled.{device_of, root_of, log_of, serves, kept_rules, shown, ServesAt, IsFound, IsSettledAt, IsLeftAt, LeavesSome, HasReplied, HasFailedAt, HasServed, HasStopped};
@@ -144,32 +148,52 @@ impl<D: Device> Store<D> {
         if !self.serves {
             return Err(Fault::Failed);
         }
-        let prepared = prepare(&mut self.core, alloc, request)?;
-        match record_of(alloc, &prepared.write)? {
-            None => Ok(prepared.reply),
-            Some(body) => self.commit(prepared, body),
-        }
+        let mut group = Group::new(alloc)?;
+        let reply = self.step(alloc, request, &mut group)?;
+        self.append_group(group)?;
+        Ok(reply)
     }
 
-    // Takes a prepared write, and appends the record with this body.
-    fn commit(&mut self, prepared: Prepared, body: Body) -> Result<Reply, Fault>
+    // Takes the step of a request, behind those of its group, whose writes are gathered and not on the device yet.
+    fn step(
+        &mut self,
+        alloc: Global,
+        request: &Request,
+        group: &mut Group,
+    ) -> Result<Reply, Fault>
+        requires { count_of group.old < group_limit }
+        ensures stepped { IfOk result (HasStepped self.old self.new group.old group.new (request_of request.now)) }
+        ensures stays { OnErr result (StaysAs self.old self.new group.old group.new) }
+        ensures device { device_of self.new ≡ device_of self.old }
+        ensures serves { serves self.new ≡ serves self.old }
+        ensures refusal { OnErr result (result ≡ Err Fault.Memory) }
+        ensures count { count_of group.new ≤ count_of group.old + 1 }
+    {
+        let Prepared { reply, write } = prepare(&mut self.core, alloc, request)?;
+        gather(alloc, group, &write)?;
+        self.core.take(write);
+        Ok(reply)
+    }
+
+    // Appends the writes of a group, if there are any.
+    fn append_group(&mut self, group: Group) -> Result<(), Fault>
         requires serves { serves self.old ≡ true }
-        requires ready { AreReady self.old.core prepared.write }
-        ensures reply { IfOk result (λ r. r ≡ prepared.reply) }
-        ensures rules { kept_rules self.new ≡ kept_rules self.old }
-        ensures shows { (shown self.new) ≡ after_all self.old.core.rules (shown self.old) (writes_of prepared.write) }
-        ensures stands { (rules : Rules) (h : History) (ws : List Write) → HoldsHistory rules D.disk (device_of self.old) h → AllMayFollow rules (view rules h) ws → IsGroup ws
-            → payload_of body ≡ payload ws → Stands D.disk (device_of self.old) (device_of self.new) (IsFound rules h [] ws) (IsFound rules h [] ws) }
-        ensures appended { (rules : Rules) (h : History) (ws : List Write) → HoldsHistory rules D.disk (device_of self.old) h → AllMayFollow rules (view rules h) ws → IsGroup ws
-            → payload_of body ≡ payload ws → OnOk result (HoldsHistory rules D.disk (device_of self.new) (h ++ ws)) }
+        requires few { count_of group ≤ group_limit }
+        ensures core { self.new.core ≡ self.old.core }
+        ensures nothing { count_of group ≡ 0 → self.new ≡ self.old }
+        ensures stands { (rules : Rules) (h : History) (ws : List Write) → HoldsHistory rules D.disk (device_of self.old) h → Gathers group (in_record ws)
+            → CanBeAppended rules (view rules h) ws → Stands D.disk (device_of self.old) (device_of self.new) (IsFound rules h [] ws) (IsFound rules h [] ws) }
+        ensures appended { (rules : Rules) (h : History) (ws : List Write) → HoldsHistory rules D.disk (device_of self.old) h → Gathers group (in_record ws)
+            → CanBeAppended rules (view rules h) ws → OnOk result (HoldsHistory rules D.disk (device_of self.new) (h ++ ws)) }
         ensures serves { serves self.new ≡ is_ok result }
+        ensures some { OnErr result (1 ≤ count_of group) }
         ensures refusal { OnErr result (result ≡ Err Fault.Device) }
         ensures cause { HasCause D.disk (device_of self.old) (device_of self.new) result }
     {
-        let Prepared { reply, write } = prepared;
-        self.core.take(write);
-        self.append(body)?;
-        Ok(reply)
+        match group.close() {
+            None => Ok(()),
+            Some(body) => self.append(body),
+        }
     }
 
     // Appends the record of a group of writes. After a failure the store serves no more.
@@ -191,6 +215,66 @@ impl<D: Device> Store<D> {
         }
         self.serves = true;
         Ok(())
+    }
+
+    // Takes the steps of a group's requests, up to one to which memory is refused.
+    fn gather_all(
+        &mut self,
+        alloc: Global,
+        requests: &[Request],
+        group: &mut Group,
+        replies: &mut Vec<Reply>,
+    ) -> Result<(), Fault>
+        requires none { Gathers group.old [] }
+        requires few { length requests.now ≤ group_limit }
+        requires room { length replies.old.items + length requests.now ≤ vec_capacity replies.old }
+        ensures gathered { HasGatheredMore self.old self.new group.new (map request_of requests.now) replies.old.items replies.new.items }
+        ensures all { OnOk result (length replies.new.items ≡ length replies.old.items + length requests.now) }
+        ensures room { vec_capacity replies.new ≡ vec_capacity replies.old }
+        ensures device { device_of self.new ≡ device_of self.old }
+        ensures serves { serves self.new ≡ serves self.old }
+        ensures refusal { OnErr result (result ≡ Err Fault.Memory) }
+    {
+        for request in requests {
+            match self.step(alloc, request, group) {
+                Ok(reply) => replies.push_reserved(reply),
+                Err(fault) => return Err(fault),
+            }
+        }
+        Ok(())
+    }
+
+    // Answers the requests of a group, up to a fault. What the replies tell of is on the device; where that fails none is given.
+    fn answer_group(
+        &mut self,
+        alloc: Global,
+        requests: &[Request],
+        replies: &mut Vec<Reply>,
+    ) -> Option<Fault>
+        requires serves { serves self.old ≡ true }
+        requires few { length requests.now ≤ group_limit }
+        requires room { length replies.old.items + length requests.now ≤ vec_capacity replies.old }
+        ensures answered { HasAnswered self.old self.new (map request_of requests.now) replies.old.items replies.new.items result }
+        ensures all { result ≡ None → length replies.new.items ≡ length replies.old.items + length requests.now }
+        ensures room { vec_capacity replies.new ≡ vec_capacity replies.old }
+        ensures goes_on { (result ≡ None) ⊎ (result ≡ Some Fault.Memory) → serves self.new ≡ true }
+        ensures refusal { IfSome result (λ fault. (fault ≡ Fault.Device) ⊎ (fault ≡ Fault.Memory)) }
+        ensures cause { result ≡ Some Fault.Device → HasFailed D.disk (device_of self.old) (device_of self.new) }
+        ensures count { D.disk.failures (device_of self.old) ≤ D.disk.failures (device_of self.new) }
+    {
+        let before = replies.len();
+        let mut group = match Group::new(alloc) {
+            Ok(group) => group,
+            Err(_) => return Some(Fault::Memory),
+        };
+        let gathered = self.gather_all(alloc, requests, &mut group, replies);
+        match self.append_group(group) {
+            Ok(()) => gathered.err(),
+            Err(fault) => {
+                replies.truncate(before);
+                Some(fault)
+            }
+        }
     }
 
     /// Answers requests in order, until a fault. The replies are those that were given before it.
@@ -221,14 +305,17 @@ impl<D: Device> Store<D> {
             Ok(replies) => replies,
             Err(_) => return (Vec::new(alloc), Some(Fault::Memory)),
         };
-        for request in requests {
-            match self.apply(alloc, request) {
-                Ok(reply) => replies.push_reserved(reply),
-                Err(fault) => return (replies, Some(fault)),
+        let mut rest = requests;
+        while !rest.is_empty() {
+            let (group, more) = rest.split_at(rest.len().min(GROUP_LIMIT));
+            match self.answer_group(alloc, group, &mut replies) {
+                None => rest = more,
+                Some(fault) => return (replies, Some(fault)),
             }
         }
         (replies, None)
     }
+
     /// Writes what the store shows as the next generation, with an empty log. What it shows stays as it is.
     ///
     /// # Errors

@@ -35,7 +35,7 @@ fn begin(alloc: Global) -> Result<Body, LogFault>
 }
 
 impl Group {
-    ghost use Rattle.records.specs.Gathered.{Gathers, count_of};
+    ghost use Rattle.records.specs.Gathered.{Gathers, Stays, count_of};
 
     /// No writes.
     pub fn new(alloc: Global) -> Result<Group, AllocError>
@@ -62,7 +62,7 @@ impl Group {
         requires { count_of self.old < group_limit }
         ensures added { (ws : List (Write (List ℕ))) (d : Document) → Gathers self.old ws → document_text.now ≡ text d.json
             → OnOk result (Gathers self.new (ws ++ put key.now d plans.now ∷ [])) }
-        ensures same { (ws : List (Write (List ℕ))) → Gathers self.old ws → OnErr result (Gathers self.new ws) }
+        ensures same { OnErr result (Stays self.old self.new) }
         ensures long { (ws : List (Write (List ℕ))) (d : Document) → Gathers self.old ws → document_text.now ≡ text d.json
             → IsErrOf result LogFault.TooLong → 67108864 < length (payload (ws ++ put key.now d plans.now ∷ [])) }
         ensures refusal { IsErrOf result LogFault.Device → ⊥ }
@@ -82,7 +82,7 @@ impl Group {
     pub fn delete(&mut self, alloc: Global, key: &Key) -> Result<(), LogFault>
         requires { count_of self.old < group_limit }
         ensures added { (ws : List (Write (List ℕ))) → Gathers self.old ws → OnOk result (Gathers self.new (ws ++ delete key.now ∷ [])) }
-        ensures same { (ws : List (Write (List ℕ))) → Gathers self.old ws → OnErr result (Gathers self.new ws) }
+        ensures same { OnErr result (Stays self.old self.new) }
         ensures long { (ws : List (Write (List ℕ))) → Gathers self.old ws
             → IsErrOf result LogFault.TooLong → 67108864 < length (payload (ws ++ delete key.now ∷ [])) }
         ensures refusal { IsErrOf result LogFault.Device → ⊥ }

@@ -4,7 +4,7 @@ use crate::compactions::{compaction_damage, compaction_failures, compaction_stop
 use crate::device_lines::{crash, of_the_device};
 use crate::place::Place;
 use crate::refusals::{at_hand, fault};
-use crate::stops::stops;
+use crate::stops::{group_stops, stops};
 use crate::streams::{cuts, readers, writers};
 use cases::{Wrong, shown, text};
 use rowcases::Service;
@@ -46,6 +46,7 @@ impl Service for Stand {
             "writers" => writers(alloc, self.all_sent.as_str()),
             "readers" => readers(alloc, self.all_sent.as_str(), rest),
             "stops" => stops(alloc, self.writes.as_slice(), rest),
+            "group-stops" => group_stops(alloc, self.writes.as_slice(), rest),
             "compaction-stops" => compaction_stops(alloc, self.writes.as_slice(), rest),
             "compaction-failures" => compaction_failures(alloc, self.writes.as_slice(), rest),
             "compaction-damage" => compaction_damage(alloc, self.writes.as_slice(), rest),

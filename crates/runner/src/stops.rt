@@ -5,6 +5,7 @@ use cases::{WordReader, Wrong, shown, wanted};
 use device::{MemDevice, Pick};
 use durable::Store;
 use httpmsg::Std;
+use records::GROUP_LIMIT;
 use requests::Request;
 use routes::Routes;
 use rowcases::routed_first;
@@ -47,7 +48,7 @@ fn requests_of(alloc: Global, writes: &[String]) -> Result<Vec<Request>, Wrong> 
     requests_by(alloc, &routes, writes)
 }
 
-// Makes the writes as far as they are taken, the first in a connection and the others in one run: how many are.
+// Makes the writes as far as they are taken, the first in a connection and each of the others in a run of its own: how many are.
 fn told(alloc: Global, store: &mut Store<MemDevice>, writes: &[String]) -> Result<usize, Wrong> {
     let Some((first, others)) = writes.split_first() else {
         return Ok(0);
@@ -57,7 +58,11 @@ fn told(alloc: Global, store: &mut Store<MemDevice>, writes: &[String]) -> Resul
         return Ok(0);
     }
     let requests = requests_of(alloc, others)?;
-    Ok(run(alloc, store, &requests)?.saturating_add(1))
+    let mut count = 1_usize;
+    for request in requests.chunks(1) {
+        count = count.saturating_add(run(alloc, store, request)?);
+    }
+    Ok(count)
 }
 
 // The lists of the configmaps and of the policies, with their contents and revisions, as they are shown.
@@ -172,6 +177,50 @@ pub fn stops(alloc: Global, writes: &[String], line: &str) -> Result<String, Wro
         for picks in PICKS {
             for length in [0, u64::MAX] {
                 stopped(alloc, writes, &lists, call, &picks, length)?;
+                held = held.saturating_add(1);
+            }
+        }
+    }
+    shown(alloc, &held)
+}
+
+// Makes all writes in one run, whose groups share a record each, and asks that the crash leaves all of a group or none.
+fn crashed_in_group(
+    alloc: Global,
+    place: &mut Place,
+    requests: &[Request],
+    lists: &[String],
+    picks: &[Pick],
+    length: u64,
+) -> Result<(), Wrong> {
+    let count = match place {
+        Place::Open(store) => run(alloc, store, requests)?,
+        _ => 0,
+    };
+    let first = found_after(alloc, place, picks, length)?;
+    let behind = count.saturating_add(GROUP_LIMIT).min(requests.len());
+    wanted(
+        is_list(lists, count, first.as_str()) || is_list(lists, behind, first.as_str()),
+        "a stop leaves neither what was told nor the whole next group",
+    )?;
+    is_left_again(alloc, place, first.as_str())
+}
+
+/// `group-stops A B`: the same of all writes in one run: what is found is what was told, or all of the next group.
+pub fn group_stops(alloc: Global, writes: &[String], line: &str) -> Result<String, Wrong> {
+    let mut words = WordReader::new(line);
+    let (first, last) = (words.number(), words.number());
+    words.end()?;
+    let lists = shown_lists(alloc, writes)?;
+    let requests = requests_of(alloc, writes)?;
+    let mut held = 0_u64;
+    for call in first..=last {
+        for picks in PICKS {
+            for length in [0, u64::MAX] {
+                let mut device = created(alloc, ROOM_SECTORS)?;
+                device.stop_on(call);
+                let mut place = opened(alloc, device);
+                crashed_in_group(alloc, &mut place, &requests, &lists, &picks, length)?;
                 held = held.saturating_add(1);
             }
         }
