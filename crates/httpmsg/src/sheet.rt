@@ -5,9 +5,8 @@ ghost use Rattle.std.specs.Prelude.{◌≡◌, ◌≤◌, ◌++◌, [], ℕ, len
 use crate::streams::{Output, StreamFault};
 use std::alloc::{AllocError, Global};
 
-/// How many bytes are gathered at most: those of a response that shows one object of the greatest size, or of sixteen that show objects of
-/// some kilobytes.
-pub(crate) const SHEET_BYTES: usize = 65536;
+/// How many bytes are gathered at most: more than a response that shows one object has.
+pub(crate) const SHEET_BYTES: usize = 18432;
 
 /// Bytes that are gathered in room that was taken before.
 #[derive(Drop)]
