@@ -1,18 +1,22 @@
 -- The writes of a group of requests: gathered one request after the other, and appended together.
-use Rattle.std.proofs.Common.{arith, ◌≡◌, ◌∙◌, sym, ap, subst, map, ◌≤◌, ◌+◌, ◌++◌, ℕ, List, [], ◌∷◌, length, take, refl, true, false, Option, Some, None, ◌⊎◌, inl, inr}
-use Rattle.std.proofs.lemmas.List.{append-nil, append_assoc, length-append, length-map, map-append, nil_from_length, take_all, take-append-drop}
+use Rattle.std.proofs.Common.{arith, ◌≡◌, ◌∙◌, sym, ap, subst, map, ◌≤◌, ◌<◌, ◌+◌, ◌++◌, ℕ, List, [], ◌∷◌, length, take, drop, refl, true, false, Option, Some, None, Result, Ok, Err, OnOk, OnErr, ◌⊎◌, inl, inr}
+use Rattle.std.proofs.lemmas.List.{append-nil, append_assoc, length-append, length-take-le, map-append, take_all, take-append-drop}
 use Rattle.std.specs.List.{AllByRecursion}
+use Rattle.std.specs.Result.{result_err}
 use Rattle.device.specs.declared.device.Device.{Ghosts}
-use Rattle.device.specs.Disk.{LeavesOnly}
+use Rattle.device.specs.Disk.{Disk, LeavesOnly}
 use Rattle.device.specs.Run.{Stands}
+use Rattle.device.proofs.Runs.{stands_now}
 use Rattle.names.specs.declared.format.Rules.{Rules}
 use Rattle.requests.specs.Request.{Request}
 use Rattle.history.specs.History as plain
 use Rattle.history.specs.Reply.{Reply}
+use Rattle.history.specs.State.{State}
 use Rattle.history.specs.View.{view, after_all}
-use Rattle.records.specs.Gathered.{Gathers, Stays, count_of}
+use Rattle.records.specs.Gathered.{Gathers, count_of}
 use Rattle.records.specs.Payload.{IsStorable, group_limit}
 use Rattle.records.specs.declared.group.Group.{Group}
+use Rattle.apicore.specs.Beside.{Beside}
 use Rattle.apicore.specs.Prepared.{Shows}
 use Rattle.apicore.specs.Standing.{Write, History, View, write_with_plans, recorded}
 use Rattle.apicore.specs.Step.{Asked, writes, accepted, replies}
@@ -22,11 +26,13 @@ use Rattle.durable.specs.declared.fault.Fault.{Fault}
 use Rattle.durable.specs.declared.fault.Fault.TheVariants as Faults
 use Rattle.durable.specs.declared.store.Store.{Store}
 use Rattle.durable.specs.Ready.{HoldsHistory}
-use Rattle.durable.specs.Gathered.{in_record, CanBeAppended, HasSteppedAt, HasStepped, StaysAs, HasGatheredAt, HasGathered, HasGatheredMore, HasAnswered}
+use Rattle.durable.specs.Recorded.{IsGroup}
+use Rattle.durable.specs.Gathered.{in_record, CanBeAppended, HasStepped, StaysAs, HasGathered, HasGatheredMore, HasAnswered}
 use Rattle.durable.specs.Settled.{added, AreAsked, IsFound, ServesAt, IsSettledAt, IsLeftAt, LeavesSome, HasReplied, HasFailedAt, HasServed, HasStopped, device_of, serves}
-use Rattle.durable.proofs.Answering.{held, settled_serves, settled_after}
-use Rattle.durable.proofs.Running.{accepted-append, replies-append, view_then}
-use Rattle.durable.proofs.Runs.{asked_then, run_none}
+use Rattle.durable.proofs.Findings.{found_none, leaves-idle}
+use Rattle.durable.proofs.Answering.{held, settled_from, settled_serves, settled_after}
+use Rattle.durable.proofs.Running.{accepted-append, replies-append, view_then, first_of}
+use Rattle.durable.proofs.Runs.{asked_then, run_none, run_then, run_stopped}
 
 -- ---- what is gathered
 
@@ -93,15 +99,59 @@ module _ {D : Type 0} {g : Ghosts D} (old mid new : Store D g) (before now : Gro
     asked = so_far.asked;
     are = so_far.are;
     one_each = so_far.one_each;
-    few = omega (arith, so_far.few, stays.gathered.count);
+    few = omega (arith, so_far.few, stays.counted);
     shown = λ rules v serving.
         let at = so_far.shown rules v serving in
         record {
           answered = at.answered;
           serving = stays.serving rules (after_all rules v (accepted rules v so_far.asked)) at.serving;
           appendable = at.appendable;
-          gathered = stays.gathered.gathers (in_record (accepted rules v so_far.asked)) at.gathered;
+          gathered = stays.gathered (in_record (accepted rules v so_far.asked)) at.gathered;
         };
+  }
+
+-- a store that serves what it served, over the same device, is settled as it was
+pub settled_still : {D : Type 0} {g : Ghosts D} (old new : Store D g) → device_of new ≡ device_of old → ((rules : Rules) (v : View) → ServesAt rules old v → ServesAt rules new v)
+    → ((c : List ℕ) → g.disk.keeps (device_of old) → g.disk.since (device_of old) (g.disk.moment (device_of old)) c → g.disk.left (device_of old) c)
+    → (rules : Rules) (h : History) → IsSettledAt rules old h → IsSettledAt rules new h × LeavesSome rules old new h []
+settled_still {D} {g} old new same serves only_now rules h settled =
+    let serving = serves rules (view rules h) (settled_serves rules old h settled) in
+    let Held : D → Type 0 = λ d. HoldsHistory rules g.disk d h in
+    let Leaves : D → Type 0 = λ d. LeavesOnly g.disk (device_of old) d (IsFound rules h [] []) in (
+      settled_from rules new h serving.working serving.rules_are serving.shows (subst Held (sym same) (held rules old h settled)),
+      subst Leaves (sym same) (leaves-idle rules old h [] (λ c since. only_now c settled.keeps since) settled),
+    )
+
+-- ---- behind other replies
+
+pub more_none : {D : Type 0} {g : Ghosts D} (store : Store D g) (group : Group) (all : List Request) (before : List Reply) → Gathers group []
+    → HasGatheredMore store store group all before before
+more_none store group all before empty =
+    record { more = []; pushed = sym (append-nil before); within = omega arith; gathered = gathered_none store group empty }
+
+module _ {D : Type 0} {g : Ghosts D} (old mid new : Store D g) (was is : Group) (all : List Request) (before now : List Reply) (so_far : HasGatheredMore old mid was all before now) where
+  -- one request more, of all of them the next
+  pub more_then : (r : Request) (said : Reply) (i : ℕ) → length now ≡ length before + i → i < length all → take (i + 1) all ≡ take i all ++ r ∷ [] → HasStepped mid new was is r said
+      → count_of is ≤ count_of was + 1 → HasGatheredMore old new is all before (now ++ said ∷ [])
+  more_then r said i count inside next step one_more =
+      let index : length so_far.more ≡ i = omega (arith, count, ap length so_far.pushed, length-append before so_far.more) in
+      let longer : length (so_far.more ++ said ∷ []) ≡ i + 1 = omega (arith, index, length-append so_far.more (said ∷ [])) in
+      let Gathered : List Request → Type 0 = λ rs. HasGathered old new is rs (so_far.more ++ said ∷ []) in
+      record {
+        more = so_far.more ++ said ∷ [];
+        pushed = ap (λ (x : List Reply). x ++ said ∷ []) so_far.pushed ∙ append_assoc before so_far.more (said ∷ []);
+        within = omega (arith, longer, inside);
+        gathered = subst Gathered (ap (λ (n : ℕ). take n all ++ r ∷ []) index ∙ sym next ∙ ap (λ (n : ℕ). take n all) (sym longer))
+            (gathered_more old mid new was is (take (length so_far.more) all) so_far.more so_far.gathered r said step one_more);
+      }
+
+  -- memory was refused to the next request
+  pub more_still : StaysAs mid new was is → HasGatheredMore old new is all before now
+  more_still stays = record {
+    more = so_far.more;
+    pushed = so_far.pushed;
+    within = so_far.within;
+    gathered = gathered_still old mid new was is (take (length so_far.more) all) so_far.more so_far.gathered stays;
   }
 
 -- ---- what is gathered is appended
@@ -109,6 +159,35 @@ module _ {D : Type 0} {g : Ghosts D} (old mid new : Store D g) (before now : Gro
 -- where nothing is gathered, nothing is counted
 pub nothing_counted : (group : Group) (ws : List Write) → Gathers group (in_record ws) → ws ≡ [] → count_of group ≡ 0
 nothing_counted group ws has none = has.count ∙ ap (λ (xs : List Write). length (in_record xs)) none
+
+-- where nothing is gathered, no write is
+pub no_writes : (ws : List Write) → in_record ws ≡ [] → ws ≡ []
+no_writes [] none = refl
+no_writes (w ∷ ws) none = cc
+
+-- a device that nothing was asked of holds the history, with none of the writes
+pub held_still : {D : Type 0} (disk : Disk D) (device : D) (rules : Rules) (h : History) (ws : List Write)
+    → ((c : List ℕ) → disk.keeps device → disk.since device (disk.moment device) c → disk.left device c) → HoldsHistory rules disk device h
+    → Stands disk device device (IsFound rules h [] ws) (IsFound rules h [] ws)
+held_still disk device rules h ws only_now holds =
+    stands_now disk device (IsFound rules h [] ws) (IsFound rules h [] ws) holds.keeps (λ c since. only_now c holds.keeps since) (found_none rules h ws _ holds.read)
+    (λ c left. found_none rules h ws c (holds.left c left)) (λ c found. found)
+
+-- so it holds the history with the writes, where these are none
+pub held_with_none : {D : Type 0} (disk : Disk D) (device : D) (rules : Rules) (h : History) (ws : List Write) → ws ≡ [] → HoldsHistory rules disk device h
+    → HoldsHistory rules disk device (h ++ ws)
+held_with_none disk device rules h ws none holds =
+    let Holds : History → Type 0 = λ x. HoldsHistory rules disk device x in
+    subst Holds (sym (append-nil h) ∙ ap (λ (x : List Write). h ++ x) (sym none)) holds
+
+-- the writes of a group are what one record holds
+pub is_group : (rules : Rules) (v : View) (group : Group) (ws : List Write) → Gathers group (in_record ws) → CanBeAppended rules v ws → 1 ≤ count_of group
+    → count_of group ≤ group_limit → IsGroup ws
+is_group rules v group ws has can some few = record {
+  some = omega (arith, some, has.count);
+  few = omega (arith, few, has.count);
+  storable = can.storable;
+}
 
 module _ {D : Type 0} {g : Ghosts D} (old mid new : Store D g) (group : Group) (same : device_of mid ≡ device_of old) (core : new.core ≡ mid.core)
     (stands : (rules : Rules) (h : History) (ws : List Write) → HoldsHistory rules g.disk (device_of mid) h → Gathers group (in_record ws)
@@ -122,8 +201,8 @@ module _ {D : Type 0} {g : Ghosts D} (old mid new : Store D g) (group : Group) (
   serving_then working rules v serving =
       record {
         working = working;
-        rules_are = ap (λ x. x.rules) core ∙ serving.rules_are;
-        shows = let Shown = λ x. Shows x.view v in subst Shown (sym core) serving.shows;
+        rules_are = ap (λ (x : State Beside). x.rules) core ∙ serving.rules_are;
+        shows = let Shown : State Beside → Type 0 = λ x. Shows x.view v in subst Shown (sym core) serving.shows;
         seen = serving.seen;
       }
 
@@ -218,29 +297,49 @@ module _ {D : Type 0} {g : Ghosts D} (old mid new : Store D g) (group : Group) (
 
   -- or the device failed, and none of it is answered
   pub stopped : (rs all : List Request) (given : List Reply) (gathered : HasGathered old mid group rs given) → 1 ≤ count_of group → length given ≤ group_limit
-      → take (length gathered.asked) all ≡ rs → serves new ≡ false → HasStopped old new all []
-  stopped rs all given gathered some few first stops = record {
-    asked = [];
-    failing = gathered.asked;
-    some = omega (arith, some, gathered.few, gathered.one_each);
-    few = omega (arith, few, gathered.one_each);
-    are = let Are : List Request → Type 0 = λ xs. AreAsked xs gathered.asked in subst Are (sym first) gathered.are;
-    shown = λ rules v serving. (
-      refl,
-      (λ none.
-          absurd (omega (arith, some, nothing_counted group (accepted rules v gathered.asked) (gathered.shown rules v serving).gathered none))),
-      accepted_admitted rules v gathered.asked,
-    );
-    stopped = λ rules h settled.
-        let at = gathered.shown rules (view rules h) (settled_serves rules old h settled) in
-        let ws : List Write = added rules h gathered.asked in
-        record {
-          left = appended_left rules h ws settled at.gathered at.appendable stops;
-          moments = appended_moments rules h ws settled at.gathered at.appendable;
-        };
-  }
+      → take (length gathered.asked) all ≡ rs → serves new ≡ false → (failed : HasStopped old new all []) × (length failed.failing ≡ length given)
+  stopped rs all given gathered some few first stops = (
+    record {
+      asked = [];
+      failing = gathered.asked;
+      some = omega (arith, some, gathered.few, gathered.one_each);
+      few = omega (arith, few, gathered.one_each);
+      are =
+          let Are : List Request → Type 0 = λ xs. AreAsked xs gathered.asked in
+          let First : ℕ → Type 0 = λ n. AreAsked (take n all) gathered.asked in
+          let none_before : length gathered.asked ≡ 0 + length gathered.asked = omega arith in
+          subst First none_before (subst Are (sym first) gathered.are);
+      shown = λ rules v serving. (
+        refl,
+        (λ none.
+            absurd (omega (arith, some, nothing_counted group (accepted rules v gathered.asked) (gathered.shown rules v serving).gathered none))),
+        accepted_admitted rules v gathered.asked,
+      );
+      stopped = λ rules h settled.
+          let at = gathered.shown rules (view rules h) (settled_serves rules old h settled) in
+          let ws : List Write = added rules h gathered.asked in
+          record {
+            left = appended_left rules h ws settled at.gathered at.appendable stops;
+            moments = appended_moments rules h ws settled at.gathered at.appendable;
+          };
+    },
+    sym gathered.one_each,
+  )
 
 -- ---- what a group is answered
+
+-- what holds on success, where there is no fault
+pub where_none : {T E : Type 0} (r : Result T E) (P : Type 0) → OnOk r P → result_err r ≡ None → P
+where_none (Ok x) P holds none = holds
+where_none (Err e) P holds none = cc
+
+-- a fault that is always memory is never the device's
+pub never_device : {T : Type 0} (r : Result T Fault) (stop : Option Fault) → stop ≡ result_err r → OnErr r (r ≡ Err Faults.Memory) → stop ≡ Some Faults.Device → ⊥
+never_device (Ok x) stop is memory device = let never : ◌≡◌ {A = Option Fault} None (Some Faults.Device) = sym is ∙ device in cc
+never_device (Err e) stop is memory device =
+    let one : e ≡ Faults.Memory = cc in
+    let other : e ≡ Faults.Device = let both : ◌≡◌ {A = Option Fault} (Some e) (Some Faults.Device) = sym is ∙ device in cc in
+    let never : Faults.Memory ≡ Faults.Device = sym one ∙ other in cc
 
 -- memory was refused before its first request
 pub answered_nothing : {D : Type 0} {g : Ghosts D} (store : Store D g) (rs : List Request) (before : List Reply)
@@ -274,12 +373,73 @@ module _ {D : Type 0} {g : Ghosts D} (old mid new : Store D g) (rs : List Reques
   }
 
   -- or the device failed
-  pub failed_group : (fault : Fault) → fault ≡ Faults.Device → (stopped : HasStopped old new rs []) → length stopped.failing ≤ length rs → HasAnswered old new rs before before (Some fault)
-  failed_group fault is stopped within = record {
+  pub failed_group : (fault : Fault) → fault ≡ Faults.Device → (failed : HasStopped old new rs []) → length failed.failing ≤ length rs → HasAnswered old new rs before before (Some fault)
+  failed_group fault is failed within = record {
     more = [];
     pushed = sym (append-nil before);
     within = omega arith;
     all = λ none. cc;
     served = λ other. absurd (not_device fault is other);
-    stopped = λ device. (stopped, within);
+    stopped = λ device. (failed, omega (arith, within));
   }
+
+-- ---- one group after another
+
+-- what is left, cut in two
+pub in_parts : {A B : Type 0} (f : A → B) (rest front back : List A) (n : ℕ) → front ≡ take n rest → back ≡ drop n rest → map f rest ≡ map f front ++ map f back
+in_parts f rest front back n first second =
+    ap (map f) (sym (take-append-drop n rest)) ∙ map-append f (take n rest) (drop n rest) ∙ (λ i. map f (sym first i) ++ map f (sym second i))
+
+-- A group among all requests, behind those that were answered.
+module _ {D : Type 0} {g : Ghosts D} (old mid new : Store D g) (all group later : List Request) (given now : List Reply) (stop : Option Fault) (inside : length given ≤ length all)
+    (split : all ≡ take (length given) all ++ (group ++ later)) (so_far : HasServed old mid (take (length given) all) given) (next : HasAnswered mid new group given now stop) where
+  -- its answered ones stand in front of all that is left
+  front_is : take (length now) all ≡ take (length given) all ++ take (length next.more) group
+  front_is =
+      first_of all (take (length given) all ++ take (length next.more) group) (drop (length next.more) group ++ later) (length now)
+      (split ∙ ap (λ (rs : List Request). take (length given) all ++ (rs ++ later)) (sym (take-append-drop (length next.more) group))
+      ∙ ap (λ (rs : List Request). take (length given) all ++ rs) (append_assoc (take (length next.more) group) (drop (length next.more) group) later)
+      ∙ sym (append_assoc (take (length given) all) (take (length next.more) group) (drop (length next.more) group ++ later)))
+      (omega (
+        arith,
+        ap length next.pushed,
+        length-append given next.more,
+        length-append (take (length given) all) (take (length next.more) group),
+        length-take-le (length given) all inside,
+        length-take-le (length next.more) group next.within,
+      ))
+
+  -- the requests up to a fault of memory are served
+  pub served_so_far : (stop ≡ None) ⊎ (stop ≡ Some Faults.Memory) → HasServed old new (take (length now) all) now
+  served_so_far is =
+      let Of : List Request → List Reply → Type 0 = λ rs said. HasServed old new rs said in
+      subst (λ rs. Of rs now) (sym front_is) (subst (Of (take (length given) all ++ take (length next.more) group)) (sym next.pushed)
+      (run_then old mid new (take (length given) all) given next.more so_far (take (length next.more) group) (next.served is)))
+
+  -- the device failed in the group
+  pub stopped_so_far : stop ≡ Some Faults.Device → HasStopped old new all now
+  stopped_so_far device =
+      let failed = next.stopped device in
+      let Said : List Reply → Type 0 = λ said. HasStopped old new all said in
+      subst Said (sym next.pushed)
+      (run_stopped old mid new (take (length given) all) given next.more so_far group later all (sym (length-take-le (length given) all inside)) split failed.0 failed.1)
+
+  -- what is left behind a group that is answered whole
+  pub left_behind : stop ≡ None → all ≡ take (length now) all ++ later
+  left_behind none =
+      split ∙ sym (append_assoc (take (length given) all) group later)
+      ∙ ap (λ (rs : List Request). (take (length given) all ++ rs) ++ later) (sym (take_all (length next.more) group (omega (arith, next.all none))))
+      ∙ ap (λ (rs : List Request). rs ++ later) (sym front_is)
+
+  pub still_inside : length now ≤ length all
+  still_inside =
+      omega (
+        arith,
+        ap length split,
+        ap length next.pushed,
+        length-append given next.more,
+        next.within,
+        length-append (take (length given) all) (group ++ later),
+        length-append group later,
+        length-take-le (length given) all inside,
+      )

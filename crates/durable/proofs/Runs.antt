@@ -3,16 +3,14 @@ use Rattle.std.proofs.Common.{arith, ◌≡◌, ◌∙◌, ap, sym, subst, ◌+�
 use Rattle.std.proofs.lemmas.List.{append_assoc, map-append, length-append, length-take-le, take-append-drop}
 use Rattle.std.specs.List.{AllByRecursion}
 use Rattle.device.specs.declared.device.Device.{Ghosts}
-use Rattle.names.specs.declared.format.Rules.{Rules}
 use Rattle.requests.specs.Request.{Request}
 use Rattle.history.specs.Reply.{Reply}
 use Rattle.history.specs.View.{after_all}
-use Rattle.apicore.specs.Standing.{History, View}
 use Rattle.apicore.specs.Step.{Asked, accepted}
 use Rattle.apicore.specs.Prepared.{IsReadOf}
 use Rattle.apicore.proofs.Admitting.{accepted_admitted}
 use Rattle.durable.specs.declared.store.Store.{Store}
-use Rattle.durable.specs.Settled.{added, AreAsked, ServesAt, IsSettledAt, HasStoppedAs, HasServed, HasStopped, device_of}
+use Rattle.durable.specs.Settled.{added, AreAsked, HasStoppedAs, HasServed, HasStopped, device_of}
 use Rattle.durable.proofs.Running.{served_none, served_then, stopped_then, replies-append, answered_none, answered_then, none_in_none, first_of}
 
 abbrev Read : Asked → Type 0
@@ -23,7 +21,7 @@ read-append [] ys first more = more
 read-append (x ∷ xs) ys first more = (first.0, read-append xs ys first.1 more)
 
 -- requests of which the first and the others are asked
-asked_then : (requests more : List Request) (asked others : List Asked) → AreAsked requests asked → AreAsked more others → AreAsked (requests ++ more) (asked ++ others)
+pub asked_then : (requests more : List Request) (asked others : List Asked) → AreAsked requests asked → AreAsked more others → AreAsked (requests ++ more) (asked ++ others)
 asked_then requests more asked others are next = record {
   are = map-append (λ (x : Asked). x.request) asked others ∙ (λ i. are.are i ++ next.are i);
   read = read-append asked others are.read next.read;

@@ -1,5 +1,5 @@
 -- A store that has taken the writes of a group of requests, before they are on its device.
-use Rattle.std.specs.Prelude.{◌≡◌, ◌≤◌, ◌+◌, ◌⊎◌, ℕ, List, [], ◌++◌, length, map, take, Option, Some, None}
+use Rattle.std.specs.Prelude.{◌≡◌, ◌≤◌, ◌+◌, ◌⊎◌, ℕ, List, ◌++◌, length, map, take, Option, Some, None}
 use Rattle.std.specs.List.{AllByRecursion}
 use Rattle.device.specs.declared.device.Device.{Ghosts}
 use Rattle.names.specs.declared.format.Rules.{Rules}
@@ -10,7 +10,7 @@ use Rattle.history.specs.Prepared.{writes_of}
 use Rattle.history.specs.Reply.{Reply}
 use Rattle.history.specs.View.{after_all}
 use Rattle.history.specs.declared.prepared.PreparedWrite.{PreparedWrite}
-use Rattle.records.specs.Gathered.{Gathers, Stays, count_of}
+use Rattle.records.specs.Gathered.{Gathers, count_of}
 use Rattle.records.specs.Payload.{IsStorable}
 use Rattle.records.specs.declared.group.Group.{Group}
 use Rattle.celtree.specs.Tree.{Expr}
@@ -22,7 +22,7 @@ use Rattle.apicore.specs.Step.{Asked, writes, reply, accepted, replies}
 use Rattle.durable.specs.declared.fault.Fault.{Fault}
 use Rattle.durable.specs.declared.fault.Fault.TheVariants as Faults
 use Rattle.durable.specs.declared.store.Store.{Store}
-use Rattle.durable.specs.Settled.{AreAsked, ServesAt, HasServed, HasStopped, device_of, serves, kept_rules, shown}
+use Rattle.durable.specs.Settled.{AreAsked, ServesAt, HasServed, HasStopped}
 
 -- what a record says of writes
 abbrev pub in_record : List Write → List (plain.Write (List ℕ))
@@ -55,7 +55,8 @@ pub record HasStepped {D : Type 0} {g : Ghosts D} (old new : Store D g) (before 
 -- Nothing is told of the store and of the group that was not told before.
 pub record StaysAs {D : Type 0} {g : Ghosts D} (old new : Store D g) (before now : Group) : Type 0 where
   pub serving : (rules : Rules) (v : View) → ServesAt rules old v → ServesAt rules new v
-  pub gathered : Stays before now
+  pub gathered : (ws : List (plain.Write (List ℕ))) → Gathers before ws → Gathers now ws
+  pub counted : count_of now ≡ count_of before
 
 -- ---- the requests of a group
 

@@ -6,7 +6,7 @@ ghost use Rattle.history.specs.Mapped.{mapped_write};
 ghost use Rattle.history.specs.Prepared.{write_of};
 ghost use Rattle.apicore.specs.Standing.{recorded};
 ghost use Rattle.apicore.specs.Prepared.{plans_held};
-ghost use Rattle.records.specs.Gathered.{Gathers, Stays, count_of};
+ghost use Rattle.records.specs.Gathered.{Gathers, count_of};
 ghost use Rattle.records.specs.Payload.{group_limit};
 ghost use Rattle.durable.specs.declared.fault.Fault.TheVariants as Fault;
 ghost use Rattle.durable.specs.Gathered.{prepared_in_record};
@@ -27,7 +27,8 @@ pub(crate) fn gather(
 ) -> Result<(), Fault>
     requires { count_of group.old < group_limit }
     ensures gathered { (ws : List (Recorded (List ℕ))) → Gathers group.old ws → OnOk result (Gathers group.new (ws ++ prepared_in_record write.now)) }
-    ensures same { OnErr result (Stays group.old group.new) }
+    ensures same { (ws : List (Recorded (List ℕ))) → Gathers group.old ws → OnErr result (Gathers group.new ws) }
+    ensures uncounted { OnErr result (count_of group.new ≡ count_of group.old) }
     ensures refusal { OnErr result (result ≡ Err Fault.Memory) }
     ensures count { count_of group.new ≤ count_of group.old + 1 }
 {
@@ -42,15 +43,12 @@ pub(crate) fn gather(
 }
 
 // Adds a write to a group.
-fn add(
-    alloc: Global,
-    group: &mut Group,
-    write: &PreparedWrite<Beside>,
-) -> Result<(), LogFault>
+fn add(alloc: Global, group: &mut Group, write: &PreparedWrite<Beside>) -> Result<(), LogFault>
     requires { count_of group.old < group_limit }
     ensures added { (ws : List (Recorded (List ℕ))) → Gathers group.old ws
         → OnOk result (Gathers group.new (ws ++ recorded (mapped_write plans_held (write_of write.now)) ∷ [])) }
-    ensures same { OnErr result (Stays group.old group.new) }
+    ensures same { (ws : List (Recorded (List ℕ))) → Gathers group.old ws → OnErr result (Gathers group.new ws) }
+    ensures uncounted { OnErr result (count_of group.new ≡ count_of group.old) }
     ensures count { count_of group.new ≤ count_of group.old + 1 }
 {
     match write {

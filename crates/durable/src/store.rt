@@ -155,12 +155,7 @@ impl<D: Device> Store<D> {
     }
 
     // Takes the step of a request, behind those of its group, whose writes are gathered and not on the device yet.
-    fn step(
-        &mut self,
-        alloc: Global,
-        request: &Request,
-        group: &mut Group,
-    ) -> Result<Reply, Fault>
+    fn step(&mut self, alloc: Global, request: &Request, group: &mut Group) -> Result<Reply, Fault>
         requires { count_of group.old < group_limit }
         ensures stepped { IfOk result (HasStepped self.old self.new group.old group.new (request_of request.now)) }
         ensures stays { OnErr result (StaysAs self.old self.new group.old group.new) }
@@ -169,8 +164,9 @@ impl<D: Device> Store<D> {
         ensures refusal { OnErr result (result ≡ Err Fault.Memory) }
         ensures count { count_of group.new ≤ count_of group.old + 1 }
     {
-        let Prepared { reply, write } = prepare(&mut self.core, alloc, request)?;
-        gather(alloc, group, &write)?;
+        let prepared = prepare(&mut self.core, alloc, request)?;
+        gather(alloc, group, &prepared.write)?;
+        let Prepared { reply, write } = prepared;
         self.core.take(write);
         Ok(reply)
     }

@@ -13,8 +13,3 @@ count_of group = group.count
 pub record Gathers (group : Group) (ws : List (Write (List ℕ))) : Type 0 where
   pub count : count_of group ≡ length ws
   pub bytes : payload_of group.body ≡ 0 ∷ 0 ∷ flat_map write_bytes ws
-
--- What is gathered stays.
-pub record Stays (old new : Group) : Type 0 where
-  pub count : count_of new ≡ count_of old
-  pub gathers : (ws : List (Write (List ℕ))) → Gathers old ws → Gathers new ws

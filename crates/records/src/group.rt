@@ -1,6 +1,6 @@
 //! The writes of a record, as they are gathered.
 
-ghost use Rattle.std.specs.Prelude.{◌≡◌, ◌≢◌, ◌<◌, ◌≤◌, ◌+◌, ◌×◌, ◌++◌, ◌∷◌, [], ℕ, List, length, IfOk, OnOk, OnErr, IsErrOf, MatchOption};
+ghost use Rattle.std.specs.Prelude.{◌≡◌, ◌≢◌, ◌<◌, ◌≤◌, ◌+◌, ◌++◌, ◌∷◌, [], ℕ, List, length, IfOk, OnOk, OnErr, IsErrOf, MatchOption};
 ghost use Rattle.gatelog.specs.declared.fault.LogFault.TheVariants as LogFault;
 ghost use Rattle.gatelog.specs.Payload.{payload_of};
 ghost use Rattle.jsondoc.specs.Document.{text};
@@ -35,7 +35,7 @@ fn begin(alloc: Global) -> Result<Body, LogFault>
 }
 
 impl Group {
-    ghost use Rattle.records.specs.Gathered.{Gathers, Stays, count_of};
+    ghost use Rattle.records.specs.Gathered.{Gathers, count_of};
 
     /// No writes.
     pub fn new(alloc: Global) -> Result<Group, AllocError>
@@ -62,11 +62,12 @@ impl Group {
         requires { count_of self.old < group_limit }
         ensures added { (ws : List (Write (List ℕ))) (d : Document) → Gathers self.old ws → document_text.now ≡ text d.json
             → OnOk result (Gathers self.new (ws ++ put key.now d plans.now ∷ [])) }
-        ensures same { OnErr result (Stays self.old self.new) }
+        ensures same { (ws : List (Write (List ℕ))) → Gathers self.old ws → OnErr result (Gathers self.new ws) }
         ensures long { (ws : List (Write (List ℕ))) (d : Document) → Gathers self.old ws → document_text.now ≡ text d.json
             → IsErrOf result LogFault.TooLong → 67108864 < length (payload (ws ++ put key.now d plans.now ∷ [])) }
         ensures refusal { IsErrOf result LogFault.Device → ⊥ }
         ensures count { count_of self.new ≤ count_of self.old + 1 }
+        ensures uncounted { OnErr result (count_of self.new ≡ count_of self.old) }
     {
         let bytes = put_bytes(alloc, key, document_text, plans)?;
         self.body.extend(&bytes)?;
@@ -82,11 +83,12 @@ impl Group {
     pub fn delete(&mut self, alloc: Global, key: &Key) -> Result<(), LogFault>
         requires { count_of self.old < group_limit }
         ensures added { (ws : List (Write (List ℕ))) → Gathers self.old ws → OnOk result (Gathers self.new (ws ++ delete key.now ∷ [])) }
-        ensures same { OnErr result (Stays self.old self.new) }
+        ensures same { (ws : List (Write (List ℕ))) → Gathers self.old ws → OnErr result (Gathers self.new ws) }
         ensures long { (ws : List (Write (List ℕ))) → Gathers self.old ws
             → IsErrOf result LogFault.TooLong → 67108864 < length (payload (ws ++ delete key.now ∷ [])) }
         ensures refusal { IsErrOf result LogFault.Device → ⊥ }
         ensures count { count_of self.new ≤ count_of self.old + 1 }
+        ensures uncounted { OnErr result (count_of self.new ≡ count_of self.old) }
     {
         let bytes = delete_bytes(alloc, key)?;
         self.body.extend(&bytes)?;
