@@ -328,6 +328,9 @@ module _ {D : Type 0} {g : Ghosts D} (old mid new : Store D g) (group : Group) (
 
 -- ---- what a group is answered
 
+pub none_is_no_device : (stop : Option Fault) → stop ≡ None → stop ≡ Some Faults.Device → ⊥
+none_is_no_device stop none device = let never : ◌≡◌ {A = Option Fault} None (Some Faults.Device) = sym none ∙ device in cc
+
 -- what holds on success, where there is no fault
 pub where_none : {T E : Type 0} (r : Result T E) (P : Type 0) → OnOk r P → result_err r ≡ None → P
 where_none (Ok x) P holds none = holds

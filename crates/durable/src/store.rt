@@ -253,7 +253,8 @@ impl<D: Device> Store<D> {
         ensures answered { HasAnswered self.old self.new (map request_of requests.now) replies.old.items replies.new.items result }
         ensures all { result ≡ None → length replies.new.items ≡ length replies.old.items + length requests.now }
         ensures room { vec_capacity replies.new ≡ vec_capacity replies.old }
-        ensures goes_on { (result ≡ None) ⊎ (result ≡ Some Fault.Memory) → serves self.new ≡ true }
+        ensures goes_on { result ≢ Some Fault.Device → serves self.new ≡ true }
+        ensures stops { result ≡ Some Fault.Device → serves self.new ≡ false }
         ensures refusal { IfSome result (λ fault. (fault ≡ Fault.Device) ⊎ (fault ≡ Fault.Memory)) }
         ensures cause { result ≡ Some Fault.Device → HasFailed D.disk (device_of self.old) (device_of self.new) }
         ensures count { D.disk.failures (device_of self.old) ≤ D.disk.failures (device_of self.new) }
@@ -291,6 +292,8 @@ impl<D: Device> Store<D> {
 
         ensures refusal { serves self.old ≡ true → IfSome result.1 (λ fault. (fault ≡ Fault.Device) ⊎ (fault ≡ Fault.Memory)) }
         ensures failed { serves self.old ≡ false → (self.new ≡ self.old) × (result.0.items ≡ []) × (result.1 ≡ Some Fault.Failed) }
+        ensures goes_on { result.1 ≢ Some Fault.Device → serves self.new ≡ serves self.old }
+        ensures stops { result.1 ≡ Some Fault.Device → serves self.new ≡ false }
         ensures cause { result.1 ≡ Some Fault.Device → HasFailed D.disk (device_of self.old) (device_of self.new) }
         ensures count { D.disk.failures (device_of self.old) ≤ D.disk.failures (device_of self.new) }
     {

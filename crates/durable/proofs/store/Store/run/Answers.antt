@@ -5,7 +5,7 @@ use Rattle.requests.specs.RequestOf.{request_of}
 use Rattle.history.specs.Reply.{Reply}
 use Rattle.durable.specs.Settled.{HasServed}
 use Rattle.durable.proofs.Runs.{run_none}
-use Rattle.durable.proofs.Grouping.{in_parts, served_so_far, stopped_so_far, left_behind, still_inside}
+use Rattle.durable.proofs.Grouping.{in_parts, served_so_far, stopped_so_far, left_behind, still_inside, none_is_no_device}
 use Rattle.durable.proofs.store.Store.run.Goals as goal
 
 pub returns-in-Err-clause-memory : goal.returns-in-Err-clause-memory
@@ -51,7 +51,7 @@ loop-rest-preserved g c =
         length-map c.args.requests.now request_of,
       ),
       omega (arith, c.loop-rest.invariant.3, c.answer_group.ensures.room),
-      c.in-None.ensures.goes_on (inl refl),
+      c.answer_group.ensures.goes_on (none_is_no_device c.answer_group.result c.in-None.is),
       c.loop-rest.invariant.5,
       omega (arith, c.loop-rest.invariant.6, c.answer_group.ensures.count),
     )
