@@ -1,6 +1,6 @@
 //! The writes of a record, as they are gathered.
 
-ghost use Rattle.std.specs.Prelude.{◌≡◌, ◌≢◌, ◌<◌, ◌≤◌, ◌+◌, ◌×◌, ◌++◌, ◌∷◌, [], ℕ, List, length, IfOk, OnOk, OnErr, IsErrOf, MatchOption};
+ghost use Rattle.std.specs.Prelude.{◌≡◌, ◌≢◌, ◌<◌, ◌≤◌, ◌+◌, ◌++◌, ◌∷◌, [], ℕ, List, length, IfOk, OnOk, OnErr, IsErrOf, MatchOption};
 ghost use Rattle.gatelog.specs.declared.fault.LogFault.TheVariants as LogFault;
 ghost use Rattle.gatelog.specs.Payload.{payload_of};
 ghost use Rattle.jsondoc.specs.Document.{text};
