@@ -1,6 +1,6 @@
 -- Writes and the payloads that they have.
 use Rattle.std.proofs.Common.{◌≡◌, ℕ, ◌+◌, ◌<◌, List, [], ◌∷◌, ◌++◌, length, map, get_or, take, drop, refl, sym, ap, subst, ◌∙◌, Result, Ok, Err, OnOk}
-use Rattle.std.proofs.lemmas.List.{map-append, map_push, drop_more, take-append-drop}
+use Rattle.std.proofs.lemmas.List.{append-nil, append_assoc, map-append, map_push, drop_more, take-append-drop}
 use Rattle.std.specs.List.{AllByRecursion}
 use Rattle.names.specs.declared.format.Rules.{Rules}
 use Rattle.names.specs.Key.{Key}
@@ -19,6 +19,7 @@ use Rattle.apicore.specs.Beside.{Beside, spelled}
 use Rattle.apicore.specs.Standing.{recorded}
 use Rattle.expressions.proofs.Listed.{one_stored_list}
 use Rattle.apicore.specs.Written.{Write, payload, HasPlans, AllStorable, IsGroup, IsWritten}
+use Rattle.apicore.specs.Taken.{AreRecorded, AreTaken}
 
 abbrev View : Type 0
 View = seen.View Beside
@@ -195,25 +196,66 @@ put_of_recorded rules v (put l e p) k d x is may =
     subst (May k) document (subst (λ y. May y e) key may)
 put_of_recorded rules v (delete l) k d x is may = cc
 
--- ---- a payload of one write
+-- ---- the writes of a payload, one after the other
 
--- a write that was recorded as this one is a group of its own
-pub group_of : (w : Write) (raw : plain.Write (List ℕ)) → HasPlans w → recorded w ≡ raw → bytes_form.IsGroup (raw ∷ []) → IsGroup (w ∷ [])
-group_of w raw has is group =
-    let Held : plain.Write (List ℕ) → Type 0 = λ x. bytes_form.IsGroup (x ∷ []) in
-    record { held = subst Held (sym is) group; plans = (has, tt) }
+-- no write is taken yet
+pub taken_none : (rules : Rules) (v : View) (raws : List (plain.Write (List ℕ))) → AreTaken rules v v raws raws
+taken_none rules v raws = record { writes = []; plans = tt; parts = refl; follow = tt; shows = refl }
 
--- a group with the payload of one write is a write that was recorded as it
-alone : (rules : Rules) (v : View) (ws : List Write) (raw : plain.Write (List ℕ)) → AllByRecursion HasPlans ws → map recorded ws ≡ raw ∷ [] → AllMayFollow rules v ws
-    → (w : Write) × HasPlans w × (recorded w ≡ raw) × MayFollow rules v w
-alone rules v [] raw plans same follow = cc
-alone rules v (w ∷ []) raw plans same follow = let is : recorded w ≡ raw = cc in (w, plans.0, is, follow.0)
-alone rules v (w ∷ u ∷ more) raw plans same follow = cc
+-- one write more, taken by a store that has the rules
+pub taken_more : (rules own : Rules) (v now new : View) (all left : List (plain.Write (List ℕ))) (raw : plain.Write (List ℕ)) (rest : List (plain.Write (List ℕ))) (w : Write)
+    → own ≡ rules → AreTaken rules v now all left → left ≡ raw ∷ rest → HasPlans w → recorded w ≡ raw → MayFollow own now w → new ≡ after own now w → AreTaken rules v new all rest
+taken_more rules own v now new all left raw rest w rules_are taken step plans is may shows =
+    let May : Rules → View → Type 0 = λ r x. MayFollow r x w in
+    let follows : MayFollow rules (after_all rules v taken.writes) w = subst (λ x. May rules x) taken.shows (subst (λ r. May r now) rules_are may) in
+    let next : recorded w ∷ rest ≡ left = ap (λ (x : plain.Write (List ℕ)). x ∷ rest) is ∙ sym step in
+    record {
+      writes = taken.writes ++ w ∷ [];
+      plans = all-push HasPlans taken.writes w taken.plans plans;
+      parts = ap (λ (x : List (plain.Write (List ℕ))). x ++ rest) (map_push recorded taken.writes w) ∙ append_assoc (map recorded taken.writes) (recorded w ∷ []) rest
+          ∙ ap (λ (x : List (plain.Write (List ℕ))). map recorded taken.writes ++ x) next ∙ taken.parts;
+      follow = AllMayFollow-append rules v taken.writes (w ∷ []) taken.follow (follows, tt);
+      shows = shows ∙ (λ i. after (rules_are i) (taken.shows i) w) ∙ sym (after_all-append rules v taken.writes (w ∷ []));
+    }
 
-pub recorded_alone : (rules : Rules) (v : View) (ws : List Write) (raw : plain.Write (List ℕ)) (found : List ℕ) → IsGroup ws → bytes_form.IsGroup (raw ∷ [])
-    → payload ws ≡ found → bytes_form.payload (raw ∷ []) ≡ found → AllMayFollow rules v ws → (w : Write) × HasPlans w × (recorded w ≡ raw) × MayFollow rules v w
-recorded_alone rules v ws raw found group raw_group is are follow =
-    alone rules v ws raw group.plans (bytes.one_group (map recorded ws) (raw ∷ []) group.held raw_group (is ∙ sym are)) follow
+-- writes that may follow, and were recorded as the writes that were taken and more, go on with one that was recorded as the next
+next_recorded : (rules : Rules) (v : View) (ws us : List Write) (raw : plain.Write (List ℕ)) (rest : List (plain.Write (List ℕ))) → AllByRecursion HasPlans ws → AllByRecursion HasPlans us
+    → map recorded us ≡ map recorded ws ++ raw ∷ rest → AllMayFollow rules v us → (w : Write) × HasPlans w × (recorded w ≡ raw) × MayFollow rules (after_all rules v ws) w
+next_recorded rules v [] [] raw rest a b same follow = cc
+next_recorded rules v [] (u ∷ us) raw rest a b same follow = let is : recorded u ≡ raw = cc in (u, b.0, is, follow.0)
+next_recorded rules v (w ∷ ws) [] raw rest a b same follow = cc
+next_recorded rules v (w ∷ ws) (u ∷ us) raw rest a b same follow =
+    let first : recorded u ≡ recorded w = cc in
+    let others : map recorded us ≡ map recorded ws ++ raw ∷ rest = cc in
+    let Follow : Write → Type 0 = λ x. AllMayFollow rules (after rules v x) us in
+    next_recorded rules (after rules v w) ws us raw rest a.1 b.1 others (subst Follow (one_recorded u w b.0 a.0 first) follow.1)
+
+-- no writes that may follow were recorded as these, where the next of them is that of no write that may follow
+pub none_taken : (rules own : Rules) (v now : View) (all left : List (plain.Write (List ℕ))) (raw : plain.Write (List ℕ)) (rest : List (plain.Write (List ℕ))) (ws : List Write)
+    → own ≡ rules → AreTaken rules v now all left → left ≡ raw ∷ rest → AreRecorded ws all → AllMayFollow rules v ws
+    → ((w : Write) → HasPlans w → recorded w ≡ raw → MayFollow own now w → ⊥) → ⊥
+none_taken rules own v now all left raw rest ws rules_are taken step are follow none =
+    let next = next_recorded rules v taken.writes ws raw rest taken.plans are.plans
+    (are.same ∙ sym taken.parts ∙ ap (λ (x : List (plain.Write (List ℕ))). map recorded taken.writes ++ x) step) follow in
+    let May : Rules → View → Type 0 = λ r x. MayFollow r x next.0 in
+    none next.0 next.1 next.2 (subst (λ r. May r now) (sym rules_are) (subst (λ x. May rules x) (sym taken.shows) next.3))
+
+-- where none is left, the writes that were taken are those of the payload
+pub group_taken : (rules : Rules) (v now : View) (raws : List (plain.Write (List ℕ))) (found : List ℕ) → AreTaken rules v now raws [] → bytes_form.IsGroup raws
+    → bytes_form.payload raws ≡ found → (ws : List Write) × IsGroup ws × (payload ws ≡ found) × AllMayFollow rules v ws × (now ≡ after_all rules v ws)
+group_taken rules v now raws found taken group are =
+    let same : raws ≡ map recorded taken.writes = sym taken.parts ∙ append-nil (map recorded taken.writes) in (
+      taken.writes,
+      record { held = subst bytes_form.IsGroup same group; plans = taken.plans },
+      ap bytes_form.payload (sym same) ∙ are,
+      taken.follow,
+      taken.shows,
+    )
+
+-- a group with the payload of these writes was recorded as they are
+pub group_recorded : (ws : List Write) (raws : List (plain.Write (List ℕ))) (found : List ℕ) → IsGroup ws → bytes_form.IsGroup raws → payload ws ≡ found → bytes_form.payload raws ≡ found
+    → AreRecorded ws raws
+group_recorded ws raws found group raw_group is are = record { plans = group.plans; same = bytes.one_group (map recorded ws) raws group.held raw_group (is ∙ sym are) }
 
 pub recorded_delete : (w : Write) (k : Key) → recorded w ≡ delete k → w ≡ delete k
 recorded_delete (put l e p) k is = cc

@@ -5,6 +5,7 @@ pub mod Prepared
 pub mod Judged
 pub mod Sights
 pub mod Written
+pub mod Taken
 pub mod Faults
 pub mod Laws
 pub mod Compiled

@@ -1,19 +1,21 @@
-ghost use Rattle.std.specs.Prelude.{◌≡◌, ◌⊎◌, ℕ, List, map, IfOk, OnOk, IsErrOf};
+ghost use Rattle.std.specs.Prelude.{◌≡◌, ◌⊎◌, ℕ, List, [], map, IfOk, OnOk, IsErrOf};
 ghost use Rattle.history.specs.View.{after, after_all, MayFollow, AllMayFollow};
 ghost use Rattle.history.specs.Mapped.{mapped};
 ghost use Rattle.requests.specs.Codes.{document_in};
 ghost use Rattle.history.specs.History.{put, delete};
+ghost use Rattle.records.specs.WriteOf.{write_of};
 ghost use Rattle.apicore.specs.Standing.{recorded};
 ghost use Rattle.apicore.specs.Prepared.{plans_held};
 ghost use Rattle.apicore.specs.declared.fault.RecoveryFault.TheVariants as RecoveryFault;
 ghost use Rattle.apicore.specs.Written.{Write, payload, HasPlans, IsGroup, IsWritten};
+ghost use Rattle.apicore.specs.Taken.{AreRecorded, AreTaken};
 
 use crate::beside::Beside;
 use crate::fault::RecoveryFault;
 use crate::prepared::Core;
 use expressions::stored_plans;
 use names::Key;
-use records::{StoredWrite, read_write};
+use records::{StoredWrite, read_writes};
 use requests::Manifest;
 use std::alloc::Global;
 
@@ -46,7 +48,36 @@ fn replay(alloc: Global, core: &mut Core, bytes: &[u8]) -> Result<(), RecoveryFa
     ensures damaged { IsErrOf result RecoveryFault.Damaged ⊎ IsErrOf result RecoveryFault.Plans
         → (ws : List Write) → IsGroup ws → payload ws ≡ bytes.now → AllMayFollow core.old.rules (mapped plans_held core.old.view) ws → ⊥ }
 {
-    match read_write(alloc, bytes)? {
+    let writes = read_writes(alloc, bytes)?;
+    replay_writes(alloc, core, writes)
+}
+
+// Takes writes, one after the other.
+fn replay_writes(
+    alloc: Global,
+    core: &mut Core,
+    writes: Vec<StoredWrite<'_>>,
+) -> Result<(), RecoveryFault>
+    ensures rules { core.new.rules ≡ core.old.rules }
+    ensures taken { OnOk result (AreTaken core.old.rules (mapped plans_held core.old.view) (mapped plans_held core.new.view) (map write_of writes.entry.items) []) }
+    ensures damaged { IsErrOf result RecoveryFault.Damaged ⊎ IsErrOf result RecoveryFault.Plans
+        → (ws : List Write) → AreRecorded ws (map write_of writes.entry.items) → AllMayFollow core.old.rules (mapped plans_held core.old.view) ws → ⊥ }
+{
+    for write in writes {
+        replay_write(alloc, core, write)?;
+    }
+    Ok(())
+}
+
+// Takes a write.
+fn replay_write(alloc: Global, core: &mut Core, write: StoredWrite<'_>) -> Result<(), RecoveryFault>
+    ensures rules { core.new.rules ≡ core.old.rules }
+    ensures taken { OnOk result ((w : Write) × HasPlans w × (recorded w ≡ write_of write.entry)
+        × MayFollow core.old.rules (mapped plans_held core.old.view) w × (mapped plans_held core.new.view ≡ after core.old.rules (mapped plans_held core.old.view) w)) }
+    ensures damaged { IsErrOf result RecoveryFault.Damaged ⊎ IsErrOf result RecoveryFault.Plans
+        → (w : Write) → HasPlans w → recorded w ≡ write_of write.entry → MayFollow core.old.rules (mapped plans_held core.old.view) w → ⊥ }
+{
+    match write {
         StoredWrite::Put(manifest, plans) => replay_put(alloc, core, manifest, plans),
         StoredWrite::Delete(key) => replay_delete(alloc, core, &key),
     }
