@@ -111,8 +111,10 @@ impl Disk {
             "restart" => ended(alloc, self.log.restart(&self.device)),
             "append" => ended(alloc, self.log.append(alloc, &mut self.device, rest)?),
             "append-set" => ended(alloc, self.log.append_set(alloc, &mut self.device, rest)?),
-            "append-put" => ended(alloc, self.log.append_put(alloc, &mut self.device, rest)?),
-            "append-delete" => ended(alloc, self.log.append_delete(alloc, &mut self.device)?),
+            "append-writes" => ended(
+                alloc,
+                self.log.append_writes(alloc, &mut self.device, rest)?,
+            ),
             "records" => self.log.records(alloc, &mut self.device, rest),
             "gate" => self.log.gate(alloc),
             _ => of_pages(alloc, word, rest),

@@ -1,12 +1,16 @@
 //! Lines on a log.
 
+ghost use Rattle.std.specs.Prelude.{◌<◌, ◌≤◌, ◌+◌};
+ghost use Rattle.records.specs.Gathered.{count_of};
+ghost use Rattle.records.specs.Payload.{group_limit};
+
 use crate::bench::ended;
 use crate::payloads::{payload, payloads};
-use cases::{WordReader, Wrong, shown, text};
+use cases::{WordReader, Wrong, first_word, shown, text};
 use device::{Device, MemDevice};
 use gatelog::{Body, Log, LogFault};
 use names::{Key, Resource};
-use records::{delete_payload, put_payload};
+use records::{GROUP_LIMIT, Group};
 use std::alloc::Global;
 
 /// The log that a case opened.
@@ -21,6 +25,36 @@ pub fn settings(alloc: Global) -> Result<Key, Wrong> {
         Ok(key) => Ok(key),
         Err(_) => Err(Wrong::Memory),
     }
+}
+
+// Gathers a write of the configmap, `put TEXT` or `delete`.
+fn gather(alloc: Global, group: &mut Group, write: &str) -> Result<Result<(), LogFault>, Wrong>
+    requires { count_of group.old < group_limit }
+    ensures { count_of group.new ≤ count_of group.old + 1 }
+{
+    let key = settings(alloc)?;
+    let (word, document) = first_word(write);
+    match word {
+        "put" => Ok(group.put(alloc, &key, document, &[])),
+        "delete" => Ok(group.delete(alloc, &key)),
+        _ => Err(Wrong::Told("no such write")),
+    }
+}
+
+// Gathers writes of the configmap, with ` | ` between them.
+fn gathered(alloc: Global, line: &str) -> Result<Result<Group, LogFault>, Wrong> {
+    let mut group = Group::new(alloc)?;
+    let mut count = 0;
+    for write in line.split(" | ") {
+        if count == GROUP_LIMIT {
+            return Err(Wrong::Told("a record has no more writes"));
+        }
+        if let Err(fault) = gather(alloc, &mut group, write)? {
+            return Ok(Err(fault));
+        }
+        count += 1;
+    }
+    Ok(Ok(group))
 }
 
 impl LogLines {
@@ -100,27 +134,18 @@ impl LogLines {
         }
     }
 
-    /// `append-put TEXT`: the record of a put of the configmap with this text.
-    pub fn append_put(
+    /// `append-writes WRITE | ..`: the record of these writes of the configmap.
+    pub fn append_writes(
         &mut self,
         alloc: Global,
         device: &mut MemDevice,
         line: &str,
     ) -> Result<Result<(), LogFault>, Wrong> {
-        match put_payload(alloc, &settings(alloc)?, line, &[]) {
-            Ok(body) => Ok(self.add(device, body)),
-            Err(fault) => Ok(Err(fault)),
-        }
-    }
-
-    /// `append-delete`: the record of a deletion of the configmap.
-    pub fn append_delete(
-        &mut self,
-        alloc: Global,
-        device: &mut MemDevice,
-    ) -> Result<Result<(), LogFault>, Wrong> {
-        match delete_payload(alloc, &settings(alloc)?) {
-            Ok(body) => Ok(self.add(device, body)),
+        match gathered(alloc, line)? {
+            Ok(group) => match group.close() {
+                Some(body) => Ok(self.add(device, body)),
+                None => Err(Wrong::Told("there is no write")),
+            },
             Err(fault) => Ok(Err(fault)),
         }
     }

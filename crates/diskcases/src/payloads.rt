@@ -3,7 +3,7 @@
 use cases::{Wrong, bytes, number};
 use std::alloc::Global;
 
-// A part: `'TEXT'`, bytes in hex, or `BYTE xN`, so many times the byte.
+// A part: `'TEXT'`, bytes in hex, or `BYTES xN`, so many times those bytes.
 fn add_part(alloc: Global, payload: &mut Vec<u8>, part: &str) -> Result<(), Wrong> {
     if let Some(text) = part
         .strip_prefix('\'')

@@ -6,7 +6,7 @@ use apicore::{Core, RecoveryFault, prepare, replayed};
 use cases::{TextBuilder, Wrong, first_word, number, shown, spelled, text, wanted};
 use history::Reply;
 use names::{Format, Key, Rules};
-use records::{RecordFault, StoredWrite, read_write};
+use records::{RecordFault, StoredWrite, read_writes};
 use requests::{Manifest, Request};
 use std::alloc::Global;
 
@@ -36,23 +36,34 @@ fn push_put(
     )
 }
 
-fn write_text(alloc: Global, write: &StoredWrite<'_>) -> Result<String, Wrong> {
-    let mut line = TextBuilder::new(alloc);
+// What a write says, behind those before it.
+fn push_write(alloc: Global, line: &mut TextBuilder, write: &StoredWrite<'_>) -> Result<(), Wrong> {
     match write {
-        StoredWrite::Put(manifest, plans) => push_put(alloc, &mut line, manifest, plans)?,
+        StoredWrite::Put(manifest, plans) => push_put(alloc, line, manifest, plans),
         StoredWrite::Delete(key) => {
             line.word("delete");
-            key_text(&mut line, key);
+            key_text(line, key);
+            Ok(())
         }
+    }
+}
+
+fn writes_text(alloc: Global, writes: &[StoredWrite<'_>]) -> Result<String, Wrong> {
+    let mut line = TextBuilder::new(alloc);
+    for (at, write) in writes.iter().enumerate() {
+        if at > 0 {
+            line.word("|");
+        }
+        push_write(alloc, &mut line, write)?;
     }
     line.end()
 }
 
-/// `reads PAYLOAD`: the write that it spells.
+/// `reads PAYLOAD`: the writes that it spells.
 pub fn reads(alloc: Global, line: &str) -> Result<String, Wrong> {
     let bytes = payload(alloc, line)?;
-    match read_write(alloc, bytes.as_slice()) {
-        Ok(write) => write_text(alloc, &write),
+    match read_writes(alloc, bytes.as_slice()) {
+        Ok(writes) => writes_text(alloc, writes.as_slice()),
         Err(fault) => shown(alloc, &fault),
     }
 }
@@ -63,7 +74,7 @@ pub fn cuts(alloc: Global, line: &str) -> Result<String, Wrong> {
     let mut damaged = 0_u64;
     for size in 0..bytes.len() {
         let cut = bytes.get(..size).unwrap_or(&[]);
-        match read_write(alloc, cut) {
+        match read_writes(alloc, cut) {
             Err(RecordFault::Damaged) => damaged = damaged.saturating_add(1),
             _ => return Err(Wrong::Told("a part of it is taken")),
         }
