@@ -211,6 +211,8 @@ impl<D: Device> Store<D> {
 
         ensures refusal { serves self.old ≡ true → IfSome result.1 (λ fault. (fault ≡ Fault.Device) ⊎ (fault ≡ Fault.Memory)) }
         ensures failed { serves self.old ≡ false → (self.new ≡ self.old) × (result.0.items ≡ []) × (result.1 ≡ Some Fault.Failed) }
+        ensures goes_on { result.1 ≢ Some Fault.Device → serves self.new ≡ serves self.old }
+        ensures stops { result.1 ≡ Some Fault.Device → serves self.new ≡ false }
         ensures cause { result.1 ≡ Some Fault.Device → HasFailed D.disk (device_of self.old) (device_of self.new) }
         ensures count { D.disk.failures (device_of self.old) ≤ D.disk.failures (device_of self.new) }
     {
