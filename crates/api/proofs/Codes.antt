@@ -1,5 +1,5 @@
 -- The status of a reply is a status code.
-use Rattle.std.proofs.Common.{ℕ, List, [], Option, Some, None, Bool, true, false, arith}
+use Rattle.std.proofs.Common.{ℕ, List, [], Option, Some, None, arith}
 use Rattle.std.specs.Option.{option_map_or}
 use Rattle.http.specs.StatusCode.{IsStatusCode}
 use Rattle.celtree.specs.Tree.{Expr}
@@ -12,13 +12,9 @@ use Rattle.history.specs.Reply.{Reply, showing}
 use Rattle.history.specs.View.{stored_at}
 use Rattle.policy.specs.declared.validation.Reason.{Reason}
 use Rattle.policy.specs.declared.validation.Reason.TheVariants.{Unauthorized, Forbidden, Invalid, RequestEntityTooLarge}
-use Rattle.expressions.specs.Specification.{Specification}
 use Rattle.names.specs.declared.format.Rules.{Rules}
 use Rattle.apicore.specs.Step.{Asked, Refusal, known, with_bad_expression, denied_by, reason_code, status, refusal, success, warnings_of, verdict_of, asks_for, reply}
 use Rattle.apicore.specs.Standing.{View}
-use Rattle.httpmsg.specs.Stream.{Message}
-use Rattle.routes.specs.Asked.{asked}
-use Rattle.api.specs.Answers.{Answered, reply_of}
 
 table_code : (r : told.Refusal) → IsStatusCode (table.answer r).code
 table_code MalformedRequest = (omega arith, omega arith)
@@ -85,15 +81,7 @@ choice_code None good is = is
 choice_code (Some r) good is = refusal_code r
 
 module _ (rules : Rules) where
-  request_code : (v : View) (a : Asked) → IsStatusCode (reply rules v a).code
+  pub request_code : (v : View) (a : Asked) → IsStatusCode (reply rules v a).code
   request_code v a =
       let warnings : List (List ℕ) = warnings_of (verdict_of v (asks_for a.request a.specification)) in
       choice_code (refusal rules v a) (success v a.request warnings) (success_code v a.request warnings)
-
-  either_code : (b : Bool) (v : View) (m : Message) (s : Specification Expr)
-      → IsStatusCode (reply_of rules v (record { message = m; specification = s; is_served = b })).code
-  either_code true v m s = request_code v (record { request = asked m; specification = s })
-  either_code false v m s = table_code OutOfMemory
-
-  pub reply_code : (v : View) (a : Answered) → IsStatusCode (reply_of rules v a).code
-  reply_code v a = either_code a.is_served v a.message a.specification

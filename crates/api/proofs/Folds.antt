@@ -1,11 +1,12 @@
 -- Answers, one after another.
-use Rattle.std.proofs.Common.{arith, ◌≡◌, ◌≤◌, ◌⊎◌, inl, inr, ⊎_elim, ℕ, List, [], ◌∷◌, ◌++◌, refl, ap, sym, ◌∙◌, append_assoc, subst, false, Result, Ok, Err}
+use Rattle.std.proofs.Common.{arith, ◌≡◌, ◌≤◌, ◌⊎◌, inl, inr, ⊎_elim, ℕ, List, [], ◌∷◌, ◌++◌, length, refl, ap, sym, ◌∙◌, append_assoc, subst, false, Result, Ok, Err}
 use Rattle.std.proofs.lemmas.List.{append-nil, map-append}
 use Rattle.std.specs.List.{AllByRecursion}
 use Rattle.device.specs.declared.device.Device.{Ghosts}
 use Rattle.device.proofs.Moments.{followed_by}
 use Rattle.requests.specs.declared.refusal.Refusal.TheVariants.{StorageFailed}
 use Rattle.names.specs.declared.format.Rules.{Rules}
+use Rattle.records.specs.Payload.{group_limit}
 use Rattle.apicore.specs.Standing.{Write, History, View, AreAdmitted}
 use Rattle.apicore.proofs.Admitting.{AreAdmitted-append}
 use Rattle.history.specs.View.{view, after_all}
@@ -155,9 +156,6 @@ module _ {D : Type 0} {g : Ghosts D} (rules : Rules) where
 -- ---- bytes and messages
 
 module _ (rules : Rules) where
-  pub bytes_one : (v : View) (a : Answered) (closing : List ℕ) → reply_bytes a.message (reply_of rules v a) ++ closing ≡ all_bytes rules v (a ∷ []) ++ closing
-  bytes_one v a closing = ap (λ b. b ++ closing) (sym (append-nil (reply_bytes a.message (reply_of rules v a))))
-
   pub bytes_then : (v : View) (xs ys : List Answered) (closing : List ℕ)
       → (all_bytes rules v xs ++ []) ++ (all_bytes rules (seen rules v xs) ys ++ closing) ≡ all_bytes rules v (xs ++ ys) ++ closing
   bytes_then v xs ys closing =
@@ -199,42 +197,22 @@ module _ {O D : Type 0} {g : Ghosts D} (rules : Rules) (took : O → O → List 
       → Answers rules took o o store store v [] []
   answers_none o store v none shows only_now = record { answered = []; answers = refl; written = none; store = applied_none rules store v shows only_now }
 
-  -- the answer to one message
-  pub answers_one : (o p : O) (old new : Store D g) (v : View) (a : Answered) → took o p (reply_bytes a.message (reply_of rules v a))
-      → HasApplied rules old new v (a ∷ []) → Answers rules took o p old new v (a.message ∷ []) []
-  answers_one o p old new v a written applied = record {
-    answered = a ∷ [];
-    answers = refl;
-    written = subst (took o p) (sym (append-nil (reply_bytes a.message (reply_of rules v a))) ∙ bytes_one rules v a []) written;
-    store = applied;
-  }
-
-  -- a beginning of the answer to one message
-  pub writes_some_one : (o p : O) (old new : Store D g) (v : View) (a : Answered) → TookSome took o p (reply_bytes a.message (reply_of rules v a))
-      → HasApplied rules old new v (a ∷ []) → WritesSome rules took o p old new v (a.message ∷ []) []
-  writes_some_one o p old new v a written applied = record {
-    answered = a ∷ [];
-    waiting = [];
-    split = refl;
-    written = subst (TookSome took o p) (sym (append-nil (reply_bytes a.message (reply_of rules v a))) ∙ bytes_one rules v a []) written;
-    store = applied;
-  }
-
-  -- the device failed at one message, now or before
-  pub fails_at_one : (failures : O → ℕ) (o p : O) (old new : Store D g) (v : View) (a : Answered) → a.is_served ≡ serves old
+  -- the device failed at these messages, before which none is answered, now or before
+  pub fails_at : (failures : O → ℕ) (o p : O) (old new : Store D g) (v : View) (failing : List Answered) → 1 ≤ length failing → length failing ≤ group_limit
+      → AllByRecursion (λ (a : Answered). a.is_served ≡ serves old) failing
       → (written : TookSome took o p (closing_bytes false StorageFailed)) → (written.rest ≡ []) ⊎ HasGrown (failures o) (failures p)
-      → serves new ≡ false → (serves old ≡ false → new ≡ old) → AreRead (a ∷ []) → AreAdmitted rules v (all_writes rules v (a ∷ []))
-      → WhereSettled rules old v (λ h. IsLeftAt rules new h [] (all_writes rules v (a ∷ [])))
-      → WhereSettled rules old v (λ h. LeavesSome rules old new h (all_writes rules v (a ∷ [])))
-      → MeetsFailure rules took o p old new failures v (a.message ∷ [])
-  fails_at_one failures o p old new v a tried written whole stopped failed read admitted left moments = record {
+      → serves new ≡ false → (serves old ≡ false → new ≡ old) → AreRead failing → AreAdmitted rules v (all_writes rules v failing)
+      → WhereSettled rules old v (λ h. IsLeftAt rules new h [] (all_writes rules v failing))
+      → WhereSettled rules old v (λ h. LeavesSome rules old new h (all_writes rules v failing))
+      → MeetsFailure rules took o p old new failures v (messages failing)
+  fails_at failures o p old new v failing some few tried written whole stopped failed read admitted left moments = record {
     answered = [];
-    failing = a ∷ [];
-    some = omega arith;
-    few = omega arith;
-    tried = (tried, tt);
+    failing = failing;
+    some = some;
+    few = few;
+    tried = tried;
     waiting = [];
-    split = refl;
+    split = sym (append-nil (messages failing));
     closing = written.front;
     unwritten = written.rest;
     refusal = written.split;
@@ -248,7 +226,8 @@ module _ {O D : Type 0} {g : Ghosts D} (rules : Rules) (took : O → O → List 
     moments = moments;
   }
 
-  abbrev fails_before : (failures : O → ℕ) (o p : O) (old new : Store D g) (v : View) (ms more : List Message)
+  -- further messages wait
+  abbrev pub fails_before : (failures : O → ℕ) (o p : O) (old new : Store D g) (v : View) (ms more : List Message)
       → MeetsFailure rules took o p old new failures v ms → MeetsFailure rules took o p old new failures v (ms ++ more)
   fails_before failures o p old new v ms more stops = record {
     answered = stops.answered;
@@ -272,7 +251,6 @@ module _ {O D : Type 0} {g : Ghosts D} (rules : Rules) (took : O → O → List 
     moments = stops.moments;
   }
 
-  -- further messages wait
   pub stops_before : (failures : O → ℕ) (o p : O) (old new : Store D g) (v : View) (ms more : List Message) (fault : ServeFault)
       → Stops rules took failures o p old new v ms fault → Stops rules took failures o p old new v (ms ++ more) fault
   stops_before failures o p old new v ms more Read stops = stops
@@ -287,6 +265,12 @@ module _ {O D : Type 0} {g : Ghosts D} (rules : Rules) (took : O → O → List 
   stops_before failures o p old new v ms more Memory stops = stops
   stops_before failures o p old new v ms more (Damaged damage) stops = stops
   stops_before failures o p old new v ms more Failed stops = fails_before failures o p old new v ms more stops
+
+  -- The messages before the rest are answered.
+  pub record AnswersBefore (o p : O) (old new : Store D g) (v : View) (ms rest : List Message) : Type 0 where
+    pub front : List Message
+    pub split : ms ≡ front ++ rest
+    pub answers : Answers rules took o p old new v front []
 
 module _ {O D : Type 0} {g : Ghosts D} (rules : Rules) (took : O → O → List ℕ → Type 0)
     (took_then : (old mid new : O) (front back : List ℕ) → took old mid front → took mid new back → took old new (front ++ back)) where
@@ -381,3 +365,35 @@ module _ {O D : Type 0} {g : Ghosts D} (rules : Rules) (took : O → O → List 
   stops_then failures o q p later old mid new v ms ns Memory before after = after
   stops_then failures o q p later old mid new v ms ns (Damaged damage) before after = after
   stops_then failures o q p later old mid new v ms ns Failed before after = fails_then failures o q p later old mid new v ms ns before after
+
+  -- none yet
+  pub before_none : (o : O) (store : Store D g) (v : View) (ms : List Message) → took o o [] → ShowsAt rules store v
+      → (g.disk.keeps (device_of store) → (c : List ℕ) → g.disk.since (device_of store) (g.disk.moment (device_of store)) c → g.disk.left (device_of store) c)
+      → AnswersBefore rules took o o store store v ms ms
+  before_none o store v ms none shows only_now = record { front = []; split = refl; answers = answers_none rules took o store v none shows only_now }
+
+  -- some more of them
+  pub before_more : (o q p : O) (old mid new : Store D g) (v : View) (ms rest next more : List Message) → (before : AnswersBefore rules took o q old mid v ms rest)
+      → rest ≡ next ++ more → Answers rules took q p mid new (seen rules v before.answers.answered) next [] → AnswersBefore rules took o p old new v ms more
+  before_more o q p old mid new v ms rest next more before is after = record {
+    front = before.front ++ next;
+    split = before.split ∙ ap (λ (x : List Message). before.front ++ x) is ∙ sym (append_assoc before.front next more);
+    answers = answers_then o q p old mid new v before.front next [] before.answers after;
+  }
+
+  -- all of them
+  pub before_all : (o p : O) (old new : Store D g) (v : View) (ms rest : List Message) → AnswersBefore rules took o p old new v ms rest → rest ≡ []
+      → Answers rules took o p old new v ms []
+  before_all o p old new v ms rest before none =
+      subst (λ (x : List Message). Answers rules took o p old new v x [])
+      (sym (before.split ∙ ap (λ (x : List Message). before.front ++ x) none ∙ append-nil before.front)) before.answers
+
+  -- or it stops at the next ones
+  pub before_stops : (failures : O → ℕ) (o q p : O) → failures o ≤ failures q → (old mid new : Store D g) (v : View) (ms rest next more : List Message)
+      (fault : ServeFault) → (before : AnswersBefore rules took o q old mid v ms rest) → rest ≡ next ++ more
+      → Stops rules took failures q p mid new (seen rules v before.answers.answered) next fault → Stops rules took failures o p old new v ms fault
+  before_stops failures o q p later old mid new v ms rest next more fault before is after =
+      subst (λ (x : List Message). Stops rules took failures o p old new v x fault)
+      (append_assoc before.front next more ∙ ap (λ (x : List Message). before.front ++ x) (sym is) ∙ sym before.split)
+      (stops_before rules took failures o p old new v (before.front ++ next) more fault
+      (stops_then failures o q p later old mid new v before.front next fault before.answers after))

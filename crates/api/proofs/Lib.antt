@@ -1,6 +1,7 @@
 pub mod Codes
 pub mod Folds
-pub mod Replies
+pub mod Sheets
+pub mod Groups
 pub mod Streams
 pub mod Tellings
 pub mod Runs

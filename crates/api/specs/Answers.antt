@@ -1,5 +1,5 @@
 -- What the answers to messages write, on the wire and to the store.
-use Rattle.std.specs.Prelude.{◌≡◌, ◌≢◌, ℕ, ◌<◌, ◌≤◌, ◌-◌, ◌^◌, ◌⊎◌, List, [], ◌∷◌, ◌++◌, length, map, Bool, true, false, if◌then◌else◌, Option, is_some, unwrap_or, Result, Err, IsErrOf, OnOk}
+use Rattle.std.specs.Prelude.{◌≡◌, ◌≢◌, ℕ, ◌<◌, ◌≤◌, ◌-◌, ◌^◌, ◌⊎◌, List, [], ◌∷◌, ◌++◌, length, map, Bool, true, false, if◌then◌else◌, Result, Err, IsErrOf, OnOk}
 use Rattle.std.specs.List.{AllByRecursion}
 use Rattle.celtree.specs.Tree.{Expr}
 use Rattle.device.specs.declared.device.Device.{Ghosts}
@@ -32,10 +32,6 @@ pub record Answered : Type 0 where
 -- the message was served
 abbrev pub served : Message → Specification Expr → Answered
 served m s = record { message = m; specification = s; is_served = true }
-
--- the message, served where a reply was found
-abbrev pub answered_by : Message → Specification Expr → Option Reply → Answered
-answered_by m s found = record { message = m; specification = s; is_served = is_some found }
 
 -- its request, with what stands in its document
 abbrev pub asked_of : Answered → Asked
@@ -98,24 +94,6 @@ pub record HasApplied {D : Type 0} {g : Ghosts D} (rules : Rules) (old new : Sto
   pub admitted : AreAdmitted rules v (all_writes rules v answered)
   pub settled : WhereSettled rules old v (λ h. IsSettledAt rules new (h ++ all_writes rules v answered))
   pub moments : WhereSettled rules old v (λ h. LeavesSome rules old new h (all_writes rules v answered))
-
--- The store's reply to a message, none where memory was refused, is the model's, and its writes are in the store.
-pub record HasReplied {D : Type 0} {g : Ghosts D} (rules : Rules) (old new : Store D g) (v : View) (m : Message) (found : Option Reply) : Type 0 where
-  pub specification : Specification Expr
-  pub reply : unwrap_or found (status OutOfMemory) ≡ reply_of rules v (answered_by m specification found)
-  pub store : HasApplied rules old new v (answered_by m specification found ∷ [])
-
--- The device failed at a message, whose writes stand or do not; or it had failed before, and nothing is done.
-pub record HasFailedAt {D : Type 0} {g : Ghosts D} (rules : Rules) (old new : Store D g) (v : View) (m : Message) (fault : ServeFault) : Type 0 where
-  pub failing : Answered
-  pub is_of : failing.message ≡ m
-  pub tried : failing.is_served ≡ serves old
-  pub stopped : serves new ≡ false
-  pub is : ((fault ≡ ServeFaults.Device) × (serves old ≡ true)) ⊎ ((fault ≡ ServeFaults.Failed) × (serves old ≡ false) × (new ≡ old))
-  pub specified : AreRead (failing ∷ [])
-  pub admitted : AreAdmitted rules v (all_writes rules v (failing ∷ []))
-  pub left : WhereSettled rules old v (λ h. IsLeftAt rules new h [] (all_writes rules v (failing ∷ [])))
-  pub moments : WhereSettled rules old v (λ h. LeavesSome rules old new h (all_writes rules v (failing ∷ [])))
 
 module _ {O D : Type 0} {g : Ghosts D} (rules : Rules) (took : O → O → List ℕ → Type 0) (o p : O) (old new : Store D g) where
   -- The messages are answered, and behind the replies closing bytes are written.

@@ -1,4 +1,5 @@
 pub mod ReplyBytes
+pub mod AnswerBytes
 pub mod Answers
 pub mod Serving
 pub mod Piece

@@ -60,7 +60,8 @@ fn serve_pieces<I: Input, O: Output, D: Device>(
     }
 }
 
-/// Serves a connection: reads its messages, and writes the reply to each before the next is applied.
+/// Serves a connection: reads its messages, and answers those of a read in groups. The replies to a group are written before the next
+/// group is applied.
 ///
 /// # Errors
 ///

@@ -1,18 +1,23 @@
 //! The bytes of replies.
 
-ghost use Rattle.std.specs.Prelude.{◌≡◌, ◌==◌, false, if◌then◌else◌, None, option_map, unwrap_or};
+ghost use Rattle.std.specs.Prelude.{◌≡◌, ◌==◌, false, if◌then◌else◌, None, IfSome, option_map, unwrap_or, slice_index_or};
 ghost use Rattle.http.specs.StatusCode.{IsStatusCode};
 ghost use Rattle.requests.specs.declared.refusal.Refusal.TheVariants as refusal;
 ghost use Rattle.history.specs.Reply.{status};
 ghost use Rattle.httpmsg.specs.Flow.{HasCause, Writes};
 ghost use Rattle.httpmsg.specs.declared.head.End.TheVariants.{Broken};
 ghost use Rattle.httpmsg.specs.Response.{response_bytes};
+ghost use Rattle.httpmsg.specs.Sheet.{gathered};
+ghost use Rattle.httpmsg.specs.Stream.{is_head};
 ghost use Rattle.api.specs.ReplyBytes.{refusal_of, response_of, allow_in, reply_bytes, closing_bytes, end_bytes};
+ghost use Rattle.api.specs.AnswerBytes.{answers_bytes, CanAnswer, CanAnswerAll, PutsBehind};
 
 use crate::bodies::fault_body;
 use history::Reply;
 use http::StatusCode;
-use httpmsg::{BrokenMessage, Message, MessageFault, Output, Response, Sheet, StreamFault};
+use httpmsg::{
+    BrokenMessage, Message, MessageFault, Output, Response, Sheet, StreamFault, write_all,
+};
 use requests::Refusal;
 
 // The refusal of a message that has a fault.
@@ -39,26 +44,6 @@ fn status_of(code: u16) -> StatusCode
     StatusCode::from_u16(code).unwrap_or(StatusCode::INTERNAL_SERVER_ERROR)
 }
 
-/// What a message is answered.
-#[derive(Drop)]
-pub(crate) struct Answer {
-    /// The reply; nothing where memory was refused to the message.
-    pub(crate) reply: Option<Reply>,
-    /// The methods that the reply lists.
-    pub(crate) allow: Option<&'static str>,
-}
-
-/// The methods that a reply lists: those of the path, where it says that the message's is none of them.
-pub(crate) fn allow_in(reply: &Option<Reply>, allow: Option<&'static str>) -> Option<&'static str>
-    ensures { option_map (λ methods. methods.now) result
-        ≡ if (unwrap_or reply.now (status refusal.OutOfMemory)).code == 405 then option_map (λ methods. methods.now) allow.entry else None }
-{
-    match reply {
-        Some(reply) => allow_at(reply.code(), allow),
-        None => None,
-    }
-}
-
 // Those of the path, at the code that says so (RFC 9110 section 15.5.6).
 fn allow_at(code: u16, allow: Option<&'static str>) -> Option<&'static str>
     ensures { option_map (λ methods. methods.now) result ≡ if code == 405 then option_map (λ methods. methods.now) allow.entry else None }
@@ -66,98 +51,119 @@ fn allow_at(code: u16, allow: Option<&'static str>) -> Option<&'static str>
     if code == 405 { allow } else { None }
 }
 
-// Writes a response, with the methods that it lists.
-fn write_response<O: Output>(
-    output: &mut O,
-    sheet: &mut Sheet,
-    response: Response,
-    allow: Option<&str>,
-) -> Result<(), StreamFault>
+// A response, with the methods that it lists.
+fn listing<'r>(response: Response<'r>, allow: Option<&'r str>) -> Response<'r>
     requires { response.allow ≡ None }
-    ensures writes { Writes O.took output.old output.new (response_bytes (record response.entry { allow = option_map (λ methods. methods.now) allow.entry })) result }
-    ensures cause { HasCause (O.failures output.old) (O.failures output.new) result }
+    ensures { result ≡ record response.entry { allow = option_map (λ methods. methods.now) allow.entry } }
 {
     match allow {
-        Some(methods) => response.allowing(methods).write_at_once(output, sheet),
-        None => response.write_at_once(output, sheet),
+        Some(methods) => response.allowing(methods),
+        None => response,
     }
 }
 
-// Writes the reply to a message; after an error a beginning of it is written. It takes no memory.
-fn write_reply<O: Output>(
-    output: &mut O,
-    sheet: &mut Sheet,
-    message: &Message,
-    reply: &Reply,
-    allow: Option<&str>,
-) -> Result<(), StreamFault>
-    requires { option_map (λ methods. methods.now) allow ≡ allow_in message.now reply.now }
-    ensures writes { IsStatusCode reply.now.code → Writes O.took output.old output.new (reply_bytes message.now reply.now) result }
-    ensures cause { HasCause (O.failures output.old) (O.failures output.new) result }
+// The response of a reply to a message whose path allows these methods, where its own is none of them.
+fn response_to<'r>(message: &Message, reply: &'r Reply, allow: Option<&'static str>) -> Response<'r>
+    ensures { CanAnswer message.now reply.now allow.entry
+        → result ≡ response_of (allow_in message.now reply.now) (is_head message.now.method) message.now.closes reply.now }
 {
     let response = Response::new(status_of(reply.code()), reply.body().as_bytes())
         .warning(reply.warnings())
         .closing(message.closes())
         .leaving_body_out(message.method().is_head());
-    write_response(output, sheet, response, allow)
+    listing(response, allow_at(reply.code(), allow))
 }
 
-// Writes a refusal whose body is at hand.
-fn write_refusal<O: Output>(
-    output: &mut O,
-    sheet: &mut Sheet,
-    refusal: Refusal,
-    body: &str,
-    without_body: bool,
-    closes: bool,
-) -> Result<(), StreamFault>
+// The response of a refusal whose body is at hand.
+fn refusing(refusal: Refusal, body: &str, without_body: bool, closes: bool) -> Response<'_>
     requires { body.now ≡ (status refusal).body }
-    ensures writes { Writes O.took output.old output.new (response_bytes (response_of None without_body closes (status refusal))) result }
-    ensures cause { HasCause (O.failures output.old) (O.failures output.new) result }
+    ensures { result ≡ response_of None without_body closes (status refusal) }
 {
     Response::new(status_of(refusal.code()), body.as_bytes())
         .closing(closes)
         .leaving_body_out(without_body)
-        .write_at_once(output, sheet)
 }
 
-// Writes that memory was refused to a message.
-fn write_out_of_memory<O: Output>(
-    output: &mut O,
-    sheet: &mut Sheet,
-    message: &Message,
-) -> Result<(), StreamFault>
-    ensures writes { Writes O.took output.old output.new (reply_bytes message.now (status refusal.OutOfMemory)) result }
-    ensures cause { HasCause (O.failures output.old) (O.failures output.new) result }
+// The response to a message to which memory was refused.
+fn out_of_memory(message: &Message) -> Response<'static>
+    ensures { result ≡ response_of None (is_head message.now.method) message.now.closes (status refusal.OutOfMemory) }
 {
     let without_body = message.method().is_head();
     let body = Reply::out_of_memory_body();
-    write_refusal(
-        output,
-        sheet,
-        Refusal::OutOfMemory,
-        body,
-        without_body,
-        message.closes(),
-    )
+    refusing(Refusal::OutOfMemory, body, without_body, message.closes())
 }
 
-/// Writes the answer to a message. It takes no memory.
-pub(crate) fn write_found<O: Output>(
+// Puts a response behind what the sheet holds. Where the sheet has no room for it, what it holds is written, and then the response.
+fn put_behind<O: Output>(
+    output: &mut O,
+    sheet: &mut Sheet,
+    response: &Response,
+) -> Result<(), StreamFault>
+    ensures puts { PutsBehind O.took output.old output.new (gathered sheet.old) (gathered sheet.new) (response_bytes response.now) result }
+    ensures cause { HasCause (O.failures output.old) (O.failures output.new) result }
+{
+    let held = sheet.bytes().len();
+    match response.write(sheet) {
+        Ok(()) => Ok(()),
+        Err(_) => match write_all(output, &sheet.bytes()[..held]) {
+            Ok(()) => {
+                let written = response.write_at_once(output, sheet);
+                sheet.clear();
+                written
+            }
+            Err(fault) => Err(fault),
+        },
+    }
+}
+
+// Puts the answer to a message behind what the sheet holds: its reply, or where there is none that memory was refused.
+fn put_answer<O: Output>(
     output: &mut O,
     sheet: &mut Sheet,
     message: &Message,
-    answer: &Answer,
+    reply: Option<&Reply>,
+    allow: Option<&'static str>,
 ) -> Result<(), StreamFault>
-    requires { option_map (λ methods. methods.now) answer.now.allow ≡ allow_in message.now (unwrap_or answer.now.reply (status refusal.OutOfMemory)) }
-    ensures writes { IsStatusCode (unwrap_or answer.now.reply (status refusal.OutOfMemory)).code
-        → Writes O.took output.old output.new (reply_bytes message.now (unwrap_or answer.now.reply (status refusal.OutOfMemory))) result }
+    ensures puts { IfSome reply.entry (λ r. CanAnswer message.now r.now allow.entry)
+        → PutsBehind O.took output.old output.new (gathered sheet.old) (gathered sheet.new)
+        (reply_bytes message.now (unwrap_or (option_map (λ r. r.now) reply.entry) (status refusal.OutOfMemory))) result }
     ensures cause { HasCause (O.failures output.old) (O.failures output.new) result }
 {
-    match &answer.reply {
-        Some(reply) => write_reply(output, sheet, message, reply, answer.allow),
-        None => write_out_of_memory(output, sheet, message),
+    match reply {
+        Some(reply) => put_behind(output, sheet, &response_to(message, reply, allow)),
+        None => put_behind(output, sheet, &out_of_memory(message)),
     }
+}
+
+// The methods that stand at an index.
+fn methods_at(allows: &[Option<&'static str>], index: usize) -> Option<&'static str>
+    ensures { result ≡ slice_index_or allows.now index None }
+{
+    allows.get(index).copied().flatten()
+}
+
+/// Writes the answers to messages: these replies, in order, and behind them that memory was refused. They are written in one piece where
+/// the sheet has room for them. It takes no memory.
+pub(crate) fn write_answers<O: Output>(
+    output: &mut O,
+    sheet: &mut Sheet,
+    messages: &[Message],
+    replies: &[Reply],
+    allows: &[Option<&'static str>],
+) -> Result<(), StreamFault>
+    ensures writes { CanAnswerAll messages.now replies.now allows.now
+        → Writes O.took output.old output.new (answers_bytes messages.now replies.now) result }
+    ensures cause { HasCause (O.failures output.old) (O.failures output.new) result }
+{
+    sheet.clear();
+    for (index, message) in messages.iter().enumerate() {
+        let allow = methods_at(allows, index);
+        match put_answer(output, sheet, message, replies.get(index), allow) {
+            Ok(()) => {}
+            Err(fault) => return Err(fault),
+        }
+    }
+    write_all(output, sheet.bytes())
 }
 
 /// Writes that memory was refused to further bytes, after which the connection ends.
@@ -166,7 +172,7 @@ pub(crate) fn write_no_more<O: Output>(output: &mut O, sheet: &mut Sheet) -> Res
     ensures cause { HasCause (O.failures output.old) (O.failures output.new) result }
 {
     let body = Reply::out_of_memory_body();
-    write_refusal(output, sheet, Refusal::OutOfMemory, body, false, true)
+    refusing(Refusal::OutOfMemory, body, false, true).write_at_once(output, sheet)
 }
 
 /// Writes that the storage failed, after which the connection ends.
@@ -178,7 +184,7 @@ pub(crate) fn write_storage_failed<O: Output>(
     ensures cause { HasCause (O.failures output.old) (O.failures output.new) result }
 {
     let body = Reply::storage_failed_body();
-    write_refusal(output, sheet, Refusal::StorageFailed, body, false, true)
+    refusing(Refusal::StorageFailed, body, false, true).write_at_once(output, sheet)
 }
 
 /// Writes the reply to a message with a fault, after which the connection ends.
@@ -191,12 +197,6 @@ pub(crate) fn write_fault<O: Output>(
     ensures cause { HasCause (O.failures output.old) (O.failures output.new) result }
 {
     let refusal = refusal_of(broken.fault);
-    write_refusal(
-        output,
-        sheet,
-        refusal,
-        fault_body(broken.fault),
-        broken.is_head,
-        true,
-    )
+    let body = fault_body(broken.fault);
+    refusing(refusal, body, broken.is_head, true).write_at_once(output, sheet)
 }

@@ -1,65 +1,49 @@
-use Rattle.std.proofs.Common.{◌≡◌, sym, ◌∙◌, ap, refl, subst, arith, List, [], ◌∷◌, ◌++◌, ◌+◌, take, drop}
-use Rattle.std.proofs.lemmas.List.{take-append-drop, take_more, take_all}
+use Rattle.std.proofs.Common.{arith, length, eqb-true, ◌≡◌, ◌∙◌, sym, ap, refl, ℕ, List, ◌++◌, take, drop}
+use Rattle.std.proofs.lemmas.List.{take-append-drop, nil_from_length}
 use Rattle.httpmsg.specs.Stream.{Message}
-use Rattle.api.specs.Answers.{Answers, Stops}
-use Rattle.api.proofs.Folds.{answers_none, answers_then, stops_then, stops_before}
+use Rattle.api.proofs.Folds.{before_none, before_more, before_all, before_stops}
 use Rattle.api.proofs.answer.answer_all.Goals as goal
 
-pub loop-message-init : goal.loop-message-init
-loop-message-init g c = (
-  λ rules v shows. answers_none rules g.O.Output.took c.args.output.now c.args.store.now v (g.met.O.Output.took_none c.args.output.now) shows
-      (λ keeps content since. g.met.D.Device.only_now _ content keeps since),
-  omega arith,
-  omega arith,
-  refl,
-)
+pub loop-rest-init : goal.loop-rest-init
+loop-rest-init g c = record {
+  before = λ rules v shows. before_none rules g.O.Output.took g.met.O.Output.took_then c.args.output.now c.args.store.now v c.args.messages.now
+      (g.met.O.Output.took_none c.args.output.now) shows (λ keeps content since. g.met.D.Device.only_now _ content keeps since);
+  output_later = omega arith;
+  device_later = omega arith;
+  goes_on = refl;
+}
+
+-- the rest is a group and what stands behind it
+split_of : (rest group more : List Message) (n : ℕ) → group ≡ take n rest → more ≡ drop n rest → rest ≡ group ++ more
+split_of rest group more n group_is more_is =
+    sym (take-append-drop n rest) ∙ ap (λ (x : List Message). x ++ drop n rest) (sym group_is) ∙ ap (λ (x : List Message). group ++ x) (sym more_is)
 
 pub returns-in-Err-clause-outcome : goal.returns-in-Err-clause-outcome
 returns-in-Err-clause-outcome g c rules v shows =
-    let i = c.loop-message.message-index in
-    let ms = c.args.messages.now in
-    let item = c.message-item.result in
-    let before = c.loop-message.invariant.0 rules v shows in
-    let more : take (i + 1) ms ≡ take i ms ++ item ∷ [] =
-    take_more ms i item c.loop-message-test.true ∙ ap (λ m. take i ms ++ m ∷ []) (sym c.message-item.is)
-    in
-    let Left : List Message → Type 0 =
-    λ xs. Stops rules g.O.Output.took g.O.Output.failures c.args.output.now c.answer.new.output c.args.store.now c.answer.new.store v xs c.in-Err.fault
-    in
-    let stops : Left (take i ms ++ item ∷ []) =
-    stops_then rules g.O.Output.took g.met.O.Output.took_then g.O.Output.failures c.args.output.now c.loop-message.output c.answer.new.output c.loop-message.invariant.1 c.args.store.now c.loop-message.store
-    c.answer.new.store v (take i ms) (item ∷ []) c.in-Err.fault before (c.in-Err.ensures.outcome rules _ before.store.shows)
-    in
-    subst Left (take-append-drop (i + 1) ms)
-    (stops_before rules g.O.Output.took g.O.Output.failures c.args.output.now c.answer.new.output c.args.store.now c.answer.new.store v (take (i + 1) ms) (drop (i + 1) ms) c.in-Err.fault
-    (subst Left (sym more) stops))
+    let rest = c.loop-rest.rest.now in
+    let group = c.split_at.result.0.now in
+    let more = c.split_at.result.1.now in
+    let before = c.loop-rest.invariant.before rules v shows in
+    before_stops rules g.O.Output.took g.met.O.Output.took_then g.O.Output.failures c.args.output.now c.loop-rest.output c.answer_group.new.output
+    c.loop-rest.invariant.output_later c.args.store.now c.loop-rest.store c.answer_group.new.store v c.args.messages.now rest group more c.in-Err.fault before
+    (split_of rest group more c.min.result c.split_at.ensures.front c.split_at.ensures.back) (c.in-Err.ensures.outcome rules _ before.answers.store.shows)
 
-pub loop-message-preserved : goal.loop-message-preserved
-loop-message-preserved g c = (
-  λ rules v shows.
-      let i = c.loop-message.message-index in
-      let ms = c.args.messages.now in
-      let item = c.message-item.result in
-      let before = c.loop-message.invariant.0 rules v shows in
-      let more : take (i + 1) ms ≡ take i ms ++ item ∷ [] =
-      take_more ms i item c.loop-message-test.true ∙ ap (λ m. take i ms ++ m ∷ []) (sym c.message-item.is)
-      in
-      let Done : List Message → Type 0 =
-      λ xs. Answers rules g.O.Output.took c.args.output.now c.answer.new.output c.args.store.now c.answer.new.store v xs []
-      in
-      subst Done (sym more)
-      (answers_then rules g.O.Output.took g.met.O.Output.took_then c.args.output.now c.loop-message.output c.answer.new.output c.args.store.now
-      c.loop-message.store c.answer.new.store v (take i ms) (item ∷ []) [] before (c.in-Ok.ensures.outcome rules _ before.store.shows)),
-  omega (arith, c.loop-message.invariant.1, c.in-Ok.ensures.causes.output_later),
-  omega (arith, c.loop-message.invariant.2, c.in-Ok.ensures.causes.device_later),
-  c.in-Ok.ensures.causes.goes_on ∙ c.loop-message.invariant.3,
-)
+pub loop-rest-preserved : goal.loop-rest-preserved
+loop-rest-preserved g c = record {
+  before = λ rules v shows.
+      let rest = c.loop-rest.rest.now in
+      let group = c.split_at.result.0.now in
+      let more = c.split_at.result.1.now in
+      let before = c.loop-rest.invariant.before rules v shows in
+      before_more rules g.O.Output.took g.met.O.Output.took_then c.args.output.now c.loop-rest.output c.answer_group.new.output c.args.store.now c.loop-rest.store
+      c.answer_group.new.store v c.args.messages.now rest group more before (split_of rest group more c.min.result c.split_at.ensures.front c.split_at.ensures.back)
+      (c.in-Ok.ensures.outcome rules _ before.answers.store.shows);
+  output_later = omega (arith, c.in-Ok.ensures.causes.output_later);
+  device_later = omega (arith, c.in-Ok.ensures.causes.device_later);
+  goes_on = c.in-Ok.ensures.causes.goes_on ∙ c.loop-rest.invariant.goes_on;
+}
 
 pub returns-clause-outcome : goal.returns-clause-outcome
 returns-clause-outcome g c rules v shows =
-    let i = c.loop-message.message-index in
-    let ms = c.args.messages.now in
-    let Done : List Message → Type 0 =
-    λ xs. Answers rules g.O.Output.took c.args.output.now c.loop-message.output c.args.store.now c.loop-message.store v xs []
-    in
-    subst Done (take_all i ms c.loop-message-test.false) (c.loop-message.invariant.0 rules v shows)
+    before_all rules g.O.Output.took g.met.O.Output.took_then c.args.output.now c.loop-rest.output c.args.store.now c.loop-rest.store v c.args.messages.now c.loop-rest.rest.now
+    (c.loop-rest.invariant.before rules v shows) (nil_from_length c.loop-rest.rest.now (eqb-true (length c.loop-rest.rest.now) 0 (sym c.is_empty.ensures ∙ c.loop-rest-test.false)))

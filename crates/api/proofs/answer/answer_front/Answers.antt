@@ -1,0 +1,78 @@
+use Rattle.std.proofs.Common.{arith, ◌≤◌, ◌∙◌, ap, sym, subst, ℕ, List, length, map, take, Option, Bor, Err, false}
+use Rattle.requests.specs.Request.{Request}
+use Rattle.requests.specs.RequestOf.{request_of}
+use Rattle.history.specs.Reply.{Reply}
+use Rattle.requests.specs.declared.refusal.Refusal.TheVariants.{StorageFailed}
+use Rattle.names.specs.declared.format.Rules.{Rules}
+use Rattle.apicore.specs.Standing.{View}
+use Rattle.durable.specs.Settled.{ServesAt, HasServed}
+use Rattle.httpmsg.specs.Flow.{TookSome}
+use Rattle.httpmsg.specs.Stream.{Message}
+use Rattle.routes.specs.Asked.{asked}
+use Rattle.api.specs.ReplyBytes.{closing_bytes}
+use Rattle.api.specs.AnswerBytes.{answers_bytes, CanAnswerAll}
+use Rattle.api.proofs.Folds.{took_some_of, took_whole}
+use Rattle.api.proofs.Groups.{front_can_answer, front_answers, front_writes_some, front_stops}
+use Rattle.api.proofs.answer.answer_front.Given.{Over}
+use Rattle.api.proofs.answer.answer_front.Goals.{After-write_answers}
+use Rattle.api.proofs.answer.answer_front.Goals as goal
+
+-- what the store replied to the messages that were routed
+said_of : (g : Over) (c : After-write_answers g) (rules : Rules) (v : View) → ServesAt rules c.args.store.now v
+    → HasServed c.args.store.now c.replies_to.new.store
+    (take (length c.in-Ok.replies.items) (map asked (take (length c.route_front-front.result.requests.items) c.args.messages.now))) c.in-Ok.replies.items
+said_of g c rules v serving =
+    let given = c.in-Ok.replies.items in
+    let Said : List Request → Type 0 = λ rs. HasServed c.args.store.now c.replies_to.new.store (take (length given) rs) given in
+    subst Said (ap (map request_of) c.deref.ensures.value ∙ c.route_front-front.ensures.requests) (c.in-Ok.ensures.served rules v serving)
+
+-- no fewer messages are answered
+counted : (g : Over) (c : After-write_answers g) → length c.in-Ok.replies.items ≤ length c.args.messages.now
+    → length c.in-Ok.replies.items ≤ c.answered_count-count.result
+counted g c few =
+    omega (arith, few, c.in-Ok.replies.ok.0, c.len.ensures, c.answered_count-count.ensures.replies (omega (arith, few, c.in-Ok.replies.ok.0, c.len.ensures)))
+
+-- the replies can be written
+can_write : (g : Over) (c : After-write_answers g) (rules : Rules) (v : View) → ServesAt rules c.args.store.now v
+    → CanAnswerAll (take c.answered_count-count.result c.args.messages.now) c.deref-in-Ok.result.now c.deref-in-Ok-2.result.now
+can_write g c rules v serving =
+    let ms : List Message = take c.answered_count-count.result c.args.messages.now in
+    let With : List Reply → Type 0 = λ rs. CanAnswerAll ms rs c.deref-in-Ok-2.result.now in
+    let Beside : List (Option (Bor (List ℕ))) → Type 0 = λ allows. CanAnswerAll ms c.in-Ok.replies.items allows in
+    subst With (sym c.deref-in-Ok.ensures.value)
+    (subst Beside (sym c.deref-in-Ok-2.ensures.value)
+    (front_can_answer rules c.args.store.now c.replies_to.new.store v c.args.messages.now (length c.route_front-front.result.requests.items) c.answered_count-count.result
+    c.in-Ok.replies.items c.route_front-front.ensures.few (counted g c) serving (said_of g c rules v serving) c.route_front-front.result.allows.items
+    c.route_front-front.ensures.allows))
+
+pub returns-in-Ok-write_answers-clause-outcome : goal.returns-in-Ok-write_answers-clause-outcome
+returns-in-Ok-write_answers-clause-outcome g c rules v shows =
+    let here = (goal.at.returns-in-Ok-write_answers-clause-outcome g c).After-write_answers in
+    let serving = shows c.in-Ok.ensures.serves in
+    let Written : List Reply → Type 0 =
+    λ rs. g.O.Output.took c.args.output.now c.write_answers.new.output (answers_bytes (take c.answered_count-count.result c.args.messages.now) rs)
+    in
+    front_answers rules c.args.store.now c.replies_to.new.store v c.args.messages.now (length c.route_front-front.result.requests.items) c.answered_count-count.result
+    c.in-Ok.replies.items c.route_front-front.ensures.few (counted g here) serving (said_of g here rules v serving) g.O.Output.took c.args.output.now c.write_answers.new.output
+    (subst Written c.deref-in-Ok.ensures.value (c.in-Ok-write_answers.ensures.writes (can_write g here rules v serving)))
+
+pub returns-in-Ok-clause-outcome : goal.returns-in-Ok-clause-outcome
+returns-in-Ok-clause-outcome g c rules v shows =
+    let here = (goal.at.returns-in-Ok-clause-outcome g c).After-write_answers in
+    let serving = shows c.in-Ok.ensures.serves in
+    let Written : List Reply → Type 0 =
+    λ rs. TookSome g.O.Output.took c.args.output.now c.write_answers.new.output (answers_bytes (take c.answered_count-count.result c.args.messages.now) rs)
+    in
+    front_writes_some rules c.args.store.now c.replies_to.new.store v c.args.messages.now (length c.route_front-front.result.requests.items) c.answered_count-count.result
+    c.in-Ok.replies.items c.route_front-front.ensures.few (counted g here) serving (said_of g here rules v serving) g.O.Output.took c.args.output.now c.write_answers.new.output
+    (subst Written c.deref-in-Ok.ensures.value (c.in-Err-write_answers.ensures.writes (can_write g here rules v serving)))
+
+pub returns-clause-outcome : goal.returns-clause-outcome
+returns-clause-outcome g c rules v shows =
+    front_stops rules g.O.Output.took g.O.Output.failures c.args.output.now c.write_storage_failed.new.output c.args.store.now c.replies_to.new.store v c.args.messages.now
+    (took_some_of g.O.Output.took c.args.output.now c.write_storage_failed.new.output (closing_bytes false StorageFailed) c.write_storage_failed.result c.write_storage_failed.ensures.writes)
+    (took_whole g.O.Output.took c.args.output.now c.write_storage_failed.new.output (closing_bytes false StorageFailed) c.write_storage_failed.result
+    (g.O.Output.failures c.args.output.now) (g.O.Output.failures c.write_storage_failed.new.output) c.write_storage_failed.ensures.writes c.write_storage_failed.ensures.cause)
+    (length c.route_front-front.result.requests.items) (map request_of c.deref.result.now) c.in-Err.fault
+    (ap (map request_of) c.deref.ensures.value ∙ c.route_front-front.ensures.requests) c.requires.some c.requires.few shows
+    (λ is. c.in-Err.ensures.stopped (ap Err is)) (λ is. c.in-Err.ensures.stops (ap Err is)) (λ is. c.in-Err.ensures.failed (ap Err is)) c.in-Err.ensures.refusal
