@@ -4,7 +4,7 @@ use Rattle.std.proofs.lemmas.List.{take_more, take_all, drop_more, take-append-d
 use Rattle.pages.specs.Page.{Entry}
 use Rattle.checkpoint.specs.Reader.{IsRefused, Heard}
 
-refused_more : {R : Type 0} (told : R → R → List Entry → Type 0) (refuses : R → Entry → Type 0) (start : R) (entries more : List Entry)
+pub refused_more : {R : Type 0} (told : R → R → List Entry → Type 0) (refuses : R → Entry → Type 0) (start : R) (entries more : List Entry)
     → IsRefused told refuses start entries → IsRefused told refuses start (entries ++ more)
 refused_more told refuses start entries more refused = record {
   before = refused.before;

@@ -13,7 +13,7 @@
 //!
 //! [`Page::check`] takes exactly the bytes that are a page, and tells the first damage of others. What a [`PageBuilder`] gives is a page
 //! where its keys ascend, and stands for what was pushed. A page's bytes stand for one list ([`one_list`]), and follow from it
-//! ([`one_page`]). A page is read where it lies: nothing but `PageBuilder::new` takes memory.
+//! ([`one_page`]). A page is read where it lies: nothing but `PageBuilder::new` takes memory. An [`OwnedPage`] keeps its bytes, and is checked once.
 #![tactic(auto)]
 
 mod builder;
@@ -21,6 +21,7 @@ mod cells;
 mod conditions;
 mod damage;
 mod laws;
+mod owned_page;
 mod page;
 mod search;
 mod writing;
@@ -29,4 +30,5 @@ pub use builder::{Full, PageBuilder};
 pub use cells::PAGE_BYTES;
 pub use damage::PageDamage;
 pub use laws::{one_list, one_page};
+pub use owned_page::OwnedPage;
 pub use page::Page;

@@ -16,7 +16,7 @@ use std::marker::Model;
 /// The bytes of a page, as keys in ascending order with what stands under each.
 #[derive(Drop)]
 pub struct Page<'a> {
-    bytes: &'a [u8],
+    pub(crate) bytes: &'a [u8],
 }
 
 impl<'a> Model for Page<'a> {
@@ -30,8 +30,8 @@ impl<'a> Model for Page<'a> {
     ghost invariant = { λ page. IsSound page.bytes.now };
 }
 
-// What is wrong with the bytes, if they are no page.
-fn check_bytes(bytes: &[u8]) -> Result<(), PageDamage>
+/// What is wrong with the bytes, if they are no page.
+pub(crate) fn check_bytes(bytes: &[u8]) -> Result<(), PageDamage>
     ensures sound { OnOk result (IsSound bytes.now) }
     ensures damage { IfErr result (IsFirstDamage bytes.now) }
 {

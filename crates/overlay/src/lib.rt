@@ -1,0 +1,19 @@
+//! What was put or removed over entries that lie below.
+//!
+//! ```text
+//! let changes: Objects<Option<T>> = ..;                        // a value that was put under a key, or that it was removed
+//! let listed = merged(alloc, &changes.list(alloc, resource, namespace)?, below)?;
+//! ```
+//!
+//! Changes are a map by key, whose values are what was put, or nothing where the key was removed. Over entries they leave a list in which a key has what was
+//! put last, or nothing where it was removed last, and else what it had ([`found_over`]); one more change is a change of that list ([`change_is_one_more`]). `merged`
+//! makes the list, and copies no entry.
+#![tactic(auto)]
+
+mod kept;
+mod laws;
+mod merging;
+
+pub use kept::Kept;
+pub use laws::{change_is_one_more, found_over, listed_over};
+pub use merging::merged;

@@ -1,0 +1,8 @@
+mod Order
+mod Prefixes
+mod Finding
+mod Ranging
+mod Places
+mod Cached
+mod Holding
+mod Telling

@@ -1,0 +1,23 @@
+use Rattle.std.proofs.Common.{rules, arith}
+use Rattle.std.specs.Prelude.{IsErrOf}
+use Rattle.checkpoint.specs.declared.reader.ReadFault.TheVariants as ReadFault
+use Rattle.shelf.proofs.Telling.{told_more, told_all, refused_at}
+use Rattle.shelf.proofs.page.tell_page.Goals as goal
+
+pub loop-i-init : goal.loop-i-init
+loop-i-init g c = g.met.R.Reader.told_none c.args.reader.now
+
+pub loop-i-preserved : goal.loop-i-preserved
+loop-i-preserved g c =
+    told_more g.R.Reader.told g.met.R.Reader.told_then c.args.reader.now c.loop-i.reader c.tell_entry.new.reader c.args.page.now c.args.prefix.now c.loop-i.i
+    c.key.result.now c.cell.result.now (omega arith) c.key.ensures c.cell.ensures c.loop-i.invariant c.in_ok-tell_entry.ensures.told
+
+pub returns-in_err-tell_entry-clause-refused : goal.returns-in_err-tell_entry-clause-refused
+returns-in_err-tell_entry-clause-refused g c is =
+    let refused : IsErrOf c.tell_entry.result ReadFault.Entry = search rules in
+    refused_at g.R.Reader.told g.met.R.Reader.told_then g.R.Reader.refuses c.args.reader.now c.loop-i.reader c.args.page.now c.args.prefix.now c.loop-i.i
+    c.key.result.now c.cell.result.now (omega arith) c.key.ensures c.cell.ensures c.loop-i.invariant (c.tell_entry.ensures.refused refused)
+
+pub returns-clause-told : goal.returns-clause-told
+returns-clause-told g c =
+    told_all g.R.Reader.told c.args.reader.now c.loop-i.reader c.args.page.now c.args.prefix.now c.loop-i.i (omega arith) c.loop-i.invariant

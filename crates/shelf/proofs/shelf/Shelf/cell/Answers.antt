@@ -1,0 +1,18 @@
+use Rattle.std.proofs.Common.{rules, ◌≡◌, ◌∙◌, sym, ap, subst, ◌<◌, ℕ, List, [], get_or}
+use Rattle.std.specs.FinMap.{find}
+use Rattle.std.specs.Option.{option_map_or}
+use Rattle.std.specs.Prelude.{Option, Some, None, IfSome}
+use Rattle.pages.specs.Page.{Entry, bytes_cmp}
+use Rattle.shelf.specs.Shelf.{root_of, pages_of, Has}
+use Rattle.shelf.proofs.shelf.Shelf.cell.Goals as goal
+
+pub returns-in-Some : goal.returns-in-Some
+returns-in-Some g c entries shelves =
+    let shelf = c.args.self.now in
+    let key : List ℕ = c.args.key.now in
+    let is : c.args.place ≡ Some c.in-Some.page = search rules in
+    let There : Option ℕ → Type 0 = λ place. IfSome place (λ page. (page < (root_of shelf).pages) × Has shelf page) in
+    let there : (c.in-Some.page < (root_of shelf).pages) × Has shelf c.in-Some.page = subst There is c.requires.there in
+    c.find.ensures
+    ∙ ap (λ (page : List Entry). find bytes_cmp key page) (c.page.ensures entries shelves there.0)
+    ∙ sym (c.requires.found entries shelves ∙ ap (λ place. option_map_or (λ page. find bytes_cmp key (get_or (pages_of shelf) page [])) place None) is)

@@ -1,0 +1,4 @@
+pub mod Prefix
+pub mod Faults
+pub mod Shelf
+pub mod Places

@@ -1,0 +1,21 @@
+//! A device with the pages of the root that counts on it: where a key stands among them, and those that were used last in memory.
+//!
+//! ```text
+//! let mut shelf = Shelf::new(alloc, device, root, scan(alloc, &mut device, &root, &mut reader)?)?;
+//! let place = shelf.bring(alloc, key)?;                              // reads one page, or none
+//! let cell = shelf.cell(place, key);
+//! shelf.tell(alloc, prefix, Reading::Passing, &mut reader)?;         // the entries whose keys begin so
+//! ```
+//!
+//! Of each page a shelf has the first key, so it knows which page may have a key before it reads one. A page is read by one read of 64
+//! sectors, checked, and kept in memory with the last 64 that were used. `bring` brings the page of a key into memory and `cell` looks the
+//! key up in it; `tell` tells a reader the entries whose keys begin with a prefix, in order. What they answer is what the pages on the device hold, and
+//! damage is answered only where they hold no entries that ascend.
+#![tactic(auto)]
+
+mod fault;
+mod page;
+mod shelf;
+
+pub use fault::ShelfFault;
+pub use shelf::{PAGES_IN_MEMORY, Reading, Shelf};
