@@ -9,6 +9,7 @@ use crate::page_lines::{page, page_find, page_room, page_with};
 use crate::record_lines::{answered, cuts, damage_word, reads, replay};
 use crate::root_lines::{log_start, new_store, root, write_sector};
 use crate::scan_lines::{lay, scan_pages};
+use crate::shelf_lines::shelf;
 use crate::writing_lines::write_entries;
 use cases::{Bench, Wrong, compare, first_word, number, shown, text};
 use device::{Device, MemDevice};
@@ -85,6 +86,7 @@ impl Disk {
             "write" => write_entries(alloc, &mut self.device, rest),
             "lay" => lay(alloc, &mut self.device, rest),
             "scan" => scan_pages(alloc, &mut self.device, rest),
+            "shelf" => self.shelf(alloc, rest),
             _ => self.of_the_log(alloc, word, rest),
         }
     }
@@ -102,6 +104,14 @@ impl Disk {
         let device = std::mem::replace(&mut self.device, room);
         self.device = device.crash(&picks, len);
         text(alloc, "ok")
+    }
+
+    fn shelf(&mut self, alloc: Global, rest: &str) -> Result<String, Wrong> {
+        let room = MemDevice::new(alloc, 0)?;
+        let device = std::mem::replace(&mut self.device, room);
+        let (device, answers) = shelf(alloc, device, rest)?;
+        self.device = device;
+        Ok(answers)
     }
 
     fn of_the_log(&mut self, alloc: Global, word: &str, rest: &str) -> Result<String, Wrong> {

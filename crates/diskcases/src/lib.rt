@@ -16,6 +16,7 @@ mod payloads;
 mod record_lines;
 mod root_lines;
 mod scan_lines;
+mod shelf_lines;
 mod view_lines;
 mod writing_lines;
 

@@ -1,6 +1,8 @@
 //! Lines on the pages behind a root.
 
-ghost use Rattle.std.specs.Prelude.{◌≡◌, IfOk};
+ghost use Rattle.std.specs.Prelude.{◌≡◌, ◌<◌, ◌≤◌, ◌*◌, ◌^◌, length, IfOk};
+ghost use Rattle.device.specs.Memory.{memory_content};
+ghost use Rattle.checkpoint.specs.Root.{log_start};
 
 use crate::page_lines::{page_of, push_text};
 use cases::{TextBuilder, WordReader, Wrong, first_word, number, text};
@@ -36,9 +38,19 @@ fn copied(alloc: Global, key: &[u8], cell: &[u8]) -> Result<Listed, AllocError>
 
 // A reader that keeps what it is told, and refuses one key.
 #[derive(Drop)]
-struct Listing {
+pub(crate) struct Listing {
     entries: Vec<Listed>,
     refused: Vec<u8>,
+}
+
+impl Listing {
+    // One that was told nothing yet.
+    pub(crate) fn refusing(alloc: Global, key: &str) -> Result<Listing, AllocError> {
+        Ok(Listing {
+            entries: Vec::new(alloc),
+            refused: key.as_bytes().to_vec(alloc)?,
+        })
+    }
 }
 
 impl Reader for Listing {
@@ -62,13 +74,18 @@ impl Reader for Listing {
     }
 }
 
+// Adds what the listing was told.
+pub(crate) fn listed(line: &mut TextBuilder, listing: &Listing) {
+    for entry in &listing.entries {
+        push_text(line, &entry.key);
+        push_text(line, &entry.cell);
+    }
+}
+
 // What the listing was told, and the first keys.
 fn listing_text(alloc: Global, listing: &Listing, first_keys: &[Vec<u8>]) -> Result<String, Wrong> {
     let mut line = TextBuilder::new(alloc);
-    for entry in &listing.entries {
-        push_text(&mut line, &entry.key);
-        push_text(&mut line, &entry.cell);
-    }
+    listed(&mut line, listing);
     line.word("begin");
     for key in first_keys {
         push_text(&mut line, key);
@@ -85,29 +102,34 @@ fn fault_text(fault: ScanFault) -> &'static str {
     }
 }
 
+/// The root of so many pages from a sector on, which lie on the device.
+pub(crate) fn root_at(device: &mut MemDevice, first: u64, pages: u64) -> Result<Root, Wrong>
+    ensures root { IfOk result (λ root. (log_start root < 2 ^ 54) × (root.pages ≡ pages)) }
+    ensures inside { IfOk result (λ root. 512 * log_start root ≤ length (memory_content device.new)) }
+{
+    let (Ok(pages), Ok(sectors)) = (u32::try_from(pages), device.len()) else {
+        return Err(Wrong::Told("no length"));
+    };
+    if first > sectors || 64 * u64::from(pages) > sectors - first {
+        return Err(Wrong::Told("the pages lie past the end"));
+    }
+    Ok(Root {
+        slot: Slot::A,
+        generation: 1,
+        first,
+        pages,
+        revision: 1,
+    })
+}
+
 /// `scan FIRST PAGES REFUSED`: the entries of so many pages from a sector on, as they are told to a reader that refuses one key, and the
 /// first key of each page.
 pub fn scan_pages(alloc: Global, device: &mut MemDevice, line: &str) -> Result<String, Wrong> {
     let mut words = WordReader::new(line);
     let (first, pages) = (words.number(), words.number());
     words.end()?;
-    let (Ok(pages), Ok(sectors)) = (u32::try_from(pages), device.len()) else {
-        return text(alloc, "device failed");
-    };
-    if first > sectors || 64 * u64::from(pages) > sectors - first {
-        return Err(Wrong::Told("the pages lie past the end"));
-    }
-    let root = Root {
-        slot: Slot::A,
-        generation: 1,
-        first,
-        pages,
-        revision: 1,
-    };
-    let mut listing = Listing {
-        entries: Vec::new(alloc),
-        refused: words.word().as_bytes().to_vec(alloc)?,
-    };
+    let root = root_at(device, first, pages)?;
+    let mut listing = Listing::refusing(alloc, words.word())?;
     match scan(alloc, device, &root, &mut listing) {
         Ok(first_keys) => listing_text(alloc, &listing, &first_keys),
         Err(fault) => text(alloc, fault_text(fault)),

@@ -1,3 +1,3 @@
 pub mod Merged
-pub mod Kept
+pub mod Steps
 pub mod Laws

@@ -2,7 +2,7 @@
 //!
 //! ```text
 //! let changes: Objects<Option<T>> = ..;                        // a value that was put under a key, or that it was removed
-//! let listed = merged(alloc, &changes.list(alloc, resource, namespace)?, below)?;
+//! let listed = merged(alloc, &changes.list(alloc, resource, namespace)?, &below)?;
 //! ```
 //!
 //! Changes are a map by key, whose values are what was put, or nothing where the key was removed. Over entries they leave a list in which a key has what was
@@ -10,10 +10,10 @@
 //! makes the list, and copies no entry.
 #![tactic(auto)]
 
-mod kept;
 mod laws;
+mod lent;
 mod merging;
 
-pub use kept::Kept;
 pub use laws::{change_is_one_more, found_over, listed_over};
+pub use lent::Lent;
 pub use merging::merged;

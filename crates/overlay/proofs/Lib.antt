@@ -1,0 +1,3 @@
+mod Changing
+mod Walking
+mod Taking

@@ -1,0 +1,5 @@
+use Rattle.overlay.proofs.Changing.{find-merged}
+use Rattle.overlay.proofs.laws.found_over.Goals as goal
+
+pub returns : goal.returns
+returns c = λ key changes base. find-merged key changes base
