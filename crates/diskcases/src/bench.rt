@@ -5,6 +5,7 @@ use crate::entry_lines::{pieces, reads_event, reads_object, reads_piece};
 use crate::generation_lines::{install_next, next, place_of};
 use crate::log_lines::LogLines;
 use crate::other_devices::{file_after_crash, remembered};
+use crate::overlay_lines::over;
 use crate::page_lines::{page, page_find, page_room, page_with};
 use crate::record_lines::{answered, cuts, damage_word, reads, replay};
 use crate::root_lines::{log_start, new_store, root, write_sector};
@@ -155,6 +156,7 @@ fn of_entries(alloc: Global, word: &str, rest: &str) -> Result<String, Wrong> {
 
 fn of_records(alloc: Global, word: &str, rest: &str) -> Result<String, Wrong> {
     match word {
+        "over" => over(alloc, rest),
         "place" => place_of(alloc, rest),
         "filled" => crate::log_lines::filled(alloc, rest),
         "log-start" => log_start(alloc, rest),

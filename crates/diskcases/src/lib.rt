@@ -11,6 +11,7 @@ mod file_devices;
 mod generation_lines;
 mod log_lines;
 mod other_devices;
+mod overlay_lines;
 mod page_lines;
 mod payloads;
 mod record_lines;
@@ -23,10 +24,14 @@ mod writing_lines;
 use apicore::payloads_have_one_list;
 pub use bench::Disk;
 pub use file_devices::check_files;
+use overlay::{change_is_one_more, found_over, listed_over};
 use records::payload_has_one_group;
 
-/// The laws of records.
+/// The laws of records, and of changes over entries.
 pub fn laws_of_records() {
     payload_has_one_group();
     payloads_have_one_list();
+    found_over();
+    change_is_one_more();
+    listed_over();
 }

@@ -75,7 +75,7 @@ impl Reader for Listing {
 }
 
 // Adds what the listing was told.
-pub(crate) fn listed(line: &mut TextBuilder, listing: &Listing) {
+pub(crate) fn push_listing(line: &mut TextBuilder, listing: &Listing) {
     for entry in &listing.entries {
         push_text(line, &entry.key);
         push_text(line, &entry.cell);
@@ -85,7 +85,7 @@ pub(crate) fn listed(line: &mut TextBuilder, listing: &Listing) {
 // What the listing was told, and the first keys.
 fn listing_text(alloc: Global, listing: &Listing, first_keys: &[Vec<u8>]) -> Result<String, Wrong> {
     let mut line = TextBuilder::new(alloc);
-    listed(&mut line, listing);
+    push_listing(&mut line, listing);
     line.word("begin");
     for key in first_keys {
         push_text(&mut line, key);

@@ -1,7 +1,7 @@
 //! Lines on the shelf of a root's pages.
 
 use crate::page_lines::push_text;
-use crate::scan_lines::{Listing, listed, root_at};
+use crate::scan_lines::{Listing, push_listing, root_at};
 use cases::{TextBuilder, WordReader, Wrong};
 use checkpoint::scan;
 use device::MemDevice;
@@ -28,6 +28,17 @@ fn get(alloc: Global, shelf: &mut Shelf<MemDevice>, key: &[u8], line: &mut TextB
     }
 }
 
+// `has KEY`: `yes` where something stands under the key, or `none`.
+fn has(alloc: Global, shelf: &mut Shelf<MemDevice>, key: &[u8], line: &mut TextBuilder) {
+    match shelf.bring(alloc, key) {
+        Ok(place) => line.word(match shelf.cell(place, key) {
+            Some(_) => "yes",
+            None => "none",
+        }),
+        Err(fault) => line.word(fault_text(fault)),
+    }
+}
+
 // `list PREFIX`, `pass PREFIX`: the entries whose keys begin so; their pages stay in memory, or do not come there.
 fn tell(
     alloc: Global,
@@ -38,7 +49,7 @@ fn tell(
 ) -> Result<(), Wrong> {
     let mut listing = Listing::refusing(alloc, "-")?;
     match shelf.tell(alloc, prefix, reading, &mut listing) {
-        Ok(()) => listed(line, &listing),
+        Ok(()) => push_listing(line, &listing),
         Err(fault) => line.word(fault_text(fault)),
     }
     Ok(())
@@ -52,6 +63,7 @@ fn ask(alloc: Global, shelf: &mut Shelf<MemDevice>, questions: &str) -> Result<S
         let bytes = text.as_bytes();
         match word {
             "get" => get(alloc, shelf, bytes, &mut line),
+            "has" => has(alloc, shelf, bytes, &mut line),
             "list" => tell(alloc, shelf, bytes, Reading::Kept, &mut line)?,
             "pass" => tell(alloc, shelf, bytes, Reading::Passing, &mut line)?,
             _ => return Err(Wrong::Told("no question of a shelf")),
@@ -61,17 +73,13 @@ fn ask(alloc: Global, shelf: &mut Shelf<MemDevice>, questions: &str) -> Result<S
 }
 
 /// `shelf FIRST PAGES QUESTION ; ..`: the answers of the shelf of so many pages from a sector on, which are read before, each once. The device comes back.
-pub fn shelf(
-    alloc: Global,
-    device: MemDevice,
-    line: &str,
-) -> Result<(MemDevice, String), Wrong> {
+pub fn shelf(alloc: Global, device: MemDevice, line: &str) -> Result<(MemDevice, String), Wrong> {
     let mut device = device;
     let mut words = WordReader::new(line);
     let (first, pages) = (words.number(), words.number());
     words.end()?;
     let root = root_at(&mut device, first, pages)?;
-    let mut listing = Listing::refusing(alloc, "-")?;
+    let mut listing = Listing::refusing(alloc, "")?;
     let Ok(first_keys) = scan(alloc, &mut device, &root, &mut listing) else {
         return Err(Wrong::Told("the pages are not read"));
     };
