@@ -19,6 +19,7 @@ const MOST_PICKS: u64 = 80;
 // The request after a stop, and one call more than it takes with the compaction that follows.
 const PROBE: &str =
     "POST /api/v1/namespaces/default/configmaps HTTP/1.1\r\nHost: x\r\nContent-Length: 66\r\n\r\n{\"apiVersion\":\"v1\",\"kind\":\"ConfigMap\",\"metadata\":{\"name\":\"probe\"}}";
+
 const PROBE_CALLS: u64 = 16;
 
 // What is done with a store.
@@ -38,7 +39,7 @@ struct Script {
 }
 
 // A step by its word: a connection's first message, or what stands in place of one.
-fn step(alloc: Global, routes: &Routes, word: &str) -> Result<Step, Wrong> {
+fn step_by(alloc: Global, routes: &Routes, word: &str) -> Result<Step, Wrong> {
     match word {
         "compact" => Ok(Step::Compact),
         "open" => Ok(Step::Open),
@@ -49,7 +50,7 @@ fn step(alloc: Global, routes: &Routes, word: &str) -> Result<Step, Wrong> {
 fn push_steps(alloc: Global, words: &[String], steps: &mut Vec<Step>) -> Result<(), Wrong> {
     let routes = Routes::new(alloc)?;
     for word in words {
-        steps.push(step(alloc, &routes, word.as_str())?)?;
+        steps.push(step_by(alloc, &routes, word.as_str())?)?;
     }
     Ok(())
 }
@@ -121,14 +122,37 @@ fn taken(alloc: Global, place: &mut Place, steps: &[Step]) -> Result<usize, Wron
     Ok(count)
 }
 
+fn push_looks(
+    alloc: Global,
+    place: &mut Place,
+    steps: &[Step],
+    looks: &mut Vec<String>,
+) -> Result<(), Wrong> {
+    for step in steps {
+        wanted(take(alloc, place, step)?, "the device fails")?;
+        push_look(alloc, place, looks)?;
+    }
+    Ok(())
+}
+
+// What is shown after each step, where nothing fails.
 fn looks_of(alloc: Global, steps: &[Step]) -> Result<Vec<String>, Wrong> {
     let mut place = Place::Shut(created(alloc, ROOM_SECTORS)?);
     let mut looks = Vec::new(alloc);
-    for step in steps {
-        wanted(take(alloc, &mut place, step)?, "the device fails")?;
-        push_look(alloc, &mut place, &mut looks)?;
-    }
+    push_looks(alloc, &mut place, steps, &mut looks)?;
     Ok(looks)
+}
+
+// Asks that a store in which the device failed serves no more.
+fn is_shut(alloc: Global, place: &mut Place, step: &Step) -> Result<(), Wrong> {
+    if matches!(step, Step::Open) {
+        return Ok(());
+    }
+    let again = told(alloc, place, step)?;
+    wanted(
+        again.as_str() == "device failed before",
+        "the store goes on",
+    )
 }
 
 // All sectors alike, or only the one of this number, counted from 1.
@@ -154,11 +178,21 @@ impl Script {
         })
     }
 
-    // Asks that a further stop, in the next request or in the compaction behind it, leaves the revision, or one more, and that where it was told.
-    fn stops_again(&mut self, alloc: Global, place: &mut Place, call: u64) -> Result<(), Wrong> {
+    // Asks that a further stop and crash, in the next request or in the compaction behind it, leaves the revision, or one more, and that where it was told.
+    fn stops_again(
+        &mut self,
+        alloc: Global,
+        place: &mut Place,
+        call: u64,
+        picks: &[Pick],
+        length: u64,
+    ) -> Result<(), Wrong> {
+        let again = Vec::from_slice(alloc, picks)?;
         if let Some(first) = self.probe.first_mut() {
             first.compacts = true;
             first.stop_on = call;
+            first.picks = again;
+            first.length_sectors = length;
         }
         let revision = place.store()?.revision();
         let Ok(found) = drive(alloc, place.taken()?, &self.probe) else {
@@ -176,7 +210,22 @@ impl Script {
         )
     }
 
-    // One stop and one crash: whether a step met the stop.
+    // Takes the steps on a device that stops, and crashes: whether a step met the stop.
+    fn meets_stop(
+        &mut self,
+        alloc: Global,
+        place: &mut Place,
+        picks: &[Pick],
+        length: u64,
+        second: u64,
+    ) -> Result<bool, Wrong> {
+        let count = taken(alloc, place, &self.steps)?;
+        let counts = [count.saturating_sub(1), count];
+        is_left(alloc, place, &self.looks, counts, picks, length)?;
+        self.stops_again(alloc, place, second, picks, length)?;
+        Ok(count < self.steps.len())
+    }
+
     fn stopped(
         &mut self,
         alloc: Global,
@@ -187,38 +236,51 @@ impl Script {
     ) -> Result<bool, Wrong> {
         let mut device = created(alloc, ROOM_SECTORS)?;
         device.stop_on(call);
-        let mut place = Place::Shut(device);
-        let count = taken(alloc, &mut place, &self.steps)?;
-        let counts = [count.saturating_sub(1), count];
-        is_left(alloc, &mut place, &self.looks, counts, picks, length)?;
-        self.stops_again(alloc, &mut place, second)?;
-        Ok(count < self.steps.len())
+        self.meets_stop(alloc, &mut Place::Shut(device), picks, length, second)
     }
 
-    // One failure: whether a step met it. The store then serves no more, and without a crash what stood before the step is found, or behind it.
-    fn failed(&self, alloc: Global, call: u64) -> Result<bool, Wrong> {
-        let mut device = created(alloc, ROOM_SECTORS)?;
-        device.fail_on(call);
-        let mut place = Place::Shut(device);
-        let count = taken(alloc, &mut place, &self.steps)?;
-        let Some(step) = self.steps.get(count) else {
-            return Ok(false);
-        };
-        if !matches!(step, Step::Open) {
-            let again = told(alloc, &mut place, step)?;
-            wanted(
-                again.as_str() == "device failed before",
-                "the store goes on",
-            )?;
+    // Each crash behind a stop at one call: how many a step met.
+    fn stops_at(&mut self, alloc: Global, call: u64, alone: u64) -> Result<u64, Wrong> {
+        let mut met = 0_u64;
+        for pick in [Pick::Old, Pick::New, Pick::Fill(0xA5), Pick::Fill(0)] {
+            for number in 0..=alone {
+                let picks = picks_of(alloc, pick, number)?;
+                for length in [0, u64::MAX] {
+                    if self.stopped(alloc, call, &picks, length, met % PROBE_CALLS)? {
+                        met = met.saturating_add(1);
+                    }
+                }
+            }
         }
+        Ok(met)
+    }
+
+    // Asks that an opening finds what so many steps left, or one step more.
+    fn is_found(&self, alloc: Global, place: &mut Place, count: usize) -> Result<(), Wrong> {
         place.open(alloc)?;
         let found = place.look(alloc)?;
         wanted(
             is_look(&self.looks, count.saturating_sub(1), found.as_str())
                 || is_look(&self.looks, count, found.as_str()),
             "a failure leaves neither what was told nor the step",
-        )?;
+        )
+    }
+
+    // Takes the steps on a device of which a call fails: whether a step met it.
+    fn meets_failure(&self, alloc: Global, place: &mut Place) -> Result<bool, Wrong> {
+        let count = taken(alloc, place, &self.steps)?;
+        let Some(step) = self.steps.get(count) else {
+            return Ok(false);
+        };
+        is_shut(alloc, place, step)?;
+        self.is_found(alloc, place, count)?;
         Ok(true)
+    }
+
+    fn failed(&self, alloc: Global, call: u64) -> Result<bool, Wrong> {
+        let mut device = created(alloc, ROOM_SECTORS)?;
+        device.fail_on(call);
+        self.meets_failure(alloc, &mut Place::Shut(device))
     }
 }
 
@@ -233,16 +295,7 @@ pub fn script_stops(alloc: Global, words: &[String], line: &str) -> Result<Strin
     let mut script = Script::of(alloc, words)?;
     let mut met = 0_u64;
     for call in first..=last {
-        for pick in [Pick::Old, Pick::New, Pick::Fill(0xA5), Pick::Fill(0)] {
-            for number in 0..=alone {
-                let picks = picks_of(alloc, pick, number)?;
-                for length in [0, u64::MAX] {
-                    if script.stopped(alloc, call, &picks, length, met % PROBE_CALLS)? {
-                        met = met.saturating_add(1);
-                    }
-                }
-            }
-        }
+        met = met.saturating_add(script.stops_at(alloc, call, alone)?);
     }
     shown(alloc, &met)
 }
