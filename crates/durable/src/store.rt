@@ -10,7 +10,7 @@ use crate::opening::synced_store;
 use crate::record::gather;
 use apicore::{Core, Prepared, has_own_plans, prepare};
 use checkpoint::{EntryList, Root, WriteFault, write};
-use device::Device;
+use device::{Device, MemDevice};
 use gatelog::{Body, Log};
 use history::Reply;
 use records::{GROUP_LIMIT, Group};
@@ -94,6 +94,7 @@ impl<D: Device> Store<D> {
             → IfErr result (λ e. (e.0 ≡ Fault.Device) ⊎ (e.0 ≡ Fault.Memory)) }
         ensures never_failed { IfErr result (λ e. (e.0 ≢ Fault.Failed) × (e.0 ≢ Fault.Exhausted)) }
         ensures cause { IfErr result (λ e. e.0 ≡ Fault.Device → HasFailed D.disk device e.1) }
+        ensures count { IfOk result (λ store. D.disk.failures device ≤ D.disk.failures (device_of store)) }
     {
         let mut device = device;
         match synced_store(alloc, &mut device) {
@@ -113,6 +114,13 @@ impl<D: Device> Store<D> {
         ensures { result ≡ serves self.now }
     {
         self.serves
+    }
+
+    /// The revision that the store shows.
+    pub fn revision(&self) -> u64
+        ensures { result ≡ (shown self.now).revision }
+    {
+        self.core.revision()
     }
 
     /// The device, to be opened again.
@@ -470,5 +478,21 @@ impl<D: Device> Store<D> {
             objects: self.core.object_count(),
             generation: self.root.generation,
         })
+    }
+}
+
+impl Store<MemDevice> {
+    ghost use Rattle.device.specs.Memory.{memory};
+    ghost use Rattle.names.specs.declared.format.Rules.{Rules};
+    ghost use Rattle.apicore.specs.Standing.{History};
+    ghost use Rattle.durable.specs.Settled.{device_of, shown, IsSettledAt};
+
+    /// From the n-th device call from now on all fail; 0 asks for none.
+    pub(crate) fn stop_on(&mut self, n: u64)
+        ensures asked { memory (device_of self.new) ≡ record (memory (device_of self.old)) { script = record (device_of self.old).script { stop_in = n } } }
+        ensures shown { shown self.new ≡ shown self.old }
+        ensures settled { (rules : Rules) (h : History) → IsSettledAt rules self.old h → IsSettledAt rules self.new h }
+    {
+        self.device.stop_on(n);
     }
 }
