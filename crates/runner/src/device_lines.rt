@@ -113,8 +113,8 @@ fn pick(word: &str) -> Result<Pick, Wrong> {
     }
 }
 
-/// `crash LENGTH PICK ..`: the machine stops. The length is a number or `all`, a pick `old`, `new` or a byte.
-pub fn crash(alloc: Global, place: &mut Place, line: &str) -> Result<String, Wrong> {
+/// `LENGTH PICK ..`: the length is a number or `all`, a pick `old`, `new` or a byte.
+pub fn crash_words(alloc: Global, line: &str) -> Result<(u64, Vec<Pick>), Wrong> {
     let (length, words) = first_word(line);
     let length = match length {
         "all" => u64::MAX,
@@ -125,6 +125,12 @@ pub fn crash(alloc: Global, place: &mut Place, line: &str) -> Result<String, Wro
         let pick = pick(word)?;
         picks.push(pick)?;
     }
+    Ok((length, picks))
+}
+
+/// `crash LENGTH PICK ..`: the machine stops.
+pub fn crash(alloc: Global, place: &mut Place, line: &str) -> Result<String, Wrong> {
+    let (length, picks) = crash_words(alloc, line)?;
     place.crash(&picks, length)?;
     text(alloc, "ok")
 }

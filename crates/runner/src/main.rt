@@ -16,6 +16,7 @@ mod device_lines;
 mod endings;
 mod place;
 mod refusals;
+mod scripts;
 mod stops;
 mod streams;
 

@@ -9,6 +9,10 @@ use httpmsg::{End, Input, Output, Std};
 use requests::Request;
 use std::alloc::Global;
 
+// Asks for the lists of what cases write, and for the events of configmaps and policies.
+const LOOK: &str =
+    "GET /api/v1/configmaps HTTP/1.1\r\nHost: x\r\n\r\nGET /apis/apps/v1/deployments HTTP/1.1\r\nHost: x\r\n\r\nGET /apis/admissionregistration.k8s.io/v1/validatingadmissionpolicies HTTP/1.1\r\nHost: x\r\n\r\nGET /apis/admissionregistration.k8s.io/v1/validatingadmissionpolicybindings HTTP/1.1\r\nHost: x\r\n\r\nGET /api/v1/configmaps?watch=1&resourceVersion=1 HTTP/1.1\r\nHost: x\r\n\r\nGET /apis/admissionregistration.k8s.io/v1/validatingadmissionpolicies?watch=1&resourceVersion=1 HTTP/1.1\r\nHost: x\r\n\r\n";
+
 /// What a case stands on.
 #[derive(Drop)]
 pub enum Place {
@@ -112,8 +116,15 @@ impl Place {
         served(alloc, self.store()?, &mut Std::new(sent.as_bytes()))
     }
 
-    // The device, which is taken away.
-    fn taken(&mut self) -> Result<MemDevice, Wrong> {
+    /// The lists of configmaps, deployments, policies and bindings, and the events of configmaps and policies, as they are shown.
+    pub fn look(&mut self, alloc: Global) -> Result<String, Wrong> {
+        let look = self.serve(alloc, LOOK)?;
+        wanted(look.starts_with("HTTP/1.1 200 "), "nothing is shown")?;
+        Ok(look)
+    }
+
+    /// The device, which is taken away.
+    pub fn taken(&mut self) -> Result<MemDevice, Wrong> {
         match std::mem::replace(self, Place::Nothing) {
             Place::Open(store) => Ok(store.into_device()),
             Place::Shut(device) => Ok(device),

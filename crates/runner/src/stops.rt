@@ -13,11 +13,8 @@ use std::alloc::Global;
 
 const ROOM_SECTORS: u64 = 24;
 
-const LIST: &str =
-    "GET /api/v1/configmaps HTTP/1.1\r\nHost: x\r\n\r\nGET /apis/admissionregistration.k8s.io/v1/validatingadmissionpolicies HTTP/1.1\r\nHost: x\r\n\r\n";
-
-/// What two sectors that one sync leaves open become: both alike, or one of them as it was.
-pub const PICKS: [[Pick; 2]; 10] = [
+// What two sectors that one sync leaves open become: both alike, or one of them as it was.
+const PICKS: [[Pick; 2]; 10] = [
     [Pick::Old, Pick::Old],
     [Pick::New, Pick::New],
     [Pick::Fill(0xA5), Pick::Fill(0xA5)],
@@ -65,15 +62,9 @@ fn told(alloc: Global, store: &mut Store<MemDevice>, writes: &[String]) -> Resul
     Ok(count)
 }
 
-// The lists of the configmaps and of the policies, with their contents and revisions, as they are shown.
-fn listed(alloc: Global, place: &mut Place) -> Result<String, Wrong> {
-    let list = place.serve(alloc, LIST)?;
-    wanted(is_taken(list.as_str()), "the list is refused")?;
-    Ok(list)
-}
-
-fn push_listed(alloc: Global, place: &mut Place, lists: &mut Vec<String>) -> Result<(), Wrong> {
-    lists.push(listed(alloc, place)?)?;
+/// Adds what is shown now.
+pub fn push_look(alloc: Global, place: &mut Place, looks: &mut Vec<String>) -> Result<(), Wrong> {
+    looks.push(place.look(alloc)?)?;
     Ok(())
 }
 
@@ -83,30 +74,31 @@ pub fn make(alloc: Global, place: &mut Place, write: &str) -> Result<(), Wrong> 
     wanted(is_taken(written.as_str()), "a write is refused")
 }
 
-fn lists_in(alloc: Global, place: &mut Place, writes: &[String]) -> Result<Vec<String>, Wrong> {
-    let mut lists = Vec::new(alloc);
-    push_listed(alloc, place, &mut lists)?;
+fn looks_in(alloc: Global, place: &mut Place, writes: &[String]) -> Result<Vec<String>, Wrong> {
+    let mut looks = Vec::new(alloc);
+    push_look(alloc, place, &mut looks)?;
     for write in writes {
         make(alloc, place, write.as_str())?;
-        push_listed(alloc, place, &mut lists)?;
+        push_look(alloc, place, &mut looks)?;
     }
-    Ok(lists)
+    Ok(looks)
 }
 
-// The lists that are shown before the first write and after each, where nothing fails.
-fn shown_lists(alloc: Global, writes: &[String]) -> Result<Vec<String>, Wrong> {
+// What is shown before the first write and after each, where nothing fails.
+fn looks_of(alloc: Global, writes: &[String]) -> Result<Vec<String>, Wrong> {
     let mut place = Place::new(alloc, ROOM_SECTORS)?;
-    lists_in(alloc, &mut place, writes)
+    looks_in(alloc, &mut place, writes)
 }
 
-fn is_list(lists: &[String], at: usize, found: &str) -> bool {
-    match lists.get(at) {
-        Some(list) => list.as_str() == found,
+/// Whether this was shown after so many.
+pub fn is_look(looks: &[String], at: usize, found: &str) -> bool {
+    match looks.get(at) {
+        Some(look) => look.as_str() == found,
         None => false,
     }
 }
 
-// The list that is found after a crash.
+// What is shown after a crash.
 fn found_after(
     alloc: Global,
     place: &mut Place,
@@ -115,24 +107,36 @@ fn found_after(
 ) -> Result<String, Wrong> {
     place.crash(picks, length)?;
     place.open(alloc)?;
-    listed(alloc, place)
+    place.look(alloc)
 }
 
-// Asks that a second crash leaves the same list.
-fn is_left_again(alloc: Global, place: &mut Place, first: &str) -> Result<(), Wrong> {
+/// Crashes, and asks that what is shown is what so many left, or the other number of them, and the same after a second crash.
+pub fn is_left(
+    alloc: Global,
+    place: &mut Place,
+    looks: &[String],
+    counts: [usize; 2],
+    picks: &[Pick],
+    length: u64,
+) -> Result<(), Wrong> {
+    let first = found_after(alloc, place, picks, length)?;
+    wanted(
+        is_look(looks, counts[0], first.as_str()) || is_look(looks, counts[1], first.as_str()),
+        "a stop leaves neither what was told nor what came next",
+    )?;
     let second = found_after(alloc, place, &[Pick::Fill(0xA5)], u64::MAX)?;
     wanted(
-        first == second.as_str(),
+        first.as_str() == second.as_str(),
         "a second crash leaves something else",
     )
 }
 
-// Makes the writes as far as they are taken, and asks that the crash leaves them or one write more, and a second crash the same.
+// Makes the writes as far as they are taken, and asks that the crash leaves them or one write more.
 fn crashed(
     alloc: Global,
     place: &mut Place,
     writes: &[String],
-    lists: &[String],
+    looks: &[String],
     picks: &[Pick],
     length: u64,
 ) -> Result<(), Wrong> {
@@ -140,20 +144,21 @@ fn crashed(
         Place::Open(store) => told(alloc, store, writes)?,
         _ => 0,
     };
-    let first = found_after(alloc, place, picks, length)?;
-    wanted(
-        is_list(lists, count, first.as_str())
-            || is_list(lists, count.saturating_add(1), first.as_str()),
-        "a stop leaves neither what was told nor one write more",
-    )?;
-    is_left_again(alloc, place, first.as_str())
+    is_left(
+        alloc,
+        place,
+        looks,
+        [count, count.saturating_add(1)],
+        picks,
+        length,
+    )
 }
 
 // One stop and one crash.
 fn stopped(
     alloc: Global,
     writes: &[String],
-    lists: &[String],
+    looks: &[String],
     call: u64,
     picks: &[Pick],
     length: u64,
@@ -161,7 +166,7 @@ fn stopped(
     let mut device = created(alloc, ROOM_SECTORS)?;
     device.stop_on(call);
     let mut place = opened(alloc, device);
-    crashed(alloc, &mut place, writes, lists, picks, length)
+    crashed(alloc, &mut place, writes, looks, picks, length)
 }
 
 /// `stops A B`: stops the writes, on a new store each time, at each call from the A-th to the B-th, an opening's first being 1, and
@@ -171,12 +176,12 @@ pub fn stops(alloc: Global, writes: &[String], line: &str) -> Result<String, Wro
     let mut words = WordReader::new(line);
     let (first, last) = (words.number(), words.number());
     words.end()?;
-    let lists = shown_lists(alloc, writes)?;
+    let looks = looks_of(alloc, writes)?;
     let mut held = 0_u64;
     for call in first..=last {
         for picks in PICKS {
             for length in [0, u64::MAX] {
-                stopped(alloc, writes, &lists, call, &picks, length)?;
+                stopped(alloc, writes, &looks, call, &picks, length)?;
                 held = held.saturating_add(1);
             }
         }
@@ -189,7 +194,7 @@ fn crashed_in_group(
     alloc: Global,
     place: &mut Place,
     requests: &[Request],
-    lists: &[String],
+    looks: &[String],
     picks: &[Pick],
     length: u64,
 ) -> Result<(), Wrong> {
@@ -197,13 +202,8 @@ fn crashed_in_group(
         Place::Open(store) => run(alloc, store, requests)?,
         _ => 0,
     };
-    let first = found_after(alloc, place, picks, length)?;
     let behind = count.saturating_add(GROUP_LIMIT).min(requests.len());
-    wanted(
-        is_list(lists, count, first.as_str()) || is_list(lists, behind, first.as_str()),
-        "a stop leaves neither what was told nor the whole next group",
-    )?;
-    is_left_again(alloc, place, first.as_str())
+    is_left(alloc, place, looks, [count, behind], picks, length)
 }
 
 /// `group-stops A B`: the same of all writes in one run: what is found is what was told, or all of the next group.
@@ -211,7 +211,7 @@ pub fn group_stops(alloc: Global, writes: &[String], line: &str) -> Result<Strin
     let mut words = WordReader::new(line);
     let (first, last) = (words.number(), words.number());
     words.end()?;
-    let lists = shown_lists(alloc, writes)?;
+    let looks = looks_of(alloc, writes)?;
     let requests = requests_of(alloc, writes)?;
     let mut held = 0_u64;
     for call in first..=last {
@@ -220,7 +220,7 @@ pub fn group_stops(alloc: Global, writes: &[String], line: &str) -> Result<Strin
                 let mut device = created(alloc, ROOM_SECTORS)?;
                 device.stop_on(call);
                 let mut place = opened(alloc, device);
-                crashed_in_group(alloc, &mut place, &requests, &lists, &picks, length)?;
+                crashed_in_group(alloc, &mut place, &requests, &looks, &picks, length)?;
                 held = held.saturating_add(1);
             }
         }
