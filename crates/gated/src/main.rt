@@ -12,32 +12,55 @@
 
 mod command;
 mod listening;
+mod places;
 mod problem;
 mod program;
 mod status;
 
+use crate::places::take_places;
+use crate::problem::{Problem, tell};
 use crate::program::program;
 use crate::status::Status;
 use httpmsg::Std;
+use std::alloc::Global;
 use std::env;
+use std::io::ErrorKind;
 use std::process::ExitCode;
+use std::rt::Env;
+
+// The words of the command line; none where one is no UTF-8, so that the usage is told.
+fn words<R: Env + Alloc<A = Global>>(runtime: &R) -> Result<Vec<String>, Problem> {
+    let alloc = runtime.alloc();
+    match env::args(runtime) {
+        Ok(words) => match words.collect::<Vec<String>>(alloc) {
+            Ok(words) => Ok(words),
+            Err(_) => Err(Problem::OutOfMemory),
+        },
+        Err(error) if error.kind() == ErrorKind::InvalidData => Ok(Vec::new(alloc)),
+        Err(_) => Err(Problem::OutOfMemory),
+    }
+}
+
+// Does what the words ask.
+fn run(runtime: &HostRuntime) -> Status {
+    let mut errors = Std::new(runtime.stderr());
+    let _places = match take_places(runtime) {
+        Ok(places) => places,
+        Err(problem) => return tell(problem, &mut errors),
+    };
+    match words(runtime) {
+        Ok(words) => program(
+            runtime,
+            runtime.alloc(),
+            &words,
+            &mut Std::new(runtime.stdin()),
+            &mut Std::new(runtime.stdout()),
+            &mut errors,
+        ),
+        Err(problem) => tell(problem, &mut errors),
+    }
+}
 
 fn main(rt: HostRuntime) -> ExitCode {
-    let alloc = rt.alloc();
-    let mut errors = Std::new(rt.stderr());
-    let status = match env::args(&rt) {
-        Ok(words) => match words.collect::<Vec<String>>(alloc) {
-            Ok(words) => program(
-                &rt,
-                alloc,
-                &words,
-                &mut Std::new(rt.stdin()),
-                &mut Std::new(rt.stdout()),
-                &mut errors,
-            ),
-            Err(_) => problem::tell(problem::Problem::OutOfMemory, &mut errors),
-        },
-        Err(_) => problem::tell(problem::Problem::OutOfMemory, &mut errors),
-    };
-    ExitCode::from(status.code())
+    ExitCode::from(run(&rt).code())
 }
