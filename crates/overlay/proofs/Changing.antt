@@ -39,7 +39,7 @@ module _ {X : Type 0} where
       ∙ turned (eq_by_cmp key_cmp k q) (value_at q es) None
       ∙ ap (λ b. cond b None (value_at q es)) ((eq_by_cmp_equiv key_cmp_total).symm k q)
 
-  find-changed : (q k : Key) (change : Option X) (es : List (Key × X)) → value_at q (changed k change es) ≡ cond (eq_by_cmp key_cmp q k) change (value_at q es)
+  pub find-changed : (q k : Key) (change : Option X) (es : List (Key × X)) → value_at q (changed k change es) ≡ cond (eq_by_cmp key_cmp q k) change (value_at q es)
   find-changed q k (Some v) es = find-put key_cmp key_cmp_total q k v es
   find-changed q k None es = find-without q k es
 
@@ -50,7 +50,7 @@ module _ {X : Type 0} where
       ∙ ap (cond (eq_by_cmp key_cmp q c.0) c.1) (find-merged q cs base)
       ∙ sym (over-cond (eq_by_cmp key_cmp q c.0) c.1 (value_at q cs) (value_at q base))
 
-  sorted-changed : (k : Key) (change : Option X) (es : List (Key × X)) → T (is_sorted key_cmp es) → T (is_sorted key_cmp (changed k change es))
+  pub sorted-changed : (k : Key) (change : Option X) (es : List (Key × X)) → T (is_sorted key_cmp es) → T (is_sorted key_cmp (changed k change es))
   sorted-changed k (Some v) es h = is_sorted-put key_cmp key_cmp_total k v es h
   sorted-changed k None es h = is_sorted-where_key key_cmp (λ x. not (eq_by_cmp key_cmp k x)) es h
 
@@ -72,7 +72,7 @@ module _ {X : Type 0} where
       ∙ ap (cond (eq_by_cmp key_cmp q k) change) (sym (find-merged q cs base))
       ∙ sym (find-changed q k change (merged cs base)))
 
-find-filter : {Y : Type 0} (p : Key → Bool) (q : Key) (es : List (Key × Y)) → value_at q (filter (λ e. p e.0) es) ≡ cond (p q) (value_at q es) None
+pub find-filter : {Y : Type 0} (p : Key → Bool) (q : Key) (es : List (Key × Y)) → value_at q (filter (λ e. p e.0) es) ≡ cond (p q) (value_at q es) None
 find-filter p q es = find-where_key key_cmp p q (λ x tie. ap p (sym (key_cmp-IsAntisymmetric q x tie))) es
 
 pub merged-filter : {X : Type 0} (p : Key → Bool) (cs : List (Key × Option X)) (base : List (Key × X)) → IsTrue (is_sorted key_cmp base)

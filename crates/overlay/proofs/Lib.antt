@@ -1,3 +1,4 @@
 mod Changing
 mod Walking
 mod Taking
+mod Covering

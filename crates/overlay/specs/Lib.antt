@@ -1,3 +1,4 @@
 pub mod Merged
+pub mod Covered
 pub mod Steps
 pub mod Laws
