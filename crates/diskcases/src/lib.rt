@@ -24,7 +24,10 @@ mod writing_lines;
 use apicore::payloads_have_one_list;
 pub use bench::Disk;
 pub use file_devices::check_files;
-use overlay::{change_is_one_more, found_over, listed_over};
+use overlay::{
+    change_counts, change_is_one_more, found_over, found_where_covered, listed_over,
+    listed_where_covered, same_is_nothing,
+};
 use records::payload_has_one_group;
 
 /// The laws of records, and of changes over entries.
@@ -34,4 +37,8 @@ pub fn laws_of_records() {
     found_over();
     change_is_one_more();
     listed_over();
+    same_is_nothing();
+    change_counts();
+    found_where_covered();
+    listed_where_covered();
 }

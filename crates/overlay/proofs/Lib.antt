@@ -2,3 +2,5 @@ mod Changing
 mod Walking
 mod Taking
 mod Covering
+mod Leaving
+mod Listed

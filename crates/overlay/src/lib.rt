@@ -11,10 +11,12 @@
 //! resource are, nothing of it is looked up below ([`found_where_covered`], [`listed_where_covered`]). `merged` makes the list, and copies no entry.
 #![tactic(auto)]
 
+mod changes;
 mod laws;
 mod lent;
 mod merging;
 
+pub use changes::Changes;
 pub use laws::{
     change_counts, change_is_one_more, found_over, found_where_covered, listed_over,
     listed_where_covered, same_is_nothing,

@@ -1,0 +1,33 @@
+-- What is listed of what changes leave.
+use Rattle.std.proofs.Common.{◌≡◌, ℕ, Bool, List, sym, ap, ◌∙◌, IsTrue}
+use Rattle.std.proofs.Common.{Result, Ok, Err, IfOk}
+use Rattle.std.specs.FinMap.{is_sorted}
+use Rattle.std.specs.FinMap.Entries.{is_sorted-where_key}
+use Rattle.std.specs.List.{filter}
+use Rattle.std.specs.Prelude.{Option}
+use denote.Ref.{Bor}
+use Rattle.names.specs.declared.resource.Resource.{Resource}
+use Rattle.names.specs.Key.{Key, key_cmp}
+use Rattle.objects.specs.Objects.{is_of}
+use Rattle.overlay.specs.Merged.{merged}
+use Rattle.overlay.specs.Changes.{Changes, Leaves}
+use Rattle.overlay.specs.Steps.{changes_of}
+use Rattle.overlay.proofs.Changing.{T_from_true, true_from_T, merged-filter}
+
+sorted_filter : {Y : Type 0} (p : Key → Bool) (es : List (Key × Y)) → IsTrue (is_sorted key_cmp es) → IsTrue (is_sorted key_cmp (filter (λ e. p e.0) es))
+sorted_filter p es h = true_from_T _ (is_sorted-where_key key_cmp p es (T_from_true _ h))
+
+module _ {X : Type 0} where
+  -- the merge of the changes of a resource and of what lies below of it lists what all changes leave of it
+  pub list_leaves : {E V : Type 0} (items : V → List (Key × X)) (changes : Changes X) (r : Resource) (n : Option (List ℕ)) (held : List (Key × Option X)) (lent : List (Bor (Key × Option X))) (below base left : List (Key × X)) (result : Result V E)
+      → changes_of lent ≡ filter (λ c. is_of r n c.0) held → held ≡ changes.made → IsTrue (is_sorted key_cmp held) → Leaves changes base left
+      → below ≡ filter (λ e. is_of r n e.0) base
+      → (IsTrue (is_sorted key_cmp (changes_of lent)) → IsTrue (is_sorted key_cmp below) → IfOk result (λ v. items v ≡ merged (changes_of lent) below))
+      → IfOk result (λ v. items v ≡ filter (λ e. is_of r n e.0) left)
+  list_leaves items changes r n held lent below base left (Err e) lists same sorted over is merges = tt
+  list_leaves items changes r n held lent below base left (Ok v) lists same sorted over is merges =
+      merges (ap (is_sorted key_cmp) lists ∙ sorted_filter (is_of r n) held sorted) (ap (is_sorted key_cmp) is ∙ sorted_filter (is_of r n) base over.ascends)
+      ∙ (λ i. merged (lists i) (is i))
+      ∙ ap (λ (cs : List (Key × Option X)). merged (filter (λ c. is_of r n c.0) cs) (filter (λ e. is_of r n e.0) base)) same
+      ∙ sym (merged-filter (is_of r n) changes.made base over.ascends)
+      ∙ ap (filter (λ e. is_of r n e.0)) over.are
