@@ -1,13 +1,10 @@
 //! What the lines of a case work on, and the lines by their words.
 
 use crate::device_lines::{call, counts, crash, firsts, sector, tries};
-use crate::entry_lines::{pieces, reads_event, reads_object, reads_piece};
 use crate::generation_lines::{install_next, next, place_of};
 use crate::log_lines::LogLines;
 use crate::other_devices::{file_after_crash, remembered};
-use crate::overlay_lines::over;
 use crate::page_lines::{page, page_find, page_room, page_with};
-use crate::record_lines::{answered, cuts, damage_word, reads, replay};
 use crate::root_lines::{log_start, new_store, root, write_sector};
 use crate::scan_lines::{lay, scan_pages};
 use crate::shelf_lines::shelf;
@@ -139,32 +136,15 @@ fn of_pages(alloc: Global, word: &str, rest: &str) -> Result<String, Wrong> {
         "page-with" => page_with(alloc, rest),
         "page-room" => page_room(alloc, rest),
         "page-find" => page_find(alloc, rest),
-        _ => of_entries(alloc, word, rest),
+        _ => of_places(alloc, word, rest),
     }
 }
 
-fn of_entries(alloc: Global, word: &str, rest: &str) -> Result<String, Wrong> {
+fn of_places(alloc: Global, word: &str, rest: &str) -> Result<String, Wrong> {
     match word {
-        "reads-object" => reads_object(alloc, rest),
-        "reads-event" => reads_event(alloc, rest),
-        "pieces" => pieces(alloc, rest),
-        "reads-piece" => reads_piece(alloc, rest),
-        "reads-view" => crate::view_lines::reads_view(alloc, rest),
-        _ => of_records(alloc, word, rest),
-    }
-}
-
-fn of_records(alloc: Global, word: &str, rest: &str) -> Result<String, Wrong> {
-    match word {
-        "over" => over(alloc, rest),
         "place" => place_of(alloc, rest),
         "filled" => crate::log_lines::filled(alloc, rest),
         "log-start" => log_start(alloc, rest),
-        "reads" => reads(alloc, rest),
-        "cuts" => cuts(alloc, rest),
-        "replay" => replay(alloc, rest),
-        "answered" => answered(alloc, rest),
-        "told" => damage_word(alloc, rest),
         "file-after-crash" => file_after_crash(alloc, rest),
         "remembered" => remembered(alloc, rest),
         _ => Err(Wrong::Told("no such line")),

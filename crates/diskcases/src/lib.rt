@@ -1,44 +1,23 @@
-//! The cases of devices, logs, roots, pages, entries and records.
+//! The cases of devices, logs, roots and pages.
 //!
 //! [`Disk`] is the bench of their files; `README.md` beside the files has their lines. [`check_files`] looks at devices over files of the
-//! operating system.
+//! operating system. How lines have payloads and entries serves the bench of records too.
 #![tactic(auto)]
 
 mod bench;
 mod device_lines;
-mod entry_lines;
 mod file_devices;
 mod generation_lines;
 mod log_lines;
+mod notation;
 mod other_devices;
-mod overlay_lines;
 mod page_lines;
-mod payloads;
-mod record_lines;
 mod root_lines;
 mod scan_lines;
 mod shelf_lines;
-mod view_lines;
 mod writing_lines;
 
-use apicore::payloads_have_one_list;
 pub use bench::Disk;
 pub use file_devices::check_files;
-use overlay::{
-    change_counts, change_is_one_more, found_over, found_where_covered, listed_over,
-    listed_where_covered, same_is_nothing,
-};
-use records::payload_has_one_group;
-
-/// The laws of records, and of changes over entries.
-pub fn laws_of_records() {
-    payload_has_one_group();
-    payloads_have_one_list();
-    found_over();
-    change_is_one_more();
-    listed_over();
-    same_is_nothing();
-    change_counts();
-    found_where_covered();
-    listed_where_covered();
-}
+pub use log_lines::settings;
+pub use notation::{entry_of, payload, payloads};

@@ -5,7 +5,7 @@ ghost use Rattle.records.specs.Gathered.{count_of};
 ghost use Rattle.records.specs.Payload.{group_limit};
 
 use crate::bench::ended;
-use crate::payloads::{payload, payloads};
+use crate::notation::{payload, payloads};
 use cases::{WordReader, Wrong, first_word, shown, text};
 use device::{Device, MemDevice};
 use gatelog::{Body, Log, LogFault};

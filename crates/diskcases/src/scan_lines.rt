@@ -44,7 +44,7 @@ pub(crate) struct Listing {
 }
 
 impl Listing {
-    // One that was told nothing yet.
+    /// One that was told nothing yet, and refuses this key.
     pub(crate) fn refusing(alloc: Global, key: &str) -> Result<Listing, AllocError> {
         Ok(Listing {
             entries: Vec::new(alloc),
@@ -74,7 +74,7 @@ impl Reader for Listing {
     }
 }
 
-// Adds what the listing was told.
+/// Adds what the listing was told.
 pub(crate) fn push_listing(line: &mut TextBuilder, listing: &Listing) {
     for entry in &listing.entries {
         push_text(line, &entry.key);

@@ -1,6 +1,6 @@
 //! Lines on the writing of a generation.
 
-use crate::entry_lines::entry_of;
+use crate::notation::entry_of;
 use crate::page_lines::push_text;
 use crate::root_lines::root_text;
 use cases::{TextBuilder, WordReader, Wrong, text};

@@ -24,16 +24,25 @@ use api::answers_are_runs;
 use bench::Stand;
 use cases::{Report, Wrong, paths, run_file};
 use celcases::{Expressions, laws_of_expressions};
-use diskcases::{Disk, check_files, laws_of_records};
+use diskcases::{Disk, check_files};
 use durable::one_view;
 use policycases::{Policies, View, laws_of_policies, laws_of_views};
+use recordcases::{Records, laws_of_records};
 use rowcases::{Exchange, Rows, laws_of_requests};
 use std::alloc::Global;
 use std::io;
 use std::process::ExitCode;
 use std::rt::{Env, Files};
 
-const FOLDERS: [&str; 6] = ["rows", "expressions", "policies", "views", "disk", "store"];
+const FOLDERS: [&str; 7] = [
+    "rows",
+    "expressions",
+    "policies",
+    "views",
+    "disk",
+    "records",
+    "store",
+];
 
 // The folder that a file stands in.
 fn folder_of(path: &str) -> &str {
@@ -57,6 +66,7 @@ fn run<R: Files + Print + Alloc<A = Global> + Clone + Drop>(
         "policies" => run_file::<Policies, R>(rt, alloc, path, report),
         "views" => run_file::<Exchange<View>, R>(rt, alloc, path, report),
         "disk" => run_file::<Disk, R>(rt, alloc, path, report),
+        "records" => run_file::<Records, R>(rt, alloc, path, report),
         "store" => run_file::<Exchange<Stand>, R>(rt, alloc, path, report),
         _ => report.note(rt, path, 1, Err(Wrong::Told("no bench has this folder"))),
     }

@@ -1,7 +1,7 @@
 //! Lines on the views that entries keep.
 
-use crate::entry_lines::entry_of;
 use cases::{TextBuilder, WordReader, Wrong, shown, wanted};
+use diskcases::entry_of;
 use entries::{Entry, KeptView, event_entry, object_entry, plan_entries, read_view};
 use history::{Core, Stored};
 use names::Format;

@@ -1,8 +1,8 @@
 //! Lines on the entries of a checkpoint.
 
-use crate::payloads::payload;
 use crate::record_lines::key_text;
 use cases::{TextBuilder, Wrong, shown, spelled, wanted};
+use diskcases::{entry_of, payload};
 use documents::Document;
 use entries::{
     Entry, StoredObject, event_entry, object_entry, plan_entries, read_event, read_object,
@@ -11,17 +11,6 @@ use entries::{
 use names::{Key, Resource};
 use std::alloc::Global;
 use window::{Change, Event};
-
-/// An entry: `KEY ; CELL`, each spelled as a payload.
-pub(crate) fn entry_of(alloc: Global, line: &str) -> Result<(Vec<u8>, Vec<u8>), Wrong> {
-    match line.split_once(" ; ") {
-        Some((key, cell)) => {
-            let key = payload(alloc, key)?;
-            Ok((key, payload(alloc, cell)?))
-        }
-        None => Err(Wrong::Told("an entry is a key and a cell")),
-    }
-}
 
 // What was read is written in the same bytes.
 fn check_written(written: &Entry, key: &[u8], cell: &[u8]) -> Result<(), Wrong> {

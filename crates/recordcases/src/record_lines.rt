@@ -1,9 +1,8 @@
 //! Lines on the payloads of records, and on the stores that they spell.
 
-use crate::log_lines::settings;
-use crate::payloads::{payload, payloads};
 use apicore::{Core, RecoveryFault, prepare, replayed};
 use cases::{TextBuilder, Wrong, first_word, number, shown, spelled, text, wanted};
+use diskcases::{payload, payloads, settings};
 use history::Reply;
 use names::{Format, Key, Rules};
 use records::{RecordFault, StoredWrite, read_writes};
@@ -138,7 +137,7 @@ pub fn answered(alloc: Global, line: &str) -> Result<String, Wrong> {
 }
 
 /// `told FAULT`: what is told of it.
-pub fn damage_word(alloc: Global, line: &str) -> Result<String, Wrong> {
+pub fn fault_text(alloc: Global, line: &str) -> Result<String, Wrong> {
     match line {
         "record memory" => shown(alloc, &RecordFault::Memory),
         "recovery memory" => shown(alloc, &RecoveryFault::Memory),

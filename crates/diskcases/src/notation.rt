@@ -1,4 +1,4 @@
-//! Payloads, as lines have them.
+//! Payloads and entries, as lines have them.
 
 use cases::{Wrong, bytes, number};
 use std::alloc::Global;
@@ -40,4 +40,15 @@ pub fn payloads(alloc: Global, line: &str) -> Result<Vec<Vec<u8>>, Wrong> {
         found.push(payload)?;
     }
     Ok(found)
+}
+
+/// An entry: `KEY ; CELL`, each spelled as a payload.
+pub fn entry_of(alloc: Global, line: &str) -> Result<(Vec<u8>, Vec<u8>), Wrong> {
+    match line.split_once(" ; ") {
+        Some((key, cell)) => {
+            let key = payload(alloc, key)?;
+            Ok((key, payload(alloc, cell)?))
+        }
+        None => Err(Wrong::Told("an entry is a key and a cell")),
+    }
 }

@@ -1,0 +1,31 @@
+//! The cases of what is stored as bytes: records and the stores that they spell, entries and the views that they keep, changes over entries.
+//!
+//! [`Records`] is the bench of their files; `README.md` beside the files has their lines.
+#![tactic(auto)]
+
+mod bench;
+mod entry_lines;
+mod overlay_lines;
+mod record_lines;
+mod view_lines;
+
+use apicore::payloads_have_one_list;
+pub use bench::Records;
+use overlay::{
+    change_counts, change_is_one_more, found_over, found_where_covered, listed_over,
+    listed_where_covered, same_is_nothing,
+};
+use records::payload_has_one_group;
+
+/// The laws of records, and of changes over entries.
+pub fn laws_of_records() {
+    payload_has_one_group();
+    payloads_have_one_list();
+    found_over();
+    change_is_one_more();
+    listed_over();
+    same_is_nothing();
+    change_counts();
+    found_where_covered();
+    listed_where_covered();
+}
