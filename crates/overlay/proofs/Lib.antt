@@ -1,6 +1,6 @@
-mod Changing
+pub mod Changing
 mod Walking
-mod Taking
+pub mod Taking
 mod Covering
 mod Leaving
 mod Listed

@@ -1,0 +1,25 @@
+-- What is held of a store over the objects that lie below: the rules, the changes, the revision and the last events.
+use Rattle.std.specs.Prelude.{◌≡◌, ℕ, List}
+use Rattle.names.specs.declared.format.Rules.{Rules}
+use Rattle.names.specs.Key.{Key}
+use Rattle.window.specs.declared.event.Event.{Event}
+use Rattle.documents.specs.Document.{Document}
+use Rattle.overlay.specs.Changes.{Changes, Leaves}
+use Rattle.history.specs.declared.state.Stored.{Stored}
+use Rattle.history.specs.View.{View}
+
+pub record State (P : Type 0) : Type 0 where
+  pub rules : Rules
+  pub changes : Changes (Stored P)
+  pub revision : ℕ
+  pub events : List (Event Document)
+
+-- Over these objects, which lie below, it shows a view.
+pub record Shows {P : Type 0} (s : State P) (base : List (Key × Stored P)) (v : View P) : Type 0 where
+  pub objects : Leaves s.changes base v.objects
+  pub revision : s.revision ≡ v.revision
+  pub events : s.events ≡ v.events
+
+-- what one shows the other does, over the same objects
+abbrev pub ShowsSame : {P : Type 0} → State P → State P → Type 0
+ShowsSame {P} s t = (base : List (Key × Stored P)) (v : View P) → Shows s base v → Shows t base v

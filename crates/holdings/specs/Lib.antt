@@ -1,0 +1,4 @@
+pub mod Holdings
+pub mod Sources
+pub mod Writes
+pub mod Prepared

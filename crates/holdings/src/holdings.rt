@@ -1,0 +1,356 @@
+//! What is held in memory of a store.
+
+ghost use Rattle.std.specs.Prelude.{◌≡◌, ◌+◌, ◌^◌, ◌-◌, ◌<◌, ◌++◌, ◌∷◌, Bool, List, [], length, is_some, Some, None, IsTrue, IfOk, OnOk, OnErr, IfSome, option_copied, option_map, if◌then◌else◌};
+ghost use Rattle.std.specs.FinMap.{is_sorted};
+ghost use Rattle.std.specs.List.{filter};
+ghost use Rattle.circular_buffer.specs.Buffer.{keep_last};
+ghost use Rattle.names.specs.Key.{Key as KeyData, key_cmp};
+ghost use Rattle.objects.specs.Objects.{is_of, value_at};
+ghost use Rattle.requests.specs.Codes.{document_in};
+ghost use Rattle.requests.specs.Manifest.{sound};
+ghost use Rattle.documents.specs.Document.{Document as DocumentData};
+ghost use Rattle.window.specs.Window.{event_at};
+ghost use Rattle.window.specs.declared.event.Change.TheVariants.{Added, Modified};
+ghost use Rattle.history.specs.declared.state.Stored.{Stored as StoredData};
+ghost use Rattle.history.specs.History as write;
+ghost use Rattle.history.specs.View.{View, stored_at, is_too_large, is_full, is_exhausted, after, after_all};
+ghost use Rattle.holdings.specs.Holdings.{Shows, ShowsSame};
+ghost use Rattle.holdings.specs.Prepared.{IsNext, IsNextPut, IsNextDeletion, HasRoom, puts, writes_of};
+ghost use Rattle.holdings.specs.Sources.{HasGrown, found_in};
+ghost use Rattle.holdings.specs.declared.source.SourceFault.TheVariants as SourceFault;
+
+use crate::prepared::{Deletion, PreparedWrite, Put};
+use crate::source::{Found, Source, SourceFault};
+use documents::Document;
+use history::Stored;
+use names::{Key, Resource, Rules};
+use objects::Entry;
+use overlay::{Changes, Lent};
+use requests::Manifest;
+use std::alloc::{AllocError, Global};
+use std::marker::Model;
+use window::{Change, Event, Events, Window};
+
+// What a change says is found.
+fn found<P>(change: &Option<Stored<P>>) -> Result<Option<Found>, AllocError>
+    ensures { IfOk result (λ found. found ≡ option_map found_in change.now) }
+{
+    match change {
+        Some(stored) => Ok(Some(Found {
+            document: stored.document.clone()?,
+            revision: stored.revision,
+        })),
+        None => Ok(None),
+    }
+}
+
+// Whether a put changes an object that stands there.
+fn is_modification(change: Change) -> bool
+    ensures { (stands : Bool) → change ≡ (if stands then Modified else Added) → result ≡ stands }
+{
+    match change {
+        Change::Modified => true,
+        Change::Added | Change::Deleted => false,
+    }
+}
+
+/// What is held in memory of a store: what was put or removed since its objects were written as they lie below, how many there are, and the last events.
+#[derive(Drop)]
+pub struct Holdings<P> {
+    rules: Rules,
+    changes: Changes<Stored<P>>,
+    window: Window<Document>,
+}
+
+impl<P> Model for Holdings<P> {
+    ghost use Rattle.holdings.specs.Holdings.{State};
+
+    ghost Value = { State P };
+
+    ghost use Rattle.std.specs.Coded.{codes};
+    ghost use Rattle.jsondoc.specs.DataCode.{coded_data};
+
+    ghost coded = { Prim.hlevel (codes, coded_data) };
+
+    ghost use Rattle.std.specs.Prelude.{◌≡◌};
+
+    ghost view = { λ h. record { rules = h.rules; changes = h.changes; revision = h.window.revision; events = h.window.events } };
+
+    ghost invariant = { λ h. h.window.places ≡ h.rules.window_events };
+}
+
+impl<P: Drop> Holdings<P> {
+    /// Nothing is held yet of a store at a revision, of which no event is known and so many objects lie below.
+    pub fn over(
+        alloc: Global,
+        rules: Rules,
+        revision: u64,
+        count: usize,
+    ) -> Result<Holdings<P>, AllocError>
+        requires { 0 < revision }
+        ensures rules { IfOk result (λ h. h.rules ≡ rules) }
+        ensures shows { (base : List (KeyData × StoredData P)) → IsTrue (is_sorted key_cmp base) → length base ≡ count
+            → IfOk result (λ h. Shows h base (record { objects = base; revision = revision; events = [] })) }
+    {
+        Ok(Holdings {
+            rules,
+            changes: Changes::over(alloc, count),
+            window: Window::behind(alloc, rules, revision)?,
+        })
+    }
+
+    /// Holds what stands under a key, or that nothing does, as it is already. It makes no event, and no revision.
+    pub fn hold(
+        &mut self,
+        alloc: Global,
+        key: &Key,
+        stored: Option<Stored<P>>,
+    ) -> Result<(), AllocError>
+        ensures rules { self.new.rules ≡ self.old.rules }
+        ensures shows { (base : List (KeyData × StoredData P)) (v : View P) → Shows self.old base v → stored_at v key.now ≡ stored → Shows self.new base v }
+        ensures held { OnOk result (value_at key.now self.new.changes.made ≡ Some stored) }
+    {
+        self.changes.reserve(1)?;
+        let entry = Entry::new(alloc, key.clone()?, stored)?;
+        self.changes.hold(entry);
+        Ok(())
+    }
+
+    /// Keeps an event that was, as that of the next revision. It changes no object.
+    pub fn keep(&mut self, event: Event<Document>)
+        requires { self.old.revision + 1 < 2 ^ 64 }
+        ensures rules { self.new.rules ≡ self.old.rules }
+        ensures shows { (base : List (KeyData × StoredData P)) (v : View P) → Shows self.old base v → Shows self.new base (record {
+          objects = v.objects;
+          revision = v.revision + 1;
+          events = keep_last self.old.rules.window_events (v.events ++ event_at (v.revision + 1) event.change event.key event.document ∷ []);
+        }) }
+    {
+        self.window.push(event.change, event.key, event.document);
+    }
+
+    /// All changes, ascending by key.
+    pub fn changes(&self) -> &[Entry<Option<Stored<P>>>]
+        ensures value { result.now ≡ self.now.changes.made }
+        ensures ascending { IsTrue (is_sorted key_cmp self.now.changes.made) }
+    {
+        self.changes.made()
+    }
+
+    /// The last events, oldest first.
+    pub fn events(&self) -> Events<'_, Document>
+        ensures { result ≡ self.now.events }
+    {
+        self.window.events()
+    }
+
+    /// The numbers that the store keeps to.
+    pub fn rules(&self) -> Rules
+        ensures { result ≡ self.now.rules }
+    {
+        self.rules
+    }
+
+    /// The revision of the last write, 1 where there was none.
+    pub fn revision(&self) -> u64
+        ensures { result ≡ self.now.revision }
+    {
+        self.window.revision()
+    }
+
+    /// How many objects there are.
+    pub fn object_count(&self) -> usize
+        ensures { (base : List (KeyData × StoredData P)) (v : View P) → Shows self.now base v → result ≡ length v.objects }
+    {
+        self.changes.count()
+    }
+
+    /// Whether there are as many objects as there may be.
+    pub fn is_full(&self) -> bool
+        ensures { (base : List (KeyData × StoredData P)) (v : View P) → Shows self.now base v → result ≡ is_full self.now.rules v }
+    {
+        self.rules.object_limit <= self.changes.count()
+    }
+
+    /// Whether the greatest revision is reached.
+    pub fn is_exhausted(&self) -> bool
+        ensures { (base : List (KeyData × StoredData P)) (v : View P) → Shows self.now base v → result ≡ is_exhausted self.now.rules v }
+    {
+        self.rules.greatest_revision <= self.window.revision()
+    }
+
+    /// Whether the text to be stored is above the limit.
+    pub fn is_too_large(&self, manifest: &Manifest) -> bool
+        ensures { (d : DocumentData) → manifest.now.body ≡ sound d → result ≡ is_too_large self.now.rules d }
+    {
+        self.rules.text_limit_bytes < manifest.text().len()
+    }
+
+    /// The change of a key, if it has one: what was put, or none where the key was removed.
+    pub fn change(&self, key: &Key) -> Option<&Option<Stored<P>>>
+        ensures { option_copied result ≡ value_at key.now self.now.changes.made }
+    {
+        self.changes.get(key)
+    }
+
+    /// The object under a key: looked up among the changes, and, where its key has none, in what lies below.
+    ///
+    /// # Errors
+    ///
+    /// Those of the source.
+    pub fn find<S: Source<P>>(
+        &self,
+        alloc: Global,
+        source: &mut S,
+        key: &Key,
+    ) -> Result<Option<Found>, SourceFault>
+        ensures found { (base : List (KeyData × StoredData P)) (v : View P) → S.holds source.old base → Shows self.now base v
+            → IfOk result (λ found. found ≡ option_map found_in (stored_at v key.now)) }
+        ensures kept { (base : List (KeyData × StoredData P)) → S.holds source.old base → S.holds source.new base }
+        ensures goes { S.goes_to source.old source.new }
+        ensures device { result ≡ Err SourceFault.Device → HasGrown (S.failures source.old) (S.failures source.new) }
+        ensures damaged { result ≡ Err SourceFault.Damaged → S.is_damaged source.new }
+    {
+        match self.changes.get(key) {
+            Some(change) => Ok(found(change)?),
+            None => source.find(alloc, key),
+        }
+    }
+
+    /// The objects of a resource, in one namespace or in all, in key order, over those of them that lie below. No object is copied.
+    ///
+    /// # Errors
+    ///
+    /// Where there was no memory.
+    pub fn list<'a>(
+        &'a self,
+        alloc: Global,
+        resource: Resource,
+        namespace: Option<&str>,
+        below: &'a [(Key, Stored<P>)],
+    ) -> Result<Vec<Lent<'a, Stored<P>>>, AllocError>
+        ensures { let text = option_map (λ text. text.now) namespace.entry in (base : List (KeyData × StoredData P)) (v : View P) → Shows self.now base v
+            → below.now ≡ filter (λ o. is_of resource text o.0) base
+            → IfOk result (λ listed. listed.items ≡ filter (λ o. is_of resource text o.0) v.objects) }
+    {
+        self.changes.list(alloc, resource, namespace, below)
+    }
+
+    // Takes memory for one more key, and asks that one object more can be counted.
+    fn make_room(&mut self) -> Result<(), AllocError>
+        ensures rules { self.new.rules ≡ self.old.rules }
+        ensures revision { self.new.revision ≡ self.old.revision }
+        ensures shows { ShowsSame self.old self.new }
+        ensures key { OnOk result (0 < self.new.changes.room) }
+        ensures count { OnOk result (self.new.changes.count < 2 ^ 64 - 1) }
+    {
+        if self.changes.count() == usize::MAX {
+            return Err(AllocError);
+        }
+        self.changes.reserve(1)
+    }
+
+    /// Takes the memory of a put, and room for its key. It is told whether an object stands under it.
+    ///
+    /// # Errors
+    ///
+    /// Where there was no memory. What is shown stays.
+    pub fn prepare_put(
+        &mut self,
+        alloc: Global,
+        manifest: &Manifest,
+        beside: P,
+        stands: bool,
+    ) -> Result<Put<P>, AllocError>
+        requires { self.old.revision < self.old.rules.greatest_revision }
+        ensures rules { self.new.rules ≡ self.old.rules }
+        ensures shows { ShowsSame self.old self.new }
+        ensures put { IfOk result (λ p. p ≡ record {
+          key = manifest.now.key;
+          stored = Some (record { document = document_in manifest.now.body; beside = beside; revision = self.old.revision + 1 });
+          change = if stands then Modified else Added;
+        }) }
+        ensures room { OnOk result (HasRoom self.new) }
+    {
+        // The window's revision is below the greatest one, so that the next one fits.
+        let _greatest = self.rules.greatest_revision;
+        let revision = self.window.revision() + 1;
+        let change = if stands {
+            Change::Modified
+        } else {
+            Change::Added
+        };
+        self.make_room()?;
+        Put::new(
+            alloc,
+            manifest.key(),
+            manifest.document(),
+            manifest.text(),
+            beside,
+            revision,
+            change,
+        )
+    }
+
+    /// Takes the memory of a deletion, and room for its key. It is told the document that stands under it.
+    ///
+    /// # Errors
+    ///
+    /// Where there was no memory. What is shown stays.
+    pub fn prepare_deletion(
+        &mut self,
+        alloc: Global,
+        key: &Key,
+        document: Document,
+    ) -> Result<Deletion<P>, AllocError>
+        requires { self.old.revision < self.old.rules.greatest_revision }
+        ensures rules { self.new.rules ≡ self.old.rules }
+        ensures shows { ShowsSame self.old self.new }
+        ensures deletion { IfOk result (λ d. d ≡ record { key = key.now; document = document }) }
+        ensures room { OnOk result (HasRoom self.new) }
+    {
+        self.make_room()?;
+        Deletion::new(alloc, key, document)
+    }
+
+    /// Takes a prepared write. This takes no memory, and looks nothing up.
+    pub fn take(&mut self, write: PreparedWrite<P>)
+        requires { HasRoom self.old }
+        ensures rules { self.new.rules ≡ self.old.rules }
+        ensures shows { (base : List (KeyData × StoredData P)) (v : View P) → Shows self.old base v → IsNext v write
+            → Shows self.new base (after_all self.old.rules v (writes_of write)) }
+    {
+        match write {
+            PreparedWrite::Put(put) => self.put(put),
+            PreparedWrite::Delete(deletion) => self.delete(deletion),
+        }
+    }
+
+    // Takes a put.
+    fn put(&mut self, put: Put<P>)
+        requires { HasRoom self.old }
+        ensures rules { self.new.rules ≡ self.old.rules }
+        ensures shows { (base : List (KeyData × StoredData P)) (v : View P) → Shows self.old base v → IsNextPut v put
+            → Shows self.new base (after_all self.old.rules v (puts put.key put.stored)) }
+    {
+        // The window's revision is below the greatest one, so that the next one fits.
+        let _greatest = self.rules.greatest_revision;
+        let (entry, change, key, document) = put.into_parts();
+        self.changes.make(entry, is_modification(change));
+        self.window.push(change, key, document);
+    }
+
+    // Takes a deletion.
+    fn delete(&mut self, deletion: Deletion<P>)
+        requires { HasRoom self.old }
+        ensures rules { self.new.rules ≡ self.old.rules }
+        ensures shows { (base : List (KeyData × StoredData P)) (v : View P) → Shows self.old base v → IsNextDeletion v deletion
+            → Shows self.new base (after self.old.rules v (write.delete deletion.key)) }
+    {
+        // The window's revision is below the greatest one, so that the next one fits.
+        let _greatest = self.rules.greatest_revision;
+        let (entry, key, document) = deletion.into_parts();
+        self.changes.make(entry, true);
+        self.window.push(Change::Deleted, key, document);
+    }
+}
