@@ -5,9 +5,9 @@
 //! let pods = list(alloc, &mut shelf, Resource::Pod, Some("default"), Reading::Passing)?;
 //! ```
 //!
-//! A shelf holds objects where their entries stand in its pages, as `entries` makes them, and no other entry has an object's key. `find` answers what is
-//! stored under a key and `list` the objects of a resource, in one namespace or in all, as a map in memory would. What the shelf holds stays, and damage is
-//! answered only where it holds no objects. The entries of a view hold its objects ([`views_hold_objects`]).
+//! A shelf holds objects where their entries stand in front in its pages, as `entries` makes them, and no entry behind them has an object's key. `find`
+//! answers what is stored under a key and `list` the objects of a resource, in one namespace or in all, as a map in memory would. What the shelf holds
+//! stays, and damage is answered only where it does not hold objects so. The entries of a view hold its objects ([`views_hold_objects`]).
 #![tactic(auto)]
 
 mod fault;

@@ -27,8 +27,8 @@ use std::alloc::Global;
 ///
 /// # Errors
 ///
-/// `Device` only where the device failed in this call; `Damaged` only where the shelf holds no objects; `Memory`. What the shelf holds stays in
-/// each case.
+/// `Device` only where the device failed in this call; `Damaged` only where the pages do not hold objects in front of other entries; `Memory`.
+/// What the shelf holds stays in each case.
 pub fn find<D: Device>(
     alloc: Global,
     shelf: &mut Shelf<D>,
