@@ -18,6 +18,7 @@ mod record_lines;
 mod root_lines;
 mod scan_lines;
 mod shelf_lines;
+mod stock_lines;
 mod view_lines;
 mod writing_lines;
 
@@ -26,12 +27,14 @@ pub use bench::Disk;
 pub use file_devices::check_files;
 use overlay::{change_is_one_more, found_over, listed_over};
 use records::payload_has_one_group;
+use stock::views_hold_objects;
 
-/// The laws of records, and of changes over entries.
+/// The laws of records, of changes over entries, and of objects in pages.
 pub fn laws_of_records() {
     payload_has_one_group();
     payloads_have_one_list();
     found_over();
     change_is_one_more();
     listed_over();
+    views_hold_objects();
 }
