@@ -15,9 +15,10 @@ mod page_lines;
 mod root_lines;
 mod scan_lines;
 mod shelf_lines;
+mod stock_lines;
 mod writing_lines;
 
 pub use bench::Disk;
 pub use file_devices::check_files;
 pub use log_lines::settings;
-pub use notation::{entry_of, payload, payloads};
+pub use notation::{entry_of, key_text, payload, payloads};

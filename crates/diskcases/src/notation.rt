@@ -1,6 +1,7 @@
-//! Payloads and entries, as lines have them.
+//! Payloads, entries and keys, as lines have them.
 
-use cases::{Wrong, bytes, number};
+use cases::{TextBuilder, Wrong, bytes, number};
+use names::Key;
 use std::alloc::Global;
 
 // A part: `'TEXT'`, bytes in hex, or `BYTES xN`, so many times those bytes.
@@ -51,4 +52,11 @@ pub fn entry_of(alloc: Global, line: &str) -> Result<(Vec<u8>, Vec<u8>), Wrong> 
         }
         None => Err(Wrong::Told("an entry is a key and a cell")),
     }
+}
+
+/// The key of an object, in three words.
+pub fn key_text(line: &mut TextBuilder, key: &Key) {
+    line.word(key.resource().plural());
+    line.word(key.namespace());
+    line.word(key.name());
 }

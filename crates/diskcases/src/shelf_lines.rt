@@ -2,6 +2,7 @@
 
 use crate::page_lines::push_text;
 use crate::scan_lines::{Listing, push_listing, root_at};
+use crate::stock_lines::{find_object, list_objects};
 use cases::{TextBuilder, WordReader, Wrong};
 use checkpoint::scan;
 use device::MemDevice;
@@ -66,6 +67,8 @@ fn ask(alloc: Global, shelf: &mut Shelf<MemDevice>, questions: &str) -> Result<S
             "has" => has(alloc, shelf, bytes, &mut line),
             "list" => tell(alloc, shelf, bytes, Reading::Kept, &mut line)?,
             "pass" => tell(alloc, shelf, bytes, Reading::Passing, &mut line)?,
+            "stock-find" => find_object(alloc, shelf, text, &mut line)?,
+            "stock-list" => list_objects(alloc, shelf, text, &mut line)?,
             _ => return Err(Wrong::Told("no question of a shelf")),
         }
     }

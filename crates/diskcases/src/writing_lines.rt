@@ -3,7 +3,7 @@
 use crate::notation::entry_of;
 use crate::page_lines::push_text;
 use crate::root_lines::root_text;
-use cases::{TextBuilder, WordReader, Wrong, text};
+use cases::{TextBuilder, WordReader, Wrong, spelled, text};
 use checkpoint::{EntryList, WriteFault, Written, counted_root, write};
 use device::{Device, MemDevice};
 use std::alloc::Global;
@@ -31,13 +31,23 @@ fn fault_text(fault: WriteFault) -> &'static str {
     }
 }
 
+// Adds a key: as a word, or its bytes in hex where they are none.
+fn push_key(alloc: Global, line: &mut TextBuilder, key: &[u8]) -> Result<(), Wrong> {
+    if key.iter().all(|byte| byte.is_ascii_graphic()) {
+        push_text(line, key);
+    } else {
+        line.word(spelled(alloc, key)?.as_str());
+    }
+    Ok(())
+}
+
 fn written_text(alloc: Global, written: &Written) -> Result<String, Wrong> {
     let root = root_text(alloc, &written.root)?;
     let mut line = TextBuilder::new(alloc);
     line.word(root.as_str());
     line.word("begin");
     for key in &written.first_keys {
-        push_text(&mut line, key);
+        push_key(alloc, &mut line, key)?;
     }
     line.end()
 }
@@ -63,7 +73,7 @@ fn write_behind(
 }
 
 /// `write LAST REVISION KEY ; CELL | ..`: writes these entries as the next generation: its root, and behind `begin` the first key of each
-/// page.
+/// page, in hex where it is no word.
 pub fn write_entries(alloc: Global, device: &mut MemDevice, line: &str) -> Result<String, Wrong> {
     let mut words = WordReader::new(line);
     let (last_gate, revision) = (words.number(), words.number());

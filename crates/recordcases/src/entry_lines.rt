@@ -1,8 +1,7 @@
 //! Lines on the entries of a checkpoint.
 
-use crate::record_lines::key_text;
 use cases::{TextBuilder, Wrong, shown, spelled, wanted};
-use diskcases::{entry_of, payload};
+use diskcases::{entry_of, key_text, payload};
 use documents::Document;
 use entries::{
     Entry, StoredObject, event_entry, object_entry, plan_entries, read_event, read_object,

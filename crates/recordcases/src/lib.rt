@@ -18,8 +18,9 @@ use overlay::{
     listed_where_covered, same_is_nothing,
 };
 use records::payload_has_one_group;
+use stock::views_hold_objects;
 
-/// The laws of records, and of changes over entries.
+/// The laws of records, of changes over entries, and of objects in pages.
 pub fn laws_of_records() {
     payload_has_one_group();
     payloads_have_one_list();
@@ -30,4 +31,5 @@ pub fn laws_of_records() {
     change_counts();
     found_where_covered();
     listed_where_covered();
+    views_hold_objects();
 }

@@ -2,19 +2,12 @@
 
 use apicore::{Core, RecoveryFault, prepare, replayed};
 use cases::{TextBuilder, Wrong, first_word, number, shown, spelled, text, wanted};
-use diskcases::{payload, payloads, settings};
+use diskcases::{key_text, payload, payloads, settings};
 use history::Reply;
-use names::{Format, Key, Rules};
+use names::{Format, Rules};
 use records::{RecordFault, StoredWrite, read_writes};
 use requests::{Manifest, Request};
 use std::alloc::Global;
-
-/// The key of an object, in three words.
-pub fn key_text(line: &mut TextBuilder, key: &Key) {
-    line.word(key.resource().plural());
-    line.word(key.namespace());
-    line.word(key.name());
-}
 
 // What a put says: the key, the text, and the plans where there are any.
 fn push_put(

@@ -1,0 +1,4 @@
+mod Prefixes
+mod Faults
+pub mod Holding
+pub mod Views

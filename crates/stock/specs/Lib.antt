@@ -1,0 +1,4 @@
+pub mod Stock
+pub mod Faults
+pub mod Listed
+pub mod Laws
