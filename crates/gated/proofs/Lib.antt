@@ -1,3 +1,4 @@
 pub mod Verbs
 pub mod FileInWords
 pub mod Tellings
+pub mod Showing

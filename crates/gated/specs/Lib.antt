@@ -2,3 +2,4 @@ pub mod Status
 pub mod Problem
 pub mod CommandLine
 pub mod Telling
+pub mod Progress

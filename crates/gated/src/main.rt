@@ -15,29 +15,26 @@ mod listening;
 mod places;
 mod problem;
 mod program;
+mod progress;
 mod status;
+mod words;
 
 use crate::places::take_places;
-use crate::problem::{Problem, tell};
+use crate::problem::tell;
 use crate::program::program;
 use crate::status::Status;
+use crate::words::words;
 use httpmsg::Std;
-use std::alloc::Global;
-use std::env;
-use std::io::ErrorKind;
+use std::io::{IsTerminal, Stderr};
 use std::process::ExitCode;
-use std::rt::Env;
 
-// The words of the command line; none where one is no UTF-8, so that the usage is told.
-fn words<R: Env + Alloc<A = Global>>(runtime: &R) -> Result<Vec<String>, Problem> {
-    let alloc = runtime.alloc();
-    match env::args(runtime) {
-        Ok(words) => match words.collect::<Vec<String>>(alloc) {
-            Ok(words) => Ok(words),
-            Err(_) => Err(Problem::OutOfMemory),
-        },
-        Err(error) if error.kind() == ErrorKind::InvalidData => Ok(Vec::new(alloc)),
-        Err(_) => Err(Problem::OutOfMemory),
+// Where it is shown how far a compaction is: on standard error where that is a terminal, and nowhere else.
+fn terminal(runtime: &HostRuntime) -> Option<Std<Stderr>> {
+    let errors = runtime.stderr();
+    if errors.is_terminal() {
+        Some(Std::new(errors))
+    } else {
+        None
     }
 }
 
@@ -56,6 +53,7 @@ fn run(runtime: &HostRuntime) -> Status {
             &mut Std::new(runtime.stdin()),
             &mut Std::new(runtime.stdout()),
             &mut errors,
+            terminal(runtime),
         ),
         Err(problem) => tell(problem, &mut errors),
     }

@@ -12,11 +12,12 @@ ghost use Rattle.gated.specs.Telling.{HasLine, EndsCheck, IsDone, checked_text, 
 use crate::command::{Verb, command};
 use crate::listening::serve_connections;
 use crate::problem::{Problem, print, tell};
+use crate::progress::{Progress, Watched};
 use crate::status::Status;
 use api::serve;
 use clap::Error;
 use clap::error::ErrorKind;
-use device::FileDevice;
+use device::{Device, FileDevice};
 use durable::{Checked, Compacted, Store, create};
 use httpmsg::{Input, Output, write_all};
 use std::alloc::Global;
@@ -37,6 +38,17 @@ fn create_store<R: Files<File = File>>(files: &R, file: &str) -> Result<(), Prob
     Ok(())
 }
 
+// The store on a device.
+fn store_on<D: Device>(alloc: Global, device: D) -> Result<Store<D>, Problem>
+    ensures no_file_made { IsErrOf result Problem.FileExists → ⊥ }
+    ensures no_stream { IsErrOf result Problem.StreamFailed → ⊥ }
+{
+    match Store::open(alloc, device) {
+        Ok(store) => Ok(store),
+        Err((fault, _)) => Err(Problem::from(fault)),
+    }
+}
+
 // The store in a file.
 fn open_store<R: Files<File = File>>(
     files: &R,
@@ -46,11 +58,7 @@ fn open_store<R: Files<File = File>>(
     ensures no_file_made { IsErrOf result Problem.FileExists → ⊥ }
     ensures no_stream { IsErrOf result Problem.StreamFailed → ⊥ }
 {
-    let device = FileDevice::open(files, file)?;
-    match Store::open(alloc, device) {
-        Ok(store) => Ok(store),
-        Err((fault, _)) => Err(Problem::from(fault)),
-    }
+    store_on(alloc, FileDevice::open(files, file)?)
 }
 
 // Answers the requests of an input against the store in a file.
@@ -121,18 +129,33 @@ fn print_compacted<O: Output>(
     }
 }
 
+// Writes what the store in a file shows as its next generation. When it ends, so does the line of its progress.
+fn write_anew<R: Files<File = File>, P: Output + Drop>(
+    files: &R,
+    alloc: Global,
+    file: &str,
+    progress: Option<P>,
+) -> Result<Compacted, Problem>
+    ensures no_file_made { IsErrOf result Problem.FileExists → ⊥ }
+    ensures no_stream { IsErrOf result Problem.StreamFailed → ⊥ }
+{
+    let device = FileDevice::open(files, file)?;
+    let mut store = store_on(alloc, Watched::new(device, Progress::new(alloc, progress)))?;
+    Ok(store.compact(alloc)?)
+}
+
 // Writes what the store in a file shows as its next generation, and tells of it on the output.
-fn compact<R: Files<File = File>, O: Output>(
+fn compact<R: Files<File = File>, O: Output, P: Output + Drop>(
     files: &R,
     alloc: Global,
     file: &str,
     output: &mut O,
+    progress: Option<P>,
 ) -> Result<(), Problem>
     ensures line { OnOk result ((c : CompactedData) × HasLine O.took output.old output.new (compacted_text c)) }
     ensures no_file_made { IsErrOf result Problem.FileExists → ⊥ }
 {
-    let mut store = open_store(files, alloc, file)?;
-    let compacted = store.compact(alloc)?;
+    let compacted = write_anew(files, alloc, file, progress)?;
     print_compacted(alloc, &compacted, output)
 }
 
@@ -192,12 +215,14 @@ fn done<
     R: Files<File = File> + Net<Stream = TcpStream, Listener = TcpListener>,
     I: Input,
     O: Output,
+    P: Output + Drop,
 >(
     runtime: &R,
     alloc: Global,
     verb: Verb<'_>,
     input: &mut I,
     output: &mut O,
+    progress: Option<P>,
 ) -> Result<Status, Problem>
     ensures { IfOk result (λ status. IsDone O.took output.old output.new verb.entry status) }
 {
@@ -218,7 +243,7 @@ fn done<
             idle_seconds,
             output,
         )?,
-        Verb::Compact { file } => compact(runtime, alloc, file, output)?,
+        Verb::Compact { file } => compact(runtime, alloc, file, output, progress)?,
         Verb::Check { file } => return check(runtime, alloc, file, output),
     }
     Ok(Status::Success)
@@ -244,19 +269,29 @@ fn refuse<E: Output>(alloc: Global, error: &Error, errors: &mut E) -> Status
 }
 
 /// Does what the words ask for, of which the first is the program's name, and says how the program ends. Nothing is told on `errors` where
-/// that was done, and where a check finds damage, which it tells on `output`; each other end is told on `errors`.
+/// that was done, and where a check finds damage, which it tells on `output`; each other end is told on `errors`. A compaction shows on
+/// `progress`, if there is one, how far it is.
 pub fn program<
     R: Files<File = File> + Net<Stream = TcpStream, Listener = TcpListener>,
     S: AsStr,
     I: Input,
     O: Output,
     E: Output,
->(runtime: &R, alloc: Global, words: &[S], input: &mut I, output: &mut O, errors: &mut E) -> Status
+    P: Output + Drop,
+>(
+    runtime: &R,
+    alloc: Global,
+    words: &[S],
+    input: &mut I,
+    output: &mut O,
+    errors: &mut E,
+    progress: Option<P>,
+) -> Status
     ensures { ((errors.new ≡ errors.old) × (verb : VerbData) × AskFor (map S.text words.now) verb × IsDone O.took output.old output.new verb result)
         ⊎ ((result ≢ Status.Success) × Tells E.took E.failures errors.old errors.new result) }
 {
     match command(alloc, words) {
-        Ok(verb) => match done(runtime, alloc, verb, input, output) {
+        Ok(verb) => match done(runtime, alloc, verb, input, output, progress) {
             Ok(status) => status,
             Err(problem) => tell(problem, errors),
         },
