@@ -8,6 +8,7 @@ use crate::page_lines::{page, page_find, page_room, page_with};
 use crate::root_lines::{log_start, new_store, root, write_sector};
 use crate::scan_lines::{lay, scan_pages};
 use crate::shelf_lines::shelf;
+use crate::stock_lines::sift_pages;
 use crate::writing_lines::write_entries;
 use cases::{Bench, Wrong, compare, first_word, number, shown, text};
 use device::{Device, MemDevice};
@@ -84,6 +85,7 @@ impl Disk {
             "write" => write_entries(alloc, &mut self.device, rest),
             "lay" => lay(alloc, &mut self.device, rest),
             "scan" => scan_pages(alloc, &mut self.device, rest),
+            "sift" => sift_pages(alloc, &mut self.device, rest),
             "shelf" => self.shelf(alloc, rest),
             _ => self.of_the_log(alloc, word, rest),
         }

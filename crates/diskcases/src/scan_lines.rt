@@ -93,7 +93,8 @@ fn listing_text(alloc: Global, listing: &Listing, first_keys: &[Vec<u8>]) -> Res
     line.end()
 }
 
-fn fault_text(fault: ScanFault) -> &'static str {
+/// What is told of a fault.
+pub(crate) fn fault_text(fault: ScanFault) -> &'static str {
     match fault {
         ScanFault::Device => "device failed",
         ScanFault::Page => "damaged page",

@@ -1,12 +1,14 @@
-//! Questions on the objects of a shelf.
+//! Questions on the objects in pages.
 
-use crate::notation::key_text;
-use cases::{TextBuilder, Wrong};
+use crate::notation::{key_text, payload};
+use crate::scan_lines::{fault_text as scan_fault_text, root_at};
+use cases::{TextBuilder, WordReader, Wrong, spelled, text};
+use checkpoint::scan;
 use device::MemDevice;
 use names::{Key, KeyFault, Resource, ResourceTable};
 use shelf::{Reading, Shelf};
 use std::alloc::Global;
-use stock::{StockFault, find, list};
+use stock::{Choice, Sieve, StockFault, find, list};
 
 fn fault_text(fault: StockFault) -> &'static str {
     match fault {
@@ -83,4 +85,48 @@ pub(crate) fn list_objects(
         Err(fault) => line.word(fault_text(fault)),
     }
     Ok(())
+}
+
+// The objects whose entries' keys begin so.
+#[derive(Drop)]
+struct Beginning {
+    prefix: Vec<u8>,
+}
+
+impl Choice for Beginning {
+    ghost use Rattle.shelf.specs.Prefix.{begins};
+
+    ghost chosen = { λ choice key. begins choice.prefix.items key };
+
+    fn holds(&self, key: &[u8]) -> bool {
+        key.starts_with(&self.prefix)
+    }
+}
+
+/// `sift FIRST PAGES PREFIX`: what a sieve keeps of so many pages from a sector on, where the objects are chosen whose keys begin so, and
+/// behind `of` how many objects there are.
+pub(crate) fn sift_pages(
+    alloc: Global,
+    device: &mut MemDevice,
+    line: &str,
+) -> Result<String, Wrong> {
+    let mut words = WordReader::new(line);
+    let (first, pages) = (words.number(), words.number());
+    let choice = Beginning {
+        prefix: payload(alloc, words.rest())?,
+    };
+    let root = root_at(device, first, pages)?;
+    let mut sieve = Sieve::new(alloc, &choice);
+    if let Err(fault) = scan(alloc, device, &root, &mut sieve) {
+        return text(alloc, scan_fault_text(fault));
+    }
+    let mut line = TextBuilder::new(alloc);
+    for entry in sieve.kept() {
+        line.word(spelled(alloc, entry.key())?.as_str());
+        line.word(spelled(alloc, entry.cell())?.as_str());
+    }
+    line.word("of");
+    line.push(" ");
+    line.show(&sieve.objects());
+    line.end()
 }

@@ -18,7 +18,7 @@ use overlay::{
     listed_where_covered, same_is_nothing,
 };
 use records::payload_has_one_group;
-use stock::views_hold_objects;
+use stock::{kept_are_of_a_view, views_hold_objects};
 
 /// The laws of records, of changes over entries, and of objects in pages.
 pub fn laws_of_records() {
@@ -32,4 +32,5 @@ pub fn laws_of_records() {
     found_where_covered();
     listed_where_covered();
     views_hold_objects();
+    kept_are_of_a_view();
 }

@@ -2,3 +2,4 @@ mod Prefixes
 mod Faults
 pub mod Holding
 pub mod Views
+pub mod Sieving

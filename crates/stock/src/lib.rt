@@ -15,9 +15,11 @@ mod keys;
 mod laws;
 mod listed;
 mod looking;
+mod sieve;
 mod stocked;
 
 pub use fault::StockFault;
-pub use laws::views_hold_objects;
+pub use laws::{kept_are_of_a_view, views_hold_objects};
 pub use looking::{find, list};
+pub use sieve::{Choice, Sieve};
 pub use stocked::Stocked;
