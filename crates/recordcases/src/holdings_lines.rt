@@ -15,7 +15,7 @@ use window::{Change, Event};
 
 /// What is held, and what lies below it.
 #[derive(Drop)]
-struct Held {
+struct Layers {
     holdings: Holdings<u64>,
     below: Below,
 }
@@ -65,7 +65,7 @@ fn looked<T: Drop>(found: Result<T, SourceFault>) -> Result<T, Wrong> {
     }
 }
 
-impl Held {
+impl Layers {
     // Whether a write has a revision left.
     fn is_writable(&self) -> bool
         ensures { IsTrue result → self.now.holdings.revision < self.now.holdings.rules.greatest_revision }
@@ -218,11 +218,11 @@ pub fn held(alloc: Global, line: &str) -> Result<String, Wrong> {
     let count = below.objects.len();
     let revision = (count as u64).saturating_add(1);
     let holdings = Holdings::over(alloc, rules, revision, count)?;
-    let mut held = Held { holdings, below };
+    let mut layers = Layers { holdings, below };
     let mut line = TextBuilder::new(alloc);
     for (place, step) in steps.split(" ; ").enumerate() {
         line.push(if place == 0 { "" } else { "; " });
-        held.step(alloc, &mut line, step)?;
+        layers.step(alloc, &mut line, step)?;
     }
     line.end()
 }

@@ -1,14 +1,14 @@
 //! What a case stands on, what was sent to it, and the questions by their words.
 
-use crate::compactions::compaction_damage;
+use crate::compactions::{compaction_damage, compaction_failures, compaction_stops};
 use crate::device_lines::{crash, of_the_device};
 use crate::place::Place;
 use crate::refusals::{at_hand, fault};
-use crate::scripts::{driven, script_failures, script_stops};
+use crate::scripts::{applied, driven, script_failures, script_stops};
 use crate::stops::{group_stops, stops};
 use crate::streams::{cuts, readers, writers};
 use cases::{Wrong, shown, text};
-use rowcases::Service;
+use rowcases::{Service, message};
 use std::alloc::Global;
 
 const ROOM_SECTORS: u64 = 64;
@@ -20,7 +20,7 @@ pub struct Stand {
     // what was sent since the case began, and of that the connections that ask for a write
     all_sent: String,
     writes: Vec<String>,
-    // all connections, and where the store was compacted and opened among them
+    // all connections, what was applied, and where the store was compacted and opened among them
     steps: Vec<String>,
 }
 
@@ -55,7 +55,16 @@ impl Service for Stand {
             "script-stops" => script_stops(alloc, self.steps.as_slice(), rest),
             "script-failures" => script_failures(alloc, self.steps.as_slice(), rest),
             "drive" => driven(alloc, self.steps.as_slice(), rest),
+            "compaction-stops" => compaction_stops(alloc, self.writes.as_slice(), rest),
+            "compaction-failures" => compaction_failures(alloc, self.writes.as_slice(), rest),
             "compaction-damage" => compaction_damage(alloc, self.writes.as_slice(), rest),
+            "apply" => {
+                self.steps.push(match rest {
+                    "open" | "compact" => text(alloc, rest)?,
+                    _ => message(alloc, rest)?,
+                })?;
+                applied(alloc, &mut self.place, self.steps.as_slice())
+            }
             "at-hand" => at_hand(alloc, rest),
             "fault" => fault(alloc, rest),
             _ => {

@@ -1,11 +1,13 @@
-//! The steps of a case, taken again on new stores: with a stop or a failure at a call of the device, and as episodes of one life.
+//! Steps by calls of a store: as a case takes them, and taken again on new stores, with a stop or a failure at a call of the device, and as
+//! episodes of one life.
 
 use crate::device_lines::crash_words;
 use crate::place::{Place, created};
 use crate::stops::{is_left, is_look, push_look};
-use cases::{TextBuilder, WordReader, Wrong, shown, text, wanted};
+use cases::{TextBuilder, WordReader, Wrong, shown, wanted};
 use device::Pick;
 use durable::{Episode, Found, drive};
+use history::Reply;
 use requests::Request;
 use routes::Routes;
 use rowcases::routed_first;
@@ -85,13 +87,23 @@ fn episodes_of(alloc: Global, words: &[String]) -> Result<Vec<Episode>, Wrong> {
     Ok(episodes)
 }
 
-// What is told of a step; of a reply `ok`, whatever it says.
+// `CODE BODY`, with a blank for each line feed between lines of the body.
+fn reply_text(alloc: Global, reply: &Reply) -> Result<String, Wrong> {
+    let mut line = TextBuilder::new(alloc);
+    line.show(&reply.code());
+    for piece in reply.body().lines() {
+        line.word(piece);
+    }
+    line.end()
+}
+
+// What is told of a step: of an opening `ok`, of a compaction its generation, of a request the reply.
 fn told(alloc: Global, place: &mut Place, step: &Step) -> Result<String, Wrong> {
     match step {
         Step::Open => place.open(alloc),
         Step::Compact => place.compact(alloc),
         Step::Ask(request) => match place.store()?.apply(alloc, request) {
-            Ok(_) => text(alloc, "ok"),
+            Ok(reply) => reply_text(alloc, &reply),
             Err(fault) => shown(alloc, &fault),
         },
     }
@@ -104,7 +116,10 @@ fn take(alloc: Global, place: &mut Place, step: &Step) -> Result<bool, Wrong> {
         return Ok(false);
     }
     wanted(
-        told.as_str() == "ok" || told.starts_with("generation "),
+        told.as_str() == "ok"
+            || told.starts_with("generation ")
+            || told.starts_with('2')
+            || told.starts_with('4'),
         "a step is not taken",
     )?;
     Ok(true)
@@ -282,6 +297,30 @@ impl Script {
         device.fail_on(call);
         self.meets_failure(alloc, &mut Place::Shut(device))
     }
+}
+
+/// `apply STEP`: takes the last of these steps by a call of the store, and gives what is told of it. Where that is want of memory, a store that is
+/// open must show what the steps before left, and the step is taken once more.
+pub fn applied(alloc: Global, place: &mut Place, words: &[String]) -> Result<String, Wrong> {
+    let (before, last) = words.split_at(words.len().saturating_sub(1));
+    let mut steps = Vec::new(alloc);
+    push_steps(alloc, last, &mut steps)?;
+    let Some(step) = steps.first() else {
+        return Err(Wrong::Told("there is no step"));
+    };
+    let first = told(alloc, place, step)?;
+    if first.as_str() != "out of memory" {
+        return Ok(first);
+    }
+    if matches!(place, Place::Open(_)) {
+        let found = place.look(alloc)?;
+        let script = Script::of(alloc, before)?;
+        wanted(
+            is_look(&script.looks, before.len(), found.as_str()),
+            "a step that is refused memory changes what is shown",
+        )?;
+    }
+    told(alloc, place, step)
 }
 
 /// `script-stops A B ALONE`: takes the steps of this case on a new store, with a stop at each call from the A-th to the B-th, an opening's first

@@ -13,8 +13,8 @@ use std::alloc::Global;
 
 const ROOM_SECTORS: u64 = 24;
 
-// What two sectors that one sync leaves open become: both alike, or one of them as it was.
-const PICKS: [[Pick; 2]; 10] = [
+/// What two sectors that one sync leaves open become: both alike, or one of them as it was.
+pub const PICKS: [[Pick; 2]; 10] = [
     [Pick::Old, Pick::Old],
     [Pick::New, Pick::New],
     [Pick::Fill(0xA5), Pick::Fill(0xA5)],
