@@ -1,7 +1,7 @@
 //! The lines of a case, by their words.
 
 use crate::entry_lines::{pieces, reads_event, reads_object, reads_piece};
-use crate::holdings_lines::held;
+use crate::holdings_lines::{held, held_over_pages};
 use crate::overlay_lines::over;
 use crate::record_lines::{answered, cuts, fault_text, reads, replay};
 use crate::view_lines::reads_view;
@@ -42,6 +42,7 @@ fn answer(alloc: Global, word: &str, rest: &str) -> Result<String, Wrong> {
         "told" => fault_text(alloc, rest),
         "over" => over(alloc, rest),
         "held" => held(alloc, rest),
+        "held-over-pages" => held_over_pages(alloc, rest),
         _ => answer_of_entries(alloc, word, rest),
     }
 }

@@ -3,21 +3,22 @@
 ghost use Rattle.std.specs.Prelude.{◌<◌, IsTrue};
 
 use crate::below::Below;
+use crate::paged::paged;
 use cases::{TextBuilder, Wrong, first_word, number};
 use history::Stored;
 use holdings::{Holdings, PreparedWrite, Source, SourceFault};
 use names::{Format, Key, Resource, Rules};
 use objects::{Entry, Objects};
 use requests::Manifest;
-use std::alloc::Global;
+use std::alloc::{AllocError, Global};
 use std::fmt::Display;
 use window::{Change, Event};
 
 /// What is held, and what lies below it.
 #[derive(Drop)]
-struct Layers {
+struct Layers<S> {
     holdings: Holdings<u64>,
-    below: Below,
+    below: S,
 }
 
 // The configmap of this name.
@@ -61,11 +62,13 @@ fn below(alloc: Global, names: &str) -> Result<Below, Wrong> {
 fn looked<T: Drop>(found: Result<T, SourceFault>) -> Result<T, Wrong> {
     match found {
         Ok(found) => Ok(found),
-        Err(_) => Err(Wrong::Memory),
+        Err(SourceFault::Memory) => Err(Wrong::Memory),
+        Err(SourceFault::Device) => Err(Wrong::Told("device failed")),
+        Err(SourceFault::Damaged) => Err(Wrong::Told("damaged")),
     }
 }
 
-impl Layers {
+impl<S: Source<u64> + Drop> Layers<S> {
     // Whether a write has a revision left.
     fn is_writable(&self) -> bool
         ensures { IsTrue result → self.now.holdings.revision < self.now.holdings.rules.greatest_revision }
@@ -206,23 +209,44 @@ fn push_object<T: Display>(line: &mut TextBuilder, key: &Key, revision: &T) {
     line.show(revision);
 }
 
-/// `held LIMIT NAME .. | STEP ; ..`: the answers of these steps over objects of these names, where there may be so many.
-pub fn held(alloc: Global, line: &str) -> Result<String, Wrong> {
-    let (front, steps) = line.split_once(" | ").unwrap_or((line, ""));
-    let (limit, names) = first_word(front);
+// Holdings over so many objects, of which there may be up to a limit.
+fn holdings_over(alloc: Global, limit: u64, count: usize) -> Result<Holdings<u64>, AllocError> {
     let rules = Rules {
-        object_limit: number(limit)? as usize,
+        object_limit: limit as usize,
         ..Format::First.rules()
     };
-    let below = below(alloc, names)?;
-    let count = below.objects.len();
-    let revision = (count as u64).saturating_add(1);
-    let holdings = Holdings::over(alloc, rules, revision, count)?;
-    let mut layers = Layers { holdings, below };
+    Holdings::over(alloc, rules, (count as u64).saturating_add(1), count)
+}
+
+// The answers of steps, with `; ` between them.
+fn answers<S: Source<u64> + Drop>(
+    alloc: Global,
+    layers: Layers<S>,
+    steps: &str,
+) -> Result<String, Wrong> {
+    let mut layers = layers;
     let mut line = TextBuilder::new(alloc);
     for (place, step) in steps.split(" ; ").enumerate() {
         line.push(if place == 0 { "" } else { "; " });
         layers.step(alloc, &mut line, step)?;
     }
     line.end()
+}
+
+/// `held LIMIT NAME .. | STEP ; ..`: the answers of these steps over objects of these names in memory, where there may be so many.
+pub fn held(alloc: Global, line: &str) -> Result<String, Wrong> {
+    let (front, steps) = line.split_once(" | ").unwrap_or((line, ""));
+    let (limit, names) = first_word(front);
+    let below = below(alloc, names)?;
+    let holdings = holdings_over(alloc, number(limit)?, below.objects.len())?;
+    answers(alloc, Layers { holdings, below }, steps)
+}
+
+/// `held-over-pages LIMIT NAME .. | STEP ; ..`: the same over these objects in a page.
+pub fn held_over_pages(alloc: Global, line: &str) -> Result<String, Wrong> {
+    let (front, steps) = line.split_once(" | ").unwrap_or((line, ""));
+    let (limit, names) = first_word(front);
+    let (below, count) = paged(alloc, &below(alloc, names)?)?;
+    let holdings = holdings_over(alloc, number(limit)?, count as usize)?;
+    answers(alloc, Layers { holdings, below }, steps)
 }

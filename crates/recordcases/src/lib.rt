@@ -8,6 +8,7 @@ mod bench;
 mod entry_lines;
 mod holdings_lines;
 mod overlay_lines;
+mod paged;
 mod record_lines;
 mod view_lines;
 
