@@ -12,10 +12,10 @@ use Rattle.pages.specs.Page.{Entry, entries_in, IsSound, SoundPage}
 use Rattle.checkpoint.specs.declared.page_writer.PageWriter.{PageWriter}
 use Rattle.checkpoint.specs.Pages.{pages_at, AreSound}
 use Rattle.checkpoint.specs.Filling.{pages_of}
-use Rattle.checkpoint.specs.Install.{HasAt}
+use Rattle.roots.specs.Install.{HasAt}
 use Rattle.checkpoint.specs.PageWriter.{ArePages, IsFilled, HasPages}
 use Rattle.checkpoint.proofs.Joining.{page_at, pages_at-more, sound_more}
-use Rattle.checkpoint.proofs.Staging.{HasAt-more, part-HasAt, look_then_torn}
+use Rattle.roots.proofs.Staging.{HasAt-more, part-HasAt, look_then_torn}
 
 -- ---- where bytes stand
 

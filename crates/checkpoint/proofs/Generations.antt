@@ -12,21 +12,21 @@ use Rattle.device.proofs.Runs.{stands_weaker}
 use Rattle.device.proofs.Steps.{torn-bytes}
 use Rattle.gatelog.proofs.Gathering.{replicate-zero}
 use Rattle.pages.specs.Page.{Entry, bytes_cmp}
-use Rattle.checkpoint.specs.declared.root.Root.{Root}
+use Rattle.roots.specs.declared.root.Root.{Root}
 use Rattle.checkpoint.specs.declared.page_writer.PageWriter.{PageWriter}
-use Rattle.checkpoint.specs.Root.{gate_sector, other, log_start, HoldsRoot}
+use Rattle.roots.specs.Root.{gate_sector, other, log_start, HoldsRoot}
 use Rattle.checkpoint.specs.Pages.{pages_at, AreSound, joined, first_key, pages_of_root, IsIndex}
 use Rattle.checkpoint.specs.Filling.{pages_of}
 use Rattle.checkpoint.specs.Index.{keys_of}
-use Rattle.checkpoint.specs.Install.{HasAt, IsNext, IsInUse, IsBefore, IsClear, IsAfter, IsBeforeOrAfter, IsStaged, generation}
+use Rattle.roots.specs.Install.{HasAt, IsNext, IsInUse, IsBefore, IsClear, IsAfter, IsBeforeOrAfter, IsStaged, generation}
 use Rattle.checkpoint.specs.PageWriter.{ArePages, HasPages, IsFor, end_of}
 use Rattle.checkpoint.specs.Writing.{IsSource, IsWritten, IsBeforeOrWritten}
 use Rattle.checkpoint.proofs.Buffering.{pages_there, sound_there, torn_within}
-use Rattle.checkpoint.proofs.Chain.{stands_moments, gate_written, pages_more}
+use Rattle.roots.proofs.Chain.{stands_moments, gate_written, pages_more}
 use Rattle.checkpoint.proofs.Cutting.{joined_pages_of}
 use Rattle.checkpoint.proofs.Paging.{none_empty}
-use Rattle.checkpoint.proofs.Staging.{look_torn}
-use Rattle.checkpoint.proofs.Steps.{in_front}
+use Rattle.roots.proofs.Staging.{look_torn}
+use Rattle.roots.proofs.Steps.{in_front}
 
 -- ---- what the new root's generation is
 

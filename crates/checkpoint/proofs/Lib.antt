@@ -1,8 +1,3 @@
-pub mod Counting
-pub mod Zeros
-pub mod Fronts
-pub mod Laying
-pub mod NewStore
 pub mod Order
 pub mod Joining
 pub mod Hearing
@@ -10,11 +5,6 @@ pub mod Taking
 pub mod Cutting
 pub mod Passing
 pub mod Ascending
-pub mod Steps
-pub mod Chain
-pub mod Staging
-pub mod Installing
-pub mod Placing
 pub mod Buffering
 pub mod Paging
 pub mod Generations

@@ -1,12 +1,8 @@
-pub mod Root
-pub mod Front
-pub mod NewStore
 pub mod Pages
 pub mod Reader
 pub mod Index
 pub mod Filling
 pub mod EntryList
-pub mod Install
 pub mod Writing
 pub mod PageWriter
 pub mod WriteFault

@@ -1,11 +1,11 @@
 -- Pages on their way to a device.
 use Rattle.std.specs.Prelude.{◌≡◌, ◌≤◌, ◌+◌, ◌*◌, ◌++◌, ℕ, List, [], length, take}
 use Rattle.pages.specs.Page.{Entry}
-use Rattle.checkpoint.specs.declared.root.Root.{Root}
+use Rattle.roots.specs.declared.root.Root.{Root}
 use Rattle.checkpoint.specs.declared.page_writer.PageWriter.{PageWriter}
 use Rattle.checkpoint.specs.Pages.{pages_at, AreSound}
 use Rattle.checkpoint.specs.Filling.{AllFit, pages_from, pages_of}
-use Rattle.checkpoint.specs.Install.{HasAt}
+use Rattle.roots.specs.Install.{HasAt}
 
 -- The writer is to fill the pages of this root, and has filled none.
 pub record IsFor (writer : PageWriter) (root : Root) : Type 0 where

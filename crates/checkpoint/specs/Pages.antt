@@ -3,7 +3,7 @@ use Rattle.std.specs.Prelude.{◌≡◌, ◌+◌, ◌*◌, ℕ, zero, suc, List,
 use Rattle.std.specs.FinMap.{is_sorted}
 use Rattle.gatelog.specs.Record.{part}
 use Rattle.pages.specs.Page.{Entry, bytes_cmp, entries_in, IsSound}
-use Rattle.checkpoint.specs.declared.root.Root.{Root}
+use Rattle.roots.specs.declared.root.Root.{Root}
 
 -- The pages that stand from a sector on, so many of them: for each, the entries that its bytes stand for. A page has 64 sectors.
 abbrev pub pages_at : ℕ → ℕ → List ℕ → List (List Entry)

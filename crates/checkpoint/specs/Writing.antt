@@ -3,11 +3,11 @@ use Rattle.std.specs.Prelude.{◌≡◌, ◌<◌, ◌≤◌, ◌+◌, ◌*◌, �
 use Rattle.std.specs.FinMap.{is_sorted}
 use Rattle.gatelog.specs.Log.{IsClosed}
 use Rattle.pages.specs.Page.{Entry, bytes_cmp}
-use Rattle.checkpoint.specs.declared.root.Root.{Root}
-use Rattle.checkpoint.specs.Root.{log_start, HoldsRoot}
+use Rattle.roots.specs.declared.root.Root.{Root}
+use Rattle.roots.specs.Root.{log_start, HoldsRoot}
 use Rattle.checkpoint.specs.Pages.{pages_of_root, HoldsEntries}
 use Rattle.checkpoint.specs.Filling.{pages_of}
-use Rattle.checkpoint.specs.Install.{IsNext, IsBefore}
+use Rattle.roots.specs.Install.{IsNext, IsBefore}
 
 -- A source gives these entries, whose keys ascend, over a content in which the generation of `current` is in use up to the gate `last`. Its
 -- walks look at bytes of that generation alone.

@@ -1,12 +1,11 @@
 //! Pages on their way to the device.
 
-ghost use Rattle.std.specs.Prelude.{◌≡◌, ◌≤◌, length, IfOk};
+ghost use Rattle.std.specs.Prelude.{◌≡◌, ◌≤◌, ◌+◌, ◌++◌, length, take, drop, IfOk};
 
-use crate::root::Root;
-use crate::sector::put;
 use crate::writing::WriteFault;
 use device::{Device, DeviceFault};
 use pages::{Full, PAGE_BYTES, PageBuilder};
+use roots::Root;
 use std::alloc::{AllocError, Global};
 
 // Sectors in a page.
@@ -33,6 +32,14 @@ pub(crate) struct PageWriter {
     pub(crate) page: PageBuilder,
     ghost size: { length buffer.items ≡ 524288 },
     ghost room: { filled ≤ 16 },
+}
+
+// Lays a page's bytes over those at a place.
+fn lay(buffer: &mut [u8], at: usize, page: &[u8])
+    requires { at + length page.now ≤ length buffer.old }
+    ensures { buffer.new ≡ take at buffer.old ++ page.now ++ drop (at + length page.now) buffer.old }
+{
+    buffer[at..at + page.len()].copy_from_slice(page);
 }
 
 // Room for a run of pages.
@@ -115,7 +122,7 @@ impl PageWriter {
         ensures left { self.new.left + 1 ≡ self.old.left }
         ensures page { self.new.page ≡ [] }
     {
-        put(
+        lay(
             &mut self.buffer,
             PAGE_BYTES * self.filled,
             self.page.bytes(),

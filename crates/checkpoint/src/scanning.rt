@@ -6,16 +6,16 @@ ghost use Rattle.device.specs.Disk.{HasFailed};
 ghost use Rattle.device.specs.Step.{Same};
 ghost use Rattle.device.specs.Run.{Ran};
 ghost use Rattle.pages.specs.Page.{Entry, bytes_cmp, entries_in, IsSound};
-ghost use Rattle.checkpoint.specs.Root.{log_start};
+ghost use Rattle.roots.specs.Root.{log_start};
 ghost use Rattle.checkpoint.specs.Pages.{joined, pages_of_root, HoldsPages, IsIndex};
 ghost use Rattle.checkpoint.specs.Reader.{IsRefused, Heard};
 ghost use Rattle.checkpoint.specs.Index.{keys_of, IsIndexed};
 
 use crate::index::Index;
 use crate::reader::{Reader, tell_unrefused};
-use crate::root::Root;
 use device::{Device, DeviceFault};
 use pages::{PAGE_BYTES, Page, PageDamage};
+use roots::Root;
 use std::alloc::{AllocError, Global};
 
 // Sectors in a page.

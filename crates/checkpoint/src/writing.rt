@@ -6,20 +6,18 @@ ghost use Rattle.device.specs.Disk.{HasFailed};
 ghost use Rattle.device.specs.Step.{Same, Torn};
 ghost use Rattle.device.specs.Run.{Ran, Stands};
 ghost use Rattle.pages.specs.Page.{Entry, bytes_cmp};
-ghost use Rattle.checkpoint.specs.Root.{log_start};
+ghost use Rattle.roots.specs.Root.{log_start};
 ghost use Rattle.checkpoint.specs.Pages.{first_key, pages_of_root, IsIndex};
 ghost use Rattle.checkpoint.specs.Filling.{AllFit, pages_of};
 ghost use Rattle.checkpoint.specs.Index.{keys_of};
-ghost use Rattle.checkpoint.specs.Install.{IsPlace, IsNext, IsInUse};
+ghost use Rattle.roots.specs.Install.{IsPlace, IsNext, IsInUse};
 ghost use Rattle.checkpoint.specs.Writing.{IsSource, IsWritten, IsBeforeOrWritten};
 ghost use Rattle.checkpoint.specs.PageWriter.{IsFor, HasPages, end_of};
 
 use crate::filling::{Entries, EntriesFault, first_keys};
-use crate::generation::{clear_slot, install};
-use crate::next::{Exhausted, next_root};
 use crate::page_writer::PageWriter;
-use crate::root::Root;
 use device::{Device, DeviceFault};
+use roots::{Exhausted, Root, clear_slot, install, next_root};
 use std::alloc::{AllocError, Global};
 
 /// Why the next generation is not there.

@@ -7,7 +7,7 @@ use Rattle.device.specs.Run.{Ran}
 use Rattle.device.proofs.Runs.{ran_then}
 use Rattle.std.specs.FinMap.{is_sorted}
 use Rattle.pages.specs.Page.{Entry, bytes_cmp}
-use Rattle.checkpoint.specs.declared.root.Root.{Root}
+use Rattle.roots.specs.declared.root.Root.{Root}
 use Rattle.checkpoint.specs.Pages.{joined, pages_of_root, HoldsPages}
 use Rattle.checkpoint.specs.declared.scanning.ScanFault.{ScanFault}
 use Rattle.checkpoint.specs.declared.scanning.ScanFault.TheVariants as scan_fault

@@ -14,11 +14,11 @@ use Rattle.checkpoint.specs.declared.writing.WriteFault.TheVariants as write_fau
 use Rattle.std.proofs.lemmas.List.{append-nil}
 use Rattle.gatelog.specs.Log.{IsClosed, HoldsLog}
 use Rattle.gatelog.proofs.Logs.{inside, HoldsLog-stays}
-use Rattle.checkpoint.specs.declared.root.Root.{Root}
-use Rattle.checkpoint.specs.Root.{log_start, HoldsRoot}
-use Rattle.checkpoint.specs.Install.{IsBefore, IsInUse}
+use Rattle.roots.specs.declared.root.Root.{Root}
+use Rattle.roots.specs.Root.{log_start, HoldsRoot}
+use Rattle.roots.specs.Install.{IsBefore, IsInUse}
 use Rattle.checkpoint.specs.Writing.{IsSource, IsWritten, IsBeforeOrWritten}
-use Rattle.checkpoint.proofs.Chain.{stands_moments}
+use Rattle.roots.proofs.Chain.{stands_moments}
 use Rattle.names.specs.declared.format.Rules.{Rules}
 use Rattle.history.specs.View.{view}
 use Rattle.apicore.specs.Standing.{History, IsHistory}

@@ -3,8 +3,8 @@ use Rattle.std.proofs.Common.{arith, refl, ◌≡◌, ◌∙◌, sym, ap, subst,
 use Rattle.gatelog.specs.Record.{part}
 use Rattle.gatelog.proofs.Parts.{Agree, part-agree}
 use Rattle.pages.specs.Page.{Entry, entries_in, IsSound}
-use Rattle.checkpoint.specs.declared.root.Root.{Root}
-use Rattle.checkpoint.specs.Root.{log_start}
+use Rattle.roots.specs.declared.root.Root.{Root}
+use Rattle.roots.specs.Root.{log_start}
 use Rattle.checkpoint.specs.Pages.{pages_at, AreSound, joined, HoldsEntries}
 
 module _ (old new : List ℕ) where

@@ -4,9 +4,9 @@ use Rattle.std.proofs.lemmas.List.{map-append}
 use Rattle.std.specs.List.{AllByRecursion}
 use Rattle.gatelog.specs.Log.{HoldsLog}
 use Rattle.gatelog.proofs.Walking.{at_most_one}
-use Rattle.checkpoint.specs.declared.root.Root.{Root}
-use Rattle.checkpoint.specs.Root.{log_start, HoldsRoot}
-use Rattle.checkpoint.proofs.Counting.{one_counts}
+use Rattle.roots.specs.declared.root.Root.{Root}
+use Rattle.roots.specs.Root.{log_start, HoldsRoot}
+use Rattle.roots.proofs.Counting.{one_counts}
 use Rattle.names.specs.declared.format.Rules.{Rules}
 use Rattle.names.specs.Key.{Key}
 use Rattle.documents.specs.Document.{Document}

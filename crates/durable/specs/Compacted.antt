@@ -1,6 +1,6 @@
 -- What is told of a store as a whole.
 use Rattle.std.specs.Prelude.{◌≡◌, length}
-use Rattle.checkpoint.specs.declared.root.Root.{Root}
+use Rattle.roots.specs.declared.root.Root.{Root}
 use Rattle.history.specs.View.{View}
 use Rattle.apicore.specs.Beside.{Beside}
 use Rattle.durable.specs.declared.compacted.Compacted.{Compacted}

@@ -6,7 +6,7 @@ use Rattle.apicore.specs.Prepared.{Shows}
 use Rattle.apicore.specs.Standing.{History, IsHistory, IsView, with_plans, write_with_plans}
 use Rattle.history.specs.View as seen
 use Rattle.history.specs.View.{view}
-use Rattle.checkpoint.specs.NewStore.{new_content}
+use Rattle.roots.specs.NewStore.{new_content}
 use Rattle.durable.specs.Opened.{IsReplayed}
 use Rattle.durable.specs.Rules.{first_rules}
 use Rattle.durable.specs.Stands.{StandsFor}

@@ -9,8 +9,8 @@ use Rattle.apicore.specs.Prepared.{plans_held}
 use Rattle.apicore.specs.Written.{Write, AllStorable}
 use Rattle.snapshots.specs.Keeping.{IsHeld}
 use Rattle.gatelog.specs.declared.gate_log.Log.{Log}
-use Rattle.checkpoint.specs.declared.root.Root.{Root}
-use Rattle.checkpoint.specs.Root.{log_start, HoldsRoot}
+use Rattle.roots.specs.declared.root.Root.{Root}
+use Rattle.roots.specs.Root.{log_start, HoldsRoot}
 use Rattle.gatelog.specs.Log.{HoldsLog}
 
 -- The root counts, and the log is the one behind its pages, with these payloads.

@@ -5,7 +5,7 @@ ghost use Rattle.device.specs.Disk.{Only, HasFailed};
 ghost use Rattle.device.specs.Step.{Same};
 ghost use Rattle.device.specs.Run.{Ran};
 ghost use Rattle.gatelog.specs.Log.{HoldsLog};
-ghost use Rattle.checkpoint.specs.Root.{log_start};
+ghost use Rattle.roots.specs.Root.{log_start};
 ghost use Rattle.names.specs.declared.format.Rules.{Rules};
 ghost use Rattle.apicore.specs.Standing.{History, IsHistory};
 ghost use Rattle.durable.specs.declared.fault.Damage.{Damage};
@@ -19,10 +19,11 @@ ghost use Rattle.durable.specs.Stands.{HoldsBase, StandsFor};
 
 use crate::fault::Fault;
 use apicore::{Core, replayed};
-use checkpoint::{Root, counted_root, scan};
+use checkpoint::scan;
 use device::Device;
 use gatelog::Log;
 use names::{Format, Rules};
+use roots::{Root, counted_root};
 use snapshots::{Gathered, restored};
 use std::alloc::Global;
 

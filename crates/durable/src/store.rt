@@ -9,12 +9,13 @@ use crate::fault::{Damage, Fault};
 use crate::opening::synced_store;
 use crate::record::gather;
 use apicore::{Core, Prepared, has_own_plans, prepare};
-use checkpoint::{EntryList, Root, WriteFault, write};
+use checkpoint::{EntryList, WriteFault, write};
 use device::{Device, MemDevice};
 use gatelog::{Body, Log};
 use history::Reply;
 use records::{GROUP_LIMIT, Group};
 use requests::Request;
+use roots::Root;
 use snapshots::entries_in;
 use std::alloc::Global;
 
@@ -51,7 +52,7 @@ impl<D: Device> Store<D> {
     ghost use Rattle.gatelog.specs.Log.{HoldsLog};
     ghost use Rattle.gatelog.specs.Payload.{payload_of};
     ghost use Rattle.std.specs.Vec.{vec_capacity};
-    ghost use Rattle.checkpoint.specs.Root.{log_start, HoldsRoot};
+    ghost use Rattle.roots.specs.Root.{log_start, HoldsRoot};
     ghost use Rattle.names.specs.declared.format.Rules.{Rules};
     ghost use Rattle.requests.specs.RequestOf.{request_of};
     ghost use Rattle.history.specs.View.{view};

@@ -6,9 +6,9 @@ use Rattle.device.specs.Run.{Ran}
 use Rattle.device.specs.Step.{Same}
 use Rattle.gatelog.specs.Record.{part}
 use Rattle.pages.specs.Page.{Entry, entries_in}
-use Rattle.checkpoint.specs.declared.root.Root.{Root}
+use Rattle.roots.specs.declared.root.Root.{Root}
 use Rattle.checkpoint.specs.Pages.{pages_at, pages_of_root, joined, AreSound, IsIndex}
-use Rattle.checkpoint.specs.Root.{log_start}
+use Rattle.roots.specs.Root.{log_start}
 use Rattle.checkpoint.proofs.Joining.{page_at}
 use Rattle.shelf.specs.declared.shelf.Shelf.{Shelf}
 use Rattle.shelf.specs.Shelf.{device_of, root_of, firsts_of, pages_of, IsHeld, Shelves}

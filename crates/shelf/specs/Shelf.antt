@@ -5,7 +5,7 @@ use Rattle.std.specs.Map.{lookup}
 use Rattle.std.specs.Option.{option_map_or}
 use Rattle.device.specs.declared.device.Device.{Ghosts}
 use Rattle.pages.specs.Page.{Entry, bytes_cmp}
-use Rattle.checkpoint.specs.declared.root.Root.{Root}
+use Rattle.roots.specs.declared.root.Root.{Root}
 use Rattle.checkpoint.specs.Pages.{pages_of_root, joined, AreSound, IsIndex}
 use Rattle.checkpoint.specs.Index.{keys_of}
 use Rattle.shelf.specs.declared.shelf.Shelf.{Shelf}

@@ -6,7 +6,7 @@ ghost use Rattle.device.specs.Disk.{HasFailed};
 ghost use Rattle.device.specs.Step.{Same};
 ghost use Rattle.device.specs.Run.{Ran};
 ghost use Rattle.pages.specs.Page.{Entry, bytes_cmp};
-ghost use Rattle.checkpoint.specs.Root.{log_start};
+ghost use Rattle.roots.specs.Root.{log_start};
 ghost use Rattle.checkpoint.specs.Reader.{IsRefused};
 ghost use Rattle.shelf.specs.Places.{is_at_or_below, may_begin};
 ghost use Rattle.shelf.specs.Prefix.{beginning};
@@ -14,10 +14,11 @@ ghost use Rattle.shelf.specs.declared.fault.ShelfFault.TheVariants as ShelfFault
 
 use crate::fault::ShelfFault;
 use crate::page::{read_page, tell_page};
-use checkpoint::{Reader, Root};
+use checkpoint::Reader;
 use device::Device;
 use lru::LruCache;
 use pages::{OwnedPage, Page};
+use roots::Root;
 use std::alloc::Global;
 use std::num::NonZeroUsize;
 

@@ -1,8 +1,8 @@
 use Rattle.std.proofs.Common.{refl}
-use Rattle.checkpoint.specs.declared.root.Root.{Root}
-use Rattle.checkpoint.specs.declared.root.Slot.TheVariants.{A}
-use Rattle.checkpoint.specs.NewStore.{new_content}
-use Rattle.checkpoint.proofs.NewStore.{new_content-root, new_content-log}
+use Rattle.roots.specs.declared.root.Root.{Root}
+use Rattle.roots.specs.declared.root.Slot.TheVariants.{A}
+use Rattle.roots.specs.NewStore.{new_content}
+use Rattle.roots.proofs.NewStore.{new_content-root, new_content-log}
 use Rattle.durable.proofs.Beginning.{stands_new}
 use Rattle.durable.proofs.laws.new_store_is_empty.Goals as goal
 

@@ -1,6 +1,6 @@
 use Rattle.std.proofs.Common.{◌≡◌, ◌∙◌, sym, ap, subst, ⊎_elim, inl, inr, List, ℕ, map, Err}
 use Rattle.gatelog.specs.Log.{HoldsLog}
-use Rattle.checkpoint.specs.Root.{log_start}
+use Rattle.roots.specs.Root.{log_start}
 use Rattle.names.specs.declared.format.Rules.{Rules}
 use Rattle.apicore.specs.Beside.{Beside}
 use Rattle.apicore.specs.Standing.{with_plans, write_with_plans}

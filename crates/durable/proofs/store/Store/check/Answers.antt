@@ -1,5 +1,5 @@
 use Rattle.std.proofs.Common.{ap}
-use Rattle.checkpoint.specs.declared.root.Root.{Root}
+use Rattle.roots.specs.declared.root.Root.{Root}
 use Rattle.durable.proofs.Keeping.{root_is}
 use Rattle.durable.proofs.store.Store.check.Goals as goal
 

@@ -12,7 +12,7 @@ use Rattle.apicore.proofs.Histories.{on_ok_to}
 use Rattle.durable.specs.Settled.{device_of, IsFound}
 use Rattle.durable.proofs.Answering.{held, settled_by}
 use Rattle.durable.proofs.Findings.{found_none, leaves-idle}
-use Rattle.checkpoint.specs.declared.root.Root.{Root}
+use Rattle.roots.specs.declared.root.Root.{Root}
 use Rattle.durable.proofs.Keeping.{root_is}
 use Rattle.durable.proofs.Reading.{history_kept}
 use Rattle.durable.proofs.store.Store.compact.Goals as goal

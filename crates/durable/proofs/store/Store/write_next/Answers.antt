@@ -3,9 +3,9 @@ use Rattle.std.proofs.Math.Logic.{∥∥₁_elim, ∥∥₁_prop}
 use Rattle.std.proofs.lemmas.Grind.{merely}
 use Rattle.device.specs.Run.{Stands}
 use Rattle.checkpoint.specs.Filling.{AllFit}
-use Rattle.checkpoint.specs.Root.{log_start, HoldsRoot}
+use Rattle.roots.specs.Root.{log_start, HoldsRoot}
 use Rattle.gatelog.specs.Log.{HoldsLog}
-use Rattle.checkpoint.specs.declared.root.Root.{Root}
+use Rattle.roots.specs.declared.root.Root.{Root}
 use Rattle.pages.specs.Page.{Entry}
 use Rattle.names.specs.declared.format.Rules.{Rules}
 use Rattle.snapshots.proofs.Kept.{entries_fit}

@@ -2,7 +2,7 @@ use Rattle.std.proofs.Common.{rules, arith, ◌≡◌, ◌∙◌, sym, ap, subst
 use Rattle.std.specs.FinMap.{find}
 use Rattle.pages.specs.Page.{bytes_cmp}
 use Rattle.checkpoint.specs.Pages.{IsIndex}
-use Rattle.checkpoint.specs.declared.root.Root.{Root}
+use Rattle.roots.specs.declared.root.Root.{Root}
 use Rattle.shelf.specs.Places.{is_at_or_below, IsSplit}
 use Rattle.shelf.specs.Shelf.{root_of, firsts_of, pages_of}
 use Rattle.shelf.proofs.Places.{brought_none, brought_some}

@@ -1,5 +1,0 @@
-use Rattle.checkpoint.proofs.Counting.{one_counts}
-use Rattle.checkpoint.proofs.root.Root.log_start.Goals as goal
-
-pub returns-clause-one_root : goal.returns-clause-one_root
-returns-clause-one_root c = one_counts

@@ -1,0 +1,10 @@
+pub mod Counting
+pub mod Zeros
+pub mod Fronts
+pub mod Laying
+pub mod NewStore
+pub mod Steps
+pub mod Chain
+pub mod Staging
+pub mod Installing
+pub mod Placing

@@ -1,0 +1,4 @@
+pub mod Root
+pub mod Front
+pub mod NewStore
+pub mod Install

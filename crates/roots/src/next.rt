@@ -1,0 +1,58 @@
+//! Where the next generation of a store goes.
+
+ghost use Rattle.std.specs.Prelude.{◌≡◌, ◌<◌, ◌≤◌, ◌+◌, ◌-◌, ◌*◌, ◌^◌, ◌↔◌, IfOk, IsErr};
+ghost use Rattle.roots.specs.Root.{log_start};
+ghost use Rattle.roots.specs.Install.{IsPlace, IsNext};
+
+use crate::root::Root;
+
+/// The generation in use is the last one that a root can tell, 2^64 - 1.
+#[derive(Clone, Copy)]
+pub struct Exhausted;
+
+/// The first sector of a generation of so many pages, of 64 sectors each, while another is in use that begins at the sector `start` and
+/// whose log ends with the gate in the sector `last_gate`: sector 8 where the pages and one gate fit before that one, and else the sector
+/// behind its log.
+pub fn place(start: u64, last_gate: u64, pages: u32) -> u64
+    requires { last_gate < 2 ^ 54 }
+    ensures { IsPlace start last_gate pages result }
+{
+    if 8 + 64 * u64::from(pages) + 1 <= start {
+        8
+    } else {
+        last_gate + 1
+    }
+}
+
+/// The root of the next generation, of so many pages and for this revision, while `current` counts and its log ends with the gate in the
+/// sector `last_gate`. It is in the other slot, and its pages and first gate lie off the generation in use. Nothing is written.
+///
+/// # Errors
+///
+/// `Exhausted` where `current` is of the greatest generation.
+pub fn next_root(
+    current: &Root,
+    last_gate: u64,
+    pages: u32,
+    revision: u64,
+) -> Result<Root, Exhausted>
+    requires in_data { 8 ≤ last_gate }
+    requires room { last_gate < 2 ^ 54 }
+    ensures next { IfOk result (IsNext current.now last_gate) }
+    ensures place { IfOk result (λ next. IsPlace current.now.first last_gate pages next.first) }
+    ensures room { IfOk result (λ next. log_start next < 2 ^ 64) }
+    ensures pages { IfOk result (λ next. next.pages ≡ pages) }
+    ensures revision { IfOk result (λ next. next.revision ≡ revision) }
+    ensures exhausted { IsErr result ↔ (current.now.generation ≡ 2 ^ 64 - 1) }
+{
+    if current.generation == u64::MAX {
+        return Err(Exhausted);
+    }
+    Ok(Root {
+        slot: current.slot.other(),
+        generation: current.generation + 1,
+        first: place(current.first, last_gate, pages),
+        pages,
+        revision,
+    })
+}

@@ -1,0 +1,145 @@
+//! A root and its sector.
+
+ghost use Rattle.std.specs.Prelude.{◌≡◌, ◌≤◌, ◌*◌, ℕ, length, take, codes, slice_index, EachIndex, IsTrue, ◌↔◌, IfSome, IfNone};
+ghost use Rattle.roots.specs.Root.{IsHeader};
+
+use byteorder::{BigEndian, ByteOrder};
+
+pub(crate) const ROOT_MARK: &[u8; 8] = b"GATEROOT";
+
+pub(crate) const HEADER_MARK: &[u8; 8] = b"GATESTOR";
+
+/// The two places of a root, each with a gate behind it.
+#[derive(Clone, Copy)]
+pub enum Slot {
+    /// Sector 1, with its gate in sector 2.
+    A,
+    /// Sector 3, with its gate in sector 4.
+    B,
+}
+
+/// A root: where a generation of a store lies.
+#[derive(Clone, Copy)]
+pub struct Root {
+    /// Where the root itself stands.
+    pub slot: Slot,
+    /// Which generation it is; each is one more than the one before.
+    pub generation: u64,
+    /// The generation's first sector, at least 8.
+    pub first: u64,
+    /// How many pages it has, of 64 sectors each.
+    pub pages: u32,
+    /// The store's revision when the pages were written.
+    pub revision: u64,
+}
+
+impl Slot {
+    ghost use Rattle.roots.specs.Root.{root_sector, gate_sector, other};
+
+    /// The other one.
+    pub(crate) fn other(self) -> Slot
+        ensures { result ≡ other self }
+    {
+        match self {
+            Slot::A => Slot::B,
+            Slot::B => Slot::A,
+        }
+    }
+
+    /// The sector of the root.
+    pub(crate) fn root_sector(self) -> usize
+        ensures { result ≡ root_sector self }
+    {
+        match self {
+            Slot::A => 1,
+            Slot::B => 3,
+        }
+    }
+
+    /// The sector of the root's gate.
+    pub(crate) fn gate_sector(self) -> usize
+        ensures { result ≡ gate_sector self }
+    {
+        match self {
+            Slot::A => 2,
+            Slot::B => 4,
+        }
+    }
+}
+
+fn has_root_mark(sector: &[u8]) -> bool
+    requires { 8 ≤ length sector.now }
+    ensures { IsTrue result ↔ (take 8 sector.now ≡ codes "GATEROOT") }
+{
+    sector[..8] == ROOT_MARK[..]
+}
+
+fn has_header_mark(sector: &[u8]) -> bool
+    requires { 8 ≤ length sector.now }
+    ensures { IsTrue result ↔ (take 8 sector.now ≡ codes "GATESTOR") }
+{
+    sector[..8] == HEADER_MARK[..]
+}
+
+fn is_zero(bytes: &[u8]) -> bool
+    ensures { IsTrue result ↔ EachIndex bytes.now (λ k. slice_index bytes.now k ≡ 0) }
+{
+    bytes.iter().all(|byte| *byte == 0)
+}
+
+impl Root {
+    ghost use Rattle.std.specs.Prelude.{◌<◌, ◌^◌};
+    ghost use Rattle.roots.specs.Root.{IsRoot, log_start, AtMostOneRoot};
+
+    /// The first gate of the log, behind the pages, in sectors from the file's start. Of two roots in one file only one
+    /// counts (`one_root`), so a file has one log.
+    pub fn log_start(&self) -> u64
+        requires { log_start self.now < 2 ^ 64 }
+        ensures place { result ≡ log_start self.now }
+        ensures one_root { AtMostOneRoot }
+    {
+        self.first + 64 * u64::from(self.pages)
+    }
+
+    /// The root that a sector spells, if it spells one.
+    pub(crate) fn read(slot: Slot, sector: &[u8]) -> Option<Root>
+        requires { length sector.now ≡ 512 }
+        ensures some { IfSome result (λ root. (root.slot ≡ slot) × IsRoot root sector.now) }
+        ensures none { IfNone result ((root : Root) → IsRoot root sector.now → ⊥) }
+    {
+        if !has_root_mark(sector) {
+            return None;
+        }
+        if !is_zero(&sector[36..]) {
+            return None;
+        }
+        let first = BigEndian::read_u64(&sector[16..]);
+        if first < 8 {
+            return None;
+        }
+        Some(Root {
+            slot,
+            generation: BigEndian::read_u64(&sector[8..]),
+            first,
+            pages: BigEndian::read_u32(&sector[24..]),
+            revision: BigEndian::read_u64(&sector[28..]),
+        })
+    }
+}
+
+/// Whether a sector is the header of a store's file.
+pub(crate) fn is_header(sector: &[u8]) -> bool
+    requires { length sector.now ≡ 512 }
+    ensures { IsTrue result ↔ IsHeader sector.now }
+{
+    if !has_header_mark(sector) {
+        return false;
+    }
+    if BigEndian::read_u32(&sector[8..]) != 1 {
+        return false;
+    }
+    if BigEndian::read_u32(&sector[12..]) != 512 {
+        return false;
+    }
+    is_zero(&sector[16..])
+}
