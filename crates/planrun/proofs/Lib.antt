@@ -1,4 +1,3 @@
-pub mod Stacks
 pub mod Lengths
 pub mod Ways
 pub mod Early

@@ -9,10 +9,7 @@
 #![tactic(auto)]
 
 mod bindings;
-mod held;
 mod machine;
-mod operations;
-mod stack;
 
 pub use bindings::Bindings;
 pub use machine::run;

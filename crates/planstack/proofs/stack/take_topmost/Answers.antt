@@ -1,6 +1,6 @@
 use Rattle.std.proofs.Common.{◌<◌, arith}
-use Rattle.planrun.proofs.Stacks.{taken_on, left_on}
-use Rattle.planrun.proofs.stack.take_topmost.Goals as goal
+use Rattle.planstack.proofs.Stacks.{taken_on, left_on}
+use Rattle.planstack.proofs.stack.take_topmost.Goals as goal
 
 pub loop-preserved : goal.loop-preserved
 loop-preserved c =

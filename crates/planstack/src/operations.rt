@@ -9,7 +9,7 @@ ghost use Rattle.celmean.specs.Functions.{called, method_called};
 ghost use Rattle.celmean.specs.Seen.{outcome_of, outcomes_seen, outcome_pairs_seen};
 ghost use Rattle.instructions.specs.Judging.{operand_count};
 ghost use Rattle.plan.specs.Machine.{on_one, on_two, on_call, in_pairs, operator};
-ghost use Rattle.planrun.specs.Seen.{stack_seen};
+ghost use Rattle.planstack.specs.Seen.{stack_seen};
 
 use crate::held::{Held, field, has, index, into_outcome};
 use crate::stack::{pop, pop_outcomes, pop_two, push, put, take_many, take_topmost};
@@ -19,11 +19,7 @@ use instructions::{Binary, Function};
 use std::alloc::{AllocError, Global};
 
 /// `e.name`
-pub(crate) fn take_field(
-    alloc: Global,
-    name: &str,
-    stack: &mut Vec<Held<'_>>,
-) -> Result<(), AllocError>
+pub fn take_field(alloc: Global, name: &str, stack: &mut Vec<Held<'_>>) -> Result<(), AllocError>
     requires { 1 ≤ length stack.old.items }
     ensures { OnOk result (stack_seen stack.new.items ≡ on_one (with_value (member name.now)) (stack_seen stack.old.items)) }
 {
@@ -32,11 +28,7 @@ pub(crate) fn take_field(
 }
 
 /// `has(e.name)`
-pub(crate) fn take_has(
-    alloc: Global,
-    name: &str,
-    stack: &mut Vec<Held<'_>>,
-) -> Result<(), AllocError>
+pub fn take_has(alloc: Global, name: &str, stack: &mut Vec<Held<'_>>) -> Result<(), AllocError>
     requires { 1 ≤ length stack.old.items }
     ensures { OnOk result (stack_seen stack.new.items ≡ on_one (with_value (has_member name.now)) (stack_seen stack.old.items)) }
 {
@@ -45,7 +37,7 @@ pub(crate) fn take_has(
 }
 
 /// `e[i]`
-pub(crate) fn take_index(alloc: Global, stack: &mut Vec<Held<'_>>) -> Result<(), AllocError>
+pub fn take_index(alloc: Global, stack: &mut Vec<Held<'_>>) -> Result<(), AllocError>
     requires { 2 ≤ length stack.old.items }
     ensures { OnOk result (stack_seen stack.new.items ≡ on_two (with_values indexed) (stack_seen stack.old.items)) }
 {
@@ -54,11 +46,7 @@ pub(crate) fn take_index(alloc: Global, stack: &mut Vec<Held<'_>>) -> Result<(),
 }
 
 /// `[a, b]`
-pub(crate) fn take_list(
-    alloc: Global,
-    count: usize,
-    stack: &mut Vec<Held<'_>>,
-) -> Result<(), AllocError>
+pub fn take_list(alloc: Global, count: usize, stack: &mut Vec<Held<'_>>) -> Result<(), AllocError>
     requires { count ≤ length stack.old.items }
     ensures { OnOk result (stack_seen stack.new.items ≡ list_of (reverse (take count (stack_seen stack.old.items))) ∷ drop count (stack_seen stack.old.items)) }
 {
@@ -94,11 +82,7 @@ fn pairs_of(alloc: Global, outcomes: Vec<Outcome>) -> Result<Vec<(Outcome, Outco
 }
 
 /// `{k: v, l: w}`
-pub(crate) fn take_map(
-    alloc: Global,
-    count: u16,
-    stack: &mut Vec<Held<'_>>,
-) -> Result<(), AllocError>
+pub fn take_map(alloc: Global, count: u16, stack: &mut Vec<Held<'_>>) -> Result<(), AllocError>
     requires { count + count ≤ length stack.old.items }
     ensures { OnOk result (stack_seen stack.new.items ≡ map_of (in_pairs (reverse (take (count + count) (stack_seen stack.old.items)))) ∷ drop (count + count) (stack_seen stack.old.items)) }
 {
@@ -108,7 +92,7 @@ pub(crate) fn take_map(
 }
 
 /// `!e` or `-e`
-pub(crate) fn take_unary(
+pub fn take_unary(
     alloc: Global,
     prefix: Prefix,
     stack: &mut Vec<Held<'_>>,
@@ -146,7 +130,7 @@ fn on_outcomes(binary: Binary, left: &Outcome, right: &Outcome) -> Result<Outcom
 }
 
 /// `a + b` and the like.
-pub(crate) fn take_binary(
+pub fn take_binary(
     alloc: Global,
     binary: Binary,
     stack: &mut Vec<Held<'_>>,
@@ -159,7 +143,7 @@ pub(crate) fn take_binary(
 }
 
 /// `a && b`
-pub(crate) fn take_both(alloc: Global, stack: &mut Vec<Held<'_>>) -> Result<(), AllocError>
+pub fn take_both(alloc: Global, stack: &mut Vec<Held<'_>>) -> Result<(), AllocError>
     requires { 2 ≤ length stack.old.items }
     ensures { OnOk result (stack_seen stack.new.items ≡ on_two both (stack_seen stack.old.items)) }
 {
@@ -168,7 +152,7 @@ pub(crate) fn take_both(alloc: Global, stack: &mut Vec<Held<'_>>) -> Result<(), 
 }
 
 /// `a || b`
-pub(crate) fn take_either(alloc: Global, stack: &mut Vec<Held<'_>>) -> Result<(), AllocError>
+pub fn take_either(alloc: Global, stack: &mut Vec<Held<'_>>) -> Result<(), AllocError>
     requires { 2 ≤ length stack.old.items }
     ensures { OnOk result (stack_seen stack.new.items ≡ on_two either (stack_seen stack.old.items)) }
 {
@@ -206,7 +190,7 @@ fn take_texts(alloc: Global, name: &str, stack: &mut Vec<Held<'_>>) -> Result<()
 }
 
 /// A call of a function.
-pub(crate) fn take_call(
+pub fn take_call(
     alloc: Global,
     function: Function,
     stack: &mut Vec<Held<'_>>,

@@ -1,7 +1,7 @@
 use Rattle.std.proofs.Common.{◌≡◌, ◌++◌, ◌+◌, ◌-◌, ◌≤◌, take, drop, length}
 use Rattle.celmean.specs.Seen.{outcomes_seen}
-use Rattle.planrun.specs.Seen.{stack_seen}
-use Rattle.planrun.proofs.stack.take_topmost.Given as goal
+use Rattle.planstack.specs.Seen.{stack_seen}
+use Rattle.planstack.proofs.stack.take_topmost.Given as goal
 
 abbrev pub invariant-loop : goal.invariant-loop
 invariant-loop l = record {

@@ -3,14 +3,14 @@
 ghost use Rattle.std.specs.Prelude.{◌≡◌, ◌≤◌, ◌+◌, ◌∷◌, reverse, take, drop, length, OnOk, IfOk};
 ghost use Rattle.celmean.specs.Seen.{outcome_of, outcomes_seen};
 ghost use Rattle.plan.specs.Machine.{top};
-ghost use Rattle.planrun.specs.Seen.{held_seen, stack_seen};
+ghost use Rattle.planstack.specs.Seen.{held_seen, stack_seen};
 
 use crate::held::{Held, into_outcome};
 use celmean::Outcome;
 use std::alloc::{AllocError, Global};
 
 /// Puts one on top.
-pub(crate) fn push<'a>(stack: &mut Vec<Held<'a>>, held: Held<'a>) -> Result<(), AllocError>
+pub fn push<'a>(stack: &mut Vec<Held<'a>>, held: Held<'a>) -> Result<(), AllocError>
     ensures { OnOk result (stack_seen stack.new.items ≡ held_seen held.entry ∷ stack_seen stack.old.items) }
 {
     stack.push(held)?;
@@ -18,14 +18,14 @@ pub(crate) fn push<'a>(stack: &mut Vec<Held<'a>>, held: Held<'a>) -> Result<(), 
 }
 
 /// Puts an outcome on top.
-pub(crate) fn put(stack: &mut Vec<Held<'_>>, outcome: Outcome) -> Result<(), AllocError>
+pub fn put(stack: &mut Vec<Held<'_>>, outcome: Outcome) -> Result<(), AllocError>
     ensures { OnOk result (stack_seen stack.new.items ≡ outcome_of outcome ∷ stack_seen stack.old.items) }
 {
     push(stack, Held::Owned(outcome))
 }
 
 /// The topmost one.
-pub(crate) fn topmost<'s, 'a>(stack: &'s Vec<Held<'a>>) -> &'s Held<'a>
+pub fn topmost<'s, 'a>(stack: &'s Vec<Held<'a>>) -> &'s Held<'a>
     requires { 1 ≤ length stack.now.items }
     ensures { held_seen result.now ≡ top (stack_seen stack.now.items) }
 {
@@ -36,7 +36,7 @@ pub(crate) fn topmost<'s, 'a>(stack: &'s Vec<Held<'a>>) -> &'s Held<'a>
 }
 
 /// Takes the topmost one.
-pub(crate) fn pop<'a>(stack: &mut Vec<Held<'a>>) -> Held<'a>
+pub fn pop<'a>(stack: &mut Vec<Held<'a>>) -> Held<'a>
     requires { 1 ≤ length stack.old.items }
     ensures taken { stack_seen stack.old.items ≡ held_seen result ∷ stack_seen stack.new.items }
     ensures shorter { length stack.new.items + 1 ≡ length stack.old.items }
@@ -73,7 +73,7 @@ pub(crate) fn pop_outcomes(
 }
 
 /// Takes the topmost outcome.
-pub(crate) fn take_top(alloc: Global, stack: &mut Vec<Held<'_>>) -> Result<Outcome, AllocError>
+pub fn take_top(alloc: Global, stack: &mut Vec<Held<'_>>) -> Result<Outcome, AllocError>
     requires { 1 ≤ length stack.old.items }
     ensures taken { IfOk result (λ o. outcome_of o ≡ top (stack_seen stack.old.items)) }
     ensures shorter { length stack.new.items + 1 ≡ length stack.old.items }

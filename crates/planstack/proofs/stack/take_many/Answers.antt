@@ -1,7 +1,7 @@
 use Rattle.std.proofs.Common.{◌∙◌, ap, reverse}
 use Rattle.celmean.specs.Seen.{outcomes_seen}
-use Rattle.planrun.proofs.Stacks.{outcomes-reverse}
-use Rattle.planrun.proofs.stack.take_many.Goals as goal
+use Rattle.planstack.proofs.Stacks.{outcomes-reverse}
+use Rattle.planstack.proofs.stack.take_many.Goals as goal
 
 pub returns-clause-taken : goal.returns-clause-taken
 returns-clause-taken c =

@@ -1,7 +1,7 @@
 use Rattle.std.proofs.Common.{◌≡◌, ◌++◌, reverse, vec_len}
 use Rattle.celmean.specs.Seen.{outcomes_seen, outcome_pairs_seen}
 use Rattle.plan.specs.Machine.{in_pairs}
-use Rattle.planrun.proofs.operations.pairs_of.Given as goal
+use Rattle.planstack.proofs.operations.pairs_of.Given as goal
 
 abbrev pub invariant-pairs : goal.invariant-pairs
 invariant-pairs l = outcome_pairs_seen l.pairs.items ++ in_pairs (reverse (outcomes_seen l.outcomes.items)) ≡ in_pairs (reverse (outcomes_seen l.initial.outcomes.items))

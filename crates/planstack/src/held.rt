@@ -7,7 +7,7 @@ ghost use Rattle.celmean.specs.Collections.{member, has_member, indexed};
 ghost use Rattle.celmean.specs.Macros.{is_true, is_false};
 ghost use Rattle.celmean.specs.Seen.{outcome_of};
 ghost use Rattle.celvalues.specs.Documents.{json_value};
-ghost use Rattle.planrun.specs.Seen.{held_seen};
+ghost use Rattle.planstack.specs.Seen.{held_seen};
 
 use celmean::{Outcome, Value, has_member_of, index_of, member_of};
 use celvalues::{has_member, item, member, value_of};
@@ -16,7 +16,7 @@ use std::alloc::{AllocError, Global};
 
 /// What the stack of the machine holds.
 #[derive(Drop)]
-pub(crate) enum Held<'a> {
+pub enum Held<'a> {
     /// A part of a document, where it lies.
     Document(&'a Json),
     /// An outcome.
@@ -24,7 +24,7 @@ pub(crate) enum Held<'a> {
 }
 
 /// The outcome: a part of a document is copied.
-pub(crate) fn into_outcome(alloc: Global, held: Held<'_>) -> Result<Outcome, AllocError>
+pub fn into_outcome(alloc: Global, held: Held<'_>) -> Result<Outcome, AllocError>
     ensures { IfOk result (λ o. outcome_of o ≡ held_seen held.entry) }
 {
     match held {
@@ -140,7 +140,7 @@ fn is_false_document(document: &Json) -> bool
 }
 
 /// Whether it is true.
-pub(crate) fn is_true(held: &Held<'_>) -> bool
+pub fn is_true(held: &Held<'_>) -> bool
     ensures { result ≡ is_true (held_seen held.now) }
 {
     match held {
@@ -150,7 +150,7 @@ pub(crate) fn is_true(held: &Held<'_>) -> bool
 }
 
 /// Whether it is false.
-pub(crate) fn is_false(held: &Held<'_>) -> bool
+pub fn is_false(held: &Held<'_>) -> bool
     ensures { result ≡ is_false (held_seen held.now) }
 {
     match held {
