@@ -27,7 +27,8 @@ use Rattle.api.specs.declared.fault.ServeFault.{ServeFault}
 use Rattle.api.specs.declared.fault.ServeFault.TheVariants.{Device, Failed}
 use Rattle.api.specs.ReplyBytes.{reply_bytes, closing_bytes}
 use Rattle.api.specs.AnswerBytes.{answers_bytes, CanAnswerAll}
-use Rattle.api.specs.Answers.{Answered, served, asked_of, messages, AreRead, all_writes, all_bytes, HasGrown, ShowsAt, HasApplied, Answers, WritesSome, MeetsFailure, Stops}
+use Rattle.objects.specs.Failing.{HasGrown}
+use Rattle.api.specs.Answers.{Answered, served, asked_of, messages, AreRead, all_writes, all_bytes, ShowsAt, HasApplied, Answers, WritesSome, MeetsFailure, Stops}
 use Rattle.api.proofs.Codes.{request_code}
 use Rattle.api.proofs.Folds.{fails_at, fails_before}
 

@@ -1,8 +1,9 @@
 -- What the answers to messages write, on the wire and to the store.
-use Rattle.std.specs.Prelude.{◌≡◌, ◌≢◌, ℕ, ◌<◌, ◌≤◌, ◌-◌, ◌^◌, ◌⊎◌, List, [], ◌∷◌, ◌++◌, length, map, Bool, true, false, if◌then◌else◌, Result, Err, IsErrOf, OnOk}
+use Rattle.std.specs.Prelude.{◌≡◌, ◌≢◌, ℕ, ◌≤◌, ◌⊎◌, List, [], ◌∷◌, ◌++◌, length, map, Bool, true, false, if◌then◌else◌, Result, Err, IsErrOf, OnOk}
 use Rattle.std.specs.List.{AllByRecursion}
 use Rattle.celtree.specs.Tree.{Expr}
 use Rattle.device.specs.declared.device.Device.{Ghosts}
+use Rattle.objects.specs.Failing.{HasGrown}
 use Rattle.requests.specs.declared.refusal.Refusal.TheVariants.{OutOfMemory, StorageFailed}
 use Rattle.expressions.specs.Specification.{Specification}
 use Rattle.apicore.specs.Standing.{Write, History, View, AreAdmitted}
@@ -68,10 +69,6 @@ all_bytes rules v (a ∷ more) = reply_bytes a.message (reply_of rules v a) ++ a
 abbrev pub AllRefused : List Answered → Type 0
 AllRefused [] = Unit {0}
 AllRefused (a ∷ more) = (a.is_served ≡ false) × AllRefused more
-
--- failures grew, or can grow no more
-abbrev pub HasGrown : (before now : ℕ) → Type 0
-HasGrown before now = (before < now) ⊎ (now ≡ 2 ^ 64 - 1)
 
 -- ---- what a call that answers messages leaves
 

@@ -14,7 +14,8 @@ use Rattle.httpmsg.specs.Stream.{Message, IsStream, Progress, IsCut}
 use Rattle.api.specs.declared.fault.ServeFault.{ServeFault}
 use Rattle.api.specs.declared.fault.ServeFault.TheVariants as ServeFaults
 use Rattle.api.specs.ReplyBytes.{closing_bytes, end_bytes}
-use Rattle.api.specs.Answers.{Answered, messages, AreRead, all_writes, all_bytes, AllRefused, WhereSettled, HasApplied, HasGrown}
+use Rattle.objects.specs.Failing.{HasGrown}
+use Rattle.api.specs.Answers.{Answered, messages, AreRead, all_writes, all_bytes, AllRefused, WhereSettled, HasApplied}
 
 -- The whole input was read and is this stream, or whatever follows what was read, the stream is this.
 abbrev pub Ends : (ended : Type 0) → (read : List ℕ) → List Message → End → Type 0

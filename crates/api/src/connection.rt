@@ -5,7 +5,8 @@ ghost use Rattle.names.specs.declared.format.Rules.{Rules};
 ghost use Rattle.apicore.specs.Standing.{View};
 ghost use Rattle.durable.specs.Settled.{device_of, serves};
 ghost use Rattle.durable.specs.declared.fault.Damage.{Damage as DamageData};
-ghost use Rattle.api.specs.Answers.{ShowsAt, HasGrown};
+ghost use Rattle.objects.specs.Failing.{HasGrown};
+ghost use Rattle.api.specs.Answers.{ShowsAt};
 ghost use Rattle.api.specs.Serving.{HasEnded, HasReadSome, HasWrittenSome, HasFailed, HasLackedMemory, HasStopped, HasAllCauses, Exchanged};
 
 use crate::fault::ServeFault;

@@ -9,7 +9,8 @@ ghost use Rattle.httpmsg.specs.declared.head.BrokenMessage.{BrokenMessage as Bro
 ghost use Rattle.httpmsg.specs.Flow.{TookSome};
 ghost use Rattle.httpmsg.specs.Stream.{Message as MessageData, IsCut};
 ghost use Rattle.httpmsg.specs.declared.head.End.{End as EndData};
-ghost use Rattle.api.specs.Answers.{ShowsAt, HasCauses, HasGrown};
+ghost use Rattle.objects.specs.Failing.{HasGrown};
+ghost use Rattle.api.specs.Answers.{ShowsAt, HasCauses};
 ghost use Rattle.api.specs.ReplyBytes.{closing_bytes, end_bytes};
 ghost use Rattle.api.specs.Serving.{HasAllCauses};
 ghost use Rattle.api.specs.Piece.{Tells, Breaks, Steps, StepsWrong, Finishes, FinishesInPart};

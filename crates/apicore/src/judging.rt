@@ -26,11 +26,12 @@ use documents::Document;
 use history::{PreparedWrite, Reply};
 use matching::{Attempt, Operation};
 use names::Key;
+use objects::LookupFault;
 use plancode::Verified;
 use requests::Manifest;
 use serde_json::Value;
 use std::alloc::{AllocError, Global};
-use verdict::{LookupFault, Verdict, admit};
+use verdict::{Verdict, admit};
 
 // The verdict of what the core shows on a write.
 #[tactic(auto, using(crate::proofs::Finding::sees_shown, crate::proofs::Finding::have_trees))]

@@ -9,10 +9,10 @@ use crate::prepared::Core;
 use history::Stored;
 use jsondoc::Doc;
 use names::{Key, Resource};
-use objects::Entry;
+use objects::{Entry, LookupFault};
 use policy::Wanted;
 use std::alloc::{AllocError, Global};
-use verdict::{Found, Listed, Lookup, LookupFault, wanted_among};
+use verdict::{Found, Listed, Lookup, wanted_among};
 
 /// A core, as objects are looked up in it.
 #[derive(Drop)]

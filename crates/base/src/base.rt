@@ -8,8 +8,9 @@ ghost use Rattle.stock.specs.declared.fault.StockFault.TheVariants as StockFault
 use crate::making::FromDocument;
 use device::Device;
 use history::Stored;
-use holdings::{Found, Source, SourceFault};
+use holdings::{Found, Source};
 use names::{Key, Resource};
+use objects::LookupFault;
 use shelf::{Reading, Shelf};
 use std::alloc::{AllocError, Global};
 use stock::{StockFault, Stocked, find, list};
@@ -44,7 +45,7 @@ impl<D: Device, M: Drop> Base<D, M> {
     }
 
     // What is told of a fault; damage is kept in mind.
-    fn told(&mut self, fault: StockFault) -> SourceFault
+    fn told(&mut self, fault: StockFault) -> LookupFault
         ensures fault { result ≡ of_stock_fault fault }
         ensures shelf { self.new.shelf ≡ self.old.shelf }
         ensures making { self.new.making ≡ self.old.making }
@@ -52,12 +53,12 @@ impl<D: Device, M: Drop> Base<D, M> {
         ensures damaged { fault ≡ StockFault.Damaged → self.new.is_damaged ≡ true }
     {
         match fault {
-            StockFault::Device => SourceFault::Device,
+            StockFault::Device => LookupFault::Device,
             StockFault::Damaged => {
                 self.is_damaged = true;
-                SourceFault::Damaged
+                LookupFault::Damaged
             }
-            StockFault::Memory => SourceFault::Memory,
+            StockFault::Memory => LookupFault::Memory,
         }
     }
 }
@@ -125,7 +126,7 @@ impl<P: Drop, D: Device, M: FromDocument<P> + Drop> Source<P> for Base<D, M> {
 
     ghost goes_on = { goes_on };
 
-    fn find(&mut self, alloc: Global, key: &Key) -> Result<Option<Found>, SourceFault> {
+    fn find(&mut self, alloc: Global, key: &Key) -> Result<Option<Found>, LookupFault> {
         match find(alloc, &mut self.shelf, key) {
             Ok(stocked) => Ok(found(stocked)),
             Err(fault) => Err(self.told(fault)),
@@ -137,7 +138,7 @@ impl<P: Drop, D: Device, M: FromDocument<P> + Drop> Source<P> for Base<D, M> {
         alloc: Global,
         resource: Resource,
         namespace: Option<&str>,
-    ) -> Result<Vec<(Key, Stored<P>)>, SourceFault> {
+    ) -> Result<Vec<(Key, Stored<P>)>, LookupFault> {
         match list(
             alloc,
             &mut self.shelf,

@@ -1,6 +1,6 @@
 -- What the program tells of a problem, and how it then ends.
 use Rattle.std.specs.Prelude.{◌≡◌, ℕ, ◌⊎◌, List, [], ◌++◌, codes}
-use Rattle.api.specs.Answers.{HasGrown}
+use Rattle.objects.specs.Failing.{HasGrown}
 use Rattle.api.specs.declared.fault.ServeFault as serve
 use Rattle.api.specs.declared.fault.ServeFault.TheVariants as serve_fault
 use Rattle.device.specs.declared.file_device.CreateFault as file_create

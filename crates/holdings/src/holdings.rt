@@ -16,15 +16,16 @@ ghost use Rattle.history.specs.History as write;
 ghost use Rattle.history.specs.View.{View, stored_at, is_too_large, is_full, is_exhausted, after, after_all};
 ghost use Rattle.holdings.specs.Holdings.{Shows, ShowsSame};
 ghost use Rattle.holdings.specs.Prepared.{IsNext, IsNextPut, IsNextDeletion, HasRoom, puts, writes_of};
-ghost use Rattle.holdings.specs.Sources.{HasGrown, found_in};
-ghost use Rattle.holdings.specs.declared.source.SourceFault.TheVariants as SourceFault;
+ghost use Rattle.objects.specs.Failing.{HasGrown};
+ghost use Rattle.holdings.specs.Sources.{found_in};
+ghost use Rattle.objects.specs.declared.fault.LookupFault.TheVariants as LookupFault;
 
 use crate::prepared::{Deletion, PreparedWrite, Put};
-use crate::source::{Found, Source, SourceFault};
+use crate::source::{Found, Source};
 use documents::Document;
 use history::Stored;
 use names::{Key, Resource, Rules};
-use objects::Entry;
+use objects::{Entry, LookupFault};
 use overlay::{Changes, Lent};
 use requests::Manifest;
 use std::alloc::{AllocError, Global};
@@ -203,13 +204,13 @@ impl<P: Drop> Holdings<P> {
         alloc: Global,
         source: &mut S,
         key: &Key,
-    ) -> Result<Option<Found>, SourceFault>
+    ) -> Result<Option<Found>, LookupFault>
         ensures found { (base : List (KeyData × StoredData P)) (v : View P) → S.holds source.old base → Shows self.now base v
             → IfOk result (λ found. found ≡ option_map found_in (stored_at v key.now)) }
         ensures kept { (base : List (KeyData × StoredData P)) → S.holds source.old base → S.holds source.new base }
         ensures goes { S.goes_to source.old source.new }
-        ensures device { result ≡ Err SourceFault.Device → HasGrown (S.failures source.old) (S.failures source.new) }
-        ensures damaged { result ≡ Err SourceFault.Damaged → S.is_damaged source.new }
+        ensures device { result ≡ Err LookupFault.Device → HasGrown (S.failures source.old) (S.failures source.new) }
+        ensures damaged { result ≡ Err LookupFault.Damaged → S.is_damaged source.new }
     {
         match self.changes.get(key) {
             Some(change) => Ok(found(change)?),

@@ -17,4 +17,4 @@ mod source;
 
 pub use holdings::Holdings;
 pub use prepared::{Deletion, PreparedWrite, Put};
-pub use source::{Found, Source, SourceFault};
+pub use source::{Found, Source};

@@ -5,50 +5,21 @@ ghost use Rattle.std.specs.List.{filter};
 ghost use Rattle.names.specs.Key.{Key as KeyData};
 ghost use Rattle.objects.specs.Objects.{value_at, is_of};
 ghost use Rattle.history.specs.declared.state.Stored.{Stored as StoredData};
-ghost use Rattle.holdings.specs.Sources.{HasGrown, found_in};
-ghost use Rattle.holdings.specs.declared.source.SourceFault.TheVariants as SourceFault;
+ghost use Rattle.objects.specs.Failing.{HasGrown};
+ghost use Rattle.holdings.specs.Sources.{found_in};
+ghost use Rattle.objects.specs.declared.fault.LookupFault.TheVariants as LookupFault;
 
 use documents::Document;
 use history::Stored;
 use names::{Key, Resource};
-use std::alloc::{AllocError, AllocFailed, Global};
-use thiserror::Error;
+use objects::LookupFault;
+use std::alloc::Global;
 
 /// An object that was found: what is stored of it, and the revision of its last write.
 #[derive(Drop)]
 pub struct Found {
     pub document: Document,
     pub revision: u64,
-}
-
-/// Why a source gives no answer.
-#[derive(Clone, Copy, Debug, Drop, Error)]
-pub enum SourceFault {
-    /// The device below it failed.
-    #[error("device failed")]
-    Device,
-    /// What lies below is damaged.
-    #[error("damaged store")]
-    Damaged,
-    /// There was no memory.
-    #[error("out of memory")]
-    Memory,
-}
-
-impl From<AllocError> for SourceFault {
-    ghost from_gives = { λ _ fault. fault ≡ SourceFault.Memory };
-
-    fn from(_: AllocError) -> SourceFault {
-        SourceFault::Memory
-    }
-}
-
-impl<T: Drop> From<AllocFailed<T>> for SourceFault {
-    ghost from_gives = { λ _ fault. fault ≡ SourceFault.Memory };
-
-    fn from(_: AllocFailed<T>) -> SourceFault {
-        SourceFault::Memory
-    }
 }
 
 /// Objects that lie below, as they were when a store was last compacted. A look may read a device, and change what the source is made of; what it holds stays.
@@ -70,13 +41,13 @@ pub trait Source<P> {
     /// # Errors
     ///
     /// `Device` where the device failed, `Damaged` where what lies below is damaged, so that it holds no objects, `Memory` where there was none.
-    fn find(&mut self, alloc: Global, key: &Key) -> Result<Option<Found>, SourceFault>
+    fn find(&mut self, alloc: Global, key: &Key) -> Result<Option<Found>, LookupFault>
         ensures found { (objects : List (KeyData × StoredData P)) → holds self.old objects → IfOk result (λ o. o ≡ option_map found_in (value_at key.now objects)) }
         ensures kept { (objects : List (KeyData × StoredData P)) → holds self.old objects → holds self.new objects }
         ensures goes { goes_to self.old self.new }
         ensures counts { failures self.old ≤ failures self.new }
-        ensures device { IsErrOf result SourceFault.Device → HasGrown (failures self.old) (failures self.new) }
-        ensures damaged { IsErrOf result SourceFault.Damaged → is_damaged self.new };
+        ensures device { IsErrOf result LookupFault.Device → HasGrown (failures self.old) (failures self.new) }
+        ensures damaged { IsErrOf result LookupFault.Damaged → is_damaged self.new };
 
     /// The objects of a resource, in one namespace or in all, in key order.
     ///
@@ -88,14 +59,14 @@ pub trait Source<P> {
         alloc: Global,
         resource: Resource,
         namespace: Option<&str>,
-    ) -> Result<Vec<(Key, Stored<P>)>, SourceFault>
+    ) -> Result<Vec<(Key, Stored<P>)>, LookupFault>
         ensures listed { let text = option_map (λ text. text.now) namespace.entry in (objects : List (KeyData × StoredData P)) → holds self.old objects
             → IfOk result (λ listed. listed.items ≡ filter (λ o. is_of resource text o.0) objects) }
         ensures kept { (objects : List (KeyData × StoredData P)) → holds self.old objects → holds self.new objects }
         ensures goes { goes_to self.old self.new }
         ensures counts { failures self.old ≤ failures self.new }
-        ensures device { IsErrOf result SourceFault.Device → HasGrown (failures self.old) (failures self.new) }
-        ensures damaged { IsErrOf result SourceFault.Damaged → is_damaged self.new };
+        ensures device { IsErrOf result LookupFault.Device → HasGrown (failures self.old) (failures self.new) }
+        ensures damaged { IsErrOf result LookupFault.Damaged → is_damaged self.new };
 
     /// What is damaged holds nothing.
     ghost holds_nothing: { (source : Self) (objects : List (KeyData × StoredData P)) → holds source objects → is_damaged source → ⊥ };

@@ -1,2 +1,3 @@
+pub mod Failing
 pub mod Objects
 pub mod Place

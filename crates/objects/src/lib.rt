@@ -12,7 +12,9 @@
 #![tactic(auto)]
 
 mod entry;
+mod fault;
 mod objects;
 
 pub use entry::Entry;
+pub use fault::LookupFault;
 pub use objects::Objects;

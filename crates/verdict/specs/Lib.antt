@@ -1,4 +1,3 @@
-pub mod Causes
 pub mod Parameters
 pub mod Verdict
 pub mod Objects

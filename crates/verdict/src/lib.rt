@@ -30,6 +30,6 @@ mod texts;
 pub use admission::{Verdict, admit};
 pub use bound::Bound;
 pub use laws::bindings_ascend;
-pub use lookup::{Found, Listed, Lookup, LookupFault};
+pub use lookup::{Found, Listed, Lookup};
 pub use parameters::wanted_among;
 pub use texts::denial_text;

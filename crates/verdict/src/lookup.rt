@@ -6,20 +6,20 @@ ghost use Rattle.names.specs.Key.{key_cmp};
 ghost use Rattle.names.specs.declared.resource.Resource.TheVariants.{ValidatingAdmissionPolicy, ValidatingAdmissionPolicyBinding};
 ghost use Rattle.objects.specs.Objects.{value_at};
 ghost use Rattle.policy.specs.Spec.{wanted_seen};
-ghost use Rattle.verdict.specs.Causes.{HasGrown};
+ghost use Rattle.objects.specs.Failing.{HasGrown};
 ghost use Rattle.verdict.specs.Objects.{Objects, all_held, shown_objects};
 ghost use Rattle.verdict.specs.Parameters.{listed, wanted_of};
 ghost use Rattle.verdict.specs.Seen.{held_by, listed_seen};
-ghost use Rattle.verdict.specs.declared.lookup.LookupFault.TheVariants as LookupFault;
+ghost use Rattle.objects.specs.declared.fault.LookupFault.TheVariants as LookupFault;
 
 use crate::bound::Bound;
 use documents::Document;
 use jsondoc::Doc;
 use names::{Key, Resource};
+use objects::LookupFault;
 use plancode::Verified;
 use policy::{Policy, Wanted};
-use std::alloc::{AllocError, AllocFailed, Global};
-use thiserror::Error;
+use std::alloc::Global;
 
 /// An object that a lookup finds, lent.
 #[derive(Clone, Copy)]
@@ -43,36 +43,6 @@ pub struct Listed<'a> {
     pub key: &'a Key,
     /// What stands there.
     pub found: Found<'a>,
-}
-
-/// Why a lookup gives no answer.
-#[derive(Clone, Copy, Debug, Error)]
-pub enum LookupFault {
-    /// No memory is left.
-    #[error("out of memory")]
-    Memory,
-    /// The device failed.
-    #[error("device failed")]
-    Device,
-    /// What was read is no object.
-    #[error("damaged store")]
-    Damaged,
-}
-
-impl From<AllocError> for LookupFault {
-    ghost from_gives = { λ _ e. e ≡ LookupFault.Memory };
-
-    fn from(_: AllocError) -> LookupFault {
-        LookupFault::Memory
-    }
-}
-
-impl<T: Drop> From<AllocFailed<T>> for LookupFault {
-    ghost from_gives = { λ _ e. e ≡ LookupFault.Memory };
-
-    fn from(_: AllocFailed<T>) -> LookupFault {
-        LookupFault::Memory
-    }
 }
 
 /// Where objects are looked up, before a write.

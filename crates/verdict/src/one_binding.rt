@@ -13,14 +13,15 @@ ghost use Rattle.verdict.specs.Objects.{Objects, shown_objects};
 ghost use Rattle.verdict.specs.Verdict.{on_not_found, on_parameters, on_conditions, denial};
 ghost use Rattle.verdict.specs.Turns.{asked};
 ghost use Rattle.verdict.specs.Seen.{parameters_seen};
-ghost use Rattle.verdict.specs.Causes.{HasGrown};
-ghost use Rattle.verdict.specs.declared.lookup.LookupFault.TheVariants as LookupFault;
+ghost use Rattle.objects.specs.Failing.{HasGrown};
+ghost use Rattle.objects.specs.declared.fault.LookupFault.TheVariants as LookupFault;
 
-use crate::lookup::{Lookup, LookupFault};
+use crate::lookup::Lookup;
 use crate::parameters::{Parameters, parameters_of};
 use evaluation::{Conditions, Denial, conditions, evaluate, failure, request_document};
 use jsondoc::Doc;
 use matching::{Attempt, matches};
+use objects::LookupFault;
 use plancode::Verified;
 use policy::{Binding, NotFound, Policy};
 use serde_json::Value as Json;

@@ -10,15 +10,16 @@ ghost use Rattle.verdict.specs.Objects.{Objects, shown_objects};
 ghost use Rattle.verdict.specs.Parameters.{found_or_not, namespace_of, looked_up, parameters, wanted_of};
 ghost use Rattle.verdict.specs.Seen.{listed_seen, parameters_seen, shown_held};
 ghost use Rattle.verdict.specs.Turns.{if_wanted};
-ghost use Rattle.verdict.specs.Causes.{HasGrown};
-ghost use Rattle.verdict.specs.declared.lookup.LookupFault.TheVariants as LookupFault;
+ghost use Rattle.objects.specs.Failing.{HasGrown};
+ghost use Rattle.objects.specs.declared.fault.LookupFault.TheVariants as LookupFault;
 
-use crate::lookup::{Listed, Lookup, LookupFault};
+use crate::lookup::{Listed, Lookup};
 use documents::shown_document;
 use jsondoc::Doc;
 use labels::selects;
 use matching::Attempt;
 use names::{Resource, Scope};
+use objects::LookupFault;
 use policy::{Binding, ParamRef, Wanted};
 use std::alloc::{AllocError, Global};
 

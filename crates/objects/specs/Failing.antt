@@ -1,4 +1,4 @@
--- Why a lookup fails.
+-- How failures are counted.
 use Rattle.std.specs.Prelude.{◌≡◌, ℕ, ◌<◌, ◌-◌, ◌^◌, ◌⊎◌}
 
 -- failures grew, or can grow no more
