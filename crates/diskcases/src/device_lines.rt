@@ -1,8 +1,28 @@
 //! Lines on a device in memory.
 
-use cases::{TextBuilder, WordReader, Wrong, first_word, number, spelled, text};
+use crate::line::Line;
+use cases::Wrong;
 use device::{Device, DeviceFault, MemDevice, Pick};
 use std::alloc::Global;
+
+/// `device ROOM`: an empty device with room for so many sectors.
+pub fn new_device(alloc: Global, device: &mut MemDevice, line: &mut Line<'_>) {
+    match MemDevice::new(alloc, line.number()) {
+        Ok(empty) => {
+            *device = empty;
+            line.answer.word("ok");
+        }
+        Err(_) => line.fail(Wrong::Memory),
+    }
+}
+
+/// `len`: the length.
+pub fn length(device: &mut MemDevice, line: &mut Line<'_>) {
+    match device.len() {
+        Ok(sectors) => line.show(&sectors),
+        Err(fault) => line.show(&fault),
+    }
+}
 
 // Writes a byte throughout one to three sectors, if the place is at most the length. The length is not asked at place 0.
 fn write(device: &mut MemDevice, at: u64, count: u64, with: u8) -> Result<(), DeviceFault> {
@@ -27,37 +47,33 @@ fn cut(device: &mut MemDevice, sectors: u64) -> Result<(), DeviceFault> {
 }
 
 /// One call of a device: `write AT COUNT BYTE`, the byte as a number, `cut SECTORS`, `sync`, `len`, or `read`, of no bytes.
-pub fn call(device: &mut MemDevice, line: &str) -> Result<Result<(), DeviceFault>, Wrong> {
-    let mut words = WordReader::new(line);
-    match words.word() {
+pub fn call(device: &mut MemDevice, line: &mut Line<'_>) -> Result<(), DeviceFault> {
+    match line.word() {
         "write" => {
-            let (at, count, with) = (words.number(), words.number(), words.number());
-            words.end()?;
-            match u8::try_from(with) {
-                Ok(with) => Ok(write(device, at, count, with)),
-                Err(_) => Err(Wrong::Told("a byte is below 256")),
-            }
+            let (at, count) = (line.number(), line.number());
+            write(device, at, count, line.byte())
         }
-        "cut" => {
-            let sectors = words.number();
-            words.end()?;
-            Ok(cut(device, sectors))
+        "cut" => cut(device, line.number()),
+        "sync" => device.sync(),
+        "len" => match device.len() {
+            Ok(_) => Ok(()),
+            Err(fault) => Err(fault),
+        },
+        "read" => device.read(0, &mut []),
+        _ => {
+            line.refuse("no call of a device");
+            Ok(())
         }
-        "sync" => Ok(device.sync()),
-        "len" => Ok(device.len().map(|_| ())),
-        "read" => Ok(device.read(0, &mut [])),
-        _ => Err(Wrong::Told("no call of a device")),
     }
 }
 
 /// `CALL; CALL; ..`: whether each of them succeeds, in turn: `+` or `-`.
-pub fn tries(alloc: Global, device: &mut MemDevice, line: &str) -> Result<String, Wrong> {
-    let mut signs = TextBuilder::new(alloc);
-    for one in line.split("; ") {
-        let done = call(device, one)?;
-        signs.push(if done.is_ok() { "+" } else { "-" });
+pub fn tries(device: &mut MemDevice, line: &mut Line<'_>) {
+    for one in line.rest.split("; ") {
+        line.rest = one;
+        let done = call(device, line);
+        line.answer.push(if done.is_ok() { "+" } else { "-" });
     }
-    signs.end()
 }
 
 /// A sector, or zeros where there is none.
@@ -70,27 +86,29 @@ pub fn read_sector<D: Device>(device: &mut D, at: u64) -> Result<[u8; 512], Devi
 }
 
 /// The first byte of each sector.
-pub fn firsts(alloc: Global, device: &mut MemDevice) -> Result<String, Wrong> {
-    let mut found = Vec::new(alloc);
-    let Ok(sectors) = device.len() else {
-        return text(alloc, "device failed");
+pub fn firsts(alloc: Global, device: &mut MemDevice, line: &mut Line<'_>) {
+    let sectors = match device.len() {
+        Ok(0) => return line.answer.word("none"),
+        Ok(sectors) => sectors,
+        Err(fault) => return line.show(&fault),
     };
+    let mut found = Vec::new(alloc);
     for at in 0..sectors {
-        let Ok(sector) = read_sector(device, at) else {
-            return text(alloc, "device failed");
+        let done = match read_sector(device, at) {
+            Ok(sector) => found.push(sector[0]),
+            Err(fault) => return line.show(&fault),
         };
-        found.push(sector[0])?;
+        if done.is_err() {
+            return line.fail(Wrong::Memory);
+        }
     }
-    if found.is_empty() {
-        return text(alloc, "none");
-    }
-    spelled(alloc, found.as_slice())
+    line.spell(alloc, found.as_slice());
 }
 
 /// The bytes of a sector up to its last that is not zero.
-pub fn sector(alloc: Global, device: &mut MemDevice, at: u64) -> Result<String, Wrong> {
-    let Ok(found) = read_sector(device, at) else {
-        return text(alloc, "device failed");
+pub fn sector(alloc: Global, device: &mut MemDevice, line: &mut Line<'_>) {
+    let Ok(found) = read_sector(device, line.number()) else {
+        return line.answer.word("device failed");
     };
     let mut end = 0;
     for (place, byte) in found.iter().enumerate() {
@@ -98,46 +116,52 @@ pub fn sector(alloc: Global, device: &mut MemDevice, at: u64) -> Result<String, 
             end = place + 1;
         }
     }
-    if end == 0 {
-        return text(alloc, "zeros");
+    match found.get(..end) {
+        Some(bytes) if end > 0 => line.spell(alloc, bytes),
+        _ => line.answer.word("zeros"),
     }
-    spelled(alloc, found.get(..end).unwrap_or(&[]))
 }
 
 /// How many reads, writes, cuts and syncs the device was asked for.
-pub fn counts(alloc: Global, device: &MemDevice) -> Result<String, Wrong> {
+pub fn counts(device: &MemDevice, line: &mut Line<'_>) {
     let counts = device.counts();
-    let mut line = TextBuilder::new(alloc);
     for count in [counts.reads, counts.writes, counts.cuts, counts.syncs] {
-        line.word("");
         line.show(&count);
     }
-    line.end()
 }
 
-fn pick(word: &str) -> Result<Pick, Wrong> {
+fn pick(word: &str, line: &mut Line<'_>) -> Pick {
     match word {
-        "old" => Ok(Pick::Old),
-        "new" => Ok(Pick::New),
+        "old" => Pick::Old,
+        "new" => Pick::New,
         _ => match u8::from_str_radix(word, 16) {
-            Ok(byte) => Ok(Pick::Fill(byte)),
-            Err(_) => Err(Wrong::Told("a pick is old, new or a byte")),
+            Ok(byte) => Pick::Fill(byte),
+            Err(_) => {
+                line.refuse("a pick is old, new or a byte");
+                Pick::Old
+            }
         },
     }
 }
 
-/// `LENGTH PICK ..`: the picks of a crash, and the length that it leaves: a number, or `all`.
-pub fn crash(alloc: Global, line: &str) -> Result<(Vec<Pick>, u64), Wrong> {
-    let (length, words) = first_word(line);
-    let length = if length == "all" {
-        u64::MAX
-    } else {
-        number(length)?
+/// `crash LENGTH PICK ..`: the machine stops. What may change becomes what the picks say, and the length the number, or `all` that there may be.
+pub fn crash(alloc: Global, device: &mut MemDevice, line: &mut Line<'_>) {
+    let length = match line.word() {
+        "all" => u64::MAX,
+        word => line.number_of(word),
     };
     let mut picks = Vec::new(alloc);
-    for word in words.split_whitespace() {
-        let pick = pick(word)?;
-        picks.push(pick)?;
+    for word in line.rest.split_whitespace() {
+        if picks.push(pick(word, line)).is_err() {
+            line.fail(Wrong::Memory);
+        }
     }
-    Ok((picks, length))
+    match MemDevice::new(alloc, 0) {
+        Ok(room) => {
+            let stopped = std::mem::replace(device, room);
+            *device = stopped.crash(&picks, length);
+            line.answer.word("ok");
+        }
+        Err(_) => line.fail(Wrong::Memory),
+    }
 }

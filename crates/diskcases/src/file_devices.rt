@@ -1,70 +1,90 @@
 //! Devices over files of the operating system, in the current folder.
 
 use crate::device_lines::read_sector;
-use cases::{Wrong, wanted};
-use device::{CreateFault, Device, DeviceFault, FileDevice, OpenFault, write_through};
+use cases::Wrong;
+use device::{CreateFault, Device, FileDevice, OpenFault, write_through};
 use std::fs;
 use std::fs::File;
 use std::rt::Files;
 
-// The first bytes of the first two sectors.
-fn firsts<D: Device>(device: &mut D) -> Result<(u8, u8), DeviceFault> {
-    Ok((read_sector(device, 0)?[0], read_sector(device, 1)?[0]))
+// Whether a sector begins with this byte.
+fn begins<D: Device>(device: &mut D, at: u64, with: u8) -> bool {
+    match read_sector(device, at) {
+        Ok(sector) => sector[0] == with,
+        Err(_) => false,
+    }
 }
 
 // Writes a sector and syncs, if the place is at most the length.
-fn put<D: Device>(device: &mut D, at: u64, with: u8) -> Result<(), DeviceFault> {
-    if at > device.len()? {
-        return Err(DeviceFault);
+fn puts<D: Device>(device: &mut D, at: u64, with: u8) -> bool {
+    match device.len() {
+        Ok(len) if at <= len => write_through(device, at, &[with; 512]).is_ok(),
+        _ => false,
     }
-    write_through(device, at, &[with; 512])
 }
 
-// Nobody opens a file that is open; what was written stays, and a cut shortens the file.
-fn keeps_its_sectors<R: Files<File = File>>(rt: &R) -> Result<bool, DeviceFault> {
-    let name = "kept.device";
-    let Ok(mut device) = FileDevice::create(rt, name) else {
-        return Ok(false);
-    };
-    put(&mut device, 0, 1)?;
-    put(&mut device, 1, 2)?;
-    let is_held = FileDevice::open(rt, name).is_err();
-    drop(device);
-    let Ok(mut opened) = FileDevice::open(rt, name) else {
-        return Ok(false);
-    };
-    let found = firsts(&mut opened)?;
-    if opened.len()? >= 1 {
-        opened.cut(1)?;
+// Cuts to one sector.
+fn shortens<D: Device>(device: &mut D) -> bool {
+    match device.len() {
+        Ok(len) if len >= 1 => device.cut(1).is_ok() && matches!(device.len(), Ok(1)),
+        _ => false,
     }
-    let left = opened.len()?;
-    Ok(is_held && found == (1, 2) && left == 1 && fs::remove_file(rt, name).is_ok())
+}
+
+// Why a file is not opened, if it is not.
+fn open_fault<R: Files<File = File>>(rt: &R, name: &str) -> Option<OpenFault> {
+    match FileDevice::open(rt, name) {
+        Ok(_) => None,
+        Err(fault) => Some(fault),
+    }
+}
+
+// Nobody opens a file that is open.
+fn is_held<R: Files<File = File>>(rt: &R, name: &str) -> bool {
+    match FileDevice::create(rt, name) {
+        Ok(mut device) => {
+            puts(&mut device, 0, 1) && puts(&mut device, 1, 2) && open_fault(rt, name).is_some()
+        }
+        Err(_) => false,
+    }
+}
+
+// What was written stays, and a cut shortens the file.
+fn keeps_its_sectors<R: Files<File = File>>(rt: &R, name: &str) -> bool {
+    match FileDevice::open(rt, name) {
+        Ok(mut device) => {
+            begins(&mut device, 0, 1)
+                && begins(&mut device, 1, 2)
+                && shortens(&mut device)
+                && fs::remove_file(rt, name).is_ok()
+        }
+        Err(_) => false,
+    }
 }
 
 // The bytes behind the last whole sector are no part of the device, and the next write overwrites them.
-fn leaves_out_a_rest<R: Files<File = File>>(rt: &R) -> Result<bool, DeviceFault> {
-    let name = "rest.device";
+fn leaves_out_a_rest<R: Files<File = File>>(rt: &R, name: &str) -> bool {
     if fs::write(rt, name, [7u8; 612].as_slice()).is_err() {
-        return Ok(false);
+        return false;
     }
-    let Ok(mut device) = FileDevice::open(rt, name) else {
-        return Ok(false);
-    };
-    let before = device.len()?;
-    put(&mut device, 1, 8)?;
-    Ok(before == 1 && firsts(&mut device)? == (7, 8) && fs::remove_file(rt, name).is_ok())
+    match FileDevice::open(rt, name) {
+        Ok(mut device) => {
+            matches!(device.len(), Ok(1))
+                && puts(&mut device, 1, 8)
+                && begins(&mut device, 0, 7)
+                && begins(&mut device, 1, 8)
+                && fs::remove_file(rt, name).is_ok()
+        }
+        Err(_) => false,
+    }
 }
 
 // No file is made where one is, and none is opened where there is none or a folder.
-fn refuses<R: Files<File = File>>(rt: &R) -> bool {
-    let name = "there.device";
+fn refuses<R: Files<File = File>>(rt: &R, name: &str) -> bool {
     fs::write(rt, name, "").is_ok()
         && matches!(FileDevice::create(rt, name), Err(CreateFault::Exists))
-        && matches!(
-            FileDevice::open(rt, "missing.device"),
-            Err(OpenFault::Missing)
-        )
-        && matches!(FileDevice::open(rt, "."), Err(OpenFault::Device))
+        && matches!(open_fault(rt, "missing.device"), Some(OpenFault::Missing))
+        && matches!(open_fault(rt, "."), Some(OpenFault::Device))
         && fs::remove_file(rt, name).is_ok()
 }
 
@@ -74,13 +94,14 @@ fn refuses<R: Files<File = File>>(rt: &R) -> bool {
 ///
 /// What they do otherwise.
 pub fn check_files<R: Files<File = File>>(rt: &R) -> Result<(), Wrong> {
-    wanted(
-        matches!(keeps_its_sectors(rt), Ok(true)),
-        "a file does not keep its sectors",
-    )?;
-    wanted(
-        matches!(leaves_out_a_rest(rt), Ok(true)),
-        "a rest is part of the device",
-    )?;
-    wanted(refuses(rt), "a file is taken that should not be")
+    if !is_held(rt, "kept.device") || !keeps_its_sectors(rt, "kept.device") {
+        return Err(Wrong::Told("a file does not keep its sectors"));
+    }
+    if !leaves_out_a_rest(rt, "rest.device") {
+        return Err(Wrong::Told("a rest is part of the device"));
+    }
+    if !refuses(rt, "there.device") {
+        return Err(Wrong::Told("a file is taken that should not be"));
+    }
+    Ok(())
 }

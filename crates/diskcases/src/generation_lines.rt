@@ -1,72 +1,59 @@
 //! Lines on the next generation of a store.
 
-ghost use Rattle.std.specs.Prelude.{◌<◌, ◌≤◌, ◌^◌, IfOk, IfSome};
-ghost use Rattle.checkpoint.specs.Root.{log_start};
+ghost use Rattle.std.specs.Prelude.{◌<◌, ◌≤◌, ◌^◌, IfSome};
+ghost use Rattle.roots.specs.Root.{log_start};
 
-use crate::root_lines::root_text;
-use cases::{WordReader, Wrong, shown, text};
-use checkpoint::{Root, clear_slot, counted_root, install, next_root, place};
+use crate::line::Line;
+use crate::root_lines::push_root;
 use device::{Device, MemDevice};
-use std::alloc::Global;
-
-// The gate that ends a log, the pages of the next generation, and its revision.
-#[derive(Clone, Copy)]
-struct Generation {
-    last_gate: u64,
-    pages: u32,
-    revision: u64,
-}
-
-fn asked(line: &str) -> Result<Generation, Wrong>
-    ensures { IfOk result (λ asked. (8 ≤ asked.last_gate) × (asked.last_gate < 2 ^ 54)) }
-{
-    let mut words = WordReader::new(line);
-    let (last_gate, pages, revision) = (words.number(), words.number(), words.number());
-    words.end()?;
-    let Ok(pages) = u32::try_from(pages) else {
-        return Err(Wrong::Told("too many pages"));
-    };
-    if last_gate < 8 || last_gate >= 1 << 54 {
-        return Err(Wrong::Told("no gate of a log"));
-    }
-    Ok(Generation {
-        last_gate,
-        pages,
-        revision,
-    })
-}
+use roots::{Root, clear_slot, counted_root, install, next_root, place};
 
 /// `place START LAST PAGES`: where so many pages go while a generation that begins at `START`, and whose log ends with the gate `LAST`, is in
 /// use.
-pub fn place_of(alloc: Global, line: &str) -> Result<String, Wrong> {
-    let mut words = WordReader::new(line);
-    let (start, last_gate, pages) = (words.number(), words.number(), words.number());
-    words.end()?;
-    match u32::try_from(pages) {
-        Ok(pages) if last_gate < 1 << 54 => shown(alloc, &place(start, last_gate, pages)),
-        _ => Err(Wrong::Told("no such place")),
+pub fn place_of(line: &mut Line<'_>) {
+    let (start, last_gate, pages) = (line.number(), line.number(), line.pages());
+    if last_gate < 1 << 54 {
+        line.show(&place(start, last_gate, pages));
+    } else {
+        line.refuse("no such place");
     }
 }
 
-// The root that counts, and the next one, if there is a next generation.
-fn next_of(device: &mut MemDevice, line: &str) -> Result<Option<(Root, Root)>, Wrong>
-    ensures { IfOk result (λ roots. IfSome roots (λ both. (8 ≤ both.1.first) × (log_start both.1 < 2 ^ 64))) }
+// The gate that ends a log.
+fn last_gate(line: &mut Line<'_>) -> Option<u64>
+    ensures { IfSome result (λ gate. (8 ≤ gate) × (gate < 2 ^ 54)) }
 {
-    let asked = asked(line)?;
+    let gate = line.number();
+    if gate < 8 || gate >= 1 << 54 {
+        line.refuse("no gate of a log");
+        return None;
+    }
+    Some(gate)
+}
+
+// `LAST PAGES REVISION`: the root that counts, and the next one behind a log that ends with the gate `LAST`. `exhausted` where there is no next generation.
+fn next_of(device: &mut MemDevice, line: &mut Line<'_>) -> Option<(Root, Root)>
+    ensures { IfSome result (λ both. (8 ≤ both.1.first) × (log_start both.1 < 2 ^ 64)) }
+{
+    let last_gate = last_gate(line)?;
+    let (pages, revision) = (line.pages(), line.number());
     let Ok(current) = counted_root(device) else {
-        return Err(Wrong::Told("no root counts"));
+        line.refuse("no root counts");
+        return None;
     };
-    match next_root(&current, asked.last_gate, asked.pages, asked.revision) {
-        Ok(next) => Ok(Some((current, next))),
-        Err(_) => Ok(None),
+    match next_root(&current, last_gate, pages, revision) {
+        Ok(next) => Some((current, next)),
+        Err(_) => {
+            line.answer.word("exhausted");
+            None
+        }
     }
 }
 
 /// `next LAST PAGES REVISION`: the root of the next generation, of so many pages and this revision, or `exhausted`.
-pub fn next(alloc: Global, device: &mut MemDevice, line: &str) -> Result<String, Wrong> {
-    match next_of(device, line)? {
-        Some((_, next)) => root_text(alloc, &next),
-        None => text(alloc, "exhausted"),
+pub fn next(device: &mut MemDevice, line: &mut Line<'_>) {
+    if let Some((_, next)) = next_of(device, line) {
+        push_root(line, &next);
     }
 }
 
@@ -79,15 +66,15 @@ fn clears(device: &mut MemDevice, current: &Root) -> bool {
 }
 
 /// `install LAST PAGES REVISION`: makes the slot of that root free, and installs it over what stands in its place.
-pub fn install_next(alloc: Global, device: &mut MemDevice, line: &str) -> Result<String, Wrong> {
-    let Some((current, next)) = next_of(device, line)? else {
-        return text(alloc, "exhausted");
+pub fn install_next(device: &mut MemDevice, line: &mut Line<'_>) {
+    let Some((current, next)) = next_of(device, line) else {
+        return;
     };
     if !clears(device, &current) {
-        return text(alloc, "device failed");
+        return line.answer.word("device failed");
     }
-    match device.len() {
-        Ok(len) if next.log_start() <= len && install(device, &next).is_ok() => text(alloc, "ok"),
-        _ => text(alloc, "device failed"),
-    }
+    line.answer.word(match device.len() {
+        Ok(len) if next.log_start() <= len && install(device, &next).is_ok() => "ok",
+        _ => "device failed",
+    });
 }

@@ -1,13 +1,14 @@
 //! The cases of devices, logs, roots and pages.
 //!
 //! [`Disk`] is the bench of their files; `README.md` beside the files has their lines. [`check_files`] looks at devices over files of the
-//! operating system. How lines have payloads and entries serves the bench of records too.
+//! operating system. How a [`Line`] is read and answered, and a shelf opened, serves the bench of records too.
 #![tactic(auto)]
 
 mod bench;
 mod device_lines;
 mod file_devices;
 mod generation_lines;
+mod line;
 mod log_lines;
 mod notation;
 mod other_devices;
@@ -20,5 +21,5 @@ mod writing_lines;
 
 pub use bench::Disk;
 pub use file_devices::check_files;
-pub use log_lines::settings;
-pub use notation::{entry_of, key_text, payload, payloads};
+pub use line::Line;
+pub use shelf_lines::shelf_at;

@@ -1,15 +1,14 @@
 //! Lines on a log.
 
-ghost use Rattle.std.specs.Prelude.{◌<◌, ◌≤◌, ◌+◌};
+ghost use Rattle.std.specs.Prelude.{◌<◌, ◌≤◌, ◌+◌, length};
 ghost use Rattle.records.specs.Gathered.{count_of};
 ghost use Rattle.records.specs.Payload.{group_limit};
 
-use crate::bench::ended;
-use crate::notation::{payload, payloads};
-use cases::{WordReader, Wrong, first_word, shown, text};
+use crate::line::Line;
+use cases::Wrong;
 use device::{Device, MemDevice};
 use gatelog::{Body, Log, LogFault};
-use names::{Key, Resource};
+use names::Resource;
 use records::{GROUP_LIMIT, Group};
 use std::alloc::Global;
 
@@ -19,42 +18,38 @@ pub struct LogLines {
     pub log: Option<Log>,
 }
 
-/// The key of the configmap `a` in `default`.
-pub fn settings(alloc: Global) -> Result<Key, Wrong> {
-    match Key::new(alloc, Resource::ConfigMap, "default", "a") {
-        Ok(key) => Ok(key),
-        Err(_) => Err(Wrong::Memory),
-    }
-}
-
-// Gathers a write of the configmap, `put TEXT` or `delete`.
-fn gather(alloc: Global, group: &mut Group, write: &str) -> Result<Result<(), LogFault>, Wrong>
+// Gathers a write of the configmap `a` in `default`, `put TEXT` or `delete`.
+fn gather(alloc: Global, group: &mut Group, line: &mut Line<'_>) -> Result<(), LogFault>
     requires { count_of group.old < group_limit }
     ensures { count_of group.new ≤ count_of group.old + 1 }
 {
-    let key = settings(alloc)?;
-    let (word, document) = first_word(write);
-    match word {
-        "put" => Ok(group.put(alloc, &key, document, &[])),
-        "delete" => Ok(group.delete(alloc, &key)),
-        _ => Err(Wrong::Told("no such write")),
+    let Some(key) = line.key(alloc, Resource::ConfigMap, "default", "a") else {
+        return Ok(());
+    };
+    match line.word() {
+        "put" => group.put(alloc, &key, line.rest, &[]),
+        "delete" => group.delete(alloc, &key),
+        _ => {
+            line.refuse("no such write");
+            Ok(())
+        }
     }
 }
 
 // Gathers writes of the configmap, with ` | ` between them.
-fn gathered(alloc: Global, line: &str) -> Result<Result<Group, LogFault>, Wrong> {
+fn gathered(alloc: Global, line: &mut Line<'_>) -> Result<Group, LogFault> {
     let mut group = Group::new(alloc)?;
     let mut count = 0;
-    for write in line.split(" | ") {
+    for write in line.rest.split(" | ") {
         if count == GROUP_LIMIT {
-            return Err(Wrong::Told("a record has no more writes"));
+            line.refuse("a record has no more writes");
+            return Ok(group);
         }
-        if let Err(fault) = gather(alloc, &mut group, write)? {
-            return Ok(Err(fault));
-        }
+        line.rest = write;
+        gather(alloc, &mut group, line)?;
         count += 1;
     }
-    Ok(Ok(group))
+    Ok(group)
 }
 
 impl LogLines {
@@ -98,84 +93,71 @@ impl LogLines {
         log.append(device, body)
     }
 
-    /// `append PAYLOAD`.
-    pub fn append(
+    // Appends a payload, in place of whose bytes from a place on others stand.
+    fn append(
         &mut self,
         alloc: Global,
         device: &mut MemDevice,
-        line: &str,
-    ) -> Result<Result<(), LogFault>, Wrong> {
-        let payload = payload(alloc, line)?;
+        payload: &[u8],
+        at: usize,
+        with: &[u8],
+    ) -> Result<(), LogFault>
+        requires { at + length with.now ≤ length payload.now }
+    {
         let mut body = Body::new(alloc)?;
-        match body.extend(payload.as_slice()) {
-            Ok(()) => Ok(self.add(device, body)),
-            Err(fault) => Ok(Err(fault)),
-        }
+        body.extend(payload)?;
+        body.set(at, with);
+        self.add(device, body)
+    }
+
+    /// `append PAYLOAD`.
+    pub fn append_payload(&mut self, alloc: Global, device: &mut MemDevice, line: &mut Line<'_>) {
+        let payload = line.payload(alloc, line.rest);
+        line.ended(self.append(alloc, device, &payload, 0, &[]));
     }
 
     /// `append-set AT TEXT PAYLOAD`: the text stands in place of the payload's bytes from there on.
-    pub fn append_set(
-        &mut self,
-        alloc: Global,
-        device: &mut MemDevice,
-        line: &str,
-    ) -> Result<Result<(), LogFault>, Wrong> {
-        let mut words = WordReader::new(line);
-        let (at, with) = (words.number() as usize, words.word());
-        words.end()?;
-        let payload = payload(alloc, words.rest())?;
-        let mut body = Body::new(alloc)?;
-        match body.extend(payload.as_slice()) {
-            Ok(()) if at <= payload.len() && with.len() <= payload.len() - at => {
-                body.set(at, with.as_bytes());
-                Ok(self.add(device, body))
-            }
-            _ => Err(Wrong::Told("there is no such place inside")),
+    pub fn append_set(&mut self, alloc: Global, device: &mut MemDevice, line: &mut Line<'_>) {
+        let (at, with) = (line.number() as usize, line.word());
+        let payload = line.payload(alloc, line.rest);
+        if at > payload.len() || with.len() > payload.len() - at {
+            return line.refuse("there is no such place inside");
         }
+        line.ended(self.append(alloc, device, &payload, at, with.as_bytes()));
     }
 
     /// `append-writes WRITE | ..`: the record of these writes of the configmap.
-    pub fn append_writes(
-        &mut self,
-        alloc: Global,
-        device: &mut MemDevice,
-        line: &str,
-    ) -> Result<Result<(), LogFault>, Wrong> {
-        match gathered(alloc, line)? {
+    pub fn append_writes(&mut self, alloc: Global, device: &mut MemDevice, line: &mut Line<'_>) {
+        match gathered(alloc, line) {
             Ok(group) => match group.close() {
-                Some(body) => Ok(self.add(device, body)),
-                None => Err(Wrong::Told("there is no write")),
+                Some(body) => line.ended(self.add(device, body)),
+                None => line.refuse("there is no write"),
             },
-            Err(fault) => Ok(Err(fault)),
+            Err(fault) => line.show(&fault),
         }
     }
 
     /// `records PAYLOAD ; ..`: whether the log has these payloads.
-    pub fn records(
-        &mut self,
-        alloc: Global,
-        device: &mut MemDevice,
-        line: &str,
-    ) -> Result<String, Wrong> {
-        let wanted = payloads(alloc, line)?;
+    pub fn records(&mut self, alloc: Global, device: &mut MemDevice, line: &mut Line<'_>) {
+        let wanted = line.payloads(alloc);
         let Some(log) = &mut self.log else {
-            return Err(Wrong::Told("there is no log"));
+            return line.refuse("there is no log");
         };
         match log.records(alloc, device) {
-            Ok(found) if found == wanted => text(alloc, "ok"),
+            Ok(found) if found == wanted => line.answer.word("ok"),
             Ok(found) => {
-                let count = found.len();
-                Ok(format!(in alloc; "other payloads, {count}")?)
+                line.answer.word("other payloads,");
+                line.show(&found.len());
             }
-            Err(fault) => shown(alloc, &fault),
+            Err(fault) => line.show(&fault),
         }
     }
 
     /// `gate`: the log's last gate.
-    pub fn gate(&self, alloc: Global) -> Result<String, Wrong> {
+    pub fn gate(&self, line: &mut Line<'_>) {
         match &self.log {
-            Some(log) => shown(alloc, &log.last_gate()),
-            None => Err(Wrong::Told("there is no log")),
+            Some(log) => line.show(&log.last_gate()),
+            None => line.refuse("there is no log"),
         }
     }
 }
@@ -183,17 +165,16 @@ impl LogLines {
 const PART: usize = 1 << 20;
 
 /// `filled PARTS BYTES`: a payload of so many parts of a mebibyte, to which so many bytes are added.
-pub fn filled(alloc: Global, line: &str) -> Result<String, Wrong> {
-    let mut words = WordReader::new(line);
-    let (parts, rest) = (words.number(), words.number());
-    words.end()?;
-    let part = vec![in alloc; 7u8; PART]?;
-    let mut body = Body::new(alloc)?;
+pub fn filled(alloc: Global, line: &mut Line<'_>) {
+    let (parts, rest) = (line.number(), line.number());
+    let (Ok(part), Ok(mut body)) = (vec![in alloc; 7u8; PART], Body::new(alloc)) else {
+        return line.fail(Wrong::Memory);
+    };
     for _ in 0..parts {
         if body.extend(part.as_slice()).is_err() {
-            return Err(Wrong::Told("the parts do not fit"));
+            return line.refuse("the parts do not fit");
         }
     }
     let more = part.get(..rest as usize).unwrap_or(&[]);
-    ended(alloc, body.extend(more))
+    line.ended(body.extend(more));
 }

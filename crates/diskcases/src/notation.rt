@@ -1,62 +1,108 @@
 //! Payloads, entries and keys, as lines have them.
 
-use cases::{TextBuilder, Wrong, bytes, number};
-use names::Key;
+use crate::line::Line;
+use cases::{Wrong, bytes, number};
+use documents::Document;
+use entries::Entry;
+use names::{Key, KeyFault, Resource};
 use std::alloc::Global;
 
-// A part: `'TEXT'`, bytes in hex, or `BYTES xN`, so many times those bytes.
-fn add_part(alloc: Global, payload: &mut Vec<u8>, part: &str) -> Result<(), Wrong> {
-    if let Some(text) = part
-        .strip_prefix('\'')
-        .and_then(|rest| rest.strip_suffix('\''))
-    {
-        payload.extend_from_slice(text.as_bytes())?;
-        return Ok(());
-    }
+// Adds bytes in hex, or `BYTES xN`, so many times those bytes.
+fn add_bytes(alloc: Global, payload: &mut Vec<u8>, part: &str) -> Result<(), Wrong> {
     let (hex, times) = part.split_once(" x").unwrap_or((part, "1"));
+    let times = number(times)?;
     let once = bytes(alloc, hex)?;
-    for _ in 0..number(times)? {
+    for _ in 0..times {
         payload.extend_from_slice(once.as_slice())?;
     }
     Ok(())
 }
 
-/// A payload: its parts, with ` + ` between them.
-pub fn payload(alloc: Global, line: &str) -> Result<Vec<u8>, Wrong> {
-    let mut payload = Vec::new(alloc);
-    for part in line.split(" + ") {
-        add_part(alloc, &mut payload, part)?;
+// Adds a part: `'TEXT'`, or bytes.
+fn add_part(alloc: Global, payload: &mut Vec<u8>, part: &str) -> Result<(), Wrong> {
+    let quoted = match part.strip_prefix('\'') {
+        Some(rest) => rest.strip_suffix('\''),
+        None => None,
+    };
+    match quoted {
+        Some(text) => Ok(payload.extend_from_slice(text.as_bytes())?),
+        None => add_bytes(alloc, payload, part),
     }
-    Ok(payload)
 }
 
-/// Payloads, with ` ; ` between them; none where the line is empty.
-pub fn payloads(alloc: Global, line: &str) -> Result<Vec<Vec<u8>>, Wrong> {
-    let mut found = Vec::new(alloc);
-    if line.is_empty() {
-        return Ok(found);
-    }
-    for one in line.split(" ; ") {
-        let payload = payload(alloc, one)?;
-        found.push(payload)?;
-    }
-    Ok(found)
-}
-
-/// An entry: `KEY ; CELL`, each spelled as a payload.
-pub fn entry_of(alloc: Global, line: &str) -> Result<(Vec<u8>, Vec<u8>), Wrong> {
-    match line.split_once(" ; ") {
-        Some((key, cell)) => {
-            let key = payload(alloc, key)?;
-            Ok((key, payload(alloc, cell)?))
+impl Line<'_> {
+    /// The bytes of a payload: its parts, with ` + ` between them.
+    pub fn payload(&mut self, alloc: Global, text: &str) -> Vec<u8> {
+        let mut payload = Vec::new(alloc);
+        for part in text.split(" + ") {
+            if let Err(wrong) = add_part(alloc, &mut payload, part) {
+                self.fail(wrong);
+            }
         }
-        None => Err(Wrong::Told("an entry is a key and a cell")),
+        payload
     }
-}
 
-/// The key of an object, in three words.
-pub fn key_text(line: &mut TextBuilder, key: &Key) {
-    line.word(key.resource().plural());
-    line.word(key.namespace());
-    line.word(key.name());
+    /// The payloads of the rest, with ` ; ` between them; none where it is empty.
+    pub fn payloads(&mut self, alloc: Global) -> Vec<Vec<u8>> {
+        let mut found = Vec::new(alloc);
+        if self.rest.is_empty() {
+            return found;
+        }
+        for one in self.rest.split(" ; ") {
+            let payload = self.payload(alloc, one);
+            if found.push(payload).is_err() {
+                self.fail(Wrong::Memory);
+            }
+        }
+        found
+    }
+
+    /// An entry: `KEY ; CELL`, each spelled as a payload.
+    pub fn entry(&mut self, alloc: Global, text: &str) -> Entry {
+        let (key, cell) = match text.split_once(" ; ") {
+            Some(both) => both,
+            None => {
+                self.refuse("an entry is a key and a cell");
+                ("", "")
+            }
+        };
+        let key = self.payload(alloc, key);
+        Entry::new(key, self.payload(alloc, cell))
+    }
+
+    /// The key of an object, if it can have one.
+    pub fn key(
+        &mut self,
+        alloc: Global,
+        resource: Resource,
+        namespace: &str,
+        name: &str,
+    ) -> Option<Key> {
+        match Key::new(alloc, resource, namespace, name) {
+            Ok(key) => Some(key),
+            Err(KeyFault::NoKey) => {
+                self.refuse("no key");
+                None
+            }
+            Err(KeyFault::Memory) => {
+                self.fail(Wrong::Memory);
+                None
+            }
+        }
+    }
+
+    /// Adds the key of an object, in three words.
+    pub fn show_key(&mut self, key: &Key) {
+        self.answer.word(key.resource().plural());
+        self.answer.word(key.namespace());
+        self.answer.word(key.name());
+    }
+
+    /// Adds the text of a document, as a word.
+    pub fn show_document(&mut self, alloc: Global, document: &Document) {
+        match document.json().text(alloc) {
+            Ok(text) => self.answer.word(text.as_str()),
+            Err(_) => self.fail(Wrong::Memory),
+        }
+    }
 }

@@ -1,37 +1,31 @@
 //! Lines on the devices on which nothing of the program stands: each shows that what is asked of a device can be met.
 
 use crate::device_lines::read_sector;
-use cases::{Wrong, number, shown};
+use crate::line::Line;
+use cases::Wrong;
 use device::write_through;
 use diskmodels::{Recorded, found_after_crash};
 use std::alloc::Global;
 
-fn byte(line: &str) -> Result<u8, Wrong> {
-    match u8::try_from(number(line)?) {
-        Ok(byte) => Ok(byte),
-        Err(_) => Err(Wrong::Told("that is no byte")),
-    }
-}
-
 /// `file-after-crash BYTE`: how a sector of this byte begins, which was written to a file in memory and synced, behind a crash.
-pub fn file_after_crash(alloc: Global, line: &str) -> Result<String, Wrong> {
-    match found_after_crash(alloc, &[byte(line)?; 512]) {
-        Ok(found) => match found.first() {
-            Some(first) => shown(alloc, first),
-            None => Err(Wrong::Told("nothing is found")),
-        },
-        Err(_) => Err(Wrong::Memory),
+pub fn file_after_crash(alloc: Global, line: &mut Line<'_>) {
+    let Ok(found) = found_after_crash(alloc, &[line.byte(); 512]) else {
+        return line.fail(Wrong::Memory);
+    };
+    match found.first() {
+        Some(first) => line.show(first),
+        None => line.refuse("nothing is found"),
     }
 }
 
 /// `remembered BYTE`: how a sector of this byte begins, which was written to a device that remembers each moment, and synced.
-pub fn remembered(alloc: Global, line: &str) -> Result<String, Wrong> {
+pub fn remembered(alloc: Global, line: &mut Line<'_>) {
     let mut device = Recorded::new(alloc);
-    if write_through(&mut device, 0, &[byte(line)?; 512]).is_err() {
-        return Err(Wrong::Memory);
+    if write_through(&mut device, 0, &[line.byte(); 512]).is_err() {
+        return line.fail(Wrong::Memory);
     }
     match read_sector(&mut device, 0) {
-        Ok(sector) => shown(alloc, &sector[0]),
-        Err(_) => Err(Wrong::Memory),
+        Ok(sector) => line.show(&sector[0]),
+        Err(_) => line.fail(Wrong::Memory),
     }
 }

@@ -1,14 +1,14 @@
 //! Lines on the roots of a store.
 
-use cases::{TextBuilder, WordReader, Wrong, bytes, shown, text};
-use checkpoint::{Root, RootFault, Slot, StartFault, counted_root, start};
+use crate::line::Line;
+use cases::bytes;
 use device::{Device, MemDevice};
+use roots::{Root, RootFault, Slot, StartFault, counted_root, start};
 use std::alloc::Global;
 
-/// The slot, the generation, the first sector, the pages and the revision of a root.
-pub fn root_text(alloc: Global, root: &Root) -> Result<String, Wrong> {
-    let mut line = TextBuilder::new(alloc);
-    line.word(match root.slot {
+/// Adds the slot, the generation, the first sector, the pages and the revision of a root.
+pub fn push_root(line: &mut Line<'_>, root: &Root) {
+    line.answer.word(match root.slot {
         Slot::A => "A",
         Slot::B => "B",
     });
@@ -18,41 +18,36 @@ pub fn root_text(alloc: Global, root: &Root) -> Result<String, Wrong> {
         u64::from(root.pages),
         root.revision,
     ] {
-        line.word("");
         line.show(&number);
     }
-    line.end()
 }
 
 /// `new-store`: its root, or why there is none.
-pub fn new_store(alloc: Global, device: &mut MemDevice) -> Result<String, Wrong> {
-    match start(device) {
-        Ok(root) => root_text(alloc, &root),
-        Err(StartFault::NotEmpty) => text(alloc, "not empty"),
-        Err(StartFault::Device) => text(alloc, "device failed"),
-    }
+pub fn new_store(device: &mut MemDevice, line: &mut Line<'_>) {
+    let told = match start(device) {
+        Ok(root) => return push_root(line, &root),
+        Err(StartFault::NotEmpty) => "not empty",
+        Err(StartFault::Device) => "device failed",
+    };
+    line.answer.word(told);
 }
 
 /// `root`: the root that counts, or why there is none.
-pub fn root(alloc: Global, device: &mut MemDevice) -> Result<String, Wrong> {
-    match counted_root(device) {
-        Ok(root) => root_text(alloc, &root),
-        Err(RootFault::Header) => text(alloc, "no header"),
-        Err(RootFault::Root) => text(alloc, "no root"),
-        Err(RootFault::Device) => text(alloc, "device failed"),
-    }
+pub fn root(device: &mut MemDevice, line: &mut Line<'_>) {
+    let told = match counted_root(device) {
+        Ok(root) => return push_root(line, &root),
+        Err(RootFault::Header) => "no header",
+        Err(RootFault::Root) => "no root",
+        Err(RootFault::Device) => "device failed",
+    };
+    line.answer.word(told);
 }
 
 /// `log-start FIRST PAGES`: where the log of such a root begins.
-pub fn log_start(alloc: Global, line: &str) -> Result<String, Wrong> {
-    let mut words = WordReader::new(line);
-    let (first, pages) = (words.number(), words.number());
-    words.end()?;
-    let Ok(pages) = u32::try_from(pages) else {
-        return Err(Wrong::Told("too many pages"));
-    };
+pub fn log_start(line: &mut Line<'_>) {
+    let (first, pages) = (line.number(), line.pages());
     if first >= 1 << 54 {
-        return Err(Wrong::Told("no such sector"));
+        return line.refuse("no such sector");
     }
     let root = Root {
         slot: Slot::A,
@@ -61,24 +56,30 @@ pub fn log_start(alloc: Global, line: &str) -> Result<String, Wrong> {
         pages,
         revision: 1,
     };
-    shown(alloc, &root.log_start())
+    line.show(&root.log_start());
+}
+
+// Writes a sector to each of these places that is at most the length.
+fn write_each(device: &mut MemDevice, from: u64, to: u64, sector: &[u8; 512]) -> &'static str {
+    for at in from..=to {
+        match device.len() {
+            Ok(len) if at <= len && device.write(at, sector).is_ok() => {}
+            _ => return "device failed",
+        }
+    }
+    "ok"
 }
 
 /// `begins FROM TO HEX ..`: writes sectors that begin with these bytes, and have zeros behind them, if each place is at most the length.
-pub fn write_sector(alloc: Global, device: &mut MemDevice, line: &str) -> Result<String, Wrong> {
-    let mut words = WordReader::new(line);
-    let (from, to) = (words.number(), words.number());
-    words.end()?;
-    let first = bytes(alloc, words.rest())?;
+pub fn write_sector(alloc: Global, device: &mut MemDevice, line: &mut Line<'_>) {
+    let (from, to) = (line.number(), line.number());
+    let first = match bytes(alloc, line.rest) {
+        Ok(first) => first,
+        Err(wrong) => return line.fail(wrong),
+    };
     let mut sector = [0; 512];
     for (place, byte) in sector.iter_mut().zip(first.iter()) {
         *place = *byte;
     }
-    for at in from..=to {
-        match device.len() {
-            Ok(len) if at <= len && device.write(at, &sector).is_ok() => {}
-            _ => return text(alloc, "device failed"),
-        }
-    }
-    text(alloc, "ok")
+    line.answer.word(write_each(device, from, to, &sector));
 }

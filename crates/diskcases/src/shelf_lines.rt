@@ -1,13 +1,13 @@
 //! Lines on the shelf of a root's pages.
 
-use crate::page_lines::push_text;
-use crate::scan_lines::{Listing, push_listing, root_at};
-use crate::stock_lines::{find_object, list_objects};
-use cases::{TextBuilder, WordReader, Wrong};
-use checkpoint::scan;
+use crate::line::Line;
+use crate::scan_lines::{Listing, push_entries, read_pages, root_at};
+use crate::stock_lines::{Beginning, find_object, list_objects};
+use cases::Wrong;
 use device::MemDevice;
 use shelf::{Reading, Shelf, ShelfFault};
 use std::alloc::Global;
+use stock::Sieve;
 
 fn fault_text(fault: ShelfFault) -> &'static str {
     match fault {
@@ -18,80 +18,84 @@ fn fault_text(fault: ShelfFault) -> &'static str {
     }
 }
 
-// `get KEY`: what stands under the key, or `none`.
-fn get(alloc: Global, shelf: &mut Shelf<MemDevice>, key: &[u8], line: &mut TextBuilder) {
+// `get KEY`: what stands under the key, or `none`. `has KEY`: `yes` in place of what stands there.
+fn look(alloc: Global, shelf: &mut Shelf<MemDevice>, is_shown: bool, line: &mut Line<'_>) {
+    let key = line.rest.as_bytes();
     match shelf.bring(alloc, key) {
         Ok(place) => match shelf.cell(place, key) {
-            Some(cell) => push_text(line, cell),
-            None => line.word("none"),
+            Some(cell) if is_shown => line.say(cell),
+            Some(_) => line.answer.word("yes"),
+            None => line.answer.word("none"),
         },
-        Err(fault) => line.word(fault_text(fault)),
-    }
-}
-
-// `has KEY`: `yes` where something stands under the key, or `none`.
-fn has(alloc: Global, shelf: &mut Shelf<MemDevice>, key: &[u8], line: &mut TextBuilder) {
-    match shelf.bring(alloc, key) {
-        Ok(place) => line.word(match shelf.cell(place, key) {
-            Some(_) => "yes",
-            None => "none",
-        }),
-        Err(fault) => line.word(fault_text(fault)),
+        Err(fault) => line.answer.word(fault_text(fault)),
     }
 }
 
 // `list PREFIX`, `pass PREFIX`: the entries whose keys begin so; their pages stay in memory, or do not come there.
-fn tell(
-    alloc: Global,
-    shelf: &mut Shelf<MemDevice>,
-    prefix: &[u8],
-    reading: Reading,
-    line: &mut TextBuilder,
-) -> Result<(), Wrong> {
-    let mut listing = Listing::refusing(alloc, "-")?;
-    match shelf.tell(alloc, prefix, reading, &mut listing) {
-        Ok(()) => push_listing(line, &listing),
-        Err(fault) => line.word(fault_text(fault)),
+fn tell(alloc: Global, shelf: &mut Shelf<MemDevice>, reading: Reading, line: &mut Line<'_>) {
+    let mut listing = Listing {
+        entries: Vec::new(alloc),
+        refused: b"-",
+    };
+    match shelf.tell(alloc, line.rest.as_bytes(), reading, &mut listing) {
+        Ok(()) => push_entries(line, &listing.entries),
+        Err(fault) => line.answer.word(fault_text(fault)),
     }
-    Ok(())
 }
 
-// Answers the questions in turn.
-fn ask(alloc: Global, shelf: &mut Shelf<MemDevice>, questions: &str) -> Result<String, Wrong> {
-    let mut line = TextBuilder::new(alloc);
-    for question in questions.split(" ; ") {
-        let (word, text) = question.split_once(' ').unwrap_or((question, ""));
-        let bytes = text.as_bytes();
-        match word {
-            "get" => get(alloc, shelf, bytes, &mut line),
-            "has" => has(alloc, shelf, bytes, &mut line),
-            "list" => tell(alloc, shelf, bytes, Reading::Kept, &mut line)?,
-            "pass" => tell(alloc, shelf, bytes, Reading::Passing, &mut line)?,
-            "stock-find" => find_object(alloc, shelf, text, &mut line)?,
-            "stock-list" => list_objects(alloc, shelf, text, &mut line)?,
-            _ => return Err(Wrong::Told("no question of a shelf")),
+// Answers a question.
+fn ask(alloc: Global, shelf: &mut Shelf<MemDevice>, line: &mut Line<'_>) {
+    match line.word() {
+        "get" => look(alloc, shelf, true, line),
+        "has" => look(alloc, shelf, false, line),
+        "list" => tell(alloc, shelf, Reading::Kept, line),
+        "pass" => tell(alloc, shelf, Reading::Passing, line),
+        "stock-find" => find_object(alloc, shelf, line),
+        "stock-list" => list_objects(alloc, shelf, line),
+        _ => line.refuse("no question of a shelf"),
+    }
+}
+
+/// The shelf of so many pages from a sector on, which are read before, each once, and how many objects they have. An empty device stands in place of the one that
+/// the shelf takes.
+pub fn shelf_at(
+    alloc: Global,
+    device: &mut MemDevice,
+    first: u64,
+    pages: u32,
+    line: &mut Line<'_>,
+) -> Option<(Shelf<MemDevice>, u64)> {
+    let root = root_at(device, first, pages, line)?;
+    let all = Beginning {
+        prefix: Vec::new(alloc),
+    };
+    let mut sieve = Sieve::new(alloc, &all);
+    let Ok(first_keys) = read_pages(alloc, device, &root, &mut sieve) else {
+        line.refuse("the pages are not read");
+        return None;
+    };
+    let Ok(room) = MemDevice::new(alloc, 0) else {
+        line.fail(Wrong::Memory);
+        return None;
+    };
+    match Shelf::new(alloc, std::mem::replace(device, room), root, first_keys) {
+        Ok(shelf) => Some((shelf, sieve.objects())),
+        Err(_) => {
+            line.fail(Wrong::Memory);
+            None
         }
     }
-    line.end()
 }
 
-/// `shelf FIRST PAGES QUESTION ; ..`: the answers of the shelf of so many pages from a sector on, which are read before, each once. The device comes back.
-pub fn shelf(alloc: Global, device: MemDevice, line: &str) -> Result<(MemDevice, String), Wrong> {
-    let mut device = device;
-    let mut words = WordReader::new(line);
-    let (first, pages) = (words.number(), words.number());
-    words.end()?;
-    let root = root_at(&mut device, first, pages)?;
-    let mut listing = Listing::refusing(alloc, "")?;
-    let Ok(first_keys) = scan(alloc, &mut device, &root, &mut listing) else {
-        return Err(Wrong::Told("the pages are not read"));
+/// `shelf FIRST PAGES QUESTION ; ..`: the answers of the shelf of so many pages from a sector on, which are read before, each once.
+pub fn shelf(alloc: Global, device: &mut MemDevice, line: &mut Line<'_>) {
+    let (first, pages) = (line.number(), line.pages());
+    let Some((mut shelf, _)) = shelf_at(alloc, device, first, pages, line) else {
+        return;
     };
-    if first_keys.len() as u64 != pages {
-        return Err(Wrong::Told("a page has no first key"));
+    for question in line.rest.split(" ; ") {
+        line.rest = question;
+        ask(alloc, &mut shelf, line);
     }
-    let Ok(mut shelf) = Shelf::new(alloc, device, root, first_keys) else {
-        return Err(Wrong::Memory);
-    };
-    let answers = ask(alloc, &mut shelf, words.rest())?;
-    Ok((shelf.into_device(), answers))
+    *device = shelf.into_device();
 }

@@ -1,11 +1,9 @@
 //! Questions on the objects in pages.
 
-use crate::notation::{key_text, payload};
-use crate::scan_lines::{fault_text as scan_fault_text, root_at};
-use cases::{TextBuilder, WordReader, Wrong, spelled, text};
-use checkpoint::scan;
+use crate::line::Line;
+use crate::scan_lines::{read_pages, root_at};
 use device::MemDevice;
-use names::{Key, KeyFault, Resource, ResourceTable};
+use names::{Resource, ResourceTable};
 use shelf::{Reading, Shelf};
 use std::alloc::Global;
 use stock::{Choice, Sieve, StockFault, find, list};
@@ -18,79 +16,59 @@ fn fault_text(fault: StockFault) -> &'static str {
     }
 }
 
-// The resource of the core group with this plural.
-fn resource_of(plural: &str) -> Result<Resource, Wrong> {
-    match ResourceTable::with_plural("v1", plural) {
-        Some(resource) => Ok(resource),
-        None => Err(Wrong::Told("no resource")),
+// The resource of the core group whose plural the next word is.
+fn resource_of(line: &mut Line<'_>) -> Option<Resource> {
+    let resource = ResourceTable::with_plural("v1", line.word());
+    if resource.is_none() {
+        line.refuse("no resource");
     }
-}
-
-// `PLURAL NAMESPACE NAME`.
-fn key_of(alloc: Global, words: &str) -> Result<Key, Wrong> {
-    let (plural, rest) = words.split_once(' ').unwrap_or((words, ""));
-    let (namespace, name) = rest.split_once(' ').unwrap_or((rest, ""));
-    match Key::new(alloc, resource_of(plural)?, namespace, name) {
-        Ok(key) => Ok(key),
-        Err(KeyFault::NoKey) => Err(Wrong::Told("no key")),
-        Err(KeyFault::Memory) => Err(Wrong::Memory),
-    }
+    resource
 }
 
 /// `stock-find PLURAL NAMESPACE NAME`: the text and the revision of what is stored under the key, or `none`.
-pub(crate) fn find_object(
-    alloc: Global,
-    shelf: &mut Shelf<MemDevice>,
-    words: &str,
-    line: &mut TextBuilder,
-) -> Result<(), Wrong> {
-    let key = key_of(alloc, words)?;
+pub(crate) fn find_object(alloc: Global, shelf: &mut Shelf<MemDevice>, line: &mut Line<'_>) {
+    let Some(resource) = resource_of(line) else {
+        return;
+    };
+    let namespace = line.word();
+    let Some(key) = line.key(alloc, resource, namespace, line.rest) else {
+        return;
+    };
     match find(alloc, shelf, &key) {
         Ok(Some(stocked)) => {
-            line.word(stocked.document.json().text(alloc)?.as_str());
-            line.push(" ");
+            line.show_document(alloc, &stocked.document);
             line.show(&stocked.revision);
         }
-        Ok(None) => line.word("none"),
-        Err(fault) => line.word(fault_text(fault)),
+        Ok(None) => line.answer.word("none"),
+        Err(fault) => line.answer.word(fault_text(fault)),
     }
-    Ok(())
 }
 
 /// `stock-list PLURAL`, `stock-list PLURAL NAMESPACE`: the keys of the objects of a resource, in all namespaces or in one, with the revision of each.
-pub(crate) fn list_objects(
-    alloc: Global,
-    shelf: &mut Shelf<MemDevice>,
-    words: &str,
-    line: &mut TextBuilder,
-) -> Result<(), Wrong> {
-    let (plural, namespace) = match words.split_once(' ') {
-        Some((plural, namespace)) => (plural, Some(namespace)),
-        None => (words, None),
+pub(crate) fn list_objects(alloc: Global, shelf: &mut Shelf<MemDevice>, line: &mut Line<'_>) {
+    let Some(resource) = resource_of(line) else {
+        return;
     };
-    match list(
-        alloc,
-        shelf,
-        resource_of(plural)?,
-        namespace,
-        Reading::Passing,
-    ) {
+    let namespace = if line.rest.is_empty() {
+        None
+    } else {
+        Some(line.rest)
+    };
+    match list(alloc, shelf, resource, namespace, Reading::Passing) {
         Ok(objects) => {
             for (key, stocked) in &objects {
-                key_text(line, key);
-                line.push(" ");
+                line.show_key(key);
                 line.show(&stocked.revision);
             }
         }
-        Err(fault) => line.word(fault_text(fault)),
+        Err(fault) => line.answer.word(fault_text(fault)),
     }
-    Ok(())
 }
 
-// The objects whose entries' keys begin so.
+/// The objects whose entries' keys begin so.
 #[derive(Drop)]
-struct Beginning {
-    prefix: Vec<u8>,
+pub(crate) struct Beginning {
+    pub(crate) prefix: Vec<u8>,
 }
 
 impl Choice for Beginning {
@@ -105,28 +83,22 @@ impl Choice for Beginning {
 
 /// `sift FIRST PAGES PREFIX`: what a sieve keeps of so many pages from a sector on, where the objects are chosen whose keys begin so, and
 /// behind `of` how many objects there are.
-pub(crate) fn sift_pages(
-    alloc: Global,
-    device: &mut MemDevice,
-    line: &str,
-) -> Result<String, Wrong> {
-    let mut words = WordReader::new(line);
-    let (first, pages) = (words.number(), words.number());
+pub(crate) fn sift_pages(alloc: Global, device: &mut MemDevice, line: &mut Line<'_>) {
+    let (first, pages) = (line.number(), line.pages());
     let choice = Beginning {
-        prefix: payload(alloc, words.rest())?,
+        prefix: line.payload(alloc, line.rest),
     };
-    let root = root_at(device, first, pages)?;
+    let Some(root) = root_at(device, first, pages, line) else {
+        return;
+    };
     let mut sieve = Sieve::new(alloc, &choice);
-    if let Err(fault) = scan(alloc, device, &root, &mut sieve) {
-        return text(alloc, scan_fault_text(fault));
+    if let Err(fault) = read_pages(alloc, device, &root, &mut sieve) {
+        return line.answer.word(fault);
     }
-    let mut line = TextBuilder::new(alloc);
     for entry in sieve.kept() {
-        line.word(spelled(alloc, entry.key())?.as_str());
-        line.word(spelled(alloc, entry.cell())?.as_str());
+        line.spell(alloc, entry.key());
+        line.spell(alloc, entry.cell());
     }
-    line.word("of");
-    line.push(" ");
+    line.answer.word("of");
     line.show(&sieve.objects());
-    line.end()
 }

@@ -1,24 +1,26 @@
 //! Lines on the writing of a generation.
 
-use crate::notation::entry_of;
-use crate::page_lines::push_text;
-use crate::root_lines::root_text;
-use cases::{TextBuilder, WordReader, Wrong, spelled, text};
-use checkpoint::{EntryList, WriteFault, Written, counted_root, write};
+use crate::line::Line;
+use crate::root_lines::push_root;
+use cases::Wrong;
+use checkpoint::{EntryList, WriteFault, Written, write};
 use device::{Device, MemDevice};
+use roots::counted_root;
 use std::alloc::Global;
 
-// Entries, with ` | ` between them; none where the line is empty.
-fn entries_of(alloc: Global, line: &str) -> Result<EntryList, Wrong> {
+// The entries of the rest, with ` | ` between them; none where it is empty.
+fn entries_of(alloc: Global, line: &mut Line<'_>) -> EntryList {
     let mut entries = Vec::new(alloc);
-    if line.is_empty() {
-        return Ok(EntryList::new(entries));
+    if line.rest.is_empty() {
+        return EntryList::new(entries);
     }
-    for one in line.split(" | ") {
-        let entry = entry_of(alloc, one)?;
-        entries.push(entry)?;
+    for one in line.rest.split(" | ") {
+        let entry = line.entry(alloc, one);
+        if entries.push(entry.into_parts()).is_err() {
+            line.fail(Wrong::Memory);
+        }
     }
-    Ok(EntryList::new(entries))
+    EntryList::new(entries)
 }
 
 fn fault_text(fault: WriteFault) -> &'static str {
@@ -31,53 +33,42 @@ fn fault_text(fault: WriteFault) -> &'static str {
     }
 }
 
-// Adds a key: as a word, or its bytes in hex where they are none.
-fn push_key(alloc: Global, line: &mut TextBuilder, key: &[u8]) -> Result<(), Wrong> {
-    if key.iter().all(|byte| byte.is_ascii_graphic()) {
-        push_text(line, key);
-    } else {
-        line.word(spelled(alloc, key)?.as_str());
+// Whether the bytes are a word.
+fn is_word(bytes: &[u8]) -> bool {
+    for byte in bytes {
+        if !byte.is_ascii_graphic() {
+            return false;
+        }
     }
-    Ok(())
+    true
 }
 
-fn written_text(alloc: Global, written: &Written) -> Result<String, Wrong> {
-    let root = root_text(alloc, &written.root)?;
-    let mut line = TextBuilder::new(alloc);
-    line.word(root.as_str());
-    line.word("begin");
+// Adds the root, and the first key of each page: as a word, or its bytes in hex where they are none.
+fn push_written(alloc: Global, line: &mut Line<'_>, written: &Written) {
+    push_root(line, &written.root);
+    line.answer.word("begin");
     for key in &written.first_keys {
-        push_key(alloc, &mut line, key)?;
-    }
-    line.end()
-}
-
-// Writes the entries as the next generation, while the log ends with this gate.
-fn write_behind(
-    alloc: Global,
-    device: &mut MemDevice,
-    last_gate: u64,
-    revision: u64,
-    entries: &mut EntryList,
-) -> Result<String, Wrong> {
-    let (Ok(current), Ok(sectors)) = (counted_root(device), device.len()) else {
-        return text(alloc, "no root counts");
-    };
-    if last_gate < 8 || last_gate >= 1 << 54 || last_gate >= sectors {
-        return text(alloc, "no gate of a log");
-    }
-    match write(alloc, device, &current, last_gate, revision, entries) {
-        Ok(written) => written_text(alloc, &written),
-        Err(fault) => text(alloc, fault_text(fault)),
+        if is_word(key) {
+            line.say(key);
+        } else {
+            line.spell(alloc, key);
+        }
     }
 }
 
 /// `write LAST REVISION KEY ; CELL | ..`: writes these entries as the next generation: its root, and behind `begin` the first key of each
 /// page, in hex where it is no word.
-pub fn write_entries(alloc: Global, device: &mut MemDevice, line: &str) -> Result<String, Wrong> {
-    let mut words = WordReader::new(line);
-    let (last_gate, revision) = (words.number(), words.number());
-    words.end()?;
-    let mut entries = entries_of(alloc, words.rest())?;
-    write_behind(alloc, device, last_gate, revision, &mut entries)
+pub fn write_entries(alloc: Global, device: &mut MemDevice, line: &mut Line<'_>) {
+    let (last_gate, revision) = (line.number(), line.number());
+    let mut entries = entries_of(alloc, line);
+    let (Ok(current), Ok(sectors)) = (counted_root(device), device.len()) else {
+        return line.answer.word("no root counts");
+    };
+    if last_gate < 8 || last_gate >= 1 << 54 || last_gate >= sectors {
+        return line.answer.word("no gate of a log");
+    }
+    match write(alloc, device, &current, last_gate, revision, &mut entries) {
+        Ok(written) => push_written(alloc, line, &written),
+        Err(fault) => line.answer.word(fault_text(fault)),
+    }
 }

@@ -3,9 +3,10 @@
 use crate::entry_lines::{pieces, reads_event, reads_object, reads_piece};
 use crate::holdings_lines::{held, held_over_pages};
 use crate::overlay_lines::over;
-use crate::record_lines::{answered, cuts, fault_text, reads, replay};
+use crate::record_lines::{answered, cuts, reads, replay, tell_fault};
 use crate::view_lines::reads_view;
-use cases::{Bench, Wrong, compare, first_word};
+use cases::{Bench, Wrong};
+use diskcases::Line;
 use std::alloc::Global;
 
 /// What a case of bytes works on: nothing but its lines.
@@ -22,10 +23,9 @@ impl Bench for Records {
         let Some((asked, wanted)) = line.split_once(" => ") else {
             return Err(Wrong::Told("a line has an answer"));
         };
-        let (word, rest) = first_word(asked);
-        let found = answer(alloc, word, rest)?;
-        compare(alloc, found.as_str(), wanted)?;
-        Ok(1)
+        let mut line = Line::new(alloc, asked);
+        answer(alloc, &mut line);
+        line.compare(alloc, wanted)
     }
 
     fn end(&mut self, _alloc: Global) -> Result<u64, Wrong> {
@@ -33,27 +33,21 @@ impl Bench for Records {
     }
 }
 
-fn answer(alloc: Global, word: &str, rest: &str) -> Result<String, Wrong> {
-    match word {
-        "reads" => reads(alloc, rest),
-        "cuts" => cuts(alloc, rest),
-        "replay" => replay(alloc, rest),
-        "answered" => answered(alloc, rest),
-        "told" => fault_text(alloc, rest),
-        "over" => over(alloc, rest),
-        "held" => held(alloc, rest),
-        "held-over-pages" => held_over_pages(alloc, rest),
-        _ => answer_of_entries(alloc, word, rest),
-    }
-}
-
-fn answer_of_entries(alloc: Global, word: &str, rest: &str) -> Result<String, Wrong> {
-    match word {
-        "reads-object" => reads_object(alloc, rest),
-        "reads-event" => reads_event(alloc, rest),
-        "pieces" => pieces(alloc, rest),
-        "reads-piece" => reads_piece(alloc, rest),
-        "reads-view" => reads_view(alloc, rest),
-        _ => Err(Wrong::Told("no such line")),
+fn answer(alloc: Global, line: &mut Line<'_>) {
+    match line.word() {
+        "reads" => reads(alloc, line),
+        "cuts" => cuts(alloc, line),
+        "replay" => replay(alloc, line),
+        "answered" => answered(alloc, line),
+        "told" => tell_fault(line),
+        "over" => over(alloc, line),
+        "held" => held(alloc, line),
+        "held-over-pages" => held_over_pages(alloc, line),
+        "reads-object" => reads_object(alloc, line),
+        "reads-event" => reads_event(alloc, line),
+        "pieces" => pieces(alloc, line),
+        "reads-piece" => reads_piece(alloc, line),
+        "reads-view" => reads_view(alloc, line),
+        _ => line.refuse("no such line"),
     }
 }

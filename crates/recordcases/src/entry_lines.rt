@@ -1,50 +1,50 @@
 //! Lines on the entries of a checkpoint.
 
-use cases::{TextBuilder, Wrong, shown, spelled, wanted};
-use diskcases::{entry_of, key_text, payload};
+use cases::Wrong;
+use diskcases::Line;
 use documents::Document;
 use entries::{
     Entry, StoredObject, event_entry, object_entry, plan_entries, read_event, read_object,
     read_piece,
 };
 use names::{Key, Resource};
-use std::alloc::Global;
+use std::alloc::{AllocError, Global};
 use window::{Change, Event};
 
-// What was read is written in the same bytes.
-fn check_written(written: &Entry, key: &[u8], cell: &[u8]) -> Result<(), Wrong> {
-    wanted(
-        written.key() == key && written.cell() == cell,
-        "what was read is written in other bytes",
-    )
-}
-
-fn object_text(
-    alloc: Global,
-    object: &StoredObject,
-    key: &[u8],
-    cell: &[u8],
-) -> Result<String, Wrong> {
-    let manifest = &object.manifest;
-    let written = object_entry(alloc, manifest.key(), manifest.document(), object.revision)?;
-    check_written(&written, key, cell)?;
-    let mut line = TextBuilder::new(alloc);
-    line.show(&object.revision);
-    key_text(&mut line, manifest.key());
-    line.word(manifest.text());
-    line.end()
-}
-
-/// `reads-object KEY ; CELL`: the object whose entry this is, and that it is written in the same bytes.
-pub fn reads_object(alloc: Global, line: &str) -> Result<String, Wrong> {
-    let (key, cell) = entry_of(alloc, line)?;
-    match read_object(alloc, key.as_slice(), cell.as_slice()) {
-        Ok(object) => object_text(alloc, &object, key.as_slice(), cell.as_slice()),
-        Err(fault) => shown(alloc, &fault),
+/// Asks that what was read from an entry is written as that entry again.
+pub(crate) fn check_written(
+    written: Result<Entry, AllocError>,
+    entry: &Entry,
+    line: &mut Line<'_>,
+) {
+    let Ok(written) = written else {
+        return line.fail(Wrong::Memory);
+    };
+    if written.key() != entry.key() || written.cell() != entry.cell() {
+        line.refuse("what was read is written in other bytes");
     }
 }
 
-fn change_word(change: Change) -> &'static str {
+fn show_object(alloc: Global, object: &StoredObject, entry: &Entry, line: &mut Line<'_>) {
+    let manifest = &object.manifest;
+    let written = object_entry(alloc, manifest.key(), manifest.document(), object.revision);
+    check_written(written, entry, line);
+    line.show(&object.revision);
+    line.show_key(manifest.key());
+    line.answer.word(manifest.text());
+}
+
+/// `reads-object KEY ; CELL`: the object whose entry this is, and that it is written in the same bytes.
+pub fn reads_object(alloc: Global, line: &mut Line<'_>) {
+    let entry = line.entry(alloc, line.rest);
+    match read_object(alloc, entry.key(), entry.cell()) {
+        Ok(object) => show_object(alloc, &object, &entry, line),
+        Err(fault) => line.show(&fault),
+    }
+}
+
+/// The word of a change.
+pub(crate) fn change_word(change: Change) -> &'static str {
     match change {
         Change::Added => "added",
         Change::Modified => "modified",
@@ -52,89 +52,70 @@ fn change_word(change: Change) -> &'static str {
     }
 }
 
-fn event_text(
-    alloc: Global,
-    event: &Event<Document>,
-    key: &[u8],
-    cell: &[u8],
-) -> Result<String, Wrong> {
-    let written = event_entry(alloc, event)?;
-    check_written(&written, key, cell)?;
-    let text = event.document.json().text(alloc)?;
-    let mut line = TextBuilder::new(alloc);
+fn show_event(alloc: Global, event: &Event<Document>, entry: &Entry, line: &mut Line<'_>) {
+    check_written(event_entry(alloc, event), entry, line);
     line.show(&event.revision);
-    line.word(change_word(event.change));
-    key_text(&mut line, &event.key);
-    line.word(text.as_str());
-    line.end()
+    line.answer.word(change_word(event.change));
+    line.show_key(&event.key);
+    line.show_document(alloc, &event.document);
 }
 
 /// `reads-event KEY ; CELL`: the event whose entry this is, and that it is written in the same bytes.
-pub fn reads_event(alloc: Global, line: &str) -> Result<String, Wrong> {
-    let (key, cell) = entry_of(alloc, line)?;
-    match read_event(alloc, key.as_slice(), cell.as_slice()) {
-        Ok(event) => event_text(alloc, &event, key.as_slice(), cell.as_slice()),
-        Err(fault) => shown(alloc, &fault),
+pub fn reads_event(alloc: Global, line: &mut Line<'_>) {
+    let entry = line.entry(alloc, line.rest);
+    match read_event(alloc, entry.key(), entry.cell()) {
+        Ok(event) => show_event(alloc, &event, &entry, line),
+        Err(fault) => line.show(&fault),
     }
 }
 
 // The policy `p`.
-fn policy(alloc: Global) -> Result<Key, Wrong> {
-    match Key::new(alloc, Resource::ValidatingAdmissionPolicy, "", "p") {
-        Ok(key) => Ok(key),
-        Err(_) => Err(Wrong::Memory),
-    }
+fn policy(alloc: Global, line: &mut Line<'_>) -> Option<Key> {
+    line.key(alloc, Resource::ValidatingAdmissionPolicy, "", "p")
 }
 
-// The pieces' keys and sizes. They are gathered again.
-fn pieces_text(
-    alloc: Global,
-    policy: &Key,
-    entries: &[Entry],
-    plans: &mut Vec<u8>,
-) -> Result<String, Wrong> {
-    let mut line = TextBuilder::new(alloc);
+// The pieces' keys and sizes. The plans are gathered from them again.
+fn show_pieces(alloc: Global, policy: &Key, entries: &[Entry], plans: &[u8], line: &mut Line<'_>) {
+    let mut again = Vec::new(alloc);
     for entry in entries {
-        let read = read_piece(alloc, policy, plans, entry.key(), entry.cell());
-        wanted(read.is_ok(), "a piece is not read")?;
-        line.word(spelled(alloc, entry.key())?.as_str());
-        line.push(" ");
+        if read_piece(alloc, policy, &mut again, entry.key(), entry.cell()).is_err() {
+            line.refuse("a piece is not read");
+        }
+        line.spell(alloc, entry.key());
         line.show(&entry.cell().len());
     }
-    line.end()
+    if again.as_slice() != plans {
+        line.refuse("the plans are others");
+    }
 }
 
 /// `pieces PLANS`: the key and the size of each piece of plans of these bytes, and that they are gathered from the pieces again.
-pub fn pieces(alloc: Global, line: &str) -> Result<String, Wrong> {
-    let plans = payload(alloc, line)?;
+pub fn pieces(alloc: Global, line: &mut Line<'_>) {
+    let plans = line.payload(alloc, line.rest);
     if plans.len() > 1 << 30 {
-        return Err(Wrong::Told("too many plans"));
+        return line.refuse("too many plans");
     }
-    let policy = policy(alloc)?;
-    let entries = plan_entries(alloc, &policy, plans.as_slice())?;
-    let mut again = Vec::new(alloc);
-    let text = pieces_text(alloc, &policy, entries.as_slice(), &mut again)?;
-    wanted(again.as_slice() == plans.as_slice(), "the plans are others")?;
-    Ok(text)
-}
-
-// The size of the plans with one more piece behind them.
-fn size_with(alloc: Global, plans: &mut Vec<u8>, key: &[u8], cell: &[u8]) -> Result<String, Wrong> {
-    let policy = policy(alloc)?;
-    match read_piece(alloc, &policy, plans, key, cell) {
-        Ok(()) => shown(alloc, &plans.len()),
-        Err(fault) => shown(alloc, &fault),
+    let Some(policy) = policy(alloc, line) else {
+        return;
+    };
+    match plan_entries(alloc, &policy, &plans) {
+        Ok(entries) => show_pieces(alloc, &policy, &entries, &plans, line),
+        Err(_) => line.fail(Wrong::Memory),
     }
 }
 
 /// `reads-piece PLANS ; KEY ; CELL`: the size of these plans with this piece behind them.
-pub fn reads_piece(alloc: Global, line: &str) -> Result<String, Wrong> {
-    match line.split_once(" ; ") {
-        Some((before, entry)) => {
-            let (key, cell) = entry_of(alloc, entry)?;
-            let mut plans = payload(alloc, before)?;
-            size_with(alloc, &mut plans, key.as_slice(), cell.as_slice())
-        }
-        None => Err(Wrong::Told("a piece stands behind plans")),
+pub fn reads_piece(alloc: Global, line: &mut Line<'_>) {
+    let Some((before, piece)) = line.rest.split_once(" ; ") else {
+        return line.refuse("a piece stands behind plans");
+    };
+    let Some(policy) = policy(alloc, line) else {
+        return;
+    };
+    let mut plans = line.payload(alloc, before);
+    let piece = line.entry(alloc, piece);
+    match read_piece(alloc, &policy, &mut plans, piece.key(), piece.cell()) {
+        Ok(()) => line.show(&plans.len()),
+        Err(fault) => line.show(&fault),
     }
 }

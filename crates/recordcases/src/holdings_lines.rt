@@ -1,31 +1,45 @@
 //! Lines on what is held over objects that lie below.
 
-ghost use Rattle.std.specs.Prelude.{◌<◌, IsTrue};
+ghost use Rattle.std.specs.Prelude.{◌<◌, ◌+◌, ◌^◌};
 
-use crate::below::Below;
-use crate::paged::paged;
-use cases::{TextBuilder, Wrong, first_word, number};
+use crate::entry_lines::change_word;
+use crate::in_memory::InMemory;
+use crate::paged::{Zero, paged};
+use base::Base;
+use cases::Wrong;
+use device::MemDevice;
+use diskcases::Line;
 use history::Stored;
-use holdings::{Holdings, PreparedWrite, Source, SourceFault};
+use holdings::{Found, Holdings, PreparedWrite, Source};
 use names::{Format, Key, Resource, Rules};
-use objects::{Entry, Objects};
+use objects::{Entry, LookupFault, Objects};
 use requests::Manifest;
 use std::alloc::{AllocError, Global};
 use std::fmt::Display;
 use window::{Change, Event};
 
-/// What is held, and what lies below it.
+// Configmaps that lie below.
 #[derive(Drop)]
-struct Layers<S> {
+enum Below {
+    Memory(InMemory),
+    Page(Base<MemDevice, Zero>),
+}
+
+// What is held, and what lies below it.
+#[derive(Drop)]
+struct Layers {
     holdings: Holdings<u64>,
-    below: S,
+    below: Below,
 }
 
 // The configmap of this name.
-fn manifest(alloc: Global, name: &str) -> Result<Manifest, Wrong> {
-    let body = format!(in alloc;
+fn manifest(alloc: Global, name: &str, line: &mut Line<'_>) -> Option<Manifest> {
+    let Ok(body) = format!(in alloc;
         "{{\"apiVersion\":\"v1\",\"kind\":\"ConfigMap\",\"metadata\":{{\"name\":\"{name}\"}}}}"
-    )?;
+    ) else {
+        line.fail(Wrong::Memory);
+        return None;
+    };
     match Manifest::read(
         alloc,
         Resource::ConfigMap,
@@ -33,220 +47,279 @@ fn manifest(alloc: Global, name: &str) -> Result<Manifest, Wrong> {
         Some(name),
         body.as_bytes(),
     ) {
-        Ok(manifest) => Ok(manifest),
-        Err(_) => Err(Wrong::Told("no name")),
+        Ok(manifest) => Some(manifest),
+        Err(_) => {
+            line.refuse("no name");
+            None
+        }
     }
 }
 
-// Objects of these names, of the revisions from 2 on.
-fn below(alloc: Global, names: &str) -> Result<Below, Wrong> {
+// Puts a configmap, as of this revision.
+fn put_below(
+    alloc: Global,
+    objects: &mut Objects<Stored<u64>>,
+    manifest: &Manifest,
+    revision: u64,
+) -> Result<(), AllocError> {
+    let key = manifest.key().clone()?;
+    let document = manifest.document().clone()?;
+    let stored = Stored {
+        document,
+        beside: 0,
+        revision,
+    };
+    let entry = Entry::new(alloc, key, stored)?;
+    objects.reserve(1)?;
+    let _old = objects.put(entry);
+    Ok(())
+}
+
+// Configmaps of the names that the rest has, of the revisions from 2 on.
+fn objects_of(alloc: Global, line: &mut Line<'_>) -> Objects<Stored<u64>> {
     let mut objects = Objects::new(alloc);
     let mut revision = 1_u64;
-    for name in names.split_whitespace() {
+    for name in line.rest.split_whitespace() {
         revision = revision.saturating_add(1);
-        let manifest = manifest(alloc, name)?;
-        let stored = Stored {
-            document: manifest.document().clone()?,
-            beside: 0,
-            revision,
-        };
-        objects.reserve(1)?;
-        let Ok(entry) = Entry::new(alloc, manifest.key().clone()?, stored) else {
-            return Err(Wrong::Memory);
-        };
-        let _old = objects.put(entry);
+        if let Some(manifest) = manifest(alloc, name, line) {
+            let done = put_below(alloc, &mut objects, &manifest, revision);
+            if done.is_err() {
+                line.fail(Wrong::Memory);
+            }
+        }
     }
-    Ok(Below { objects })
+    objects
 }
 
-fn looked<T: Drop>(found: Result<T, SourceFault>) -> Result<T, Wrong> {
-    match found {
-        Ok(found) => Ok(found),
-        Err(SourceFault::Memory) => Err(Wrong::Memory),
-        Err(SourceFault::Device) => Err(Wrong::Told("device failed")),
-        Err(SourceFault::Damaged) => Err(Wrong::Told("damaged")),
-    }
+// Keeps why what lies below gives no answer.
+fn keep_fault(fault: LookupFault, line: &mut Line<'_>) {
+    line.fail(match fault {
+        LookupFault::Memory => Wrong::Memory,
+        LookupFault::Device => Wrong::Told("device failed"),
+        LookupFault::Damaged => Wrong::Told("damaged"),
+    });
 }
 
-impl<S: Source<u64> + Drop> Layers<S> {
-    // Whether a write has a revision left.
-    fn is_writable(&self) -> bool
-        ensures { IsTrue result → self.now.holdings.revision < self.now.holdings.rules.greatest_revision }
-    {
-        self.holdings.revision() < self.holdings.rules().greatest_revision
-    }
-
-    // `put NAME`.
-    fn put(&mut self, alloc: Global, manifest: &Manifest) -> Result<(), Wrong> {
-        let found = self.holdings.find(alloc, &mut self.below, manifest.key());
-        let stands = looked(found)?.is_some();
-        if !self.is_writable() {
-            return Err(Wrong::Told("no revision is left"));
-        }
-        let put = self.holdings.prepare_put(alloc, manifest, 0, stands)?;
-        self.holdings.take(PreparedWrite::Put(put));
-        Ok(())
-    }
-
-    // `delete NAME`, of an object that is there.
-    fn delete(&mut self, alloc: Global, key: &Key) -> Result<(), Wrong> {
-        let found = self.holdings.find(alloc, &mut self.below, key);
-        let Some(found) = looked(found)? else {
-            return Err(Wrong::Told("there is no such object"));
+impl Layers {
+    // What stands under a key.
+    fn look(&mut self, alloc: Global, key: &Key, line: &mut Line<'_>) -> Option<Found> {
+        let found = match &mut self.below {
+            Below::Memory(below) => self.holdings.find(alloc, below, key),
+            Below::Page(below) => self.holdings.find(alloc, below, key),
         };
-        if !self.is_writable() {
-            return Err(Wrong::Told("no revision is left"));
-        }
-        let deletion = self.holdings.prepare_deletion(alloc, key, found.document)?;
-        self.holdings.take(PreparedWrite::Delete(deletion));
-        Ok(())
-    }
-
-    // `hold NAME`: what stands there, or that nothing does.
-    fn hold(&mut self, alloc: Global, key: &Key) -> Result<(), Wrong> {
-        let found = self.holdings.find(alloc, &mut self.below, key);
-        let stored = looked(found)?.map(|found| Stored {
-            document: found.document,
-            beside: 0,
-            revision: found.revision,
-        });
-        Ok(self.holdings.hold(alloc, key, stored)?)
-    }
-
-    // `keep NAME`: an event of the object.
-    fn keep(&mut self, manifest: &Manifest) -> Result<(), Wrong> {
-        if self.holdings.revision() == u64::MAX {
-            return Err(Wrong::Told("no revision is left"));
-        }
-        self.holdings.keep(Event {
-            revision: 0,
-            change: Change::Added,
-            key: manifest.key().clone()?,
-            document: manifest.document().clone()?,
-        });
-        Ok(())
-    }
-
-    // A step that changes what is held.
-    fn change(&mut self, alloc: Global, word: &str, name: &str) -> Result<(), Wrong> {
-        let manifest = manifest(alloc, name)?;
-        match word {
-            "put" => self.put(alloc, &manifest),
-            "delete" => self.delete(alloc, manifest.key()),
-            "hold" => self.hold(alloc, manifest.key()),
-            "keep" => self.keep(&manifest),
-            _ => Err(Wrong::Told("no such step")),
-        }
-    }
-
-    // The revision of the object of this name, or `none`.
-    fn find(&mut self, alloc: Global, line: &mut TextBuilder, name: &str) -> Result<(), Wrong> {
-        let manifest = manifest(alloc, name)?;
-        let found = self.holdings.find(alloc, &mut self.below, manifest.key());
-        match looked(found)? {
-            Some(found) => line.show(&found.revision),
-            None => line.push("none"),
-        }
-        Ok(())
-    }
-
-    // All configmaps with their revisions.
-    fn list(&mut self, alloc: Global, line: &mut TextBuilder) -> Result<(), Wrong> {
-        let below = looked(self.below.list(alloc, Resource::ConfigMap, None))?;
-        for entry in &self
-            .holdings
-            .list(alloc, Resource::ConfigMap, None, &below)?
-        {
-            push_object(line, entry.key, &entry.value.revision);
-        }
-        Ok(())
-    }
-
-    // What was put, with its revision, and what was removed.
-    fn push_changes(&self, line: &mut TextBuilder) {
-        for change in self.holdings.changes() {
-            match change.value() {
-                Some(stored) => push_object(line, change.key(), &stored.revision),
-                None => push_object(line, change.key(), &"none"),
+        match found {
+            Ok(found) => found,
+            Err(fault) => {
+                keep_fault(fault, line);
+                None
             }
         }
     }
 
-    fn push_events(&self, line: &mut TextBuilder) {
+    // The configmaps that lie below.
+    fn list_below(&mut self, alloc: Global, line: &mut Line<'_>) -> Vec<(Key, Stored<u64>)> {
+        let listed = match &mut self.below {
+            Below::Memory(below) => below.list(alloc, Resource::ConfigMap, None),
+            Below::Page(below) => below.list(alloc, Resource::ConfigMap, None),
+        };
+        match listed {
+            Ok(listed) => listed,
+            Err(fault) => {
+                keep_fault(fault, line);
+                Vec::new(alloc)
+            }
+        }
+    }
+
+    // `put NAME`.
+    fn put(&mut self, alloc: Global, manifest: &Manifest, line: &mut Line<'_>) {
+        let stands = self.look(alloc, manifest.key(), line).is_some();
+        if self.holdings.revision() >= self.holdings.rules().greatest_revision {
+            return line.refuse("no revision is left");
+        }
+        match self.holdings.prepare_put(alloc, manifest, 0, stands) {
+            Ok(put) => self.holdings.take(PreparedWrite::Put(put)),
+            Err(_) => line.fail(Wrong::Memory),
+        }
+    }
+
+    // `delete NAME`, of an object that is there.
+    fn delete(&mut self, alloc: Global, key: &Key, line: &mut Line<'_>) {
+        let Some(found) = self.look(alloc, key, line) else {
+            return line.refuse("there is no such object");
+        };
+        if self.holdings.revision() >= self.holdings.rules().greatest_revision {
+            return line.refuse("no revision is left");
+        }
+        match self.holdings.prepare_deletion(alloc, key, found.document) {
+            Ok(deletion) => self.holdings.take(PreparedWrite::Delete(deletion)),
+            Err(_) => line.fail(Wrong::Memory),
+        }
+    }
+
+    // `hold NAME`: what stands there, or that nothing does.
+    fn hold(&mut self, alloc: Global, key: &Key, line: &mut Line<'_>) {
+        let stored = match self.look(alloc, key, line) {
+            Some(found) => Some(Stored {
+                document: found.document,
+                beside: 0,
+                revision: found.revision,
+            }),
+            None => None,
+        };
+        if self.holdings.hold(alloc, key, stored).is_err() {
+            line.fail(Wrong::Memory);
+        }
+    }
+
+    // `keep NAME`: an event of the object.
+    fn keep(&mut self, manifest: &Manifest) -> Result<(), AllocError>
+        requires { self.old.holdings.revision + 1 < 2 ^ 64 }
+    {
+        let key = manifest.key().clone()?;
+        let document = manifest.document().clone()?;
+        self.holdings.keep(Event {
+            revision: 0,
+            change: Change::Added,
+            key,
+            document,
+        });
+        Ok(())
+    }
+
+    // A step that changes what is held, and the revision then.
+    fn change(&mut self, alloc: Global, word: &str, line: &mut Line<'_>) {
+        if let Some(manifest) = manifest(alloc, line.rest, line) {
+            match word {
+                "put" => self.put(alloc, &manifest, line),
+                "delete" => self.delete(alloc, manifest.key(), line),
+                "hold" => self.hold(alloc, manifest.key(), line),
+                "keep" if self.holdings.revision() == u64::MAX => {
+                    line.refuse("no revision is left");
+                }
+                "keep" => {
+                    if self.keep(&manifest).is_err() {
+                        line.fail(Wrong::Memory);
+                    }
+                }
+                _ => line.refuse("no such step"),
+            }
+        }
+        line.answer.show(&self.holdings.revision());
+    }
+
+    // The revision of the object of this name, or `none`.
+    fn find(&mut self, alloc: Global, line: &mut Line<'_>) {
+        let Some(key) = line.key(alloc, Resource::ConfigMap, "default", line.rest) else {
+            return;
+        };
+        match self.look(alloc, &key, line) {
+            Some(found) => line.answer.show(&found.revision),
+            None => line.answer.push("none"),
+        }
+    }
+
+    // All configmaps with their revisions.
+    fn list(&mut self, alloc: Global, line: &mut Line<'_>) {
+        let below = self.list_below(alloc, line);
+        match self.holdings.list(alloc, Resource::ConfigMap, None, &below) {
+            Ok(listed) => {
+                for entry in &listed {
+                    show_object(line, entry.key, &entry.value.revision);
+                }
+            }
+            Err(_) => line.fail(Wrong::Memory),
+        }
+    }
+
+    // What was put, with its revision, and what was removed.
+    fn show_changes(&self, line: &mut Line<'_>) {
+        for change in self.holdings.changes() {
+            match change.value() {
+                Some(stored) => show_object(line, change.key(), &stored.revision),
+                None => show_object(line, change.key(), &"none"),
+            }
+        }
+    }
+
+    fn show_events(&self, line: &mut Line<'_>) {
         for event in self.holdings.events() {
-            line.word(match event.change {
-                Change::Added => "added",
-                Change::Modified => "modified",
-                Change::Deleted => "deleted",
-            });
-            push_object(line, &event.key, &event.revision);
+            line.answer.word(change_word(event.change));
+            show_object(line, &event.key, &event.revision);
         }
     }
 
     // One step, and its answer behind those before it.
-    fn step(&mut self, alloc: Global, line: &mut TextBuilder, step: &str) -> Result<(), Wrong> {
-        let (word, name) = first_word(step);
-        match word {
-            "find" => self.find(alloc, line, name)?,
-            "list" => self.list(alloc, line)?,
-            "changes" => self.push_changes(line),
-            "events" => self.push_events(line),
-            "count" => line.show(&self.holdings.object_count()),
-            "full" => line.push(if self.holdings.is_full() { "yes" } else { "no" }),
-            _ => {
-                self.change(alloc, word, name)?;
-                line.show(&self.holdings.revision());
-            }
+    fn step(&mut self, alloc: Global, line: &mut Line<'_>) {
+        match line.word() {
+            "find" => self.find(alloc, line),
+            "list" => self.list(alloc, line),
+            "changes" => self.show_changes(line),
+            "events" => self.show_events(line),
+            "count" => line.answer.show(&self.holdings.object_count()),
+            "full" => line
+                .answer
+                .push(if self.holdings.is_full() { "yes" } else { "no" }),
+            word => self.change(alloc, word, line),
         }
-        Ok(())
     }
 }
 
 // `NAME@REVISION`.
-fn push_object<T: Display>(line: &mut TextBuilder, key: &Key, revision: &T) {
-    line.word(key.name());
-    line.push("@");
-    line.show(revision);
+fn show_object<T: Display>(line: &mut Line<'_>, key: &Key, revision: &T) {
+    line.answer.word(key.name());
+    line.answer.push("@");
+    line.answer.show(revision);
 }
 
-// Holdings over so many objects, of which there may be up to a limit.
-fn holdings_over(alloc: Global, limit: u64, count: usize) -> Result<Holdings<u64>, AllocError> {
+// `LIMIT NAME .. | STEP ; ..`: the steps are left, and the limit and the configmaps are given.
+fn lying_below(alloc: Global, line: &mut Line<'_>) -> (u64, Objects<Stored<u64>>) {
+    let (front, steps) = line.rest.split_once(" | ").unwrap_or((line.rest, ""));
+    line.rest = front;
+    let limit = line.number();
+    let objects = objects_of(alloc, line);
+    line.rest = steps;
+    (limit, objects)
+}
+
+// Answers the steps, with `; ` between them.
+fn answer(alloc: Global, layers: &mut Layers, line: &mut Line<'_>) {
+    for (place, step) in line.rest.split(" ; ").enumerate() {
+        line.answer.push(if place == 0 { "" } else { "; " });
+        line.rest = step;
+        layers.step(alloc, line);
+    }
+}
+
+// Answers the steps over so many objects, of which there may be up to a limit.
+fn answer_over(alloc: Global, limit: u64, below: Below, count: usize, line: &mut Line<'_>) {
     let rules = Rules {
         object_limit: limit as usize,
         ..Format::First.rules()
     };
-    Holdings::over(alloc, rules, (count as u64).saturating_add(1), count)
-}
-
-// The answers of steps, with `; ` between them.
-fn answers<S: Source<u64> + Drop>(
-    alloc: Global,
-    layers: Layers<S>,
-    steps: &str,
-) -> Result<String, Wrong> {
-    let mut layers = layers;
-    let mut line = TextBuilder::new(alloc);
-    for (place, step) in steps.split(" ; ").enumerate() {
-        line.push(if place == 0 { "" } else { "; " });
-        layers.step(alloc, &mut line, step)?;
+    match Holdings::over(alloc, rules, (count as u64).saturating_add(1), count) {
+        Ok(holdings) => answer(alloc, &mut Layers { holdings, below }, line),
+        Err(_) => line.fail(Wrong::Memory),
     }
-    line.end()
 }
 
 /// `held LIMIT NAME .. | STEP ; ..`: the answers of these steps over objects of these names in memory, where there may be so many.
-pub fn held(alloc: Global, line: &str) -> Result<String, Wrong> {
-    let (front, steps) = line.split_once(" | ").unwrap_or((line, ""));
-    let (limit, names) = first_word(front);
-    let below = below(alloc, names)?;
-    let holdings = holdings_over(alloc, number(limit)?, below.objects.len())?;
-    answers(alloc, Layers { holdings, below }, steps)
+pub fn held(alloc: Global, line: &mut Line<'_>) {
+    let (limit, objects) = lying_below(alloc, line);
+    let count = objects.len();
+    answer_over(
+        alloc,
+        limit,
+        Below::Memory(InMemory { objects }),
+        count,
+        line,
+    );
 }
 
 /// `held-over-pages LIMIT NAME .. | STEP ; ..`: the same over these objects in a page.
-pub fn held_over_pages(alloc: Global, line: &str) -> Result<String, Wrong> {
-    let (front, steps) = line.split_once(" | ").unwrap_or((line, ""));
-    let (limit, names) = first_word(front);
-    let (below, count) = paged(alloc, &below(alloc, names)?)?;
-    let holdings = holdings_over(alloc, number(limit)?, count as usize)?;
-    answers(alloc, Layers { holdings, below }, steps)
+pub fn held_over_pages(alloc: Global, line: &mut Line<'_>) {
+    let (limit, objects) = lying_below(alloc, line);
+    if let Some((base, count)) = paged(alloc, objects.entries(), line) {
+        answer_over(alloc, limit, Below::Page(base), count as usize, line);
+    }
 }

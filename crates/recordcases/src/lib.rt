@@ -3,10 +3,10 @@
 //! [`Records`] is the bench of their files; `README.md` beside the files has their lines.
 #![tactic(auto)]
 
-mod below;
 mod bench;
 mod entry_lines;
 mod holdings_lines;
+mod in_memory;
 mod overlay_lines;
 mod paged;
 mod record_lines;

@@ -1,45 +1,58 @@
 //! Lines on what changes leave of entries.
 
-use cases::{TextBuilder, Wrong, number};
-use names::{Key, KeyFault, Resource};
+use cases::Wrong;
+use diskcases::Line;
+use names::{Key, Resource};
 use objects::Entry;
 use overlay::Changes;
 use std::alloc::Global;
 
 // The configmap of this name.
-fn key_of(alloc: Global, name: &str) -> Result<Key, Wrong> {
-    match Key::new(alloc, Resource::ConfigMap, "default", name) {
-        Ok(key) => Ok(key),
-        Err(KeyFault::NoKey) => Err(Wrong::Told("no name")),
-        Err(KeyFault::Memory) => Err(Wrong::Memory),
-    }
+fn key_of(alloc: Global, name: &str, line: &mut Line<'_>) -> Option<Key> {
+    line.key(alloc, Resource::ConfigMap, "default", name)
 }
 
-// `NAME=NUMBER`, or `NAME` alone where there is none.
-fn pair_of(alloc: Global, word: &str) -> Result<(Key, Option<u64>), Wrong> {
-    match word.split_once('=') {
-        Some((name, value)) => Ok((key_of(alloc, name)?, Some(number(value)?))),
-        None => Ok((key_of(alloc, word)?, None)),
-    }
-}
-
-// Entries, as they stand in the line.
-fn entries_of(alloc: Global, line: &str) -> Result<Vec<(Key, u64)>, Wrong> {
+// Entries, `NAME=NUMBER` each, as they stand in the text.
+fn entries_of(alloc: Global, text: &str, line: &mut Line<'_>) -> Vec<(Key, u64)> {
     let mut entries = Vec::new(alloc);
-    for word in line.split_whitespace() {
+    for word in text.split_whitespace() {
         let (name, value) = word.split_once('=').unwrap_or((word, ""));
-        let value = number(value)?;
-        let key = key_of(alloc, name)?;
-        entries.push((key, value))?;
+        let value = line.number_of(value);
+        if let Some(key) = key_of(alloc, name, line) {
+            if entries.push((key, value)).is_err() {
+                line.fail(Wrong::Memory);
+            }
+        }
     }
-    Ok(entries)
+    entries
 }
 
 // Whether an entry stands under the key.
 fn stands(changes: &Changes<u64>, entries: &[(Key, u64)], key: &Key) -> bool {
-    match changes.get(key) {
-        Some(change) => change.is_some(),
-        None => entries.iter().any(|entry| entry.0 == *key),
+    if let Some(change) = changes.get(key) {
+        return change.is_some();
+    }
+    for (other, _) in entries {
+        if *other == *key {
+            return true;
+        }
+    }
+    false
+}
+
+// The change that a word says: `NAME=NUMBER`, or `NAME` alone where there is no value.
+fn entry_of(alloc: Global, word: &str, line: &mut Line<'_>) -> Option<Entry<Option<u64>>> {
+    let (name, value) = match word.split_once('=') {
+        Some((name, value)) => (name, Some(line.number_of(value))),
+        None => (word, None),
+    };
+    let key = key_of(alloc, name, line)?;
+    match Entry::new(alloc, key, value) {
+        Ok(entry) => Some(entry),
+        Err(_) => {
+            line.fail(Wrong::Memory);
+            None
+        }
     }
 }
 
@@ -49,36 +62,44 @@ fn change(
     changes: &mut Changes<u64>,
     entries: &[(Key, u64)],
     word: &str,
-) -> Result<(), Wrong> {
-    let (key, value) = pair_of(alloc, word.trim_start_matches('!'))?;
-    let stood = stands(changes, entries, &key);
-    changes.reserve(1)?;
-    let Ok(entry) = Entry::new(alloc, key, value) else {
-        return Err(Wrong::Memory);
+    line: &mut Line<'_>,
+) {
+    let Some(entry) = entry_of(alloc, word.trim_start_matches('!'), line) else {
+        return;
     };
+    let stood = stands(changes, entries, entry.key());
+    if changes.reserve(1).is_err() {
+        return line.fail(Wrong::Memory);
+    }
     if word.starts_with('!') {
         changes.hold(entry);
     } else {
         changes.make(entry, stood);
     }
-    Ok(())
+}
+
+fn show_left(alloc: Global, changes: &Changes<u64>, entries: &[(Key, u64)], line: &mut Line<'_>) {
+    line.show(&changes.count());
+    line.answer.push(":");
+    match changes.list(alloc, Resource::ConfigMap, None, entries) {
+        Ok(left) => {
+            for entry in &left {
+                line.answer.word(entry.key.name());
+                line.answer.push("=");
+                line.answer.show(entry.value);
+            }
+        }
+        Err(_) => line.fail(Wrong::Memory),
+    }
 }
 
 /// `over CHANGE .. | ENTRY ..`: how many entries the changes leave of these, and which.
-pub fn over(alloc: Global, line: &str) -> Result<String, Wrong> {
-    let (words, entries) = line.split_once('|').unwrap_or((line, ""));
-    let entries = entries_of(alloc, entries)?;
+pub fn over(alloc: Global, line: &mut Line<'_>) {
+    let (words, entries) = line.rest.split_once('|').unwrap_or((line.rest, ""));
+    let entries = entries_of(alloc, entries, line);
     let mut changes = Changes::over(alloc, entries.len());
     for word in words.split_whitespace() {
-        change(alloc, &mut changes, &entries, word)?;
+        change(alloc, &mut changes, &entries, word, line);
     }
-    let mut line = TextBuilder::new(alloc);
-    line.show(&changes.count());
-    line.push(":");
-    for entry in &changes.list(alloc, Resource::ConfigMap, None, &entries)? {
-        line.word(entry.key.name());
-        line.push("=");
-        line.show(entry.value);
-    }
-    line.end()
+    show_left(alloc, &changes, &entries, line);
 }

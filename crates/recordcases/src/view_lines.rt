@@ -1,101 +1,139 @@
 //! Lines on the views that entries keep.
 
-use cases::{TextBuilder, WordReader, Wrong, shown, wanted};
-use diskcases::entry_of;
-use entries::{Entry, KeptView, event_entry, object_entry, plan_entries, read_view};
+use crate::entry_lines::check_written;
+use cases::Wrong;
+use diskcases::Line;
+use entries::{Entry, KeptObject, KeptView, event_entry, object_entry, plan_entries, read_view};
 use history::{Core, Stored};
-use names::Format;
-use std::alloc::Global;
+use names::{Format, Key};
+use std::alloc::{AllocError, Global};
 
-// Entries, with ` | ` between them; none where the line is empty.
-fn entries_of(alloc: Global, line: &str) -> Result<Vec<Entry>, Wrong> {
+// Entries, with ` | ` between them; none where the rest is empty.
+fn entries_of(alloc: Global, line: &mut Line<'_>) -> Vec<Entry> {
     let mut entries = Vec::new(alloc);
-    if line.is_empty() {
-        return Ok(entries);
+    if line.rest.is_empty() {
+        return entries;
     }
-    for one in line.split(" | ") {
-        let (key, cell) = entry_of(alloc, one)?;
-        entries.push(Entry::new(key, cell))?;
+    for one in line.rest.split(" | ") {
+        if entries.push(line.entry(alloc, one)).is_err() {
+            line.fail(Wrong::Memory);
+        }
     }
-    Ok(entries)
+    entries
 }
 
-// The core that holds the objects of a view and keeps its events.
-fn core_of(alloc: Global, view: KeptView) -> Result<Core<Vec<u8>>, Wrong> {
-    let first = view.revision.saturating_sub(view.events.len() as u64);
-    wanted(first > 0, "a view has as many events as revisions")?;
-    let mut core = Core::behind(alloc, Format::First.rules(), first)?;
+// Holds an object of a view in a core.
+fn hold(alloc: Global, core: &mut Core<Vec<u8>>, object: KeptObject) -> Result<(), AllocError> {
+    let KeptObject {
+        manifest,
+        plans,
+        revision,
+    } = object;
+    let stored = Stored {
+        document: manifest.document().clone()?,
+        beside: plans,
+        revision,
+    };
+    core.hold(alloc, manifest.key(), stored)
+}
+
+// Holds the objects of a view in a core, and keeps its events there.
+fn fill(alloc: Global, core: &mut Core<Vec<u8>>, view: KeptView, line: &mut Line<'_>) {
     for object in view.objects {
-        let stored = Stored {
-            document: object.manifest.document().clone()?,
-            beside: object.plans,
-            revision: object.revision,
-        };
-        core.hold(alloc, object.manifest.key(), stored)?;
+        if hold(alloc, core, object).is_err() {
+            line.fail(Wrong::Memory);
+        }
     }
     for event in view.events {
-        wanted(core.revision() < view.revision, "too many events")?;
+        if core.revision() >= view.revision {
+            return line.refuse("too many events");
+        }
         core.keep(event);
     }
-    Ok(core)
 }
 
-// The entries of what a core holds and keeps.
-fn entries_in(alloc: Global, core: &Core<Vec<u8>>) -> Result<Vec<Entry>, Wrong> {
-    let mut entries = Vec::new(alloc);
+// Asks that the first of these entries is written, and gives those behind it.
+fn behind<'a>(
+    entries: &'a [Entry],
+    written: Result<Entry, AllocError>,
+    line: &mut Line<'_>,
+) -> &'a [Entry] {
+    match entries.split_first() {
+        Some((entry, rest)) => {
+            check_written(written, entry, line);
+            rest
+        }
+        None => {
+            line.refuse("the core has more entries");
+            entries
+        }
+    }
+}
+
+// The same of the pieces of plans.
+fn behind_plans<'a>(
+    alloc: Global,
+    entries: &'a [Entry],
+    policy: &Key,
+    plans: &[u8],
+    line: &mut Line<'_>,
+) -> &'a [Entry] {
+    if plans.len() > 1 << 30 {
+        line.refuse("too many plans");
+        return entries;
+    }
+    let Ok(pieces) = plan_entries(alloc, policy, plans) else {
+        line.fail(Wrong::Memory);
+        return entries;
+    };
+    let mut rest = entries;
+    for piece in pieces {
+        rest = behind(rest, Ok(piece), line);
+    }
+    rest
+}
+
+// Asks that these are the entries of what a core holds and keeps.
+fn check_entries(alloc: Global, core: &Core<Vec<u8>>, entries: &[Entry], line: &mut Line<'_>) {
+    let mut rest = entries;
     for held in core.objects() {
         let stored = held.value();
-        entries.push(object_entry(alloc, held.key(), &stored.document, stored.revision)?)?;
+        let written = object_entry(alloc, held.key(), &stored.document, stored.revision);
+        rest = behind(rest, written, line);
     }
     for held in core.objects() {
-        let plans = held.value().beside.as_slice();
-        wanted(plans.len() <= 1 << 30, "too many plans")?;
-        for piece in plan_entries(alloc, held.key(), plans)? {
-            entries.push(piece)?;
-        }
+        rest = behind_plans(alloc, rest, held.key(), &held.value().beside, line);
     }
     for event in core.events() {
-        entries.push(event_entry(alloc, event)?)?;
+        rest = behind(rest, event_entry(alloc, event), line);
     }
-    Ok(entries)
+    if !rest.is_empty() {
+        line.refuse("the core has fewer entries");
+    }
 }
 
-fn are_same(written: &[Entry], read: &[Entry]) -> bool {
-    if written.len() != read.len() {
-        return false;
+fn show_view(alloc: Global, view: KeptView, entries: &[Entry], line: &mut Line<'_>) {
+    let first = view.revision.saturating_sub(view.events.len() as u64);
+    if first == 0 {
+        return line.refuse("a view has as many events as revisions");
     }
-    for (at, entry) in written.iter().enumerate() {
-        if entry.key() != read[at].key() || entry.cell() != read[at].cell() {
-            return false;
-        }
-    }
-    true
-}
-
-fn view_text(alloc: Global, view: KeptView, entries: &[Entry]) -> Result<String, Wrong> {
-    let core = core_of(alloc, view)?;
-    let written = entries_in(alloc, &core)?;
-    wanted(
-        are_same(written.as_slice(), entries),
-        "the core has other entries",
-    )?;
-    let mut line = TextBuilder::new(alloc);
+    let Ok(mut core) = Core::behind(alloc, Format::First.rules(), first) else {
+        return line.fail(Wrong::Memory);
+    };
+    fill(alloc, &mut core, view, line);
+    check_entries(alloc, &core, entries, line);
     line.show(&core.revision());
-    line.word("objects");
-    line.word("");
+    line.answer.word("objects");
     line.show(&core.objects().len());
-    line.end()
 }
 
 /// `reads-view REVISION KEY ; CELL | ..`: the revision and the number of objects of the view whose entries these are, and that the core that holds it has the
 /// same entries.
-pub fn reads_view(alloc: Global, line: &str) -> Result<String, Wrong> {
-    let mut words = WordReader::new(line);
-    let revision = words.number();
-    words.end()?;
-    let entries = entries_of(alloc, words.rest())?;
-    match read_view(alloc, entries.as_slice(), revision) {
-        Ok(view) => view_text(alloc, view, entries.as_slice()),
-        Err(fault) => shown(alloc, &fault),
+pub fn reads_view(alloc: Global, line: &mut Line<'_>) {
+    let revision = line.number();
+    let entries = entries_of(alloc, line);
+    match read_view(alloc, &entries, revision) {
+        Ok(view) => show_view(alloc, view, &entries, line),
+        Err(fault) => line.show(&fault),
     }
 }

@@ -1,5 +1,5 @@
 use Rattle.std.proofs.Common.{◌≡◌, ◌++◌, map, drop}
-use Rattle.recordcases.proofs.below.copies.Given as goal
+use Rattle.recordcases.proofs.in_memory.copies.Given as goal
 
 -- what was copied, and then what is left
 abbrev pub invariant-loop-entry : goal.invariant-loop-entry

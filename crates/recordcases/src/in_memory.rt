@@ -1,25 +1,24 @@
 //! Objects in memory, which lie below what is held.
 
 ghost use Rattle.std.specs.Prelude.{◌≡◌, map, IfOk};
-ghost use Rattle.holdings.specs.Sources.{found_in};
 
 use history::Stored;
-use holdings::{Found, Source, SourceFault};
+use holdings::{Found, Source};
 use names::{Key, Resource};
-use objects::{Entry, Objects};
+use objects::{Entry, LookupFault, Objects};
 use std::alloc::{AllocError, Global};
 
 /// Objects in memory. Looking at them fails only for want of memory.
 #[derive(Drop)]
-pub struct Below {
+pub struct InMemory {
     pub objects: Objects<Stored<u64>>,
 }
 
-impl Source<u64> for Below {
+impl Source<u64> for InMemory {
     ghost use Rattle.std.specs.Prelude.{◌≡◌, refl};
     ghost use Rattle.std.proofs.Common.{◌∙◌};
 
-    ghost holds = { λ below objects. below.objects.entries ≡ objects };
+    ghost holds = { λ memory objects. memory.objects.entries ≡ objects };
 
     ghost failures = { λ _. 0 };
 
@@ -33,9 +32,12 @@ impl Source<u64> for Below {
 
     ghost goes_on = { λ _ _ _ first second. second ∙ first };
 
-    fn find(&mut self, alloc: Global, key: &Key) -> Result<Option<Found>, SourceFault> {
+    fn find(&mut self, alloc: Global, key: &Key) -> Result<Option<Found>, LookupFault> {
         match self.objects.get(key) {
-            Some(stored) => Ok(Some(found(stored)?)),
+            Some(stored) => Ok(Some(Found {
+                document: stored.document.clone()?,
+                revision: stored.revision,
+            })),
             None => Ok(None),
         }
     }
@@ -45,20 +47,10 @@ impl Source<u64> for Below {
         alloc: Global,
         resource: Resource,
         namespace: Option<&str>,
-    ) -> Result<Vec<(Key, Stored<u64>)>, SourceFault> {
+    ) -> Result<Vec<(Key, Stored<u64>)>, LookupFault> {
         let entries = self.objects.list(alloc, resource, namespace)?;
         Ok(copies(alloc, &entries)?)
     }
-}
-
-// What is found of it.
-fn found(stored: &Stored<u64>) -> Result<Found, AllocError>
-    ensures { IfOk result (λ found. found ≡ found_in stored.now) }
-{
-    Ok(Found {
-        document: stored.document.clone()?,
-        revision: stored.revision,
-    })
 }
 
 fn copy(entry: &Entry<Stored<u64>>) -> Result<(Key, Stored<u64>), AllocError>

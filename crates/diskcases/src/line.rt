@@ -1,0 +1,128 @@
+//! A line that is answered.
+
+use cases::{TextBuilder, Wrong, compare, first_word, number, spelled};
+use std::alloc::Global;
+use std::fmt::Display;
+
+/// A line: what of it was not read yet, and its answer so far. What is wrong with it is kept, and told once, at its end.
+#[derive(Drop)]
+pub struct Line<'a> {
+    pub rest: &'a str,
+    pub answer: TextBuilder,
+    // what was wrong first
+    wrong: Option<Wrong>,
+}
+
+impl<'a> Line<'a> {
+    /// A line of which nothing was read yet.
+    pub fn new(alloc: Global, text: &'a str) -> Line<'a> {
+        Line {
+            rest: text,
+            answer: TextBuilder::new(alloc),
+            wrong: None,
+        }
+    }
+
+    /// Keeps why the line fails, unless something was wrong before.
+    pub fn fail(&mut self, wrong: Wrong) {
+        if self.wrong.is_none() {
+            self.wrong = Some(wrong);
+        }
+    }
+
+    /// Keeps what is against the line.
+    pub fn refuse(&mut self, why: &'static str) {
+        self.fail(Wrong::Told(why));
+    }
+
+    /// The next word, behind which the rest stands: the empty text behind the last.
+    pub fn word(&mut self) -> &'a str {
+        let (word, rest) = first_word(self.rest);
+        self.rest = rest;
+        word
+    }
+
+    /// The number, below 2^64, that the next word spells in decimal digits; 0 where it spells none.
+    pub fn number(&mut self) -> u64 {
+        let word = self.word();
+        self.number_of(word)
+    }
+
+    /// The number that a word spells; 0 where it spells none.
+    pub fn number_of(&mut self, word: &str) -> u64 {
+        match number(word) {
+            Ok(number) => number,
+            Err(wrong) => {
+                self.fail(wrong);
+                0
+            }
+        }
+    }
+
+    /// The byte that the next word spells as a number.
+    pub fn byte(&mut self) -> u8 {
+        match u8::try_from(self.number()) {
+            Ok(byte) => byte,
+            Err(_) => {
+                self.refuse("a byte is below 256");
+                0
+            }
+        }
+    }
+
+    /// How many pages the next word says.
+    pub fn pages(&mut self) -> u32 {
+        match u32::try_from(self.number()) {
+            Ok(pages) => pages,
+            Err(_) => {
+                self.refuse("too many pages");
+                0
+            }
+        }
+    }
+
+    /// Adds what a value shows, as a word.
+    pub fn show<T: Display>(&mut self, value: &T) {
+        self.answer.word("");
+        self.answer.show(value);
+    }
+
+    /// Adds bytes in hex, as words.
+    pub fn spell(&mut self, alloc: Global, bytes: &[u8]) {
+        match spelled(alloc, bytes) {
+            Ok(text) => self.answer.word(text.as_str()),
+            Err(wrong) => self.fail(wrong),
+        }
+    }
+
+    /// Adds bytes that are a text, as a word.
+    pub fn say(&mut self, bytes: &[u8]) {
+        self.answer
+            .word(str::from_utf8(bytes).unwrap_or("other bytes"));
+    }
+
+    /// Answers `ok`, or what a fault tells.
+    pub fn ended<E: Display + Drop>(&mut self, done: Result<(), E>) {
+        match done {
+            Ok(()) => self.answer.word("ok"),
+            Err(fault) => self.answer.show(&fault),
+        }
+    }
+
+    /// Asks that the answer is the one that is wanted, which is one comparison.
+    ///
+    /// # Errors
+    ///
+    /// What was wrong first, or the answer, where it is another.
+    pub fn compare(self, alloc: Global, wanted: &str) -> Result<u64, Wrong> {
+        let Line { answer, wrong, .. } = self;
+        if let Some(wrong) = wrong {
+            return Err(wrong);
+        }
+        let found = answer.end()?;
+        match compare(alloc, found.as_str(), wanted) {
+            Ok(()) => Ok(1),
+            Err(wrong) => Err(wrong),
+        }
+    }
+}
