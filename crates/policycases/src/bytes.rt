@@ -62,32 +62,27 @@ pub fn spelled(alloc: Global, bytes: &[u8]) -> Result<String, AllocError> {
     Ok(text)
 }
 
-fn field_answer(alloc: Global, parts: Option<(&[u8], &[u8])>) -> Result<String, Wrong> {
+fn parts_text(alloc: Global, inside: &[u8], behind: &[u8]) -> Result<String, Wrong> {
+    let inside = spelled(alloc, inside)?;
+    let behind = spelled(alloc, behind)?;
+    told(alloc, &inside, &behind)
+}
+
+/// The field in front whose length stands in two bytes, or else in four, and what stands behind it.
+///
+/// # Errors
+///
+/// Where the text spells no bytes, or no memory is left.
+pub fn field_answer(alloc: Global, word: &str, text: &str) -> Result<String, Wrong> {
+    let bytes = read_bytes(alloc, text)?;
+    let parts = match word {
+        "short-field" => short_field(&bytes),
+        _ => long_field(&bytes),
+    };
     match parts {
-        Some((inside, behind)) => {
-            let inside = spelled(alloc, inside)?;
-            told(alloc, &inside, &spelled(alloc, behind)?)
-        }
+        Some((inside, behind)) => parts_text(alloc, inside, behind),
         None => cases::text(alloc, "none"),
     }
-}
-
-/// The field in front whose length stands in two bytes, and what stands behind it.
-///
-/// # Errors
-///
-/// Where the text spells no bytes, or no memory is left.
-pub fn short_field_answer(alloc: Global, text: &str) -> Result<String, Wrong> {
-    field_answer(alloc, short_field(&read_bytes(alloc, text)?))
-}
-
-/// The field in front whose length stands in four bytes, and what stands behind it.
-///
-/// # Errors
-///
-/// Where the text spells no bytes, or no memory is left.
-pub fn long_field_answer(alloc: Global, text: &str) -> Result<String, Wrong> {
-    field_answer(alloc, long_field(&read_bytes(alloc, text)?))
 }
 
 // For how many variables each plan is.
@@ -140,7 +135,11 @@ pub fn plans_answer(alloc: Global, words: &str) -> Result<String, Wrong> {
     let places = read_places(alloc, places)?;
     let bytes = read_bytes(alloc, bytes)?;
     match read_plans(alloc, &places, &bytes) {
-        Ok(plans) => written_again(alloc, &plans),
+        Ok(plans) => {
+            let written = written_again(alloc, &plans);
+            drop(plans);
+            written
+        }
         Err(ReadPlansFault::Damaged) => cases::text(alloc, "damaged"),
         Err(ReadPlansFault::Memory) => Err(Wrong::Memory),
     }

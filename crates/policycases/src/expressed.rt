@@ -12,7 +12,10 @@ fn plans_of(alloc: Global, policy: &TypedPolicy) -> Result<Vec<Verified>, Wrong>
     if policy.policy().variables.len() > 65535 {
         return Err(Wrong::Told("too many variables"));
     }
-    Ok(policy.plans(alloc)?)
+    match policy.plans(alloc) {
+        Ok(plans) => Ok(plans),
+        Err(_) => Err(Wrong::Memory),
+    }
 }
 
 /// The plans of the expressions of the policy that a document spells.

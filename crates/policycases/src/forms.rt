@@ -3,7 +3,7 @@
 use crate::bytes::{push_places, read_bytes, spelled};
 use crate::expressed::plans_in;
 use crate::texts::{debugged, told};
-use crate::writes::{document, resource};
+use crate::writes::document;
 use cases::{TextBuilder, Wrong, first_word};
 use expressions::{Specification, plans_bytes, specification_of, stored_plans};
 use jsondoc::Doc;
@@ -11,120 +11,112 @@ use names::Resource;
 use plancode::Verified;
 use planlist::ReadPlansFault;
 use policy::{Binding, Policy};
+use rowcases::resource;
 use serde_json::Value;
 use std::alloc::Global;
 
 const REFUSED: &str = "refused";
 
+// The policy that a document spells, with all its parts, or `refused`.
 fn policy_parts(alloc: Global, document: &Value) -> Result<String, Wrong> {
-    match Policy::of(alloc, document)? {
-        Some(policy) => debugged(alloc, &policy),
+    let Ok(policy) = Policy::of(alloc, document) else {
+        return Err(Wrong::Memory);
+    };
+    let parts = match &policy {
+        Some(policy) => debugged(alloc, policy),
         None => cases::text(alloc, REFUSED),
-    }
+    };
+    drop(policy);
+    parts
 }
 
-/// The policy that a document spells, with all its parts, or `refused`.
-///
-/// # Errors
-///
-/// Where the text spells no document, or no memory is left.
-pub fn policy_answer(alloc: Global, text: &str) -> Result<String, Wrong> {
-    policy_parts(alloc, document(alloc, text)?.value())
-}
-
+// The binding that a document spells, with all its parts, or `refused`.
 fn binding_parts(alloc: Global, document: &Value) -> Result<String, Wrong> {
-    match Binding::of(alloc, document)? {
-        Some(binding) => debugged(alloc, &binding),
+    let Ok(binding) = Binding::of(alloc, document) else {
+        return Err(Wrong::Memory);
+    };
+    let parts = match &binding {
+        Some(binding) => debugged(alloc, binding),
         None => cases::text(alloc, REFUSED),
-    }
+    };
+    drop(binding);
+    parts
 }
 
-/// The binding that a document spells, with all its parts, or `refused`.
-///
-/// # Errors
-///
-/// Where the text spells no document, or no memory is left.
-pub fn binding_answer(alloc: Global, text: &str) -> Result<String, Wrong> {
-    binding_parts(alloc, document(alloc, text)?.value())
-}
-
-fn places_answer(alloc: Global, plans: &[Verified]) -> Result<String, Wrong> {
-    let mut answer = TextBuilder::new(alloc);
-    answer.push("plans for ");
-    push_places(&mut answer, plans);
-    answer.end()
-}
-
+// For how many variables each plan of the policy is that a document spells, or why it is none.
 fn policy_places(alloc: Global, document: &Value) -> Result<String, Wrong> {
     match plans_in(alloc, document) {
-        Ok(plans) => places_answer(alloc, &plans),
+        Ok(plans) => {
+            let mut answer = TextBuilder::new(alloc);
+            answer.push("plans for ");
+            push_places(&mut answer, &plans);
+            drop(plans);
+            answer.end()
+        }
         Err(Wrong::Found(fault)) => Ok(fault),
         Err(wrong) => Err(wrong),
     }
-}
-
-/// For how many variables each plan of the policy is that a document spells, or why it is none.
-///
-/// # Errors
-///
-/// Where the text spells no document, or no memory is left.
-pub fn expressions_answer(alloc: Global, text: &str) -> Result<String, Wrong> {
-    policy_places(alloc, document(alloc, text)?.value())
 }
 
 fn bytes_answer(alloc: Global, resource: Resource, plans: &[Verified]) -> Result<String, Wrong> {
     let Ok(bytes) = plans_bytes(alloc, resource, plans) else {
         return Err(Wrong::Told("the plans have no bytes"));
     };
-    told(alloc, "plans", &spelled(alloc, &bytes)?)
+    let spelled = spelled(alloc, &bytes)?;
+    told(alloc, "plans", &spelled)
 }
 
-fn document_answer(alloc: Global, resource: Resource, document: &Doc) -> Result<String, Wrong> {
-    match specification_of(alloc, resource, document)? {
-        Specification::Sound(plans) => bytes_answer(alloc, resource, &plans),
-        Specification::BadSpec => cases::text(alloc, "bad spec"),
-        Specification::BadExpression(text) => told(alloc, "bad expression:", &text),
+// The bytes of the plans of a resource's object, or what is bad in it.
+fn specification(alloc: Global, plural: &str, document: &Doc) -> Result<String, Wrong> {
+    let resource = resource(plural)?;
+    match specification_of(alloc, resource, document) {
+        Ok(Specification::Sound(plans)) => {
+            let bytes = bytes_answer(alloc, resource, &plans);
+            drop(plans);
+            bytes
+        }
+        Ok(Specification::BadSpec) => cases::text(alloc, "bad spec"),
+        Ok(Specification::BadExpression(text)) => told(alloc, "bad expression:", &text),
+        Err(_) => Err(Wrong::Memory),
     }
 }
 
-/// The bytes of the plans of a resource's object, or what is bad in it.
-///
-/// # Errors
-///
-/// Where there is no such resource, the text spells no document, or no memory is left.
-pub fn specification_answer(alloc: Global, plural: &str, text: &str) -> Result<String, Wrong> {
+// How many plans a resource's object has by these bytes, or `damaged`.
+fn stored(alloc: Global, words: &str, document: &Doc) -> Result<String, Wrong> {
+    let (plural, bytes) = first_word(words);
     let resource = resource(plural)?;
-    document_answer(alloc, resource, &document(alloc, text)?)
-}
-
-fn count_answer(alloc: Global, count: usize) -> Result<String, Wrong> {
-    let mut answer = TextBuilder::new(alloc);
-    answer.show(&count);
-    answer.word("plans");
-    answer.end()
-}
-
-fn stored_count(
-    alloc: Global,
-    resource: Resource,
-    document: &Doc,
-    bytes: &[u8],
-) -> Result<String, Wrong> {
-    match stored_plans(alloc, resource, document, bytes) {
-        Ok(plans) => count_answer(alloc, plans.len()),
+    let bytes = read_bytes(alloc, bytes)?;
+    match stored_plans(alloc, resource, document, &bytes) {
+        Ok(plans) => {
+            let mut answer = TextBuilder::new(alloc);
+            answer.show(&plans.len());
+            drop(plans);
+            answer.word("plans");
+            answer.end()
+        }
         Err(ReadPlansFault::Damaged) => cases::text(alloc, "damaged"),
         Err(ReadPlansFault::Memory) => Err(Wrong::Memory),
     }
 }
 
-/// How many plans a resource's object has by these bytes, or `damaged`.
+fn answer(alloc: Global, word: &str, words: &str, document: &Doc) -> Result<String, Wrong> {
+    match word {
+        "reads-policy" => policy_parts(alloc, document.value()),
+        "reads-binding" => binding_parts(alloc, document.value()),
+        "expressions" => policy_places(alloc, document.value()),
+        "specification" => specification(alloc, words, document),
+        _ => stored(alloc, words, document),
+    }
+}
+
+/// What a document spells, as it is asked with this word.
 ///
 /// # Errors
 ///
 /// Where there is no such resource, the words spell no bytes, the text no document, or no memory is left.
-pub fn stored_answer(alloc: Global, words: &str, text: &str) -> Result<String, Wrong> {
-    let (plural, bytes) = first_word(words);
-    let resource = resource(plural)?;
-    let bytes = read_bytes(alloc, bytes)?;
-    stored_count(alloc, resource, &document(alloc, text)?, &bytes)
+pub fn form_answer(alloc: Global, word: &str, words: &str, text: &str) -> Result<String, Wrong> {
+    let document = document(alloc, text)?;
+    let answer = answer(alloc, word, words, &document);
+    drop(document);
+    answer
 }

@@ -1,6 +1,6 @@
 //! The parts of a line, and what stands around its text.
 
-use cases::{TextBuilder, Wrong, first_word, wanted};
+use cases::{TextBuilder, Wrong, first_word};
 use std::alloc::Global;
 
 // How many words stand in front of the text of a line with this word, and whether there may be a text.
@@ -26,10 +26,9 @@ pub fn split_line<'a>(word: &str, rest: &'a str) -> Result<(&'a str, &'a str), W
         }
         (_, text) = first_word(text);
     }
-    wanted(
-        text.is_empty() || may_have_text,
-        "a text behind a question that has none",
-    )?;
+    if !text.is_empty() && !may_have_text {
+        return Err(Wrong::Told("a text behind a question that has none"));
+    }
     let words = rest.strip_suffix(text).unwrap_or(rest);
     Ok((words.trim_end(), text))
 }
@@ -63,7 +62,9 @@ impl Frames {
     /// Where the frame has no place for a text, or no memory is left.
     pub fn put(&mut self, alloc: Global, frame: &str) -> Result<(), Wrong> {
         let (word, around) = first_word(frame);
-        wanted(around.contains('%'), "a frame has a % for the text")?;
+        if !around.contains('%') {
+            return Err(Wrong::Told("a frame has a % for the text"));
+        }
         let word = String::from_str(alloc, word)?;
         let around = String::from_str(alloc, around)?;
         self.all.push(Frame { word, around })?;

@@ -1,23 +1,22 @@
 //! What a case of policies has put down, and what it is asked.
 
-use crate::bytes::{long_field_answer, plans_answer, short_field_answer};
-use crate::forms::{
-    binding_answer, expressions_answer, policy_answer, specification_answer, stored_answer,
-};
+use crate::bytes::{field_answer, plans_answer};
+use crate::forms::form_answer;
 use crate::line::{Frames, split_line};
 use crate::shelf::{Shelf, Sight};
 use crate::verdicts::{
     evaluation_answer, failure_answer, put, put_spec, refusal_answer, request_answer,
 };
-use crate::writes::{
-    Write, document, guarded_answer, match_answer, resource, rules, selector_answer,
-};
+use crate::writes::{Write, document, guarded_answer, match_answer, rules, selector_answer};
 use cases::{Bench, Wrong, compare, first_word, text, wanted};
 use jsondoc::Doc;
 use matching::MatchRules;
 use names::Resource;
+use rowcases::resource;
 use std::alloc::Global;
 use verdict::{Verdict, admit};
+
+const NO_WRITE: &str = "no write is asked about";
 
 /// What a case has put down.
 #[derive(Drop)]
@@ -32,10 +31,11 @@ pub struct Policies {
     seen: usize,
 }
 
-fn write(write: &Option<Write>) -> Result<&Write, Wrong> {
-    match write {
-        Some(write) => Ok(write),
-        None => Err(Wrong::Told("no write is asked about")),
+// Compares what was found with what is wanted, which is one comparison.
+fn compared(alloc: Global, found: &str, wanted: &str) -> Result<u64, Wrong> {
+    match compare(alloc, found, wanted) {
+        Ok(()) => Ok(1),
+        Err(wrong) => Err(wrong),
     }
 }
 
@@ -60,20 +60,15 @@ impl Bench for Policies {
     // A warning `~ TEXT`, a question with its answer behind an arrow, or what is put down.
     fn line(&mut self, alloc: Global, line: &str) -> Result<u64, Wrong> {
         if let Some(warning) = line.strip_prefix("~ ") {
-            compare(alloc, self.next_warning()?, warning)?;
-            return Ok(1);
+            return self.compare_warning(alloc, warning);
         }
         self.settle()?;
         match line.split_once(" => ") {
             Some((question, wanted)) => {
                 let found = self.question(alloc, question)?;
-                compare(alloc, found.as_str(), wanted)?;
-                Ok(1)
+                compared(alloc, found.as_str(), wanted)
             }
-            None => {
-                self.give(alloc, line)?;
-                Ok(0)
-            }
+            None => self.give(alloc, line),
         }
     }
 
@@ -92,32 +87,39 @@ impl Policies {
         )
     }
 
-    // The next warning of the last verdict.
-    fn next_warning(&mut self) -> Result<&str, Wrong> {
+    // Compares the next warning of the last verdict.
+    fn compare_warning(&mut self, alloc: Global, wanted: &str) -> Result<u64, Wrong> {
         let at = self.seen;
         self.seen = at.saturating_add(1);
-        match self.warnings.get(at) {
-            Some(warning) => Ok(warning.as_str()),
-            None => Err(Wrong::Told("the verdict before has no more warnings")),
-        }
+        let Some(warning) = self.warnings.get(at) else {
+            return Err(Wrong::Told("the verdict before has no more warnings"));
+        };
+        compared(alloc, warning.as_str(), wanted)
     }
 
     fn put_write(&mut self, alloc: Global, words: &str, text: &str) -> Result<(), Wrong> {
-        let (operation, rest) = first_word(words);
-        let (plural, key) = first_word(rest);
-        self.write = Some(Write::read(alloc, operation, plural, key, text)?);
+        let write = Write::read(alloc, words, text)?;
+        drop(self.write.replace(write));
         Ok(())
     }
 
     fn put_before(&mut self, alloc: Global, text: &str) -> Result<(), Wrong> {
-        let before = document(alloc, text)?;
         match &mut self.write {
-            Some(write) => {
-                write.put_before(before);
-                Ok(())
-            }
-            None => Err(Wrong::Told("no write is asked about")),
+            Some(write) => write.read_before(alloc, text),
+            None => Err(Wrong::Told(NO_WRITE)),
         }
+    }
+
+    fn put_param(&mut self, alloc: Global, text: &str) -> Result<(), Wrong> {
+        let param = document(alloc, text)?;
+        drop(self.param.replace(param));
+        Ok(())
+    }
+
+    fn put_bound(&mut self, alloc: Global, text: &str) -> Result<(), Wrong> {
+        let bound = rules(alloc, text)?;
+        drop(std::mem::replace(&mut self.bound, bound));
+        Ok(())
     }
 
     fn put_object(&mut self, alloc: Global, words: &str, text: &str) -> Result<(), Wrong> {
@@ -125,44 +127,45 @@ impl Policies {
         put(alloc, &mut self.shelf, resource(plural)?, key, text)
     }
 
-    // Puts down what a line gives.
-    fn give(&mut self, alloc: Global, line: &str) -> Result<(), Wrong> {
+    // Puts down what a line gives, which is no comparison.
+    fn give(&mut self, alloc: Global, line: &str) -> Result<u64, Wrong> {
         let (word, rest) = first_word(line);
-        if word == "frame" {
-            return self.frames.put(alloc, rest);
+        let given = if word == "frame" {
+            self.frames.put(alloc, rest)
+        } else {
+            self.give_text(alloc, word, rest)
+        };
+        match given {
+            Ok(()) => Ok(0),
+            Err(wrong) => Err(wrong),
         }
-        let (words, text) = split_line(word, rest)?;
-        let text = self.frames.framed(alloc, word, text)?;
-        self.give_text(alloc, word, words, &text)
     }
 
-    // Puts down what a text spells.
-    fn give_text(
-        &mut self,
-        alloc: Global,
-        word: &str,
-        words: &str,
-        text: &str,
-    ) -> Result<(), Wrong> {
+    // Puts down what the text of a line spells.
+    fn give_text(&mut self, alloc: Global, word: &str, rest: &str) -> Result<(), Wrong> {
+        let (words, text) = split_line(word, rest)?;
+        let framed = self.frames.framed(alloc, word, text)?;
+        let text = framed.as_str();
         let policies = Resource::ValidatingAdmissionPolicy;
         let bindings = Resource::ValidatingAdmissionPolicyBinding;
         match word {
-            "policy" => return put_spec(alloc, &mut self.shelf, policies, words, text),
-            "binding" => return put_spec(alloc, &mut self.shelf, bindings, words, text),
-            "object" => return self.put_object(alloc, words, text),
-            "write" => return self.put_write(alloc, words, text),
-            "before" => return self.put_before(alloc, text),
-            "param" => self.param = Some(document(alloc, text)?),
-            "bound" => self.bound = rules(alloc, text)?,
-            _ => return Err(Wrong::Told("no such line")),
+            "policy" => put_spec(alloc, &mut self.shelf, policies, words, text),
+            "binding" => put_spec(alloc, &mut self.shelf, bindings, words, text),
+            "object" => self.put_object(alloc, words, text),
+            "write" => self.put_write(alloc, words, text),
+            "before" => self.put_before(alloc, text),
+            "param" => self.put_param(alloc, text),
+            "bound" => self.put_bound(alloc, text),
+            _ => Err(Wrong::Told("no such line")),
         }
-        Ok(())
     }
 
     // The verdict on the write, whose warnings are still to be compared.
     fn admission_answer(&mut self, alloc: Global) -> Result<String, Wrong> {
-        let attempt = write(&self.write)?.attempt();
-        match admit(alloc, &mut Sight::of(&self.shelf), &attempt) {
+        let Some(write) = &self.write else {
+            return Err(Wrong::Told(NO_WRITE));
+        };
+        match admit(alloc, &mut Sight::of(&self.shelf), &write.attempt()) {
             Ok(Verdict::Admitted(warnings)) => {
                 self.warnings = warnings;
                 self.seen = 0;
@@ -175,7 +178,10 @@ impl Policies {
                     reason,
                     message,
                 },
-            ) => Ok(format!(in alloc; "denied {policy} {binding} {reason:?} {message}")?),
+            ) => match format!(in alloc; "denied {policy} {binding} {reason:?} {message}") {
+                Ok(answer) => Ok(answer),
+                Err(_) => Err(Wrong::Memory),
+            },
             Err(_) => Err(Wrong::Told("an object is not looked up")),
         }
     }
@@ -198,14 +204,28 @@ impl Policies {
     ) -> Result<String, Wrong> {
         match word {
             "admit" => self.admission_answer(alloc),
-            "evaluate" => {
-                let write = write(&self.write)?;
-                evaluation_answer(alloc, &self.shelf, words, write, &self.param)
-            }
-            "request" => request_answer(alloc, write(&self.write)?),
-            "matches" => match_answer(alloc, text, &self.bound, write(&self.write)?),
-            "selects" => selector_answer(alloc, text, write(&self.write)?),
+            "evaluate" | "request" | "matches" | "selects" => match &self.write {
+                Some(write) => self.write_answer(alloc, word, words, text, write),
+                None => Err(Wrong::Told(NO_WRITE)),
+            },
             _ => text_answer(alloc, word, words, text),
+        }
+    }
+
+    // The answer to a question about the write.
+    fn write_answer(
+        &self,
+        alloc: Global,
+        word: &str,
+        words: &str,
+        text: &str,
+        write: &Write,
+    ) -> Result<String, Wrong> {
+        match word {
+            "evaluate" => evaluation_answer(alloc, &self.shelf, words, write, &self.param),
+            "request" => request_answer(alloc, write),
+            "matches" => match_answer(alloc, text, &self.bound, write),
+            _ => selector_answer(alloc, text, write),
         }
     }
 }
@@ -215,15 +235,12 @@ fn text_answer(alloc: Global, word: &str, words: &str, text: &str) -> Result<Str
     match word {
         "failure" => failure_answer(alloc, words, text),
         "denial" => refusal_answer(alloc, words, text),
-        "reads-policy" => policy_answer(alloc, text),
-        "reads-binding" => binding_answer(alloc, text),
-        "expressions" => expressions_answer(alloc, text),
-        "specification" => specification_answer(alloc, words, text),
-        "stored-plans" => stored_answer(alloc, words, text),
+        "reads-policy" | "reads-binding" | "expressions" | "specification" | "stored-plans" => {
+            form_answer(alloc, word, words, text)
+        }
         "plans" => plans_answer(alloc, words),
         "guarded" => guarded_answer(alloc, words),
-        "short-field" => short_field_answer(alloc, words),
-        "long-field" => long_field_answer(alloc, words),
+        "short-field" | "long-field" => field_answer(alloc, word, words),
         _ => Err(Wrong::Told("no such question")),
     }
 }

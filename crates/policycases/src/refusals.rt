@@ -42,7 +42,9 @@ const REFUSALS: [Refusal; 32] = [
 ];
 
 fn status_of(alloc: Global, refusal: Refusal) -> Result<String, Wrong> {
-    let reply = Reply::status(alloc, refusal)?;
+    let Ok(reply) = Reply::status(alloc, refusal) else {
+        return Err(Wrong::Memory);
+    };
     let mut line = TextBuilder::new(alloc);
     line.show(&reply.code());
     line.word(reply.body());

@@ -10,10 +10,10 @@ use apicore::Beside;
 use documents::Document;
 use jsondoc::Doc;
 use names::{Key, Resource};
-use objects::{Entry, Objects};
+use objects::{Entry, LookupFault, Objects};
 use policy::Wanted;
 use std::alloc::{AllocError, Global};
-use verdict::{Found, Listed, Lookup, LookupFault, wanted_among};
+use verdict::{Found, Listed, Lookup, wanted_among};
 
 /// An object in memory.
 #[derive(Drop)]
@@ -70,7 +70,11 @@ impl Shelf {
         ensures stored { OnOk result (on_shelf self.new ≡ with_value key (held stored) (on_shelf self.old)) }
         ensures unchanged { OnErr result (on_shelf self.new ≡ on_shelf self.old) }
     {
-        self.objects.reserve(1)?;
+        if let Err(error) = self.objects.reserve(1) {
+            drop(key);
+            drop(stored);
+            return Err(error);
+        }
         let entry = Entry::new(alloc, key, stored)?;
         drop(self.objects.put(entry));
         Ok(())

@@ -12,6 +12,7 @@ use jsondoc::Doc;
 use names::Resource;
 use plancode::Verified;
 use policy::{FailurePolicy, Policy};
+use serde_json::Value;
 use std::alloc::Global;
 use verdict::denial_text;
 
@@ -20,6 +21,31 @@ fn plans_of(alloc: Global, resource: Resource, document: &Doc) -> Result<Vec<Ver
     match resource {
         Resource::ValidatingAdmissionPolicy => plans_in(alloc, document.value()),
         _ => Ok(Vec::new(alloc)),
+    }
+}
+
+// What a document spells, with the plans of its expressions if it is a policy.
+fn beside(alloc: Global, resource: Resource, document: &Doc) -> Result<Beside, Wrong> {
+    let plans = plans_of(alloc, resource, document)?;
+    match Beside::of(alloc, document, plans) {
+        Ok(beside) => Ok(beside),
+        Err(_) => Err(Wrong::Memory),
+    }
+}
+
+// The object that a text spells.
+fn stored(alloc: Global, resource: Resource, text: &str) -> Result<Stored, Wrong> {
+    let document = document(alloc, text)?;
+    match beside(alloc, resource, &document) {
+        Ok(beside) => Ok(Stored {
+            beside,
+            document: Document::new(document),
+            revision: 2,
+        }),
+        Err(wrong) => {
+            drop(document);
+            Err(wrong)
+        }
     }
 }
 
@@ -36,14 +62,13 @@ pub fn put(
     text: &str,
 ) -> Result<(), Wrong> {
     let key = key(alloc, resource, key_text)?;
-    let document = document(alloc, text)?;
-    let plans = plans_of(alloc, resource, &document)?;
-    let stored = Stored {
-        beside: Beside::of(alloc, &document, plans)?,
-        document: Document::new(document),
-        revision: 2,
-    };
-    Ok(shelf.put(alloc, key, stored)?)
+    match stored(alloc, resource, text) {
+        Ok(stored) => Ok(shelf.put(alloc, key, stored)?),
+        Err(wrong) => {
+            drop(key);
+            Err(wrong)
+        }
+    }
 }
 
 /// Stores the object of a resource with this name and this spec.
@@ -79,19 +104,23 @@ fn policy_answer(
     policy: &Policy,
     plans: &[Verified],
     write: &Write,
-    param: &Option<Doc>,
+    param: Option<&Value>,
 ) -> Result<String, Wrong> {
     let attempt = write.attempt();
-    let request = request_document(alloc, &attempt)?;
-    match conditions(alloc, policy, plans, &attempt, &request)? {
-        Conditions::Met => {
-            let param = value_of(param);
-            let denial = evaluate(alloc, policy, plans, &attempt, &request, param)?;
-            denial_answer(alloc, denial)
-        }
-        Conditions::Unmet => cases::text(alloc, "unmet"),
-        Conditions::Neither(name) => told(alloc, "neither", name),
-    }
+    let Ok(request) = request_document(alloc, &attempt) else {
+        return Err(Wrong::Memory);
+    };
+    let answer = match conditions(alloc, policy, plans, &attempt, &request) {
+        Ok(Conditions::Met) => match evaluate(alloc, policy, plans, &attempt, &request, param) {
+            Ok(denial) => denial_answer(alloc, denial),
+            Err(_) => Err(Wrong::Memory),
+        },
+        Ok(Conditions::Unmet) => cases::text(alloc, "unmet"),
+        Ok(Conditions::Neither(name)) => told(alloc, "neither", name),
+        Err(_) => Err(Wrong::Memory),
+    };
+    drop(request);
+    answer
 }
 
 /// What the policy of this name says of the write by itself.
@@ -107,13 +136,23 @@ pub fn evaluation_answer(
     param: &Option<Doc>,
 ) -> Result<String, Wrong> {
     let key = key(alloc, Resource::ValidatingAdmissionPolicy, name)?;
-    let Some(stored) = shelf.get(&key) else {
+    let found = shelf.get(&key);
+    drop(key);
+    let Some(stored) = found else {
         return Err(Wrong::Told("no such policy"));
     };
-    match Policy::of(alloc, stored.document.json().value())? {
-        Some(policy) => policy_answer(alloc, &policy, stored.beside.plans(), write, param),
+    let Ok(policy) = Policy::of(alloc, stored.document.json().value()) else {
+        return Err(Wrong::Memory);
+    };
+    let answer = match &policy {
+        Some(policy) => {
+            let plans = stored.beside.plans();
+            policy_answer(alloc, policy, plans, write, value_of(param))
+        }
         None => Err(Wrong::Told("no policy")),
-    }
+    };
+    drop(policy);
+    answer
 }
 
 /// What expressions see of the write.
@@ -122,8 +161,12 @@ pub fn evaluation_answer(
 ///
 /// Where no memory is left.
 pub fn request_answer(alloc: Global, write: &Write) -> Result<String, Wrong> {
-    let request = request_document(alloc, &write.attempt())?;
-    shown(alloc, &request)
+    let Ok(request) = request_document(alloc, &write.attempt()) else {
+        return Err(Wrong::Memory);
+    };
+    let shown = shown(alloc, &request);
+    drop(request);
+    shown
 }
 
 /// What a policy that has this failure policy says where it cannot be evaluated.

@@ -9,10 +9,10 @@ use cases::{TextBuilder, WordReader, Wrong, text, wanted};
 use history::{PreparedWrite, Put, ReplayFault, Reply};
 use http::StatusCode;
 use httpmsg::{Message, Response, Std};
-use names::{Format, Key, Rules};
-use requests::Request;
+use names::{Format, Rules};
+use requests::{Manifest, Request};
 use routes::{Routes, route};
-use rowcases::{Service, message, messages_of, routed_first};
+use rowcases::{Service, message, messages_of, push_key, routed_first, rules_text};
 use std::alloc::Global;
 
 /// A view without a device, and the paths that it serves.
@@ -39,13 +39,6 @@ fn rules_of(line: &str) -> Result<Rules, Wrong> {
     Ok(rules)
 }
 
-fn push_key(line: &mut TextBuilder, key: &Key) {
-    line.word(key.resource().kind());
-    line.word(key.namespace());
-    line.push("/");
-    line.push(key.name());
-}
-
 // A put: its key and its text, which is that of its document.
 fn push_put(alloc: Global, line: &mut TextBuilder, put: &Put<Beside>) -> Result<(), Wrong> {
     line.push("put");
@@ -58,15 +51,19 @@ fn push_put(alloc: Global, line: &mut TextBuilder, put: &Put<Beside>) -> Result<
 // A write that is prepared.
 fn write_text(alloc: Global, write: &Option<PreparedWrite<Beside>>) -> Result<String, Wrong> {
     let mut line = TextBuilder::new(alloc);
+    let mut pushed = Ok(());
     match write {
-        Some(PreparedWrite::Put(put)) => push_put(alloc, &mut line, put)?,
+        Some(PreparedWrite::Put(put)) => pushed = push_put(alloc, &mut line, put),
         Some(PreparedWrite::Delete(key, _)) => {
             line.push("delete");
             push_key(&mut line, key);
         }
         None => line.push("no write"),
     }
-    line.end()
+    match pushed {
+        Ok(()) => line.end(),
+        Err(wrong) => Err(wrong),
+    }
 }
 
 fn write_reply(reply: &Reply, output: &mut Std<Vec<u8>>) -> Result<(), Wrong> {
@@ -88,19 +85,39 @@ fn ended(alloc: Global, written: &[u8]) -> Result<String, Wrong> {
     line.end()
 }
 
-// Takes the write of a request again, as one that was stored.
-fn taken_again(
-    alloc: Global,
-    core: &mut Core,
-    request: Request,
-) -> Result<Result<(), ReplayFault>, Wrong> {
-    match request {
-        Request::Replace(manifest) => {
-            let beside = Beside::of(alloc, manifest.document().json(), Vec::new(alloc))?;
-            Ok(core.replay_put(alloc, manifest, beside))
+// How a write that was stored was taken again.
+fn replayed(alloc: Global, done: Result<(), ReplayFault>) -> Result<String, Wrong> {
+    match done {
+        Ok(()) => text(alloc, "ok"),
+        Err(ReplayFault::NotAllowed) => text(alloc, "not allowed"),
+        Err(ReplayFault::Memory) => Err(Wrong::Memory),
+    }
+}
+
+// Takes a put again, as one that was stored.
+fn put_again(alloc: Global, core: &mut Core, manifest: Manifest) -> Result<String, Wrong> {
+    match Beside::of(alloc, manifest.document().json(), Vec::new(alloc)) {
+        Ok(beside) => replayed(alloc, core.replay_put(alloc, manifest, beside)),
+        Err(_) => {
+            drop(manifest);
+            Err(Wrong::Memory)
         }
-        Request::Delete(key, None) => Ok(core.replay_delete(alloc, &key)),
-        _ => Err(Wrong::Told("a put or a deletion is taken again")),
+    }
+}
+
+// Takes the write of a request again, as one that was stored.
+fn taken_again(alloc: Global, core: &mut Core, request: Request) -> Result<String, Wrong> {
+    match request {
+        Request::Replace(manifest) => put_again(alloc, core, manifest),
+        Request::Delete(key, None) => {
+            let done = core.replay_delete(alloc, &key);
+            drop(key);
+            replayed(alloc, done)
+        }
+        other => {
+            drop(other);
+            Err(Wrong::Told("a put or a deletion is taken again"))
+        }
     }
 }
 
@@ -117,14 +134,11 @@ impl Service for View {
 
     fn answer(&mut self, alloc: Global, word: &str, rest: &str) -> Result<String, Wrong> {
         match word {
-            "view" => {
-                *self = View::with_limits(alloc, rest)?;
-                text(alloc, "ok")
-            }
+            "view" => self.renew(alloc, rest),
             "prepare" => self.prepare(alloc, rest),
             "replay" => self.replay(alloc, rest),
             "counts" => self.counts(alloc),
-            "rules" => self.rules(alloc),
+            "rules" => rules_text(alloc, &self.core.rules()),
             "status" => status(alloc, rest),
             _ => Err(Wrong::Told("no such line on a view")),
         }
@@ -134,10 +148,16 @@ impl Service for View {
 impl View {
     // An empty view: `view [EVENTS TEXT BODY OBJECTS REVISION]`.
     fn with_limits(alloc: Global, line: &str) -> Result<View, Wrong> {
-        Ok(View {
-            core: Core::new(alloc, rules_of(line)?)?,
-            routes: Routes::new(alloc)?,
-        })
+        let rules = rules_of(line)?;
+        let routes = Routes::new(alloc)?;
+        let core = Core::new(alloc, rules)?;
+        Ok(View { core, routes })
+    }
+
+    // Begins again with an empty view.
+    fn renew(&mut self, alloc: Global, line: &str) -> Result<String, Wrong> {
+        *self = View::with_limits(alloc, line)?;
+        text(alloc, "ok")
     }
 
     // What a message asks for.
@@ -156,7 +176,9 @@ impl View {
     fn step(&mut self, alloc: Global, request: Request) -> Result<Prepared, Wrong>
         ensures { IfOk result (λ p. AreReady self.new.core p.write) }
     {
-        self.prepared(alloc, &request)
+        let prepared = self.prepared(alloc, &request);
+        drop(request);
+        prepared
     }
 
     // Takes the step of a request, and gives the reply to it.
@@ -199,11 +221,7 @@ impl View {
     // `replay METHOD TARGET [BODY]`: takes a PUT or a DELETE again, as one that was stored, and says how that went.
     fn replay(&mut self, alloc: Global, line: &str) -> Result<String, Wrong> {
         let request = self.request(alloc, line)?;
-        match taken_again(alloc, &mut self.core, request)? {
-            Ok(()) => text(alloc, "ok"),
-            Err(ReplayFault::NotAllowed) => text(alloc, "not allowed"),
-            Err(ReplayFault::Memory) => Err(Wrong::Memory),
-        }
+        taken_again(alloc, &mut self.core, request)
     }
 
     // `counts`: the revision and the number of objects.
@@ -212,23 +230,6 @@ impl View {
         line.show(&self.core.revision());
         line.word("");
         line.show(&self.core.object_count());
-        line.end()
-    }
-
-    // `rules`: the limits, in the order of `view`.
-    fn rules(&self, alloc: Global) -> Result<String, Wrong> {
-        let rules = self.core.rules();
-        let mut line = TextBuilder::new(alloc);
-        for limit in [
-            rules.window_events,
-            rules.text_limit_bytes,
-            rules.body_limit_bytes,
-            rules.object_limit,
-        ] {
-            line.show(&limit);
-            line.push(" ");
-        }
-        line.show(&rules.greatest_revision);
         line.end()
     }
 }

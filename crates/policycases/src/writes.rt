@@ -1,11 +1,12 @@
 //! The write that is asked about, and which rules match it.
 
-use cases::{Wrong, yes_or_no};
+use cases::{Wrong, first_word, yes_or_no};
 use jsondoc::{Doc, ReadFault};
 use labels::selects;
 use matching::{Attempt, MatchRules, Operation, is_guarded, matches};
-use names::{Key, KeyFault, Resource, ResourceTable};
+use names::{Key, Resource};
 use policy::Binding;
+use rowcases::{key_of, resource};
 use serde_json::Value;
 use std::alloc::Global;
 
@@ -40,34 +41,15 @@ pub fn document(alloc: Global, text: &str) -> Result<Doc, Wrong> {
     }
 }
 
-/// The resource with this plural.
-///
-/// # Errors
-///
-/// Where there is none.
-pub fn resource(plural: &str) -> Result<Resource, Wrong> {
-    for resource in ResourceTable::RESOURCES {
-        if resource.plural() == plural {
-            return Ok(resource);
-        }
-    }
-    Err(Wrong::Told("no such resource"))
-}
-
 /// The key of `NAMESPACE/NAME`, or of `NAME` alone where objects stand in no namespace.
 ///
 /// # Errors
 ///
 /// Where it is no key, or no memory is left.
 pub fn key(alloc: Global, resource: Resource, text: &str) -> Result<Key, Wrong> {
-    let (namespace, name) = match text.split_once('/') {
-        Some(parts) => parts,
-        None => ("", text),
-    };
-    match Key::new(alloc, resource, namespace, name) {
-        Ok(key) => Ok(key),
-        Err(KeyFault::NoKey) => Err(Wrong::Told("no key of an object")),
-        Err(KeyFault::Memory) => Err(Wrong::Memory),
+    match text.split_once('/') {
+        Some((namespace, name)) => key_of(alloc, resource, namespace, name),
+        None => key_of(alloc, resource, "", text),
     }
 }
 
@@ -80,35 +62,52 @@ fn operation(word: &str) -> Result<Operation, Wrong> {
     }
 }
 
+// The document that a text spells, if there is a text.
+fn object(alloc: Global, text: &str) -> Result<Option<Doc>, Wrong> {
+    if text.is_empty() {
+        return Ok(None);
+    }
+    match document(alloc, text) {
+        Ok(document) => Ok(Some(document)),
+        Err(wrong) => Err(wrong),
+    }
+}
+
 impl Write {
-    /// A write of an object that was not there before.
+    /// A write of an object that was not there before: `OPERATION RESOURCE KEY`, and the object's text, if any.
     ///
     /// # Errors
     ///
     /// Where the words spell none, the text no document, or no memory is left.
-    pub fn read(
-        alloc: Global,
-        operation_word: &str,
-        plural: &str,
-        key_text: &str,
-        text: &str,
-    ) -> Result<Write, Wrong> {
-        let object = if text.is_empty() {
-            None
-        } else {
-            Some(document(alloc, text)?)
-        };
-        Ok(Write {
-            operation: operation(operation_word)?,
-            key: key(alloc, resource(plural)?, key_text)?,
-            object,
-            old_object: None,
-        })
+    pub fn read(alloc: Global, words: &str, text: &str) -> Result<Write, Wrong> {
+        let (operation_word, rest) = first_word(words);
+        let (plural, key_text) = first_word(rest);
+        let operation = operation(operation_word)?;
+        let resource = resource(plural)?;
+        let object = object(alloc, text)?;
+        match key(alloc, resource, key_text) {
+            Ok(key) => Ok(Write {
+                operation,
+                key,
+                object,
+                old_object: None,
+            }),
+            Err(wrong) => {
+                drop(object);
+                Err(wrong)
+            }
+        }
     }
 
-    /// The object was there before, as this document.
-    pub fn put_before(&mut self, old_object: Doc) {
-        self.old_object = Some(old_object);
+    /// The object was there before, as the document that a text spells.
+    ///
+    /// # Errors
+    ///
+    /// Where it spells none, or no memory is left.
+    pub fn read_before(&mut self, alloc: Global, text: &str) -> Result<(), Wrong> {
+        let before = document(alloc, text)?;
+        drop(self.old_object.replace(before));
+        Ok(())
     }
 
     /// The write, as it asks for admission.
@@ -122,18 +121,11 @@ impl Write {
     }
 }
 
-// A binding with the rules that a text spells.
-fn bound(alloc: Global, text: &str) -> Result<Doc, Wrong> {
-    let text = format!(in alloc;
-        "{{\"spec\":{{\"policyName\":\"p\",\"validationActions\":[\"Deny\"],\"matchResources\":{text}}}}}"
-    )?;
-    document(alloc, &text)
-}
-
 fn rules_of(alloc: Global, binding: &Value) -> Result<MatchRules, Wrong> {
-    match Binding::of(alloc, binding)? {
-        Some(binding) => Ok(binding.resources),
-        None => Err(Wrong::Told("no rules")),
+    match Binding::of(alloc, binding) {
+        Ok(Some(binding)) => Ok(binding.resources),
+        Ok(None) => Err(Wrong::Told("no rules")),
+        Err(_) => Err(Wrong::Memory),
     }
 }
 
@@ -143,7 +135,13 @@ fn rules_of(alloc: Global, binding: &Value) -> Result<MatchRules, Wrong> {
 ///
 /// Where it spells none, or no memory is left.
 pub fn rules(alloc: Global, text: &str) -> Result<MatchRules, Wrong> {
-    rules_of(alloc, bound(alloc, text)?.value())
+    let text = format!(in alloc;
+        "{{\"spec\":{{\"policyName\":\"p\",\"validationActions\":[\"Deny\"],\"matchResources\":{text}}}}}"
+    )?;
+    let binding = document(alloc, &text)?;
+    let rules = rules_of(alloc, binding.value());
+    drop(binding);
+    rules
 }
 
 /// Whether a policy for the rules, bound for others, is asked for the write.
@@ -158,7 +156,9 @@ pub fn match_answer(
     write: &Write,
 ) -> Result<String, Wrong> {
     let constraints = rules(alloc, text)?;
-    yes_or_no(alloc, matches(&constraints, bound, &write.attempt()))
+    let is_asked = matches(&constraints, bound, &write.attempt());
+    drop(constraints);
+    yes_or_no(alloc, is_asked)
 }
 
 /// Whether a selector selects the object of the write.
@@ -167,12 +167,14 @@ pub fn match_answer(
 ///
 /// Where the text spells no selector, the write has no object, or no memory is left.
 pub fn selector_answer(alloc: Global, text: &str, write: &Write) -> Result<String, Wrong> {
+    let Some(object) = value_of(&write.object) else {
+        return Err(Wrong::Told("the write has no object"));
+    };
     let text = format!(in alloc; "{{\"objectSelector\":{text}}}")?;
     let selecting = rules(alloc, &text)?;
-    match value_of(&write.object) {
-        Some(object) => yes_or_no(alloc, selects(&selecting.objects, object)),
-        None => Err(Wrong::Told("the write has no object")),
-    }
+    let is_selected = selects(&selecting.objects, object);
+    drop(selecting);
+    yes_or_no(alloc, is_selected)
 }
 
 /// Whether policies are asked for writes to the resource.

@@ -1,10 +1,12 @@
 //! What the rows of a file are asked of, and the questions by their words.
 
+use crate::texts::push_times;
 use crate::{
     bodies, documents_asked, edits, events, messages, names_asked, requested, responses, stored,
 };
 use cases::{Bench, TextBuilder, Wrong, compare, first_word, number, shown};
 use jsondoc::Doc;
+use names::Format;
 use objects::Objects;
 use routes::Routes;
 use std::alloc::Global;
@@ -22,7 +24,7 @@ pub struct Rows {
 impl Bench for Rows {
     fn new(alloc: Global, _file: &str) -> Result<Rows, Wrong> {
         Ok(Rows {
-            window: events::empty(alloc)?,
+            window: Window::new(alloc, Format::First.rules())?,
             routes: Routes::new(alloc)?,
             document: Doc::empty_object(alloc),
             objects: Objects::new(alloc),
@@ -37,8 +39,10 @@ impl Bench for Rows {
         };
         let (word, rest) = first_word(question);
         let found = self.of_the_document(alloc, word, rest)?;
-        compare(alloc, found.as_str(), wanted)?;
-        Ok(1)
+        match compare(alloc, found.as_str(), wanted) {
+            Ok(()) => Ok(1),
+            Err(wrong) => Err(wrong),
+        }
     }
 
     fn end(&mut self, _alloc: Global) -> Result<u64, Wrong> {
@@ -50,14 +54,19 @@ impl Bench for Rows {
 fn unfolded(alloc: Global, line: &str) -> Result<String, Wrong> {
     let mut made = TextBuilder::new(alloc);
     for part in line.split('«') {
-        let (folded, behind) = part.split_once('»').unwrap_or(("1 ", part));
+        let (folded, behind) = match part.split_once('»') {
+            Some(parts) => parts,
+            None => ("1 ", part),
+        };
         let (times, piece) = first_word(folded);
-        for _ in 0..number(times)? {
-            made.push(piece);
-        }
+        push_times(&mut made, number(times)?, piece);
         made.push(behind);
     }
-    Ok(made.end()?.replace(alloc, "¶", "\r\n")?)
+    let made = made.end()?;
+    match made.replace(alloc, "¶", "\r\n") {
+        Ok(line) => Ok(line),
+        Err(_) => Err(Wrong::Memory),
+    }
 }
 
 // Each of these answers the questions of its kind, and hands on the others.
@@ -86,38 +95,29 @@ impl Rows {
             "since" => events::since(alloc, &self.window, rest),
             "window-fault" => events::told(alloc, rest),
             "route" => requested::routed(alloc, &self.routes, rest),
-            _ => of_names(alloc, word, rest),
+            _ => of_values(alloc, word, rest),
         }
     }
 }
 
-fn of_names(alloc: Global, word: &str, rest: &str) -> Result<String, Wrong> {
+fn of_values(alloc: Global, word: &str, rest: &str) -> Result<String, Wrong> {
     match word {
-        "name" => names_asked::name(alloc, rest),
-        "namespace" => names_asked::namespace(alloc, rest),
+        "name" | "namespace" => names_asked::name(alloc, word, rest),
         "key" => names_asked::key_bytes(alloc, rest),
         "bytes" => names_asked::key_read(alloc, rest),
         "order" => names_asked::order(alloc, rest),
         "told" => names_asked::told(alloc, rest),
         "numbered" => names_asked::numbered(alloc, rest),
-        "plural" => names_asked::with_plural(alloc, rest),
-        "kind" => names_asked::with_kind(alloc, rest),
-        "format" => names_asked::format_numbers(alloc),
-        _ => of_documents(alloc, word, rest),
-    }
-}
-
-fn of_documents(alloc: Global, word: &str, rest: &str) -> Result<String, Wrong> {
-    match word {
-        "json" => documents_asked::read_bytes(alloc, rest.as_bytes()),
+        "plural" | "kind" => names_asked::number_of(alloc, word, rest),
+        "format" => names_asked::rules_text(alloc, &Format::First.rules()),
+        "json" => documents_asked::read(alloc, rest.as_bytes()),
         "json-bytes" => documents_asked::read_hex(alloc, rest),
-        "nested" => documents_asked::nested(alloc, rest),
-        "string" => documents_asked::long_string(alloc, rest),
+        "nested" => documents_asked::repeated(alloc, rest, ("", "[", "]", "")),
+        "string" => documents_asked::repeated(alloc, rest, ("\"", "v", "", "\"")),
         "shown" => documents_asked::shown(alloc, rest),
-        "has-kind" => documents_asked::kind(alloc, rest),
-        "has-metadata" => documents_asked::metadata(alloc, rest),
-        "metadata" => documents_asked::text_in_metadata(alloc, rest),
-        "copied-metadata" => documents_asked::copied_metadata(alloc, rest),
+        "has-kind" | "has-metadata" | "metadata" | "copied-metadata" => {
+            documents_asked::of_document(alloc, word, rest)
+        }
         _ => of_messages(alloc, word, rest),
     }
 }
@@ -129,7 +129,10 @@ fn of_messages(alloc: Global, word: &str, rest: &str) -> Result<String, Wrong> {
         "cut" => messages::cut(alloc, &[rest.as_bytes(), b"".as_slice()]),
         "pieces" => messages::pieces(alloc, rest.as_bytes()),
         "response" => responses::response(alloc, rest),
-        "response-length" => shown(alloc, &responses::response(alloc, rest)?.len()),
+        "response-length" => match responses::response(alloc, rest) {
+            Ok(response) => shown(alloc, &response.len()),
+            Err(wrong) => Err(wrong),
+        },
         "full" => responses::full(alloc, rest),
         "manifest" => bodies::manifest(alloc, rest),
         "selector" => bodies::selector(alloc, rest),

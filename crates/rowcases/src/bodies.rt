@@ -1,11 +1,11 @@
 //! Questions on bodies and selectors.
 
+use crate::documents_asked::document;
 use crate::requested::{push_manifest, push_refusal, push_selector};
 use cases::{TextBuilder, WordReader, Wrong, text, yes_or_no};
 use documents::Document;
-use jsondoc::Doc;
 use names::{Resource, ResourceTable};
-use requests::{BodyFault, Manifest, Refusal, Selector};
+use requests::{BodyFault, Manifest, Selector};
 use std::alloc::Global;
 
 fn resource(kind: &str) -> Result<Resource, Wrong> {
@@ -25,23 +25,24 @@ pub fn manifest(alloc: Global, text: &str) -> Result<String, Wrong> {
         return Err(Wrong::Told("a manifest is sent to NAMESPACE/ or NAMESPACE/NAME"));
     };
     let name = if name.is_empty() { None } else { Some(name) };
-    match Manifest::read(alloc, resource, namespace, name, words.rest().as_bytes()) {
-        Ok(manifest) => manifest_text(alloc, &manifest),
-        Err(BodyFault::Refused(refusal)) => refusal_text(alloc, refusal),
+    let mut line = TextBuilder::new(alloc);
+    let body = words.rest().as_bytes();
+    let pushed = match Manifest::read(alloc, resource, namespace, name, body) {
+        Ok(manifest) => {
+            let pushed = push_manifest(alloc, &mut line, &manifest);
+            drop(manifest);
+            pushed
+        }
+        Err(BodyFault::Refused(refusal)) => {
+            push_refusal(&mut line, refusal);
+            Ok(())
+        }
         Err(BodyFault::Memory) => Err(Wrong::Memory),
+    };
+    match pushed {
+        Ok(()) => line.end(),
+        Err(wrong) => Err(wrong),
     }
-}
-
-fn manifest_text(alloc: Global, manifest: &Manifest) -> Result<String, Wrong> {
-    let mut line = TextBuilder::new(alloc);
-    push_manifest(alloc, &mut line, manifest)?;
-    line.end()
-}
-
-fn refusal_text(alloc: Global, refusal: Refusal) -> Result<String, Wrong> {
-    let mut line = TextBuilder::new(alloc);
-    push_refusal(&mut line, refusal);
-    line.end()
 }
 
 // The selector between two quotation marks, and what stands behind them.
@@ -66,12 +67,12 @@ pub fn selector(alloc: Global, text: &str) -> Result<String, Wrong> {
 
 /// `selects "TEXT" DOCUMENT`: whether it selects the document.
 pub fn selects(alloc: Global, text: &str) -> Result<String, Wrong> {
-    let (selector, document) = read_selector(alloc, text)?;
+    let (selector, json) = read_selector(alloc, text)?;
     let Some(selector) = selector else {
         return Err(Wrong::Told("no selector"));
     };
-    match Doc::read(alloc, document.as_bytes()) {
-        Ok(json) => yes_or_no(alloc, selector.selects(&Document::new(json))),
-        Err(_) => Err(Wrong::Told("no document")),
-    }
+    let document = Document::new(document(alloc, json.as_bytes())?);
+    let is_selected = selector.selects(&document);
+    drop(document);
+    yes_or_no(alloc, is_selected)
 }

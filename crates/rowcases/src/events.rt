@@ -1,19 +1,10 @@
 //! A window of events, each of which tells its revision.
 
-use crate::names_asked::no_key;
+use crate::names_asked::key_of;
 use cases::{TextBuilder, Wrong, number, shown};
-use names::{Format, Key, Resource};
+use names::Resource;
 use std::alloc::Global;
 use window::{Change, Events, Window, WindowFault};
-
-fn key(alloc: Global) -> Result<Key, Wrong> {
-    Key::new(alloc, Resource::ConfigMap, "default", "a").map_err(no_key)
-}
-
-/// The window of a new store.
-pub fn empty(alloc: Global) -> Result<Window<u64>, Wrong> {
-    Ok(Window::new(alloc, Format::First.rules())?)
-}
 
 /// `written REVISION`: further updates up to that revision, the first of all a creation. It gives the window's revision.
 pub fn written(alloc: Global, window: &mut Window<u64>, text: &str) -> Result<String, Wrong> {
@@ -24,18 +15,11 @@ pub fn written(alloc: Global, window: &mut Window<u64>, text: &str) -> Result<St
             Change::Modified
         };
         if window.revision() < u64::MAX - 1 {
-            window.push(change, key(alloc)?, revision.saturating_add(1));
+            let key = key_of(alloc, Resource::ConfigMap, "default", "a")?;
+            window.push(change, key, revision.saturating_add(1));
         }
     }
     shown(alloc, &window.revision())
-}
-
-fn change_word(change: &Change) -> &'static str {
-    match change {
-        Change::Added => "added",
-        Change::Modified => "modified",
-        Change::Deleted => "deleted",
-    }
 }
 
 /// `since REVISION`: how many events there are above it, and the first and the last: what was done and which revision it made.
@@ -54,7 +38,12 @@ fn events_text(alloc: Global, events: Events<'_, u64>) -> Result<String, Wrong> 
         if event.document != event.revision {
             return Err(Wrong::Told("an event has another's document"));
         }
-        last = (change_word(&event.change), event.revision);
+        let change = match event.change {
+            Change::Added => "added",
+            Change::Modified => "modified",
+            Change::Deleted => "deleted",
+        };
+        last = (change, event.revision);
         if count == 0 {
             first = last;
         }
@@ -63,25 +52,15 @@ fn events_text(alloc: Global, events: Events<'_, u64>) -> Result<String, Wrong> 
     if count == 0 {
         return cases::text(alloc, "none");
     }
-    span_text(alloc, count, first, last)
-}
-
-// How many events there are, and the first and the last.
-fn span_text(
-    alloc: Global,
-    count: u64,
-    first: (&str, u64),
-    last: (&str, u64),
-) -> Result<String, Wrong> {
     let mut line = TextBuilder::new(alloc);
     line.show(&count);
-    line.push(",");
-    line.word(first.0);
-    line.word("");
+    line.push(", ");
+    line.push(first.0);
+    line.push(" ");
     line.show(&first.1);
-    line.word("to");
-    line.word(last.0);
-    line.word("");
+    line.push(" to ");
+    line.push(last.0);
+    line.push(" ");
     line.show(&last.1);
     line.end()
 }

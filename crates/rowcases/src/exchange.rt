@@ -1,8 +1,10 @@
 //! Exchanges over a connection, and questions, by their words.
 
 use crate::replies::{message, short, spelled_out};
-use cases::{Bench, TextBuilder, Wrong, compare, first_word, number, shown, text, wanted};
+use cases::{Bench, TextBuilder, Wrong, compare, first_word, number, shown};
 use std::alloc::Global;
+
+const MORE_WRITTEN: &str = "more was written than the lines before tell";
 
 /// What connections are served by, and what is asked beside.
 pub trait Service: Drop + Sized {
@@ -41,7 +43,10 @@ impl<S: Service> Bench for Exchange<S> {
         match word {
             ">" => self.send(rest, "\r\n"),
             ">|" => self.send(rest, ""),
-            ">>" => self.send(message(alloc, rest)?.as_str(), ""),
+            ">>" => match message(alloc, rest) {
+                Ok(message) => self.send(message.as_str(), ""),
+                Err(wrong) => Err(wrong),
+            },
             "<" => self.next(alloc, rest, "\r\n"),
             "<|" => self.next(alloc, rest, ""),
             "<n" => self.next(alloc, "", "\n"),
@@ -59,18 +64,19 @@ impl<S: Service> Bench for Exchange<S> {
 impl<S: Service> Exchange<S> {
     // Asks that all that was sent is answered, and all of the answer compared.
     fn settle(&self) -> Result<(), Wrong> {
-        wanted(self.sent.is_empty(), "what was sent is not answered")?;
-        wanted(
-            self.rest.is_empty(),
-            "more was written than the lines before tell",
-        )
+        if !self.sent.is_empty() {
+            return Err(Wrong::Told("what was sent is not answered"));
+        }
+        if !self.rest.is_empty() {
+            return Err(Wrong::Told(MORE_WRITTEN));
+        }
+        Ok(())
     }
 
     fn send(&mut self, text: &str, line_end: &str) -> Result<u64, Wrong> {
-        wanted(
-            self.rest.is_empty(),
-            "more was written than the lines before tell",
-        )?;
+        if !self.rest.is_empty() {
+            return Err(Wrong::Told(MORE_WRITTEN));
+        }
         self.sent.push_str(text)?;
         self.sent.push_str(line_end)?;
         Ok(0)
@@ -79,8 +85,8 @@ impl<S: Service> Exchange<S> {
     // Compares what was written next.
     fn next(&mut self, alloc: Global, text: &str, line_end: &str) -> Result<u64, Wrong> {
         if !self.sent.is_empty() {
-            let sent = std::mem::replace(&mut self.sent, String::new(alloc));
-            self.rest = self.service.serve(alloc, sent.as_str())?;
+            self.rest = self.service.serve(alloc, self.sent.as_str())?;
+            self.sent.clear();
         }
         let behind = match self.rest.strip_prefix(text) {
             Some(rest) => rest.strip_prefix(line_end),
@@ -97,11 +103,16 @@ impl<S: Service> Exchange<S> {
 
     fn row(&mut self, alloc: Global, line: &str) -> Result<u64, Wrong> {
         self.settle()?;
-        let (question, wanted) = line.split_once(" => ").unwrap_or((line, "ok"));
-        let found = self.answer(alloc, question)?;
+        let (question, wanted) = match line.split_once(" => ") {
+            Some(row) => row,
+            None => (line, "ok"),
+        };
         let wanted = spelled_out(alloc, wanted)?;
-        compare(alloc, found.as_str(), wanted.as_str())?;
-        Ok(1)
+        let found = self.answer(alloc, question)?;
+        match compare(alloc, found.as_str(), wanted.as_str()) {
+            Ok(()) => Ok(1),
+            Err(wrong) => Err(wrong),
+        }
     }
 
     // Sends one message, and gives its reply.
@@ -116,12 +127,17 @@ impl<S: Service> Exchange<S> {
         let (word, rest) = first_word(question);
         if word == "replay" {
             let taken = self.service.answer(alloc, word, rest)?;
-            wanted(taken.as_str() == "ok", "one of them is not allowed")?;
-            return Ok(taken);
+            if taken.as_str() == "ok" {
+                return Ok(taken);
+            }
+            return Err(Wrong::Told("one of them is not allowed"));
         }
         let reply = self.request(alloc, question)?;
-        wanted(reply.starts_with("20"), "one of them is refused")?;
-        Ok(reply)
+        if reply.starts_with("20") {
+            Ok(reply)
+        } else {
+            Err(Wrong::Told("one of them is refused"))
+        }
     }
 
     // `times N METHOD ..`, `times N replay ..`: so many of these, in which `%` stands for their number; the last answer.
@@ -129,7 +145,10 @@ impl<S: Service> Exchange<S> {
         let (count, question) = first_word(rest);
         let mut answer = String::new(alloc);
         for number in 1..=number(count)? {
-            let question = question.replace(alloc, "%", shown(alloc, &number)?.as_str())?;
+            let number = shown(alloc, &number)?;
+            let Ok(question) = question.replace(alloc, "%", number.as_str()) else {
+                return Err(Wrong::Memory);
+            };
             answer = self.one_of(alloc, question.as_str())?;
         }
         Ok(answer)

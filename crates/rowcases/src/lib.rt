@@ -24,7 +24,9 @@ pub use bench::Rows;
 pub use exchange::{Exchange, Service};
 use httpmsg::one_stream;
 use jsondoc::text_escapes;
+pub use names_asked::{key_of, resource, rules_text};
 pub use replies::{message, short};
+pub use requested::push_key;
 use requests::{parts_are_spelled, stored_is_read};
 pub use streams::{messages_of, routed_first};
 

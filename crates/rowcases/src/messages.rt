@@ -26,20 +26,6 @@ pub fn method(alloc: Global, name: &str) -> Result<String, Wrong> {
     line.end()
 }
 
-fn fault_word(fault: MessageFault) -> &'static str {
-    match fault {
-        MessageFault::Malformed => "malformed",
-        MessageFault::Version => "version",
-        MessageFault::TooManyFields => "fields",
-        MessageFault::TransferCoding => "coding",
-        MessageFault::Host => "host",
-        MessageFault::ContentLength => "length",
-        MessageFault::BodyTooLarge => "body",
-        MessageFault::Expectation => "expectation",
-        MessageFault::Target => "target",
-    }
-}
-
 fn push_message(line: &mut TextBuilder, message: &Message) {
     line.push(method_word(message.method()));
     line.push(" ");
@@ -62,7 +48,17 @@ fn push_end(line: &mut TextBuilder, cutter: Cutter) {
         Ok(()) => line.push(if has_closed { "closed" } else { "clean" }),
         Err(broken) => {
             line.push("broken ");
-            line.push(fault_word(broken.fault));
+            line.push(match broken.fault {
+                MessageFault::Malformed => "malformed",
+                MessageFault::Version => "version",
+                MessageFault::TooManyFields => "fields",
+                MessageFault::TransferCoding => "coding",
+                MessageFault::Host => "host",
+                MessageFault::ContentLength => "length",
+                MessageFault::BodyTooLarge => "body",
+                MessageFault::Expectation => "expectation",
+                MessageFault::Target => "target",
+            });
             line.push(if broken.is_head { " head" } else { "" });
         }
     }
@@ -94,6 +90,7 @@ pub fn pieces(alloc: Global, stream: &[u8]) -> Result<String, Wrong> {
         single.push(byte)?;
     }
     let whole = cut(alloc, single.as_slice())?;
+    drop(single);
     for at in 0..stream.len() {
         let (front, back) = stream.split_at(at);
         let parted = cut(alloc, &[front, back])?;

@@ -1,11 +1,8 @@
 //! Questions on names, keys, resources and formats.
 
 use crate::texts::{or_dash, or_empty, quoted};
-use cases::{
-    TextBuilder, WordReader, Wrong, bytes, first_word, number, shown, spelled, text, wanted,
-    yes_or_no,
-};
-use names::{Format, Key, KeyFault, Resource, ResourceTable, Scope, check_name, check_namespace};
+use cases::{TextBuilder, WordReader, Wrong, bytes, first_word, shown, spelled, text, yes_or_no};
+use names::{Key, KeyFault, Resource, ResourceTable, Rules, Scope, check_name, check_namespace};
 use std::alloc::Global;
 
 /// The resource with this plural in its paths.
@@ -18,52 +15,68 @@ pub fn resource(plural: &str) -> Result<Resource, Wrong> {
     Err(Wrong::Told("no such resource"))
 }
 
-/// Why there is no key.
-pub fn no_key(fault: KeyFault) -> Wrong {
+// Why there is no key.
+fn no_key(fault: KeyFault) -> Wrong {
     match fault {
         KeyFault::NoKey => Wrong::Told("no key"),
         KeyFault::Memory => Wrong::Memory,
     }
 }
 
-/// The key that `RESOURCE NAMESPACE NAME` names, and what stands behind it.
-pub fn key(alloc: Global, text: &str) -> Result<(Key, &str), Wrong> {
-    let mut words = WordReader::new(text);
-    let resource = resource(words.word())?;
-    let namespace = or_empty(words.word());
-    match Key::new(alloc, resource, namespace, words.word()) {
-        Ok(key) => Ok((key, words.rest())),
+/// The key of a resource's object.
+pub fn key_of(
+    alloc: Global,
+    resource: Resource,
+    namespace: &str,
+    name: &str,
+) -> Result<Key, Wrong> {
+    match Key::new(alloc, resource, namespace, name) {
+        Ok(key) => Ok(key),
         Err(fault) => Err(no_key(fault)),
     }
 }
 
-/// `name 'TEXT'`: whether it is one.
-pub fn name(alloc: Global, text: &str) -> Result<String, Wrong> {
-    let text = quoted(alloc, text)?;
-    yes_or_no(alloc, check_name(text.as_str()))
+/// The key that the next words name: `RESOURCE NAMESPACE NAME`.
+pub fn key(alloc: Global, words: &mut WordReader<'_>) -> Result<Key, Wrong> {
+    let resource = resource(words.word())?;
+    let namespace = or_empty(words.word());
+    key_of(alloc, resource, namespace, words.word())
 }
 
-/// `namespace 'TEXT'`: whether it is one.
-pub fn namespace(alloc: Global, text: &str) -> Result<String, Wrong> {
-    let text = quoted(alloc, text)?;
-    yes_or_no(alloc, check_namespace(text.as_str()))
+// The key that bytes spell.
+fn read(alloc: Global, bytes: &[u8]) -> Result<Key, Wrong> {
+    match Key::read(alloc, bytes) {
+        Ok(key) => Ok(key),
+        Err(fault) => Err(no_key(fault)),
+    }
 }
 
-// A key's parts.
-fn parts(alloc: Global, key: &Key) -> Result<String, Wrong> {
-    let mut line = TextBuilder::new(alloc);
-    line.word(key.resource().plural());
-    line.word(or_dash(key.namespace()));
-    line.word(key.name());
-    line.end()
+/// `name 'TEXT'`, `namespace 'TEXT'`: whether it is one.
+pub fn name(alloc: Global, word: &str, text: &str) -> Result<String, Wrong> {
+    let text = quoted(alloc, text)?;
+    let is_one = match word {
+        "name" => check_name(text.as_str()),
+        _ => check_namespace(text.as_str()),
+    };
+    yes_or_no(alloc, is_one)
 }
 
 /// `key RESOURCE NAMESPACE NAME`: its bytes, which must read back to it.
 pub fn key_bytes(alloc: Global, text: &str) -> Result<String, Wrong> {
-    let (key, _) = key(alloc, text)?;
-    let bytes = key.bytes(alloc)?;
-    let read = Key::read(alloc, bytes.as_slice()).map_err(no_key)?;
-    if read == key {
+    let key = key(alloc, &mut WordReader::new(text))?;
+    let spelled = spelled_key(alloc, &key);
+    drop(key);
+    spelled
+}
+
+fn spelled_key(alloc: Global, key: &Key) -> Result<String, Wrong> {
+    let Ok(bytes) = key.bytes(alloc) else {
+        return Err(Wrong::Memory);
+    };
+    let read = read(alloc, bytes.as_slice())?;
+    let is_same = read == *key;
+    drop(read);
+    if is_same {
         spelled(alloc, bytes.as_slice())
     } else {
         Err(Wrong::Told("its bytes read to another key"))
@@ -72,35 +85,53 @@ pub fn key_bytes(alloc: Global, text: &str) -> Result<String, Wrong> {
 
 /// `bytes HEX ..`: the key that they spell, copied.
 pub fn key_read(alloc: Global, text: &str) -> Result<String, Wrong> {
-    match Key::read(alloc, bytes(alloc, text)?.as_slice()) {
-        Ok(key) => parts(alloc, &key.clone()?),
-        Err(KeyFault::NoKey) => self::text(alloc, "no key"),
-        Err(KeyFault::Memory) => Err(Wrong::Memory),
+    let bytes = bytes(alloc, text)?;
+    match read(alloc, bytes.as_slice()) {
+        Ok(key) => {
+            let parts = copied_parts(alloc, &key);
+            drop(key);
+            parts
+        }
+        Err(Wrong::Told(why)) => self::text(alloc, why),
+        Err(wrong) => Err(wrong),
     }
+}
+
+// The parts of a copy of the key.
+fn copied_parts(alloc: Global, key: &Key) -> Result<String, Wrong> {
+    let Ok(copy) = key.clone() else {
+        return Err(Wrong::Memory);
+    };
+    let mut line = TextBuilder::new(alloc);
+    line.word(copy.resource().plural());
+    line.word(or_dash(copy.namespace()));
+    line.word(copy.name());
+    drop(copy);
+    line.end()
 }
 
 /// `order KEY KEY`: how the first stands to the second, by each of the comparisons.
 pub fn order(alloc: Global, text: &str) -> Result<String, Wrong> {
-    let (low, rest) = key(alloc, text)?;
-    let (high, _) = key(alloc, rest)?;
-    self::text(alloc, order_of(&low, &high))
+    let mut words = WordReader::new(text);
+    let low = key(alloc, &mut words)?;
+    let high = key(alloc, &mut words)?;
+    let order = order_of(&low, &high);
+    drop(low);
+    drop(high);
+    self::text(alloc, order)
 }
 
 fn order_of(low: &Key, high: &Key) -> &'static str {
     let is_less = low < high;
     let is_greater = low > high;
     let is_equal = low == high;
-    match (
-        is_less,
-        is_greater,
-        is_equal,
-        high > low,
-        high < low,
-        low != high,
-    ) {
-        (true, false, false, true, false, true) => "below",
-        (false, true, false, false, true, true) => "above",
-        (false, false, true, false, false, false) => "the same",
+    let differ = (is_less != (high > low))
+        | (is_greater != (high < low))
+        | (is_equal == (low != high));
+    match (is_less, is_greater, is_equal) {
+        (true, false, false) if !differ => "below",
+        (false, true, false) if !differ => "above",
+        (false, false, true) if !differ => "the same",
         _ => "the comparisons differ",
     }
 }
@@ -114,9 +145,8 @@ pub fn told(alloc: Global, text: &str) -> Result<String, Wrong> {
     }
 }
 
-/// `format`: the numbers of the first format: events, bytes of a text and of a body, objects, the greatest revision.
-pub fn format_numbers(alloc: Global) -> Result<String, Wrong> {
-    let rules = Format::First.rules();
+/// The numbers of a format: events, bytes of a text and of a body, objects, the greatest revision.
+pub fn rules_text(alloc: Global, rules: &Rules) -> Result<String, Wrong> {
     let mut line = TextBuilder::new(alloc);
     for limit in [
         rules.window_events,
@@ -141,16 +171,15 @@ fn is_found(resource: Resource) -> bool {
 /// `numbered N`: the resource of that number: its version for clients, group, version, plural, kind and scope. It must be found by
 /// its plural and by its kind too.
 pub fn numbered(alloc: Global, text: &str) -> Result<String, Wrong> {
-    let Ok(number) = u8::try_from(number(text)?) else {
+    let Ok(number) = text.parse::<u8>() else {
         return Err(Wrong::Told("a resource's number is a byte"));
     };
     let Some(resource) = ResourceTable::numbered(number) else {
         return self::text(alloc, "none");
     };
-    wanted(
-        resource.number() == number && is_found(resource),
-        "it is not found again",
-    )?;
+    if resource.number() != number || !is_found(resource) {
+        return Err(Wrong::Told("it is not found again"));
+    }
     let mut line = TextBuilder::new(alloc);
     line.word(resource.api_version());
     line.word(or_dash(resource.group()));
@@ -169,22 +198,15 @@ fn scope_word(resource: Resource) -> &'static str {
     }
 }
 
-// The number of a resource, or none.
-fn number_of(alloc: Global, resource: Option<Resource>) -> Result<String, Wrong> {
-    match resource {
+/// `plural VERSION PLURAL`, `kind VERSION KIND`: the number of the resource with them.
+pub fn number_of(alloc: Global, word: &str, text: &str) -> Result<String, Wrong> {
+    let (api_version, name) = first_word(text);
+    let found = match word {
+        "plural" => ResourceTable::with_plural(api_version, name),
+        _ => ResourceTable::with_kind(api_version, name),
+    };
+    match found {
         Some(resource) => shown(alloc, &resource.number()),
-        None => text(alloc, "none"),
+        None => self::text(alloc, "none"),
     }
-}
-
-/// `plural VERSION PLURAL`: the number of the resource with them.
-pub fn with_plural(alloc: Global, text: &str) -> Result<String, Wrong> {
-    let (api_version, plural) = first_word(text);
-    number_of(alloc, ResourceTable::with_plural(api_version, plural))
-}
-
-/// `kind VERSION KIND`: the number of the resource with them.
-pub fn with_kind(alloc: Global, text: &str) -> Result<String, Wrong> {
-    let (api_version, kind) = first_word(text);
-    number_of(alloc, ResourceTable::with_kind(api_version, kind))
 }

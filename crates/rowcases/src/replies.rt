@@ -1,6 +1,7 @@
 //! Messages and replies, as lines have them.
 
-use cases::{TextBuilder, WordReader, Wrong, text};
+use crate::texts::parted;
+use cases::{TextBuilder, WordReader, Wrong, first_word, shown, text};
 use std::alloc::Global;
 
 /// The bytes of `METHOD TARGET [BODY]`, with one `Host`, and with the length of the body where there is one.
@@ -24,20 +25,22 @@ pub fn message(alloc: Global, text: &str) -> Result<String, Wrong> {
 /// One reply, whose head tells the length of its body, as `CODE BODY`, with its end behind it where that is not `clean`. Anything
 /// else as it is.
 pub fn short(alloc: Global, answer: &str) -> Result<String, Wrong> {
-    let (written, end) = answer.rsplit_once("ends ").unwrap_or((answer, ""));
-    let (head, body) = written.split_once("\r\n\r\n").unwrap_or(("", ""));
-    let mut field = TextBuilder::new(alloc);
-    field.push("\r\nContent-Length: ");
-    field.show(&body.len());
-    field.push("\r\n");
-    let field = field.end()?;
-    if !head.starts_with("HTTP/1.1 ") || !written.contains(field.as_str()) {
+    let (written, end) = match answer.rsplit_once("ends ") {
+        Some(parts) => parts,
+        None => (answer, ""),
+    };
+    let Some((head, body)) = written.split_once("\r\n\r\n") else {
+        return text(alloc, answer);
+    };
+    let length = shown(alloc, &body.len())?;
+    let (_, behind) = parted(head, "\r\nContent-Length: ");
+    let is_told = parted(behind, "\r\n").0 == length.as_str();
+    let (version, status) = first_word(head);
+    if version != "HTTP/1.1" || !is_told {
         return text(alloc, answer);
     }
-    let mut words = WordReader::new(head);
-    words.word();
     let mut line = TextBuilder::new(alloc);
-    line.push(words.word());
+    line.push(first_word(status).0);
     line.word(body);
     if end != "clean" {
         line.word("ends");
@@ -54,17 +57,13 @@ pub(crate) fn spelled_out(alloc: Global, wanted: &str) -> Result<String, Wrong> 
     }
     let (code, reason) = (words.word(), words.word());
     let mut line = TextBuilder::new(alloc);
-    for piece in [
-        code,
-        " {\"apiVersion\":\"v1\",\"code\":",
-        code,
-        ",\"kind\":\"Status\",\"message\":\"",
-        words.rest(),
-        "\",\"reason\":\"",
-        reason,
-        "\",\"status\":\"Failure\"}",
-    ] {
-        line.push(piece);
-    }
+    line.push(code);
+    line.push(" {\"apiVersion\":\"v1\",\"code\":");
+    line.push(code);
+    line.push(",\"kind\":\"Status\",\"message\":\"");
+    line.push(words.rest());
+    line.push("\",\"reason\":\"");
+    line.push(reason);
+    line.push("\",\"status\":\"Failure\"}");
     line.end()
 }

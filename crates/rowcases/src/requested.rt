@@ -6,10 +6,11 @@ use cases::{TextBuilder, Wrong, wanted};
 use labels::Requirement;
 use names::Key;
 use requests::{Collection, Manifest, Refusal, Request, Selector};
-use routes::{Routed, Routes};
+use routes::Routes;
 use std::alloc::Global;
 
-fn push_key(line: &mut TextBuilder, key: &Key) {
+/// Adds a key: `KIND NAMESPACE/NAME`.
+pub fn push_key(line: &mut TextBuilder, key: &Key) {
     line.word(key.resource().kind());
     line.word(key.namespace());
     line.push("/");
@@ -47,19 +48,14 @@ pub fn push_refusal(line: &mut TextBuilder, refusal: Refusal) {
     line.word(refusal.message());
 }
 
-fn push_values(line: &mut TextBuilder, values: &[String]) {
-    let mut between = "";
+fn push_pair(line: &mut TextBuilder, label: &str, between: &str, values: &[String]) {
+    line.word(label);
+    let mut between = between;
     for value in values {
         line.push(between);
         line.push(value.as_str());
         between = "|";
     }
-}
-
-fn push_pair(line: &mut TextBuilder, label: &str, between: &str, values: &[String]) {
-    line.word(label);
-    line.push(between);
-    push_values(line, values);
 }
 
 fn push_requirement(line: &mut TextBuilder, requirement: &Requirement) {
@@ -132,18 +128,16 @@ fn push_request(alloc: Global, line: &mut TextBuilder, request: &Request) -> Res
 /// `route METHOD TARGET [BODY]`: what the message asks for, and the methods that its path allows where its own is refused.
 pub fn routed(alloc: Global, routes: &Routes, text: &str) -> Result<String, Wrong> {
     let stream = message(alloc, text)?;
-    match routed_first(alloc, routes, stream.as_str()) {
-        Ok(routed) => routed_text(alloc, &routed),
-        Err(wrong) => Err(wrong),
-    }
-}
-
-fn routed_text(alloc: Global, routed: &Routed) -> Result<String, Wrong> {
+    let routed = routed_first(alloc, routes, stream.as_str())?;
     let mut line = TextBuilder::new(alloc);
-    push_request(alloc, &mut line, &routed.request)?;
+    let pushed = push_request(alloc, &mut line, &routed.request);
     if let Some(methods) = routed.allow {
         line.push(", allowed: ");
         line.push(methods);
     }
-    line.end()
+    drop(routed);
+    match pushed {
+        Ok(()) => line.end(),
+        Err(wrong) => Err(wrong),
+    }
 }

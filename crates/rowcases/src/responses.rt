@@ -1,13 +1,14 @@
 //! Questions on the bytes of responses.
 
-use cases::{Wrong, first_word, number, text, wanted};
+use crate::texts::parted;
+use cases::{Wrong, first_word, number, text};
 use http::StatusCode;
 use httpmsg::{Output, Response, Std, write_all};
 use std::alloc::Global;
 
 // Writes the response of `CODE [BODY][; allow METHODS][; warning TEXT]..[; close][; head]`, and says whether all of it was taken.
 fn is_written<O: Output>(alloc: Global, line: &str, output: &mut O) -> Result<bool, Wrong> {
-    let (front, parts) = line.split_once("; ").unwrap_or((line, ""));
+    let (front, parts) = parted(line, "; ");
     let (code, body) = first_word(front);
     let Ok(status) = StatusCode::from_bytes(code.as_bytes()) else {
         return Err(Wrong::Told("no status has this code"));
@@ -31,12 +32,13 @@ fn is_written<O: Output>(alloc: Global, line: &str, output: &mut O) -> Result<bo
 /// `response CODE ..`: its bytes.
 pub fn response(alloc: Global, line: &str) -> Result<String, Wrong> {
     let mut output = Std::new(Vec::new(alloc));
-    let is_written = is_written(alloc, line, &mut output)?;
-    wanted(is_written, "the response could not be written")?;
-    text(
-        alloc,
-        str::from_utf8(&output.into_inner()).unwrap_or("no text"),
-    )
+    let is_written = is_written(alloc, line, &mut output);
+    let written = output.into_inner();
+    match is_written {
+        Ok(true) => text(alloc, str::from_utf8(&written).unwrap_or("no text")),
+        Ok(false) => Err(Wrong::Told("the response could not be written")),
+        Err(wrong) => Err(wrong),
+    }
 }
 
 /// `full ROOM CODE ..`: what an output takes of it that has room for so many bytes, which then takes no more, and fails for nothing.

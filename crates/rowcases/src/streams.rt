@@ -17,7 +17,10 @@ pub fn messages_of(alloc: Global, sent: &str) -> Result<Vec<Message>, Wrong> {
 /// What the first message of a stream asks for.
 pub fn routed_first(alloc: Global, routes: &Routes, sent: &str) -> Result<Routed, Wrong> {
     match messages_of(alloc, sent)?.first() {
-        Some(message) => Ok(route(alloc, routes, message)?),
+        Some(message) => match route(alloc, routes, message) {
+            Ok(routed) => Ok(routed),
+            Err(_) => Err(Wrong::Memory),
+        },
         None => Err(Wrong::Told("there is no message")),
     }
 }

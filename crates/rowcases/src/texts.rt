@@ -1,28 +1,58 @@
-//! Quoted texts of a row.
+//! Texts of a row, and of the documents that it makes.
 
 use cases::{TextBuilder, Wrong, number};
 use jsondoc::Doc;
-use std::alloc::Global;
+use std::alloc::{AllocError, Global};
 
 /// A document's text.
 pub fn document_text(alloc: Global, document: &Doc) -> Result<String, Wrong> {
-    Ok(document.text(alloc)?)
+    match document.text(alloc) {
+        Ok(text) => Ok(text),
+        Err(_) => Err(Wrong::Memory),
+    }
+}
+
+/// The text of a document that was made, where memory sufficed for it.
+pub fn made_text(alloc: Global, made: Result<Doc, AllocError>) -> Result<String, Wrong> {
+    match made {
+        Ok(document) => {
+            let text = document_text(alloc, &document);
+            drop(document);
+            text
+        }
+        Err(_) => Err(Wrong::Memory),
+    }
+}
+
+/// What stands in front of a separator and what behind it: the text and nothing, where it is not there.
+pub fn parted<'a>(text: &'a str, separator: &str) -> (&'a str, &'a str) {
+    match text.split_once(separator) {
+        Some(parts) => parts,
+        None => (text, ""),
+    }
+}
+
+/// Adds a piece so many times.
+pub fn push_times(made: &mut TextBuilder, times: u64, piece: &str) {
+    for _ in 0..times {
+        made.push(piece);
+    }
 }
 
 /// A text between quotes, in which `\0` is the character 0; with ` xN` behind it, N times.
 pub fn quoted(alloc: Global, text: &str) -> Result<String, Wrong> {
-    let Some((inner, behind)) = text
-        .strip_prefix('\'')
-        .and_then(|rest| rest.rsplit_once('\''))
-    else {
+    let Some((front, behind)) = text.rsplit_once('\'') else {
+        return Err(Wrong::Told("a text stands between quotes"));
+    };
+    let Some(inner) = front.strip_prefix('\'') else {
         return Err(Wrong::Told("a text stands between quotes"));
     };
     let times = number(behind.strip_prefix(" x").unwrap_or("1"))?;
-    let inner = inner.replace(alloc, "\\0", "\0")?;
+    let Ok(inner) = inner.replace(alloc, "\\0", "\0") else {
+        return Err(Wrong::Memory);
+    };
     let mut made = TextBuilder::new(alloc);
-    for _ in 0..times {
-        made.push(inner.as_str());
-    }
+    push_times(&mut made, times, inner.as_str());
     made.end()
 }
 
