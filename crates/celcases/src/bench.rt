@@ -2,57 +2,64 @@
 
 use crate::bytes::decoding_text;
 use crate::codes::code_text;
-use crate::documents::{nested_document, written_document};
-use crate::notation::{Notation, notation_named};
-use crate::outcomes::{lone_meaning_text, plan_text, value_text};
-use crate::scope::{Scope, scope_named};
-use crate::tokens::{tokens_text, word_text};
+use crate::documents::{Documents, nest_document, write_document};
+use crate::notation::Notation;
+use crate::outcomes::{meaning_text, plan_text, value_text};
+use crate::scope::{variable_names, variables};
+use crate::tokens::tokens_text;
 use crate::trees::tree_text;
 use crate::types::type_text;
 use cases::{Bench, Wrong, compare, first_word};
+use celtokens::is_identifier;
+use celtypes::Env;
 use instructions::Name;
-use jsondoc::Doc;
 use std::alloc::Global;
 
 /// What the rows of a file ask, and what the lines above a row settle.
 #[derive(Drop)]
 pub struct Expressions {
     // the ending of the file's name, which says what its rows ask
-    asked: String,
+    asked: &'static str,
     texts: Notation,
-    // what `object` stands for
-    object: Doc,
-    scope: Scope,
+    documents: Documents,
+    // whether neither `params` nor variables are declared
+    is_bare: bool,
     // how many variables the place of a plan has, and the greatest name that is declared there
     variables: u16,
     names: Name,
 }
 
-fn count(text: &str) -> Result<u16, Wrong> {
-    match text.parse::<u16>() {
-        Ok(count) => Ok(count),
-        Err(_) => Err(Wrong::Told("how many variables?")),
-    }
-}
+const ENDINGS: [&str; 11] = [
+    "tokens",
+    "words",
+    "trees",
+    "types",
+    "codes",
+    "lengths",
+    "encodings",
+    "bytes",
+    "values",
+    "plans",
+    "meanings",
+];
 
-fn greatest_name(name: &str) -> Result<Name, Wrong> {
-    match name {
-        "request" => Ok(Name::Request),
-        "params" => Ok(Name::Params),
-        _ => Err(Wrong::Told("names go up to request or params")),
+// The ending of a file's name: the empty text where it is none of these.
+fn ending_of(file: &str) -> &'static str {
+    for ending in ENDINGS {
+        if file.ends_with(ending) {
+            return ending;
+        }
     }
+    ""
 }
 
 impl Bench for Expressions {
     fn new(alloc: Global, file: &str) -> Result<Expressions, Wrong> {
-        let Some((_, asked)) = file.rsplit_once('.') else {
-            return Err(Wrong::Told("the file's ending is no kind of rows"));
-        };
         Ok(Expressions {
-            asked: String::from_str(alloc, asked)?,
+            asked: ending_of(file),
             texts: Notation::Plain,
-            object: Doc::null(),
-            scope: Scope::Full,
+            documents: Documents::new(alloc)?,
+            is_bare: false,
             variables: 0,
             names: Name::Params,
         })
@@ -61,20 +68,10 @@ impl Bench for Expressions {
     // A row `TEXT => RESULT`, or a setting for the rows below it.
     fn line(&mut self, alloc: Global, line: &str) -> Result<u64, Wrong> {
         let Some((text, wanted)) = line.split_once(" => ") else {
-            self.settle(alloc, line)?;
-            return Ok(0);
+            return self.settle(alloc, line);
         };
-        let found = self.answer(alloc, self.texts.question(alloc, text)?.as_str())?;
-        compare(
-            alloc,
-            found.as_str(),
-            self.texts.answer(alloc, wanted)?.as_str(),
-        )?;
-        Ok(if self.asked.as_str() == "values" {
-            2
-        } else {
-            1
-        })
+        let text = self.texts.question(alloc, text)?;
+        self.compare(alloc, text.as_str(), wanted)
     }
 
     fn end(&mut self, _alloc: Global) -> Result<u64, Wrong> {
@@ -82,41 +79,80 @@ impl Bench for Expressions {
     }
 }
 
-// Puts a value in its place, where there is one.
-fn set<T: Drop>(place: &mut T, value: Result<T, Wrong>) -> Result<(), Wrong> {
-    *place = value?;
-    Ok(())
-}
-
 impl Expressions {
     // Takes a line that is no row.
-    fn settle(&mut self, alloc: Global, line: &str) -> Result<(), Wrong> {
+    fn settle(&mut self, alloc: Global, line: &str) -> Result<u64, Wrong> {
+        match line {
+            "texts plain" => self.texts = Notation::Plain,
+            "texts JSON" => self.texts = Notation::Json,
+            "texts repeated" => self.texts = Notation::Repeated,
+            "texts filled" => self.texts = Notation::Filled,
+            "scope full" => self.is_bare = false,
+            "scope bare" => self.is_bare = true,
+            "names request" => self.names = Name::Request,
+            "names params" => self.names = Name::Params,
+            _ => self.settle_value(alloc, line)?,
+        }
+        Ok(0)
+    }
+
+    // Takes a line that says what `object` stands for, or how many variables there are.
+    fn settle_value(&mut self, alloc: Global, line: &str) -> Result<(), Wrong> {
         let (word, rest) = first_word(line);
         match word {
-            "texts" => set(&mut self.texts, notation_named(rest)),
-            "object" => set(&mut self.object, written_document(alloc, rest)),
-            "nested" => set(&mut self.object, nested_document(alloc, rest)),
-            "scope" => set(&mut self.scope, scope_named(rest)),
-            "variables" => set(&mut self.variables, count(rest)),
-            "names" => set(&mut self.names, greatest_name(rest)),
+            "object" => write_document(alloc, rest, &mut self.documents.object),
+            "nested" => nest_document(alloc, rest, &mut self.documents.object),
+            "variables" => match rest.parse::<u16>() {
+                Ok(count) => {
+                    self.variables = count;
+                    Ok(())
+                }
+                Err(_) => Err(Wrong::Told("how many variables?")),
+            },
             _ => Err(Wrong::Told("neither a row nor a setting")),
+        }
+    }
+
+    // Compares what is found about a text with what is wanted, as the row writes it.
+    fn compare(&self, alloc: Global, text: &str, wanted: &str) -> Result<u64, Wrong> {
+        let found = self.answer(alloc, text)?;
+        let wanted = self.texts.answer(alloc, wanted)?;
+        match compare(alloc, found.as_str(), wanted.as_str()) {
+            Ok(()) if self.asked == "values" => Ok(2),
+            Ok(()) => Ok(1),
+            Err(wrong) => Err(wrong),
         }
     }
 
     // What is found about a text.
     fn answer(&self, alloc: Global, text: &str) -> Result<String, Wrong> {
-        match self.asked.as_str() {
+        let variables = variables(alloc, variable_names(self.asked, self.is_bare))?;
+        let env = Env {
+            has_params: !self.is_bare,
+            variables: &variables,
+        };
+        self.answer_among(alloc, text, &env)
+    }
+
+    // The same, where this is declared.
+    fn answer_among(&self, alloc: Global, text: &str, env: &Env<'_>) -> Result<String, Wrong> {
+        match self.asked {
             "tokens" => tokens_text(alloc, text),
-            "words" => word_text(alloc, text),
+            "words" => cases::text(
+                alloc,
+                if is_identifier(text) {
+                    "identifier"
+                } else {
+                    "no"
+                },
+            ),
             "trees" => Ok(tree_text(alloc, text)),
-            "types" => type_text(alloc, text, self.scope),
-            "codes" | "lengths" | "encodings" => {
-                code_text(alloc, self.asked.as_str(), text, self.scope)
-            }
+            "types" => Ok(type_text(alloc, text, env)),
+            "codes" | "lengths" | "encodings" => code_text(alloc, self.asked, text, env),
             "bytes" => decoding_text(alloc, text, self.variables, self.names),
-            "values" => value_text(alloc, text, &self.object),
-            "plans" => plan_text(alloc, text, &self.object),
-            "meanings" => lone_meaning_text(alloc, text, &self.object),
+            "values" => value_text(alloc, text, env, &self.documents),
+            "plans" => Ok(plan_text(alloc, text, env, &self.documents)),
+            "meanings" => meaning_text(alloc, text, &self.documents, true),
             _ => Err(Wrong::Told("the file's ending is no kind of rows")),
         }
     }

@@ -1,20 +1,20 @@
 //! The plans of bytes, as rows have them.
 
-use cases::{Wrong, bytes, wanted};
+use crate::codes::printed;
+use cases::{Wrong, bytes};
 use instructions::Name;
 use plancode::{Verified, decode, encode};
 use std::alloc::Global;
 
-// The instructions of a plan, a copy of which must be encoded to the bytes.
-fn verified_text(alloc: Global, plan: &Verified, bytes: &[u8]) -> Result<String, Wrong> {
-    let copy = plan.clone()?;
-    let code = encode(alloc, &copy.into_plan())?;
-    wanted(
-        code.as_slice() == bytes,
-        "a copy of the plan has other bytes",
-    )?;
-    let instructions = plan.instructions();
-    Ok(format!(in alloc; "{instructions:?}")?)
+// Whether a copy of a plan is encoded to these bytes.
+fn is_copied(alloc: Global, plan: &Verified, bytes: &[u8]) -> bool {
+    let Ok(copy) = plan.clone() else {
+        return false;
+    };
+    match encode(alloc, &copy.into_plan()) {
+        Ok(code) => code.as_slice() == bytes,
+        Err(_) => false,
+    }
 }
 
 /// The instructions of the plan that bytes are, or their fault, for a place with so many variables and names up to one.
@@ -30,13 +30,12 @@ pub(crate) fn decoding_text(
 ) -> Result<String, Wrong> {
     let bytes = bytes(alloc, text)?;
     match decode(alloc, &bytes, variables, names) {
-        Ok(plan) => {
-            wanted(
-                plan.vars() == variables,
-                "the plan has other variables than its place",
-            )?;
-            verified_text(alloc, &plan, &bytes)
+        Ok(plan) if plan.vars() == variables && is_copied(alloc, &plan, &bytes) => {
+            printed(alloc, &plan.instructions())
         }
-        Err(fault) => Ok(format!(in alloc; "{fault:?}")?),
+        Ok(_) => Err(Wrong::Told(
+            "the plan has other variables than its place, or its copy has other bytes",
+        )),
+        Err(fault) => printed(alloc, &fault),
     }
 }

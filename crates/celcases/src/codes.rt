@@ -1,12 +1,11 @@
 //! Code as rows have it.
 
-ghost use Rattle.std.specs.Prelude.{◌≤◌, length, IfOk, IfSome};
-ghost use Rattle.celtree.specs.View.{view};
+ghost use Rattle.std.specs.Prelude.{IfSome};
 ghost use Rattle.instructions.specs.Seen.{plan_ops};
 ghost use Rattle.instructions.specs.Bytes.{HaveRoom};
+ghost use Rattle.celtree.specs.View.{view};
 ghost use Rattle.plan.specs.Seen.{IsSmall};
 
-use crate::scope::{Scope, dyn_variable};
 use cases::{Wrong, shown, spelled};
 use celread::read;
 use celtree::Tree;
@@ -14,11 +13,24 @@ use celtypes::{Env, check};
 use instructions::Plan;
 use plan::compile;
 use plancode::encode;
-use std::alloc::{AllocError, Global};
+use std::alloc::Global;
+use std::fmt::Debug;
+
+fn compiled_tree(alloc: Global, tree: &Tree, env: &Env<'_>) -> Option<Plan>
+    requires { IsSmall (view tree.now) }
+    ensures { IfSome result (λ p. HaveRoom (plan_ops p)) }
+{
+    if env.variables.len() > 65535 {
+        return None;
+    }
+    match check(alloc, tree, env) {
+        Ok(_) => compile(alloc, tree, env).ok(),
+        Err(_) => None,
+    }
+}
 
 /// The plan of an expression, if it has a type.
-pub(crate) fn compiled_among(alloc: Global, text: &str, env: &Env<'_>) -> Option<Plan>
-    requires { length env.now.variables.now ≤ 65535 }
+pub(crate) fn compiled(alloc: Global, text: &str, env: &Env<'_>) -> Option<Plan>
     ensures { IfSome result (λ p. HaveRoom (plan_ops p)) }
 {
     match read(alloc, text) {
@@ -27,38 +39,9 @@ pub(crate) fn compiled_among(alloc: Global, text: &str, env: &Env<'_>) -> Option
     }
 }
 
-fn compiled_tree(alloc: Global, tree: &Tree, env: &Env<'_>) -> Option<Plan>
-    requires few { length env.now.variables.now ≤ 65535 }
-    requires small { IsSmall (view tree.now) }
-    ensures { IfSome result (λ p. HaveRoom (plan_ops p)) }
-{
-    match check(alloc, tree, env) {
-        Ok(_) => compile(alloc, tree, env).ok(),
-        Err(_) => None,
-    }
-}
-
-// The plan of an expression, if it has a type: in the full scope `a` and `b` are variables.
-fn compiled(alloc: Global, text: &str, scope: Scope) -> Result<Option<Plan>, AllocError>
-    ensures { IfOk result (λ o. IfSome o (λ p. HaveRoom (plan_ops p))) }
-{
-    match scope {
-        Scope::Full => {
-            let variables = [dyn_variable(alloc, "a")?, dyn_variable(alloc, "b")?];
-            let env = Env {
-                has_params: true,
-                variables: &variables,
-            };
-            Ok(compiled_among(alloc, text, &env))
-        }
-        Scope::Bare => {
-            let env = Env {
-                has_params: false,
-                variables: &[],
-            };
-            Ok(compiled_among(alloc, text, &env))
-        }
-    }
+/// Instructions, or a fault, as Rust prints them.
+pub(crate) fn printed<T: Debug>(alloc: Global, value: &T) -> Result<String, Wrong> {
+    Ok(format!(in alloc; "{value:?}")?)
 }
 
 /// The instructions of an expression (`codes`), how many it has (`lengths`) or its code in bytes (`encodings`), or `none`.
@@ -66,17 +49,14 @@ pub(crate) fn code_text(
     alloc: Global,
     asked: &str,
     text: &str,
-    scope: Scope,
+    env: &Env<'_>,
 ) -> Result<String, Wrong> {
-    let Some(plan) = compiled(alloc, text, scope)? else {
+    let Some(plan) = compiled(alloc, text, env) else {
         return cases::text(alloc, "none");
     };
     match asked {
         "lengths" => shown(alloc, &plan.instructions.len()),
         "encodings" => spelled(alloc, &encode(alloc, &plan)?),
-        _ => {
-            let instructions = &plan.instructions;
-            Ok(format!(in alloc; "{instructions:?}")?)
-        }
+        _ => printed(alloc, &plan.instructions),
     }
 }

@@ -1,52 +1,83 @@
-//! The documents that `object` stands for.
+//! The documents that names stand for.
 
 use crate::notation::repeated;
-use cases::Wrong;
+use cases::{Wrong, first_word, number};
+use celmean::Value;
+use celvalues::document_value;
 use jsondoc::Doc;
-use std::alloc::Global;
+use std::alloc::{AllocError, Global};
+use std::mem::replace;
 
-/// The document that a line writes as JSON.
-pub(crate) fn written_document(alloc: Global, written: &str) -> Result<Doc, Wrong> {
-    let text = repeated(alloc, written)?;
+const REQUEST: &str = "{\"operation\":\"CREATE\",\"dryRun\":false}";
+
+const PARAMS: &str = "{\"limit\":5}";
+
+/// The documents that names stand for.
+#[derive(Drop)]
+pub(crate) struct Documents {
+    pub(crate) request: Doc,
+    pub(crate) params: Doc,
+    pub(crate) old_object: Doc,
+    pub(crate) object: Doc,
+}
+
+/// The document that a text is.
+pub(crate) fn document(alloc: Global, text: &str) -> Result<Doc, Wrong> {
     match Doc::read(alloc, text.as_bytes()) {
         Ok(document) => Ok(document),
-        Err(_) => Err(Wrong::Told("the object is no document")),
+        Err(_) => Err(Wrong::Told("a text is no JSON document")),
     }
 }
 
-// An object in an object, so many deep, each under `a`, and 7 in the last one.
-fn nested_objects(alloc: Global, depth: u64) -> Result<Doc, Wrong> {
-    let mut inner = Doc::from(7);
-    for _ in 0..depth {
-        let mut outer = Doc::empty_object(alloc);
-        outer.put(alloc, "a", inner)?;
-        inner = outer;
-    }
-    Ok(inner)
+/// Puts in the place the document that a line writes as JSON.
+pub(crate) fn write_document(alloc: Global, written: &str, place: &mut Doc) -> Result<(), Wrong> {
+    let text = repeated(alloc, written)?;
+    *place = document(alloc, text.as_str())?;
+    Ok(())
 }
 
-// The same of lists.
-fn nested_lists(alloc: Global, depth: u64) -> Result<Doc, Wrong> {
-    let mut inner = Doc::from(7);
-    for _ in 0..depth {
-        let mut outer = Doc::empty_list(alloc);
-        outer.push(inner)?;
-        inner = outer;
+// Puts the document of a place into a list, or into an object under `a`.
+fn wrap(alloc: Global, is_list: bool, place: &mut Doc) -> Result<(), AllocError> {
+    if is_list {
+        let inner = replace(place, Doc::empty_list(alloc));
+        place.push(inner)
+    } else {
+        let inner = replace(place, Doc::empty_object(alloc));
+        place.put(alloc, "a", inner)
     }
-    Ok(inner)
 }
 
-/// A document deeper than one that is read: `objects DEPTH` or `lists DEPTH`.
-pub(crate) fn nested_document(alloc: Global, text: &str) -> Result<Doc, Wrong> {
-    let Some((kind, depth)) = text.split_once(' ') else {
+/// Puts in the place a document deeper than one that is read, with 7 in it: `objects DEPTH` or `lists DEPTH`.
+pub(crate) fn nest_document(alloc: Global, line: &str, place: &mut Doc) -> Result<(), Wrong> {
+    let (kind, depth) = first_word(line);
+    let is_list = kind == "lists";
+    if !is_list && kind != "objects" {
         return Err(Wrong::Told("nested are objects or lists, so many deep"));
-    };
-    let Ok(depth) = depth.parse::<u64>() else {
-        return Err(Wrong::Told("nested how deep?"));
-    };
-    match kind {
-        "objects" => nested_objects(alloc, depth),
-        "lists" => nested_lists(alloc, depth),
-        _ => Err(Wrong::Told("nested are objects or lists, so many deep")),
+    }
+    *place = Doc::from(7);
+    for _ in 0..number(depth)? {
+        wrap(alloc, is_list, place)?;
+    }
+    Ok(())
+}
+
+impl Documents {
+    /// What the names stand for first: `object` for null.
+    pub(crate) fn new(alloc: Global) -> Result<Documents, Wrong> {
+        Ok(Documents {
+            request: document(alloc, REQUEST)?,
+            params: document(alloc, PARAMS)?,
+            old_object: Doc::null(),
+            object: Doc::null(),
+        })
+    }
+
+    /// The values of `object`, `oldObject`, `request` and `params`.
+    pub(crate) fn values(&self, alloc: Global) -> Result<Vec<Value>, Wrong> {
+        let mut values = Vec::new(alloc);
+        for document in [&self.object, &self.old_object, &self.request, &self.params] {
+            values.push(document_value(alloc, document)?)?;
+        }
+        Ok(values)
     }
 }

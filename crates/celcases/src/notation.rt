@@ -1,9 +1,9 @@
 //! How rows write their texts.
 
-use cases::Wrong;
-use jsondoc::Doc;
+use crate::documents::document;
+use crate::texts::put;
+use cases::{TextBuilder, Wrong, text};
 use std::alloc::Global;
-use std::fmt::Write;
 
 /// How the texts of rows are written.
 #[derive(Clone, Copy)]
@@ -24,87 +24,72 @@ const MOST_TIMES: u64 = 65536;
 // The length of an expression that is filled: the longest that there is.
 const FILLED_BYTES: usize = 4096;
 
-/// The notation of a name.
-pub(crate) fn notation_named(name: &str) -> Result<Notation, Wrong> {
-    match name {
-        "plain" => Ok(Notation::Plain),
-        "JSON" => Ok(Notation::Json),
-        "repeated" => Ok(Notation::Repeated),
-        "filled" => Ok(Notation::Filled),
-        _ => Err(Wrong::Told("texts are plain, JSON, repeated or filled")),
-    }
-}
-
 // Adds the part once, with its number.
-fn put_once(out: &mut String, part: &str, number: u64) -> Result<(), Wrong> {
+fn put_once(out: &mut TextBuilder, part: &str, number: u64) {
     let mut is_first = true;
     for piece in part.split('#') {
         if !is_first {
-            write!(out, "{number}")?;
+            out.show(&number);
         }
         is_first = false;
-        out.push_str(piece)?;
+        out.push(piece);
     }
-    Ok(())
 }
 
-fn put_times(out: &mut String, times: &str) -> Result<(), Wrong> {
+// Adds `COUNT PART` written out: whether it is that.
+fn put_times(out: &mut TextBuilder, times: &str) -> bool {
     let Some((count, part)) = times.split_once(' ') else {
-        return Err(Wrong::Told("between backquotes stand a count, a blank and a text"));
+        return false;
     };
-    let Ok(count) = count.parse::<u64>() else {
-        return Err(Wrong::Told("no count behind a backquote"));
-    };
-    if count > MOST_TIMES {
-        return Err(Wrong::Told("a count is at most 65536"));
+    match count.parse::<u64>() {
+        Ok(count) if count <= MOST_TIMES => {
+            for number in 0..count {
+                put_once(out, part, number);
+            }
+            true
+        }
+        _ => false,
     }
-    for number in 0..count {
-        put_once(out, part, number)?;
-    }
-    Ok(())
 }
 
 /// The text in which `COUNT PART` between backquotes is written out.
 pub(crate) fn repeated(alloc: Global, written: &str) -> Result<String, Wrong> {
-    let mut out = String::new(alloc);
+    let mut out = TextBuilder::new(alloc);
     let mut is_repeated = true;
+    let mut is_right = true;
     for part in written.split('`') {
         is_repeated = !is_repeated;
         if is_repeated {
-            put_times(&mut out, part)?;
+            is_right = put_times(&mut out, part) && is_right;
         } else {
-            out.push_str(part)?;
+            out.push(part);
         }
     }
-    if is_repeated {
-        return Err(Wrong::Told("a backquote is not closed"));
+    if !is_right || is_repeated {
+        return Err(Wrong::Told(
+            "two backquotes have a count of at most 65536, a blank and a text between them",
+        ));
     }
-    Ok(out)
-}
-
-fn filled(alloc: Global, written: &str) -> Result<String, Wrong> {
-    let mut out = repeated(alloc, written)?;
-    if out.len() > FILLED_BYTES {
-        return Err(Wrong::Told("the text is longer than 4096 bytes"));
-    }
-    for _ in out.len()..FILLED_BYTES {
-        out.push(' ')?;
-    }
-    Ok(out)
+    out.end()
 }
 
 fn json_text(alloc: Global, written: &str) -> Result<String, Wrong> {
-    match Doc::read(alloc, written.as_bytes()) {
-        Ok(document) => string_of(alloc, &document),
-        Err(_) => Err(Wrong::Told("no JSON string")),
+    let document = document(alloc, written)?;
+    match document.as_str() {
+        Some(string) => text(alloc, string),
+        None => Err(Wrong::Told("no JSON string")),
     }
 }
 
-fn string_of(alloc: Global, document: &Doc) -> Result<String, Wrong> {
-    match document.as_str() {
-        Some(text) => cases::text(alloc, text),
-        None => Err(Wrong::Told("no JSON string")),
+fn filled(alloc: Global, written: &str) -> Result<String, Wrong> {
+    let mut text = repeated(alloc, written)?;
+    if text.len() > FILLED_BYTES {
+        return Err(Wrong::Told("the text is longer than 4096 bytes"));
     }
+    for _ in text.len()..FILLED_BYTES {
+        put(&mut text, " ");
+    }
+    Ok(text)
 }
 
 impl Notation {
@@ -119,7 +104,7 @@ impl Notation {
     /// What a row wants.
     pub(crate) fn answer(self, alloc: Global, written: &str) -> Result<String, Wrong> {
         match self {
-            Notation::Plain => Ok(String::from_str(alloc, written)?),
+            Notation::Plain => text(alloc, written),
             Notation::Json => json_text(alloc, written),
             Notation::Repeated | Notation::Filled => repeated(alloc, written),
         }

@@ -1,14 +1,21 @@
 //! Texts that are made.
 
+use std::fmt::{Display, Write};
+
 /// Adds to the text. Where no memory is left, the text is too short, and the comparison fails.
 pub(crate) fn put(out: &mut String, part: &str) {
     let _ = out.push_str(part);
 }
 
-/// Adds that a copy looks otherwise, where it does.
-pub(crate) fn put_copy(out: &mut String, copy: &str) {
-    if out.as_str() != copy {
-        put(out, ", whose copy is ");
-        put(out, copy);
+/// Adds what a value shows.
+pub(crate) fn show<T: Display>(out: &mut String, value: &T) {
+    let _ = write!(out, "{value}");
+}
+
+/// Adds another text that should be the same, behind these words, where it is not.
+pub(crate) fn put_other(out: &mut String, words: &str, other: &str) {
+    if out.as_str() != other {
+        put(out, words);
+        put(out, other);
     }
 }

@@ -1,8 +1,8 @@
 //! Tokens and names as rows have them.
 
-use crate::texts::put;
+use crate::texts::{put, show};
 use cases::Wrong;
-use celtokens::{Number, Sign, Token, characters, is_identifier, tokens};
+use celtokens::{Number, Sign, Token, characters, tokens};
 use std::alloc::Global;
 use std::fmt::Write;
 
@@ -45,9 +45,7 @@ fn put_characters(out: &mut String, word: &str, characters: &[char]) {
 fn put_number(out: &mut String, word: &str, number: Number<'_>) {
     put(out, word);
     match number.value() {
-        Some(value) => {
-            let _ = write!(out, "{value}");
-        }
+        Some(value) => show(out, &value),
         None => put(out, "large"),
     }
 }
@@ -79,29 +77,15 @@ fn put_token(out: &mut String, token: &Token<'_>) {
 /// The tokens of a text with blanks between them, or `none` if it has no token sequence.
 pub(crate) fn tokens_text(alloc: Global, text: &str) -> Result<String, Wrong> {
     let characters = characters(alloc, text)?;
+    let Some(found) = tokens(alloc, &characters)? else {
+        return cases::text(alloc, "none");
+    };
     let mut out = String::new(alloc);
-    match tokens(alloc, &characters)? {
-        Some(found) => {
-            let mut before = "";
-            for token in &found {
-                put(&mut out, before);
-                put_token(&mut out, token);
-                before = " ";
-            }
-        }
-        None => put(&mut out, "none"),
+    let mut before = "";
+    for token in &found {
+        put(&mut out, before);
+        put_token(&mut out, token);
+        before = " ";
     }
     Ok(out)
-}
-
-/// Whether a text is one name: `identifier` or `no`.
-pub(crate) fn word_text(alloc: Global, text: &str) -> Result<String, Wrong> {
-    cases::text(
-        alloc,
-        if is_identifier(text) {
-            "identifier"
-        } else {
-            "no"
-        },
-    )
 }

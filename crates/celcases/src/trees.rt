@@ -1,10 +1,9 @@
 //! Trees as rows have them.
 
-use crate::texts::put;
+use crate::texts::{put, show};
 use celread::{ReadFault, read};
 use celtree::{Macro, Operator, Prefix, Tree};
 use std::alloc::Global;
-use std::fmt::Write;
 
 fn operator_sign(operator: Operator) -> &'static str {
     match operator {
@@ -48,11 +47,10 @@ fn put_leaf(out: &mut String, tree: &Tree) {
         Tree::Null => put(out, "null"),
         Tree::Bool(true) => put(out, "true"),
         Tree::Bool(false) => put(out, "false"),
-        Tree::Int(value) => {
-            let _ = write!(out, "{value}");
-        }
+        Tree::Int(value) => show(out, value),
         Tree::Uint(value) => {
-            let _ = write!(out, "{value}u");
+            show(out, value);
+            put(out, "u");
         }
         Tree::Text(text) => put_between(out, "\"", text, "\""),
         Tree::Name(name) => put(out, name),

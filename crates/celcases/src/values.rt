@@ -1,9 +1,8 @@
 //! Outcomes as text, as rows have them.
 
-use crate::texts::{put, put_copy};
+use crate::texts::{put, put_other, show};
 use celmean::{Outcome, Value};
 use std::alloc::Global;
-use std::fmt::Write;
 
 #[cycle(put)]
 fn put_value(out: &mut String, value: &Value) {
@@ -11,11 +10,10 @@ fn put_value(out: &mut String, value: &Value) {
         Value::Null => put(out, "null"),
         Value::Bool(true) => put(out, "true"),
         Value::Bool(false) => put(out, "false"),
-        Value::Int(number) => {
-            let _ = write!(out, "{number}");
-        }
+        Value::Int(number) => show(out, number),
         Value::Uint(number) => {
-            let _ = write!(out, "{number}u");
+            show(out, number);
+            put(out, "u");
         }
         Value::Text(text) => {
             put(out, "'");
@@ -52,14 +50,12 @@ fn put_entries(out: &mut String, entries: &Vec<(Value, Value)>) {
 // A value, and its copy where that looks otherwise.
 fn put_value_and_copy(alloc: Global, out: &mut String, value: &Value) {
     put_value(out, value);
+    let mut copied = String::new(alloc);
     match value.clone() {
-        Ok(copy) => {
-            let mut copied = String::new(alloc);
-            put_value(&mut copied, &copy);
-            put_copy(out, &copied);
-        }
-        Err(_) => put(out, ", which is not copied"),
+        Ok(copy) => put_value(&mut copied, &copy),
+        Err(_) => put(&mut copied, "none"),
     }
+    put_other(out, ", whose copy is ", copied.as_str());
 }
 
 /// An outcome as text.
