@@ -1,12 +1,13 @@
 //! What a case stands on, what was sent to it, and the questions by their words.
 
-use crate::compactions::{compaction_damage, compaction_failures, compaction_stops};
-use crate::device_lines::{crash, of_the_device};
+use crate::compactions::compaction_damage;
+use crate::device_lines::of_the_device;
 use crate::place::Place;
 use crate::refusals::{at_hand, fault};
-use crate::scripts::{applied, driven, script_failures, script_stops};
-use crate::stops::{group_stops, stops};
+use crate::scripts::{applied, driven};
+use crate::steps::crash_words;
 use crate::streams::{cuts, readers, writers};
+use crate::trials::trials;
 use cases::{Wrong, shown, text};
 use rowcases::{Service, message};
 use std::alloc::Global;
@@ -20,28 +21,40 @@ pub struct Stand {
     // what was sent since the case began, and of that the connections that ask for a write
     all_sent: String,
     writes: Vec<String>,
-    // all connections, what was applied, and where the store was compacted and opened among them
+    // the opening, all connections, what was applied, and where the store was compacted and opened among them
     steps: Vec<String>,
+}
+
+// Adds a text: whether memory was there for it.
+fn keep(alloc: Global, texts: &mut Vec<String>, kept: &str) -> bool {
+    match text(alloc, kept) {
+        Ok(kept) => texts.push(kept).is_ok(),
+        Err(_) => false,
+    }
 }
 
 impl Service for Stand {
     // A new store, opened.
     fn new(alloc: Global) -> Result<Stand, Wrong> {
-        Ok(Stand {
-            place: Place::new(alloc, ROOM_SECTORS)?,
+        let mut stand = Stand {
+            place: Place::new(alloc, ROOM_SECTORS),
             all_sent: String::new(alloc),
             writes: Vec::new(alloc),
             steps: Vec::new(alloc),
-        })
+        };
+        let is_kept = keep(alloc, &mut stand.steps, "open");
+        stand.place.note(is_kept, "out of memory");
+        stand.place.open();
+        Ok(stand)
     }
 
     fn serve(&mut self, alloc: Global, sent: &str) -> Result<String, Wrong> {
-        self.all_sent.push_str(sent)?;
-        self.steps.push(text(alloc, sent)?)?;
-        if !sent.starts_with("GET ") {
-            self.writes.push(text(alloc, sent)?)?;
-        }
-        self.place.serve(alloc, sent)
+        let is_kept = self.all_sent.push_str(sent).is_ok()
+            && keep(alloc, &mut self.steps, sent)
+            && (sent.starts_with("GET ") || keep(alloc, &mut self.writes, sent));
+        self.place.note(is_kept, "out of memory");
+        self.place.send(sent);
+        self.place.answer()
     }
 
     fn answer(&mut self, alloc: Global, word: &str, rest: &str) -> Result<String, Wrong> {
@@ -50,48 +63,55 @@ impl Service for Stand {
             "cuts" => cuts(alloc, self.all_sent.as_str()),
             "writers" => writers(alloc, self.all_sent.as_str()),
             "readers" => readers(alloc, self.all_sent.as_str(), rest),
-            "stops" => stops(alloc, self.writes.as_slice(), rest),
-            "group-stops" => group_stops(alloc, self.writes.as_slice(), rest),
-            "script-stops" => script_stops(alloc, self.steps.as_slice(), rest),
-            "script-failures" => script_failures(alloc, self.steps.as_slice(), rest),
-            "drive" => driven(alloc, self.steps.as_slice(), rest),
-            "compaction-stops" => compaction_stops(alloc, self.writes.as_slice(), rest),
-            "compaction-failures" => compaction_failures(alloc, self.writes.as_slice(), rest),
-            "compaction-damage" => compaction_damage(alloc, self.writes.as_slice(), rest),
-            "apply" => {
-                self.steps.push(match rest {
-                    "open" | "compact" => text(alloc, rest)?,
-                    _ => message(alloc, rest)?,
-                })?;
-                applied(alloc, &mut self.place, self.steps.as_slice())
-            }
+            "stops"
+            | "group-stops"
+            | "compaction-stops"
+            | "compaction-failures"
+            | "script-stops"
+            | "script-failures" => { trials(alloc, word, &self.writes, &self.steps, rest) }
+            "compaction-damage" => compaction_damage(alloc, &self.writes, rest),
+            "drive" => driven(alloc, &self.steps, rest),
+            "apply" => self.apply(alloc, rest),
             "at-hand" => at_hand(alloc, rest),
             "fault" => fault(alloc, rest),
-            _ => {
-                self.note(alloc, word)?;
-                of_the_place(alloc, &mut self.place, word, rest)
-            }
+            _ => self.answer_of_place(alloc, word, rest),
         }
     }
 }
 
 impl Stand {
-    // Notes a step that is no connection; the opening before the first one is none.
-    fn note(&mut self, alloc: Global, word: &str) -> Result<(), Wrong> {
-        if word == "compact" || (word == "open" && !self.steps.is_empty()) {
-            self.steps.push(text(alloc, word)?)?;
-        }
-        Ok(())
+    fn apply(&mut self, alloc: Global, step: &str) -> Result<String, Wrong> {
+        self.steps.push(match step {
+            "open" | "compact" => text(alloc, step)?,
+            _ => message(alloc, step)?,
+        })?;
+        applied(alloc, &mut self.place, &self.steps)
     }
-}
 
-fn of_the_place(alloc: Global, place: &mut Place, word: &str, rest: &str) -> Result<String, Wrong> {
-    match word {
-        "open" => place.open(alloc),
-        "settled" => place.settled(alloc),
-        "compact" => place.compact(alloc),
-        "check" => place.check(alloc),
-        "crash" => crash(alloc, place, rest),
-        _ => of_the_device(alloc, place.device()?, word, rest),
+    // Answers a line on the store, or on its device. The opening before the first step is that of the case.
+    fn answer_of_place(&mut self, alloc: Global, word: &str, rest: &str) -> Result<String, Wrong> {
+        if word == "compact" || (word == "open" && self.steps.len() > 1) {
+            let is_kept = keep(alloc, &mut self.steps, word);
+            self.place.note(is_kept, "out of memory");
+        }
+        match word {
+            "open" => self.place.open(),
+            "settled" => self.place.settled(),
+            "compact" => self.place.compact(),
+            "check" => self.place.check(),
+            "crash" => {
+                let mut picks = Vec::new(alloc);
+                let length = crash_words(rest, &mut picks)?;
+                self.place.crash(&picks, length);
+                return text(alloc, "ok");
+            }
+            _ => {
+                return match self.place.device() {
+                    Some(device) => of_the_device(alloc, device, word, rest),
+                    None => self.place.answer(),
+                };
+            }
+        }
+        self.place.answer()
     }
 }

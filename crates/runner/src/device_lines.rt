@@ -1,10 +1,8 @@
 //! Lines on the device of a store that is shut.
 
-use crate::place::Place;
-use cases::{
-    TextBuilder, WordReader, Wrong, bytes, first_word, number, shown, spelled, text, wanted,
-};
-use device::{Device, DeviceFault, MemDevice, Pick};
+use crate::steps::byte;
+use cases::{TextBuilder, WordReader, Wrong, bytes, number, shown, spelled, text};
+use device::{Device, DeviceFault, MemDevice};
 use durable::create;
 use gatelog::{Body, Log, LogFault};
 use std::alloc::Global;
@@ -20,20 +18,12 @@ fn ended<E: Display + Drop>(alloc: Global, done: Result<(), E>) -> Result<String
     }
 }
 
-/// The byte of two hex digits.
-pub fn byte(word: &str) -> Result<u8, Wrong> {
-    match u8::from_str_radix(word, 16) {
-        Ok(byte) => Ok(byte),
-        Err(_) => Err(Wrong::Told("a byte is two hex digits")),
-    }
-}
-
-/// Overwrites a sector with a byte throughout, if it is there.
-pub fn put(device: &mut MemDevice, at: u64, with: u8) -> Result<(), DeviceFault> {
+/// Overwrites a sector, if it is there.
+pub fn put(device: &mut MemDevice, at: u64, with: &[u8; 512]) -> Result<(), DeviceFault> {
     if at >= device.len()? {
         return Err(DeviceFault);
     }
-    device.write(at, &[with; 512])
+    device.write(at, with)
 }
 
 // Overwrites bytes of a sector from a place on, if they are there.
@@ -45,10 +35,7 @@ fn change(device: &mut MemDevice, at: u64, from: usize, with: &[u8]) -> Result<(
             None => return Err(DeviceFault),
         }
     }
-    if at >= device.len()? {
-        return Err(DeviceFault);
-    }
-    device.write(at, &bytes)
+    put(device, at, &bytes)
 }
 
 // Appends a record with this payload to the log of a store.
@@ -85,13 +72,12 @@ fn sector(alloc: Global, device: &mut MemDevice, at: u64) -> Result<String, Wron
             end = place + 1;
         }
     }
-    if is_filled {
-        let mut line = TextBuilder::new(alloc);
-        line.push(spelled(alloc, &[found[0]])?.as_str());
-        line.push(" throughout");
-        return line.end();
+    if !is_filled {
+        return spelled(alloc, found.get(..end).unwrap_or(&[]));
     }
-    spelled(alloc, found.get(..end).unwrap_or(&[]))
+    let mut text = spelled(alloc, &[found[0]])?;
+    text.push_str(" throughout")?;
+    Ok(text)
 }
 
 // How many reads, writes, cuts and syncs the device was asked for.
@@ -105,40 +91,25 @@ fn calls(alloc: Global, device: &MemDevice) -> Result<String, Wrong> {
     line.end()
 }
 
-fn pick(word: &str) -> Result<Pick, Wrong> {
+// Writes to the device, where what is to be overwritten is there.
+fn write(alloc: Global, device: &mut MemDevice, word: &str, rest: &str) -> Result<String, Wrong> {
+    let mut words = WordReader::new(rest);
     match word {
-        "old" => Ok(Pick::Old),
-        "new" => Ok(Pick::New),
-        _ => Ok(Pick::Fill(byte(word)?)),
+        "put" => {
+            let at = words.number();
+            words.end()?;
+            ended(alloc, put(device, at, &[byte(words.rest())?; 512]))
+        }
+        "change" => {
+            let (at, from) = (words.number(), words.number());
+            words.end()?;
+            let with = bytes(alloc, words.rest())?;
+            ended(alloc, change(device, at, from as usize, &with))
+        }
+        "noise" => ended(alloc, device.write(0, &[byte(rest)?; 4608])),
+        "append" => ended(alloc, append(alloc, device, &bytes(alloc, rest)?)),
+        _ => Err(Wrong::Told("no such line")),
     }
-}
-
-/// `LENGTH PICK ..`: the length is a number or `all`, a pick `old`, `new` or a byte.
-pub fn crash_words(alloc: Global, line: &str) -> Result<(u64, Vec<Pick>), Wrong> {
-    let (length, words) = first_word(line);
-    let length = match length {
-        "all" => u64::MAX,
-        _ => number(length)?,
-    };
-    let mut picks = Vec::new(alloc);
-    for word in words.split_whitespace() {
-        let pick = pick(word)?;
-        picks.push(pick)?;
-    }
-    Ok((length, picks))
-}
-
-/// `crash LENGTH PICK ..`: the machine stops.
-pub fn crash(alloc: Global, place: &mut Place, line: &str) -> Result<String, Wrong> {
-    let (length, picks) = crash_words(alloc, line)?;
-    place.crash(&picks, length)?;
-    text(alloc, "ok")
-}
-
-// `ok`, behind what took these numbers.
-fn taken(alloc: Global, words: &WordReader) -> Result<String, Wrong> {
-    words.end()?;
-    text(alloc, "ok")
 }
 
 /// Answers a line on the device.
@@ -150,35 +121,15 @@ pub fn of_the_device(
 ) -> Result<String, Wrong> {
     let mut words = WordReader::new(rest);
     match word {
-        "device" => {
-            *device = MemDevice::new(alloc, words.number())?;
-            taken(alloc, &words)
-        }
-        "create" => ended(alloc, create(device)),
-        "fail" => {
-            device.fail_on(words.number());
-            taken(alloc, &words)
-        }
-        "stop" => {
-            device.stop_on(words.number());
-            taken(alloc, &words)
-        }
-        "put" => {
-            let (at, with) = (words.number(), byte(words.rest())?);
-            words.end()?;
-            ended(alloc, put(device, at, with))
-        }
-        "change" => {
-            let (at, from) = (words.number(), words.number());
-            words.end()?;
-            let with = bytes(alloc, words.rest())?;
-            ended(alloc, change(device, at, from as usize, &with))
-        }
-        "noise" => ended(alloc, device.write(0, &[byte(rest)?; 4608])),
-        "append" => ended(alloc, append(alloc, device, &bytes(alloc, rest)?)),
-        "sectors" => shown(alloc, &device.len().unwrap_or(0)),
-        "sector" => sector(alloc, device, number(rest)?),
-        "calls" => calls(alloc, device),
-        _ => Err(Wrong::Told("no such line")),
+        "device" => *device = MemDevice::new(alloc, words.number())?,
+        "fail" => device.fail_on(words.number()),
+        "stop" => device.stop_on(words.number()),
+        "create" => return ended(alloc, create(device)),
+        "sectors" => return shown(alloc, &device.len().unwrap_or(0)),
+        "sector" => return sector(alloc, device, number(rest)?),
+        "calls" => return calls(alloc, device),
+        _ => return write(alloc, device, word, rest),
     }
+    words.end()?;
+    text(alloc, "ok")
 }

@@ -6,17 +6,6 @@ use cases::{TextBuilder, Wrong};
 use httpmsg::End;
 use std::alloc::Global;
 
-fn serving_word(fault: ServeFault) -> &'static str {
-    match fault {
-        ServeFault::Read => "read",
-        ServeFault::Write => "write",
-        ServeFault::Device => "device",
-        ServeFault::Memory => "memory",
-        ServeFault::Damaged(_) => "damaged",
-        ServeFault::Failed => "failed",
-    }
-}
-
 /// What was written, with its end behind it: `ends WORD`.
 pub fn with_end(
     alloc: Global,
@@ -34,7 +23,12 @@ pub fn with_end(
             line.push(fault_word(broken.fault));
             line.push(if broken.is_head { " head" } else { "" });
         }
-        Err(fault) => line.push(serving_word(fault)),
+        Err(ServeFault::Read) => line.push("read"),
+        Err(ServeFault::Write) => line.push("write"),
+        Err(ServeFault::Device) => line.push("device"),
+        Err(ServeFault::Memory) => line.push("memory"),
+        Err(ServeFault::Damaged(_)) => line.push("damaged"),
+        Err(ServeFault::Failed) => line.push("failed"),
     }
     line.end()
 }

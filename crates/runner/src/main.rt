@@ -14,11 +14,14 @@ mod bench;
 mod compactions;
 mod device_lines;
 mod endings;
+mod looks;
 mod place;
 mod refusals;
 mod scripts;
+mod steps;
 mod stops;
 mod streams;
+mod trials;
 
 use api::answers_are_runs;
 use bench::Stand;
@@ -83,19 +86,15 @@ fn run_all<R: Files + Env + Print + Alloc<A = Global> + Clone + Drop>(
     report.end(rt)
 }
 
-// The laws of a store and of what it is served by.
-fn laws_of_stores() {
-    one_view();
-    answers_are_runs();
-}
-
 fn main(rt: HostRuntime) -> ExitCode {
     laws_of_requests();
     laws_of_expressions();
     laws_of_policies();
     laws_of_views();
     laws_of_records();
-    laws_of_stores();
+    // the laws of a store and of what it is served by
+    one_view();
+    answers_are_runs();
     if check_files(&rt).is_err() {
         return ExitCode::from(3);
     }

@@ -1,76 +1,42 @@
-//! What a case stands on: a store on a device in memory, or its device alone. The calls of a store stand here.
+//! What a case stands on: a store on a device in memory, or its device alone. Its steps stand here; what one tells is kept up to the next.
+//!
+//! A place notes the first thing that is wrong, so that trials read as lists of steps: whether something was is asked once, at their end.
 
 use crate::endings::with_end;
-use api::{ServeFault, serve};
-use cases::{TextBuilder, Wrong, shown, text, wanted, yes_or_no};
+use crate::streams::{Parted, Taker};
+use api::serve;
+use cases::{TextBuilder, Wrong, shown, text, yes_or_no};
 use device::{MemDevice, Pick};
-use durable::{Checked, Compacted, Store, create};
-use httpmsg::{End, Input, Output, Std};
+use durable::{Checked, Compacted, Episode, Fault, Found, Store, create, drive};
+use history::Reply;
+use httpmsg::Std;
 use requests::Request;
 use std::alloc::Global;
+use std::mem::replace;
 
 // Asks for the lists of what cases write, and for the events of configmaps and policies.
 const LOOK: &str =
     "GET /api/v1/configmaps HTTP/1.1\r\nHost: x\r\n\r\nGET /apis/apps/v1/deployments HTTP/1.1\r\nHost: x\r\n\r\nGET /apis/admissionregistration.k8s.io/v1/validatingadmissionpolicies HTTP/1.1\r\nHost: x\r\n\r\nGET /apis/admissionregistration.k8s.io/v1/validatingadmissionpolicybindings HTTP/1.1\r\nHost: x\r\n\r\nGET /api/v1/configmaps?watch=1&resourceVersion=1 HTTP/1.1\r\nHost: x\r\n\r\nGET /apis/admissionregistration.k8s.io/v1/validatingadmissionpolicies?watch=1&resourceVersion=1 HTTP/1.1\r\nHost: x\r\n\r\n";
 
-/// What a case stands on.
+const NOT_OPEN: &str = "the store is not open";
+
+// A store that is open, or the device of one that is not, or neither.
 #[derive(Drop)]
-pub enum Place {
-    /// A store that is open.
+enum Ground {
     Open(Store<MemDevice>),
-    /// The device of one that is not.
     Shut(MemDevice),
-    /// Nothing, where a line failed.
     Nothing,
 }
 
-/// A device with a new store.
-pub fn created(alloc: Global, room_sectors: u64) -> Result<MemDevice, Wrong> {
-    let mut device = MemDevice::new(alloc, room_sectors)?;
-    wanted(create(&mut device).is_ok(), "no store can be made")?;
-    Ok(device)
-}
-
-/// The store of a device, or the device.
-pub fn opened(alloc: Global, device: MemDevice) -> Place {
-    match Store::open(alloc, device) {
-        Ok(store) => Place::Open(store),
-        Err((_, device)) => Place::Shut(device),
-    }
-}
-
-/// Serves a connection, and gives how it ended.
-pub fn serve_on<I: Input, O: Output>(
+/// What a case stands on.
+#[derive(Drop)]
+pub struct Place {
     alloc: Global,
-    store: &mut Store<MemDevice>,
-    input: &mut I,
-    output: &mut O,
-) -> Result<End, ServeFault> {
-    serve(alloc, input, output, store)
-}
-
-/// Serves a connection, and gives what was written, with its end behind it.
-pub fn served<I: Input>(
-    alloc: Global,
-    store: &mut Store<MemDevice>,
-    input: &mut I,
-) -> Result<String, Wrong> {
-    let mut output = Std::new(Vec::new(alloc));
-    let end = serve_on(alloc, store, input, &mut output);
-    with_end(alloc, &output.into_inner(), end)
-}
-
-/// Runs requests, of which each that is answered is taken: how many are.
-pub fn run(
-    alloc: Global,
-    store: &mut Store<MemDevice>,
-    requests: &[Request],
-) -> Result<usize, Wrong> {
-    let (replies, _) = store.run(alloc, requests);
-    for reply in replies.iter() {
-        wanted(reply.code() < 202, "a write is refused")?;
-    }
-    Ok(replies.len())
+    ground: Ground,
+    // what the last step told
+    told: String,
+    // what was wrong first: empty where nothing was
+    wrong: &'static str,
 }
 
 // `generation G, P pages at sector S`
@@ -97,88 +63,276 @@ fn checked_text(alloc: Global, told: Checked) -> Result<String, Wrong> {
     line.end()
 }
 
+// `CODE BODY`, with a blank for each line feed between lines of the body.
+fn reply_text(alloc: Global, reply: &Reply) -> Result<String, Wrong> {
+    let mut line = TextBuilder::new(alloc);
+    line.show(&reply.code());
+    for piece in reply.body().lines() {
+        line.word(piece);
+    }
+    line.end()
+}
+
+// A device with a new store.
+fn created(alloc: Global, room_sectors: u64) -> Result<MemDevice, &'static str> {
+    let Ok(mut device) = MemDevice::new(alloc, room_sectors) else {
+        return Err("out of memory");
+    };
+    match create(&mut device) {
+        Ok(()) => Ok(device),
+        Err(_) => Err("no store can be made"),
+    }
+}
+
 impl Place {
-    /// A new store, opened.
-    pub fn new(alloc: Global, room_sectors: u64) -> Result<Place, Wrong> {
-        Ok(opened(alloc, created(alloc, room_sectors)?))
+    /// A new store on a device with so much room, shut.
+    pub fn new(alloc: Global, room_sectors: u64) -> Place {
+        let mut place = Place {
+            alloc,
+            ground: Ground::Nothing,
+            told: String::new(alloc),
+            wrong: "",
+        };
+        match created(alloc, room_sectors) {
+            Ok(device) => place.shut(device),
+            Err(why) => place.note(false, why),
+        }
+        place
     }
 
-    /// The store that is open.
-    pub fn store(&mut self) -> Result<&mut Store<MemDevice>, Wrong> {
-        match self {
-            Place::Open(store) => Ok(store),
-            _ => Err(Wrong::Told("the store is not open")),
+    /// Notes what is wrong where something does not hold, unless something was wrong before.
+    pub fn note(&mut self, holds: bool, otherwise: &'static str) {
+        if !holds && self.wrong.is_empty() {
+            self.wrong = otherwise;
         }
     }
 
-    /// Serves a connection, and gives what was written, with its end behind it.
-    pub fn serve(&mut self, alloc: Global, sent: &str) -> Result<String, Wrong> {
-        served(alloc, self.store()?, &mut Std::new(sent.as_bytes()))
+    /// Asks that the last step told this.
+    pub fn tells(&mut self, wanted: &str, otherwise: &'static str) {
+        let holds = self.told.as_str() == wanted;
+        self.note(holds, otherwise);
     }
 
-    /// The lists of configmaps, deployments, policies and bindings, and the events of configmaps and policies, as they are shown.
-    pub fn look(&mut self, alloc: Global) -> Result<String, Wrong> {
-        let look = self.serve(alloc, LOOK)?;
-        wanted(look.starts_with("HTTP/1.1 200 "), "nothing is shown")?;
-        Ok(look)
+    /// What the last step told.
+    pub fn told(&self) -> &str {
+        self.told.as_str()
     }
 
-    /// The device, which is taken away.
-    pub fn taken(&mut self) -> Result<MemDevice, Wrong> {
-        match std::mem::replace(self, Place::Nothing) {
-            Place::Open(store) => Ok(store.into_device()),
-            Place::Shut(device) => Ok(device),
-            Place::Nothing => Err(Wrong::Told("there is no device")),
+    /// What the last step told, which is taken away.
+    pub fn take_told(&mut self) -> String {
+        replace(&mut self.told, String::new(self.alloc))
+    }
+
+    /// What was counted, where nothing was wrong.
+    pub fn end(&self, count: u64) -> Result<u64, Wrong> {
+        if self.wrong.is_empty() {
+            Ok(count)
+        } else {
+            Err(Wrong::Told(self.wrong))
         }
+    }
+
+    /// What the last step told, where nothing was wrong.
+    pub fn answer(&mut self) -> Result<String, Wrong> {
+        if self.wrong.is_empty() {
+            Ok(self.take_told())
+        } else {
+            Err(Wrong::Told(replace(&mut self.wrong, "")))
+        }
+    }
+
+    // Keeps what a step tells.
+    fn tell(&mut self, told: Result<String, Wrong>) {
+        match told {
+            Ok(told) => self.told = told,
+            Err(_) => self.note(false, "out of memory"),
+        }
+    }
+
+    /// Whether the store is open.
+    pub fn is_open(&self) -> bool {
+        matches!(&self.ground, Ground::Open(_))
+    }
+
+    // The store that is open.
+    fn store(&mut self) -> Option<&mut Store<MemDevice>> {
+        match &mut self.ground {
+            Ground::Open(store) => Some(store),
+            _ => None,
+        }
+    }
+
+    // The device, which is taken away.
+    fn taken(&mut self) -> Option<MemDevice> {
+        match replace(&mut self.ground, Ground::Nothing) {
+            Ground::Open(store) => Some(store.into_device()),
+            Ground::Shut(device) => Some(device),
+            Ground::Nothing => None,
+        }
+    }
+
+    fn shut(&mut self, device: MemDevice) {
+        self.ground = Ground::Shut(device);
     }
 
     /// The device, with the store shut.
-    pub fn device(&mut self) -> Result<&mut MemDevice, Wrong> {
-        *self = Place::Shut(self.taken()?);
-        match self {
-            Place::Shut(device) => Ok(device),
-            _ => Err(Wrong::Told("there is no device")),
+    pub fn device(&mut self) -> Option<&mut MemDevice> {
+        if let Some(device) = self.taken() {
+            self.shut(device);
+        }
+        match &mut self.ground {
+            Ground::Shut(device) => Some(device),
+            _ => {
+                if self.wrong.is_empty() {
+                    self.wrong = "there is no device";
+                }
+                None
+            }
+        }
+    }
+
+    /// The n-th call of the device from now fails.
+    pub fn fail_on(&mut self, call: u64) {
+        if let Some(device) = self.device() {
+            device.fail_on(call);
+        }
+    }
+
+    /// The n-th call of the device from now fails, and all behind it.
+    pub fn stop_on(&mut self, call: u64) {
+        if let Some(device) = self.device() {
+            device.stop_on(call);
         }
     }
 
     /// The machine stops: the device that is left by these picks, with this length.
-    pub fn crash(&mut self, picks: &[Pick], length: u64) -> Result<(), Wrong> {
-        *self = Place::Shut(self.taken()?.crash(picks, length));
-        Ok(())
+    pub fn crash(&mut self, picks: &[Pick], length: u64) {
+        if let Some(device) = self.taken() {
+            self.shut(device.crash(picks, length));
+        }
     }
 
     /// `open`: opens the store of the device.
-    pub fn open(&mut self, alloc: Global) -> Result<String, Wrong> {
-        match Store::open(alloc, self.taken()?) {
+    pub fn open(&mut self) {
+        let Some(device) = self.taken() else {
+            return self.note(false, "there is no device");
+        };
+        let told = match Store::open(self.alloc, device) {
             Ok(store) => {
-                *self = Place::Open(store);
-                text(alloc, "ok")
+                self.ground = Ground::Open(store);
+                text(self.alloc, "ok")
             }
             Err((fault, device)) => {
-                *self = Place::Shut(device);
-                shown(alloc, &fault)
+                self.shut(device);
+                shown(self.alloc, &fault)
             }
-        }
+        };
+        self.tell(told);
     }
 
-    /// `compact`: writes the next generation of the open store, and gives what is told of it.
-    pub fn compact(&mut self, alloc: Global) -> Result<String, Wrong> {
-        match self.store()?.compact(alloc) {
+    /// `compact`: writes the next generation of the open store, and tells of it.
+    pub fn compact(&mut self) {
+        let alloc = self.alloc;
+        let Some(store) = self.store() else {
+            return self.note(false, NOT_OPEN);
+        };
+        let told = match store.compact(alloc) {
             Ok(told) => compacted_text(alloc, told),
             Err(fault) => shown(alloc, &fault),
-        }
+        };
+        self.tell(told);
     }
 
-    /// `check`: what is told of the open store as a whole.
-    pub fn check(&mut self, alloc: Global) -> Result<String, Wrong> {
-        match self.store()?.check(alloc) {
+    /// `check`: tells of the open store as a whole.
+    pub fn check(&mut self) {
+        let alloc = self.alloc;
+        let Some(store) = self.store() else {
+            return self.note(false, NOT_OPEN);
+        };
+        let told = match store.check(alloc) {
             Ok(told) => checked_text(alloc, told),
             Err(fault) => shown(alloc, &fault),
-        }
+        };
+        self.tell(told);
     }
 
     /// `settled`: whether the open store serves on, and all that it acknowledged stands on the device.
-    pub fn settled(&mut self, alloc: Global) -> Result<String, Wrong> {
-        yes_or_no(alloc, self.store()?.settled())
+    pub fn settled(&mut self) {
+        let alloc = self.alloc;
+        let Some(store) = self.store() else {
+            return self.note(false, NOT_OPEN);
+        };
+        let told = yes_or_no(alloc, store.settled());
+        self.tell(told);
+    }
+
+    /// Answers a request by a call of the open store.
+    pub fn apply(&mut self, request: &Request) {
+        let alloc = self.alloc;
+        let Some(store) = self.store() else {
+            return self.note(false, NOT_OPEN);
+        };
+        let told = match store.apply(alloc, request) {
+            Ok(reply) => reply_text(alloc, &reply),
+            Err(fault) => shown(alloc, &fault),
+        };
+        self.tell(told);
+    }
+
+    /// Serves a connection, and tells what was written, with its end behind it.
+    pub fn serve(&mut self, reader: Parted<'_>, writer: Taker) {
+        let alloc = self.alloc;
+        let Some(store) = self.store() else {
+            return self.note(false, NOT_OPEN);
+        };
+        let mut output = Std::new(writer);
+        let end = serve(alloc, &mut Std::new(reader), &mut output, store);
+        let told = with_end(alloc, &output.into_inner().taken, end);
+        self.tell(told);
+    }
+
+    /// The same of a connection on which this was sent, and that does not fail.
+    pub fn send(&mut self, sent: &str) {
+        let reader = Parted::new(sent, usize::MAX, usize::MAX, 0);
+        self.serve(reader, Taker::new(self.alloc, usize::MAX, 0));
+    }
+
+    /// Tells the lists of configmaps, deployments, policies and bindings, and the events of configmaps and policies, as they are shown.
+    pub fn look(&mut self) {
+        self.send(LOOK);
+        let is_shown = self.told.starts_with("HTTP/1.1 200 ");
+        self.note(is_shown, "nothing is shown");
+    }
+
+    /// Runs requests, of which each that is answered must be taken: how many are. Where no store is open, none is.
+    pub fn run(&mut self, requests: &[Request]) -> usize {
+        let alloc = self.alloc;
+        let (replies, _) = match self.store() {
+            Some(store) => store.run(alloc, requests),
+            None => return 0,
+        };
+        for reply in &replies {
+            self.note(reply.code() < 202, "a write is refused");
+        }
+        replies.len()
+    }
+
+    /// The revision of the open store.
+    pub fn revision(&mut self) -> u64 {
+        match self.store() {
+            Some(store) => store.revision(),
+            None => 0,
+        }
+    }
+
+    /// Lives these episodes on the device, which is taken away.
+    pub fn live(&mut self, episodes: &[Episode]) -> Result<Vec<Found>, Fault> {
+        let Some(device) = self.taken() else {
+            return Err(Fault::Device);
+        };
+        match drive(self.alloc, device, episodes) {
+            Ok(found) => Ok(found),
+            Err((fault, _)) => Err(fault),
+        }
     }
 }

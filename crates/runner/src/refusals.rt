@@ -36,18 +36,20 @@ pub fn fault_word(fault: MessageFault) -> &'static str {
 
 /// `at-hand WORD`: the body that takes no memory, of `memory`, of `storage` or of a message's fault.
 pub fn at_hand(alloc: Global, word: &str) -> Result<String, Wrong> {
-    if word == "memory" {
-        return text(alloc, Reply::out_of_memory_body());
-    }
-    if word == "storage" {
-        return text(alloc, Reply::storage_failed_body());
-    }
+    let mut body = match word {
+        "memory" => Reply::out_of_memory_body(),
+        "storage" => Reply::storage_failed_body(),
+        _ => "",
+    };
     for fault in FAULTS {
         if fault_word(fault) == word {
-            return text(alloc, fault_body(fault));
+            body = fault_body(fault);
         }
     }
-    Err(Wrong::Told("no such fault of a message"))
+    if body.is_empty() {
+        return Err(Wrong::Told("no such fault of a message"));
+    }
+    text(alloc, body)
 }
 
 /// `fault opening WORD`, `fault create WORD`, `fault connection WORD`: what people are told of it.

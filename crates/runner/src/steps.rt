@@ -1,0 +1,110 @@
+//! The steps of cases, each an episode of a store's life, and the crashes that end one.
+
+use cases::{Wrong, first_word, number};
+use device::Pick;
+use durable::Episode;
+use routes::Routes;
+use rowcases::routed_first;
+use std::alloc::{AllocError, Global};
+
+/// A stop at a call of the device, and the crash that follows: what becomes of the sectors that may change, and the length.
+#[derive(Clone, Copy)]
+pub struct Stop<'a> {
+    pub call: u64,
+    pub picks: &'a [Pick],
+    pub length: u64,
+}
+
+// Adds a step by its word, a connection's first message or what stands in place of one: an episode of its own, or to the last of a group.
+fn push_step(
+    alloc: Global,
+    routes: &Routes,
+    word: &str,
+    is_group: bool,
+    steps: &mut Vec<Episode>,
+) -> Result<(), Wrong> {
+    if !is_group || steps.is_empty() {
+        steps.push(Episode {
+            requests: Vec::new(alloc),
+            compacts: false,
+            stop_on: 0,
+            picks: Vec::new(alloc),
+            length_sectors: u64::MAX,
+        })?;
+    }
+    let Some(step) = steps.last_mut() else {
+        return Ok(());
+    };
+    match word {
+        "compact" => step.compacts = true,
+        "open" => {}
+        _ => step
+            .requests
+            .push(routed_first(alloc, routes, word)?.request)?,
+    }
+    Ok(())
+}
+
+/// Adds the steps of a case, and these behind them, each an episode, or all in one.
+pub fn push_steps(
+    alloc: Global,
+    words: &[String],
+    behind: &[&str],
+    is_group: bool,
+    steps: &mut Vec<Episode>,
+) -> Result<(), Wrong> {
+    let routes = Routes::new(alloc)?;
+    for word in words {
+        push_step(alloc, &routes, word.as_str(), is_group, steps)?;
+    }
+    for word in behind {
+        push_step(alloc, &routes, word, is_group, steps)?;
+    }
+    Ok(())
+}
+
+/// Stops a step, and crashes; it compacts before, if that is asked.
+pub fn stop_step(
+    alloc: Global,
+    steps: &mut [Episode],
+    at: usize,
+    stop: Stop<'_>,
+    compacts: bool,
+) -> Result<(), AllocError> {
+    let Some(step) = steps.get_mut(at) else {
+        return Ok(());
+    };
+    step.compacts = step.compacts || compacts;
+    step.stop_on = stop.call;
+    step.picks = Vec::from_slice(alloc, stop.picks)?;
+    step.length_sectors = stop.length;
+    Ok(())
+}
+
+/// The byte of two hex digits.
+pub fn byte(word: &str) -> Result<u8, Wrong> {
+    match u8::from_str_radix(word, 16) {
+        Ok(byte) => Ok(byte),
+        Err(_) => Err(Wrong::Told("a byte is two hex digits")),
+    }
+}
+
+fn pick(word: &str) -> Result<Pick, Wrong> {
+    match word {
+        "old" => Ok(Pick::Old),
+        "new" => Ok(Pick::New),
+        _ => Ok(Pick::Fill(byte(word)?)),
+    }
+}
+
+/// `LENGTH PICK ..`: adds the picks, each `old`, `new` or a byte, and gives the length, a number or `all`.
+pub fn crash_words(line: &str, picks: &mut Vec<Pick>) -> Result<u64, Wrong> {
+    let (length, words) = first_word(line);
+    for word in words.split_whitespace() {
+        picks.push(pick(word)?)?;
+    }
+    match length {
+        "all" => Ok(u64::MAX),
+        _ => number(length),
+    }
+}
