@@ -19,11 +19,11 @@ use Rattle.policy.specs.Spec.{Policy, Wanted}
 use Rattle.expressions.specs.Expressions.{sources}
 use Rattle.expressions.specs.Typed.{AreTyped}
 use Rattle.expressions.specs.Places.{policy_in}
-use Rattle.verdict.specs.Objects as asked
-use Rattle.verdict.specs.Objects.{Held, Object, Objects, all_held, shown_objects}
-use Rattle.verdict.specs.Parameters.{listed, wanted_of}
-use Rattle.verdict.specs.Seen.{shown_held}
-use Rattle.verdict.proofs.Standing.{listed-map, value_at-map, shown_listed}
+use Rattle.bindings.specs.Objects as asked
+use Rattle.bindings.specs.Objects.{Held, Object, Objects, all_held, shown_objects}
+use Rattle.bindings.specs.Parameters.{listed, wanted_of}
+use Rattle.bindings.specs.Seen.{shown_held}
+use Rattle.bindings.proofs.Standing.{listed-map, value_at-map, shown_listed}
 use Rattle.apicore.specs.Beside.{Beside}
 use Rattle.apicore.specs.Prepared.{plans_held, Shows}
 use Rattle.apicore.specs.Sights.{held_of, entry_held}

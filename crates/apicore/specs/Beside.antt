@@ -8,7 +8,7 @@ use Rattle.policy.specs.Policies.{policy_of}
 use Rattle.policy.specs.Spec.{Policy, Binding}
 use Rattle.documents.specs.Document.{Document}
 use Rattle.expressions.specs.Specification.{plans_in}
-use Rattle.verdict.specs.Objects.{Held}
+use Rattle.bindings.specs.Objects.{Held}
 
 pub record Beside : Type 0 where
   pub policy : Option Policy

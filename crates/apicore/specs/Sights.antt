@@ -3,7 +3,7 @@ use Rattle.std.specs.Prelude.{◌≡◌, map, IsTrue}
 use Rattle.std.specs.FinMap.{is_sorted}
 use Rattle.names.specs.Key.{Key, key_cmp}
 use Rattle.history.specs.declared.state.Stored.{Stored}
-use Rattle.verdict.specs.Objects.{Held, Objects, all_held}
+use Rattle.bindings.specs.Objects.{Held, Objects, all_held}
 use Rattle.apicore.specs.Beside.{Beside, found_with}
 use Rattle.apicore.specs.declared.sight.Sight.{Sight}
 

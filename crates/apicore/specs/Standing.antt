@@ -19,7 +19,7 @@ use Rattle.matching.specs.Rules.{Attempt}
 use Rattle.matching.specs.declared.rules.Operation.TheVariants.{Create, Update, Delete}
 use Rattle.expressions.specs.Specification.{IsSpecification, sound, plans_in, plans_bytes, MayHavePlans}
 use Rattle.verdict.specs.Admission.{verdict}
-use Rattle.verdict.specs.Objects.{Object, Objects}
+use Rattle.bindings.specs.Objects.{Object, Objects}
 use Rattle.verdict.specs.Verdict.{Verdict, admitted, denied}
 use Rattle.apicore.specs.Beside.{Beside, beside_of}
 

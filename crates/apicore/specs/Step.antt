@@ -21,7 +21,8 @@ use Rattle.history.specs.View.{stored_at, exists, document_at, is_too_large, is_
 use Rattle.policy.specs.declared.validation.Reason.{Reason}
 use Rattle.policy.specs.declared.validation.Reason.TheVariants.{Unauthorized, Forbidden, Invalid, RequestEntityTooLarge}
 use Rattle.expressions.specs.Specification.{Specification, sound, bad_spec, bad_expression}
-use Rattle.verdict.specs.Verdict.{Verdict, admitted, denied, denial_text}
+use Rattle.bindings.specs.Verdict.{denial_text}
+use Rattle.verdict.specs.Verdict.{Verdict, admitted, denied}
 use Rattle.apicore.specs.Standing.{Write, History, View, verdict_on}
 
 -- a request, and what stands in the document that it asks to be stored

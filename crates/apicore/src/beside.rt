@@ -2,15 +2,15 @@
 
 ghost use Rattle.std.specs.Prelude.{◌≡◌, IfOk};
 ghost use Rattle.apicore.specs.Beside.{spelled, found_with};
-ghost use Rattle.verdict.specs.Seen.{held_by};
+ghost use Rattle.bindings.specs.Seen.{held_by};
 
+use bindings::{Bound, Found};
 use documents::Document;
 use jsondoc::Doc;
 use plancode::Verified;
 use policy::Policy;
 use std::alloc::{AllocError, Global};
 use std::marker::Model;
-use verdict::{Bound, Found};
 
 /// What a document spells as a policy and as a binding, and the plans of the policy's expressions, in order.
 #[derive(Drop)]

@@ -8,12 +8,12 @@ ghost use Rattle.apicore.specs.Step.{known, with_bad_expression, denied_by, firs
 
 use crate::conflicts::{deletion_conflicts, update_conflicts};
 use crate::prepared::{Core, Prepared};
+use bindings::denial_text;
 use history::Reply;
 use names::Key;
 use policy::Reason;
 use requests::{Manifest, Refusal};
 use std::alloc::{AllocError, Global};
-use verdict::denial_text;
 
 /// The first limit of the store that refuses a new object.
 pub(crate) fn create_limit(core: &Core, manifest: &Manifest) -> Option<Refusal>

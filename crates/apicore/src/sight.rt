@@ -1,18 +1,18 @@
 //! The core, as objects are looked up in it.
 
 ghost use Rattle.std.specs.Prelude.{◌≡◌, map, IfOk};
-ghost use Rattle.verdict.specs.Seen.{held_by, listed_seen};
+ghost use Rattle.bindings.specs.Seen.{held_by, listed_seen};
 ghost use Rattle.apicore.specs.Sights.{held_of, entry_held};
 
 use crate::beside::Beside;
 use crate::prepared::Core;
+use bindings::{Found, Listed, Lookup, wanted_among};
 use history::Stored;
 use jsondoc::Doc;
 use names::{Key, Resource};
 use objects::{Entry, LookupFault};
 use policy::Wanted;
 use std::alloc::{AllocError, Global};
-use verdict::{Found, Listed, Lookup, wanted_among};
 
 /// A core, as objects are looked up in it.
 #[derive(Drop)]

@@ -2,7 +2,7 @@
 use Rattle.names.specs.Key.{Key}
 use Rattle.apicore.specs.Beside.{found_with}
 use Rattle.policycases.specs.declared.shelf.Stored.{Stored}
-use Rattle.verdict.specs.Objects.{Held}
+use Rattle.bindings.specs.Objects.{Held}
 
 abbrev pub held : Stored → Held
 held s = found_with s.document s.beside s.revision

@@ -3,17 +3,17 @@
 ghost use Rattle.std.specs.Prelude.{◌≡◌, map, IfOk, IsTrue};
 ghost use Rattle.std.specs.FinMap.{is_sorted};
 ghost use Rattle.names.specs.Key.{key_cmp};
-ghost use Rattle.verdict.specs.Seen.{listed_seen};
+ghost use Rattle.bindings.specs.Seen.{listed_seen};
 ghost use Rattle.policycases.specs.Stored.{entry_held};
 
 use apicore::Beside;
+use bindings::{Found, Listed, Lookup, wanted_among};
 use documents::Document;
 use jsondoc::Doc;
 use names::{Key, Resource};
 use objects::{Entry, LookupFault, Objects};
 use policy::Wanted;
 use std::alloc::{AllocError, Global};
-use verdict::{Found, Listed, Lookup, wanted_among};
 
 /// An object in memory.
 #[derive(Drop)]
@@ -27,7 +27,7 @@ pub struct Stored {
 }
 
 impl Stored {
-    ghost use Rattle.verdict.specs.Seen.{held_by};
+    ghost use Rattle.bindings.specs.Seen.{held_by};
     ghost use Rattle.policycases.specs.Stored.{held};
 
     fn lent(&self) -> Found<'_>

@@ -5,6 +5,7 @@ use crate::shelf::{Shelf, Stored};
 use crate::texts::told;
 use crate::writes::{Write, document, key, value_of};
 use apicore::Beside;
+use bindings::denial_text;
 use cases::{Wrong, first_word, shown};
 use documents::Document;
 use evaluation::{Conditions, Denial, conditions, evaluate, failure, request_document};
@@ -14,7 +15,6 @@ use plancode::Verified;
 use policy::{FailurePolicy, Policy};
 use serde_json::Value;
 use std::alloc::Global;
-use verdict::denial_text;
 
 // The plans of a document's expressions, if it is a policy.
 fn plans_of(alloc: Global, resource: Resource, document: &Doc) -> Result<Vec<Verified>, Wrong> {

@@ -1,7 +1,7 @@
 -- The verdict on a write of the policies and bindings among the objects, before it.
-use Rattle.std.specs.Prelude.{List, [], map, filter_map, Option, None, option_map, option_and_then}
-use Rattle.names.specs.Key.{Key, key_of}
-use Rattle.names.specs.declared.resource.Resource.TheVariants.{ValidatingAdmissionPolicy, ValidatingAdmissionPolicyBinding}
+use Rattle.std.specs.Prelude.{List, map, filter_map, Option, None, option_map, option_and_then}
+use Rattle.names.specs.Key.{Key}
+use Rattle.names.specs.declared.resource.Resource.TheVariants.{ValidatingAdmissionPolicyBinding}
 use Rattle.objects.specs.Objects.{value_at}
 use Rattle.matching.specs.Rules.{Attempt}
 use Rattle.policy.specs.Forms.{Text}
@@ -9,12 +9,10 @@ use Rattle.policy.specs.Bindings.{binding_of}
 use Rattle.policy.specs.Policies.{policy_of}
 use Rattle.policy.specs.Spec.{Binding}
 use Rattle.evaluation.specs.Denials.{Denial}
-use Rattle.verdict.specs.Objects.{Object, Objects, shown_objects}
-use Rattle.verdict.specs.Parameters.{listed}
-use Rattle.verdict.specs.Verdict.{Verdict, Finding, denial, verdict_of}
-
-abbrev pub policy_key : (name : Text) → Key
-policy_key name = key_of ValidatingAdmissionPolicy [] name
+use Rattle.bindings.specs.Objects.{Object, Objects, policy_key, shown_objects}
+use Rattle.bindings.specs.Parameters.{listed}
+use Rattle.bindings.specs.Verdict.{denial}
+use Rattle.verdict.specs.Verdict.{Verdict, Finding, verdict_of}
 
 -- the denial by a binding: none where its policy is not there
 abbrev pub denial_by : Objects → Attempt → Binding → Option Denial

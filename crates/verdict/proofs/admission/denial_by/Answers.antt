@@ -5,9 +5,9 @@ use Rattle.names.specs.Key.{Key}
 use Rattle.objects.specs.Objects.{value_at}
 use Rattle.matching.specs.Rules.{attempt_seen}
 use Rattle.evaluation.specs.Seen.{denial_seen}
-use Rattle.verdict.specs.Admission.{policy_key, denial_by}
-use Rattle.verdict.specs.Objects.{Object, all_held}
-use Rattle.verdict.specs.Seen.{held_by}
+use Rattle.bindings.specs.Objects.{Object, all_held, policy_key}
+use Rattle.bindings.specs.Seen.{held_by}
+use Rattle.verdict.specs.Admission.{denial_by}
 use Rattle.verdict.specs.Turns.{denial_by_policy}
 use Rattle.verdict.proofs.Standing.{found_policy, no_policy}
 use Rattle.verdict.proofs.admission.denial_by.Goals as goal

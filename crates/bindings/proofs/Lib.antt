@@ -1,0 +1,4 @@
+pub mod Standing
+pub mod Bindings
+pub mod Turns
+pub mod Lists

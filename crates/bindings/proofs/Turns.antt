@@ -1,0 +1,14 @@
+-- A write that is matched.
+use Rattle.std.proofs.Common.{◌≡◌, List, Bool, true, None, if◌then◌else◌, sym, ap}
+use Rattle.celtree.specs.Tree.{Expr}
+use Rattle.matching.specs.Rules.{Attempt}
+use Rattle.matching.specs.Matching.{is_matched}
+use Rattle.policy.specs.Spec as spec
+use Rattle.bindings.specs.Parameters.{Shown}
+use Rattle.bindings.specs.Verdict.{denial}
+use Rattle.bindings.specs.Turns.{asked}
+
+-- what is said of a write that is matched
+pub said : (objects : Shown) (p : spec.Policy) (trees : List Expr) (b : spec.Binding) (w : Attempt) → is_matched p.constraints b.resources w ≡ true
+    → asked objects p trees b w ≡ denial objects p trees b w
+said objects p trees b w matched = sym (ap (λ (m : Bool). if m then asked objects p trees b w else None) matched)

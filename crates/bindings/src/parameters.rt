@@ -1,0 +1,177 @@
+//! The parameters of a policy, as a binding asks for them.
+
+ghost use Rattle.std.specs.Prelude.{◌≡◌, ◌≤◌, ◌++◌, List, map, option_map, Some, None, IfOk, OnOk, IsErrOf, if◌then◌else◌};
+ghost use Rattle.std.specs.List.{cons_option, filter_map};
+ghost use Rattle.names.specs.Resource.{row};
+ghost use Rattle.documents.specs.Document.{shown};
+ghost use Rattle.matching.specs.Rules.{attempt_seen};
+ghost use Rattle.policy.specs.Spec.{binding_seen, param_ref_seen, wanted_seen};
+ghost use Rattle.bindings.specs.Objects.{Objects, shown_objects};
+ghost use Rattle.bindings.specs.Parameters.{found_or_not, namespace_of, looked_up, parameters, wanted_of};
+ghost use Rattle.bindings.specs.Seen.{listed_seen, parameters_seen, shown_held};
+ghost use Rattle.bindings.specs.Turns.{if_wanted};
+ghost use Rattle.objects.specs.Failing.{HasGrown};
+ghost use Rattle.objects.specs.declared.fault.LookupFault.TheVariants as LookupFault;
+
+use crate::lookup::{Listed, Lookup};
+use documents::shown_document;
+use jsondoc::Doc;
+use labels::selects;
+use matching::Attempt;
+use names::{Resource, Scope};
+use objects::LookupFault;
+use policy::{Binding, ParamRef, Wanted};
+use std::alloc::{AllocError, Global};
+
+/// The parameters that a policy is evaluated with, each in turn.
+#[derive(Drop)]
+pub(crate) enum Parameters {
+    /// The policy is evaluated once, without a parameter.
+    Alone,
+    /// At least one object, as it is shown.
+    Found(Vec<Doc>),
+    /// They are looked for in a namespace and have none, or in none and have one.
+    Misconfigured,
+    /// There is no such object.
+    NotFound,
+}
+
+/// Adds an item, if there is one.
+pub(crate) fn add<T: Drop>(items: &mut Vec<T>, item: Option<T>) -> Result<(), AllocError>
+    ensures { (rest : List T) → OnOk result (items.new.items ++ rest ≡ items.old.items ++ cons_option item rest) }
+{
+    if let Some(item) = item {
+        items.push(item)?;
+    }
+    Ok(())
+}
+
+// The object as it is shown, if it is wanted.
+fn if_wanted(alloc: Global, wanted: &Wanted, listed: &Listed<'_>) -> Result<Option<Doc>, AllocError>
+    ensures { IfOk result (λ o. o ≡ if_wanted (wanted_seen wanted.now) (listed_seen listed.now)) }
+{
+    let found = &listed.found;
+    match wanted {
+        Wanted::ByName(name) => {
+            if listed.key.name() == name.as_str() {
+                Ok(Some(shown_document(alloc, found.document, found.revision)?))
+            } else {
+                Ok(None)
+            }
+        }
+        Wanted::BySelector(requirements) => {
+            let document = shown_document(alloc, found.document, found.revision)?;
+            if selects(requirements, document.value()) {
+                Ok(Some(document))
+            } else {
+                Ok(None)
+            }
+        }
+    }
+}
+
+/// The objects that are wanted among those listed, as they are shown: what a lookup that has all objects at hand answers for
+/// parameters.
+///
+/// # Errors
+///
+/// Where no memory is left.
+pub fn wanted_among(
+    alloc: Global,
+    wanted: &Wanted,
+    listed: &[Listed<'_>],
+) -> Result<Vec<Doc>, AllocError>
+    ensures { IfOk result (λ v. v.items ≡ wanted_of (wanted_seen wanted.now) (map shown_held (map listed_seen listed.now))) }
+{
+    let mut documents = Vec::new(alloc);
+    for entry in listed {
+        let document = if_wanted(alloc, wanted, entry)?;
+        add(&mut documents, document)?;
+    }
+    Ok(documents)
+}
+
+// Where parameters of the resource are looked for, if that is a place.
+fn namespace_of<'a>(
+    resource: Resource,
+    reference: &'a ParamRef,
+    attempt: &'a Attempt<'_>,
+) -> Option<&'a str>
+    ensures { let write = attempt_seen attempt.now in
+        option_map (λ text. text.now) result
+        ≡ namespace_of (row resource).scope (param_ref_seen reference.now).namespace (row write.key.resource).scope write.key.namespace }
+{
+    match (resource.scope(), &reference.namespace) {
+        (Scope::Cluster, None) => Some(""),
+        (Scope::Cluster, Some(_)) => None,
+        (Scope::Namespaced, Some(asked)) => Some(asked.as_str()),
+        (Scope::Namespaced, None) => match attempt.key.resource().scope() {
+            Scope::Namespaced => Some(attempt.key.namespace()),
+            Scope::Cluster => None,
+        },
+    }
+}
+
+fn found_or_not(documents: Vec<Doc>) -> Parameters
+    ensures { parameters_seen result ≡ found_or_not (map Some documents.items) }
+{
+    if documents.is_empty() {
+        Parameters::NotFound
+    } else {
+        Parameters::Found(documents)
+    }
+}
+
+// The parameters in a namespace.
+fn looked_up<'a, L: Lookup<'a>>(
+    alloc: Global,
+    lookup: &mut L,
+    resource: Resource,
+    wanted: &Wanted,
+    namespace: &str,
+) -> Result<Parameters, LookupFault>
+    ensures found { (objects : Objects) → L.shows lookup.old objects
+        → IfOk result (λ p. parameters_seen p ≡ looked_up (shown_objects objects) resource (wanted_seen wanted.now) (Some namespace.now)) }
+    ensures kept { (objects : Objects) → L.shows lookup.old objects → L.shows lookup.new objects }
+    ensures goes { L.goes_to lookup.old lookup.new }
+    ensures counts { L.failures lookup.old ≤ L.failures lookup.new }
+    ensures device { IsErrOf result LookupFault.Device → HasGrown (L.failures lookup.old) (L.failures lookup.new) }
+    ensures damaged { IsErrOf result LookupFault.Damaged → L.is_damaged lookup.new }
+{
+    let documents = lookup.parameters(alloc, resource, namespace, wanted)?;
+    Ok(found_or_not(documents))
+}
+
+/// The parameters of a policy with this kind of parameters, as the binding asks for them.
+///
+/// # Errors
+///
+/// Those of the lookup, and `Memory`.
+pub(crate) fn parameters_of<'a, L: Lookup<'a>>(
+    alloc: Global,
+    lookup: &mut L,
+    kind: Option<Resource>,
+    binding: &Binding,
+    attempt: &Attempt<'_>,
+) -> Result<Parameters, LookupFault>
+    ensures found { (objects : Objects) → L.shows lookup.old objects
+        → IfOk result (λ p. parameters_seen p ≡ parameters (shown_objects objects) kind (binding_seen binding.now).param_ref (attempt_seen attempt.now)) }
+    ensures kept { (objects : Objects) → L.shows lookup.old objects → L.shows lookup.new objects }
+    ensures goes { L.goes_to lookup.old lookup.new }
+    ensures counts { L.failures lookup.old ≤ L.failures lookup.new }
+    ensures device { IsErrOf result LookupFault.Device → HasGrown (L.failures lookup.old) (L.failures lookup.new) }
+    ensures damaged { IsErrOf result LookupFault.Damaged → L.is_damaged lookup.new }
+{
+    let resource = match kind {
+        Some(resource) => resource,
+        None => return Ok(Parameters::Alone),
+    };
+    let reference = match &binding.param_ref {
+        Some(reference) => reference,
+        None => return Ok(Parameters::Alone),
+    };
+    match namespace_of(resource, reference, attempt) {
+        Some(namespace) => looked_up(alloc, lookup, resource, &reference.wanted, namespace),
+        None => Ok(Parameters::Misconfigured),
+    }
+}
