@@ -1,5 +1,5 @@
 -- What is found in a core, as it is looked up.
-use Rattle.std.proofs.Common.{◌≡◌, ◌∙◌, sym, ap, refl, subst, List, [], ◌∷◌, length, map, nat_le, Bool, true, false, cond, ◌&&◌, option_map, option_and_then, if◌then◌else◌, Option, Some, None, IsTrue}
+use Rattle.std.proofs.Common.{◌≡◌, ◌∙◌, sym, ap, refl, subst, List, [], ◌∷◌, length, map, nat_le, Bool, true, false, cond, ◌&&◌, ◌==◌, option_map, option_and_then, if◌then◌else◌, Option, Some, None, IsTrue}
 use Rattle.std.specs.FinMap.{is_sorted}
 use Rattle.std.specs.FinMap.Entries.{below_all}
 use Rattle.std.specs.List.{AllByRecursion}
@@ -7,10 +7,16 @@ use Rattle.std.specs.Ordering.{is_lt}
 use Rattle.serde_json.specs.Data.{Data}
 use Rattle.celtree.specs.Tree.{Expr}
 use Rattle.names.specs.Key.{Key, key_cmp}
+use Rattle.names.specs.Resource.{row}
 use Rattle.names.specs.declared.resource.Resource.{Resource}
 use Rattle.names.specs.declared.resource.Resource.TheVariants.{ConfigMap, Node, Pod, Service, Deployment, ValidatingAdmissionPolicy, ValidatingAdmissionPolicyBinding}
-use Rattle.objects.specs.Objects.{value_at}
-use Rattle.history.specs.declared.state.Stored.{Stored}
+use Rattle.objects.specs.Objects.{value_at, is_of}
+use Rattle.overlay.specs.Covered.{AreCovered}
+use Rattle.overlay.specs.Merged.{over}
+use Rattle.overlay.proofs.Covering.{found_where_covered}
+use Rattle.holdings.specs.Holdings as holdings
+use Rattle.holdings.specs.Holdings.{State}
+use Rattle.history.specs.declared.stored.Stored.{Stored}
 use Rattle.history.specs.Mapped.{each}
 use Rattle.history.specs.View as seen
 use Rattle.policy.specs.Forms.{Text}
@@ -25,7 +31,7 @@ use Rattle.bindings.specs.Parameters.{listed, wanted_of}
 use Rattle.bindings.specs.Seen.{shown_held}
 use Rattle.bindings.proofs.Standing.{listed-map, value_at-map, shown_listed}
 use Rattle.apicore.specs.Beside.{Beside}
-use Rattle.apicore.specs.Prepared.{plans_held, Shows}
+use Rattle.apicore.specs.Prepared.{plans_held, HasNoRules, Shows}
 use Rattle.apicore.specs.Sights.{held_of, entry_held}
 use Rattle.apicore.specs.Standing.{View, IsView, HasTrees, plans_beside, object_of, objects_of}
 
@@ -34,11 +40,34 @@ Stands = Stored Beside
 
 -- ---- looking up
 
-pub value_found : (key : Key) (os : List (Key × Stands)) → value_at key (map entry_held os) ≡ option_map held_of (value_at key os)
+value_found : (key : Key) (os : List (Key × Stands)) → value_at key (map entry_held os) ≡ option_map held_of (value_at key os)
 value_found key os = value_at-map held_of key os
 
-pub listed_found : (r : Resource) (n : Option Text) (os : List (Key × Stands)) → listed r n (map entry_held os) ≡ map entry_held (listed r n os)
+listed_found : (r : Resource) (n : Option Text) (os : List (Key × Stands)) → listed r n (map entry_held os) ≡ map entry_held (listed r n os)
 listed_found r n os = listed-map held_of r n os
+
+is_policy : (k : Key) → k.resource ≡ ValidatingAdmissionPolicy → IsTrue (is_of ValidatingAdmissionPolicy None k)
+is_policy k is = ap (λ (r : Resource). (row r).number == (row ValidatingAdmissionPolicy).number) is
+
+-- a policy is found among the changes, since none lies below
+pub policy_found : (core : State Beside) (base : List (Key × Stands)) (held : seen.View Beside) (objects : Objects) (k : Key) (change : Option (Option Stands))
+    → holdings.Shows core base held → HasNoRules base → map entry_held held.objects ≡ all_held objects → k.resource ≡ ValidatingAdmissionPolicy → change ≡ value_at k core.changes.made
+    → option_map held_of (over change None) ≡ value_at k (all_held objects)
+policy_found core base held objects k change shows free are is changes =
+    ap (λ (c : Option (Option Stands)). option_map held_of (over c None)) changes
+    ∙ ap (option_map held_of) (sym (found_where_covered ValidatingAdmissionPolicy k core.changes.made base (λ key of _. free.policies key of refl) (is_policy k is)))
+    ∙ ap (λ (os : List (Key × Stands)). option_map held_of (value_at k os)) shows.objects.are
+    ∙ sym (value_found k held.objects)
+    ∙ ap (value_at k) are
+
+-- and all bindings are listed
+pub bindings_found : (r : Resource) (os : List (Key × Stands)) (objects : Objects) (lent : List (Key × Stands)) (hs : List (Key × Held)) → hs ≡ map entry_held lent → lent ≡ listed r None os
+    → map entry_held os ≡ all_held objects → hs ≡ listed r None (all_held objects)
+bindings_found r os objects lent hs shown_all are held_all =
+    shown_all ∙ ap (map entry_held) are ∙ sym (listed_found r None os) ∙ ap (λ (ps : List (Key × Held)). listed r None ps) held_all
+
+pub bindings_covered : (changes : List (Key × Option Stands)) (base : List (Key × Stands)) → HasNoRules base → AreCovered ValidatingAdmissionPolicyBinding changes base
+bindings_covered changes base free = λ key of _. free.bindings key of refl
 
 -- what is wanted of what is listed, as it is shown
 pub parameters_found : (w : Wanted) (r : Resource) (n : Text) (os : List (Key × Stands)) (objects : Objects) (hs : List (Key × Held)) (ds : List Data)

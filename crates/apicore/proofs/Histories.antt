@@ -19,7 +19,7 @@ use Rattle.apicore.specs.Beside.{Beside, spelled}
 use Rattle.apicore.specs.Standing.{recorded}
 use Rattle.expressions.proofs.Listed.{one_stored_list}
 use Rattle.apicore.specs.Written.{Write, payload, HasPlans, AllStorable, IsGroup, IsWritten}
-use Rattle.apicore.specs.Taken.{AreRecorded, AreTaken}
+use Rattle.apicore.specs.Taken.{AreRecorded, IsTaken, AreTaken}
 
 abbrev View : Type 0
 View = seen.View Beside
@@ -260,6 +260,10 @@ group_recorded ws raws found group raw_group is are = record { plans = group.pla
 pub recorded_delete : (w : Write) (k : Key) → recorded w ≡ delete k → w ≡ delete k
 recorded_delete (put l e p) k is = cc
 recorded_delete (delete l) k is = let key : l ≡ k = cc in λ i. delete (key i)
+
+-- what was taken was recorded as an equal write
+pub taken_as : (rules : Rules) (v now : View) (raw other : plain.Write (List ℕ)) → raw ≡ other → IsTaken rules v now raw → IsTaken rules v now other
+taken_as rules v now raw other is taken = record { write = taken.write; plans = taken.plans; same = taken.same ∙ is; follows = taken.follows; shows = taken.shows }
 
 pub on_ok_to : {T E : Type 0} (r : Result T E) (P Q : Type 0) → (P → Q) → OnOk r P → OnOk r Q
 on_ok_to (Ok x) P Q to holds = to holds

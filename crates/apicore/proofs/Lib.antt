@@ -6,3 +6,4 @@ pub mod Finding
 pub mod Deciding
 pub mod Histories
 pub mod Owning
+pub mod Over

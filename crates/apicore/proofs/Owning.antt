@@ -7,7 +7,7 @@ use Rattle.celtree.specs.Tree.{Expr}
 use Rattle.names.specs.Key.{Key}
 use Rattle.names.specs.declared.resource.Resource.{Resource}
 use Rattle.documents.specs.Document.{Document}
-use Rattle.history.specs.declared.state.Stored.{Stored}
+use Rattle.history.specs.declared.stored.Stored.{Stored}
 use Rattle.history.specs.Mapped.{one, each}
 use Rattle.history.specs.View as seen
 use Rattle.plancode.specs.Plans.{Judged}

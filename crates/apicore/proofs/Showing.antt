@@ -15,7 +15,7 @@ use Rattle.requests.specs.Refusal as table
 use Rattle.labels.specs.Requirement.{Requirement}
 use Rattle.requests.specs.Selector.{selects}
 use Rattle.requests.specs.declared.refusal.Refusal.TheVariants.{NotFound, VersionNotCurrent, ObjectTooLarge, TooManyObjects, RevisionExhausted}
-use Rattle.history.specs.declared.state.Stored.{Stored}
+use Rattle.history.specs.declared.stored.Stored.{Stored}
 use Rattle.history.specs.Listing.{shown_items, list_of, served, listing, watching, watch_conditions}
 use Rattle.history.specs.Mapped.{each, one, mapped}
 use Rattle.history.specs.Reply.{Reply, showing, status}

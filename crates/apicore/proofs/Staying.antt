@@ -7,7 +7,7 @@ use Rattle.names.specs.declared.format.Rules.{Rules}
 use Rattle.names.specs.Key.{Key, key_cmp}
 use Rattle.names.proofs.KeyOrder.{key_cmp-IsAntisymmetric}
 use Rattle.objects.specs.Objects.{with_value, without_key}
-use Rattle.history.specs.declared.state.Stored.{Stored}
+use Rattle.history.specs.declared.stored.Stored.{Stored}
 use Rattle.history.specs.History.{put, delete}
 use Rattle.history.specs.View.{after, after_all, empty}
 use Rattle.history.proofs.ViewLemmas.{objects_ascend}

@@ -2,7 +2,7 @@
 use Rattle.std.specs.Prelude.{◌≡◌, List}
 use Rattle.celtree.specs.Tree.{Expr}
 use Rattle.names.specs.Key.{Key}
-use Rattle.history.specs.declared.state.Stored.{Stored}
+use Rattle.history.specs.declared.stored.Stored.{Stored}
 use Rattle.expressions.specs.Specification.{IsSpecification, sound, plans_in, plans_bytes}
 use Rattle.apicore.specs.Beside.{Beside}
 

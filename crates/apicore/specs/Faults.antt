@@ -1,6 +1,6 @@
 -- What is wrong with payloads of which one gives no write, or one that may not follow.
-use Rattle.history.specs.declared.replay.ReplayFault as replay
-use Rattle.history.specs.declared.replay.ReplayFault.TheVariants as replay_fault
+use Rattle.holdings.specs.declared.replay.ReplayFault as replay
+use Rattle.holdings.specs.declared.replay.ReplayFault.TheVariants as replay_fault
 use Rattle.records.specs.declared.fault.RecordFault as record_of
 use Rattle.records.specs.declared.fault.RecordFault.TheVariants as record_fault
 use Rattle.planlist.specs.declared.reading.ReadPlansFault as plans_of

@@ -1,8 +1,10 @@
 -- What a step is where it is refused, and behind the verdict on its write.
 use Rattle.std.specs.Prelude.{◌≡◌, ℕ, List, [], ◌∷◌, map, None}
 use Rattle.history.specs.Mapped.{mapped_write}
-use Rattle.history.specs.Prepared.{writes_of}
 use Rattle.history.specs.Reply.{Reply}
+use Rattle.history.specs.View as seen
+use Rattle.holdings.specs.Prepared.{writes_of, AreNext}
+use Rattle.apicore.specs.Beside.{Beside}
 use Rattle.verdict.specs.Verdict.{Verdict, admitted, denied}
 use Rattle.apicore.specs.Prepared.{plans_held}
 use Rattle.apicore.specs.Standing.{Write, write_with_plans}
@@ -13,7 +15,13 @@ use Rattle.apicore.specs.declared.prepared.Prepared.{Prepared}
 abbrev pub IsRefused : Refusal → Prepared → Type 0
 IsRefused r p = (p.reply ≡ status r) × (p.write ≡ None)
 
--- A denial makes no write; a write that is admitted is shown with the warnings.
-abbrev pub IsJudged : (shows : List (List ℕ) → Reply) → Write → Verdict → Prepared → Type 0
-IsJudged shows w (admitted warnings) p = (p.reply ≡ shows warnings) × (map (mapped_write plans_held) (writes_of p.write) ≡ write_with_plans w ∷ [])
-IsJudged shows w (denied policy binding reason message) p = IsRefused (denied_by policy binding reason message) p
+-- The write is admitted: it is shown with the warnings, and the next one of what is held.
+pub record IsMade (held : seen.View Beside) (shown : Reply) (w : Write) (p : Prepared) : Type 0 where
+  pub reply : p.reply ≡ shown
+  pub writes : map (mapped_write plans_held) (writes_of p.write) ≡ write_with_plans w ∷ []
+  pub next : AreNext held p.write
+
+-- A denial makes no write; a write that is admitted is made.
+abbrev pub IsJudged : (held : seen.View Beside) → (shows : List (List ℕ) → Reply) → Write → Verdict → Prepared → Type 0
+IsJudged held shows w (admitted warnings) p = IsMade held (shows warnings) w p
+IsJudged held shows w (denied policy binding reason message) p = IsRefused (denied_by policy binding reason message) p

@@ -1,17 +1,22 @@
 -- What the core shows, and a step of a request that has all its memory.
-use Rattle.std.specs.Prelude.{◌≡◌, ◌+◌, ◌*◌, ◌≤◌, ◌^◌, List, map, length}
+use Rattle.std.specs.Prelude.{◌≡◌, ◌+◌, ◌*◌, ◌≤◌, ◌^◌, List, [], map, length}
 use Rattle.serde_json.specs.Data.{Data}
 use Rattle.celtree.specs.Tree.{Expr}
 use Rattle.jsondoc.specs.Document.{text}
 use Rattle.names.specs.declared.format.Rules.{Rules}
 use Rattle.names.specs.declared.resource.Resource.{Resource}
+use Rattle.names.specs.declared.resource.Resource.TheVariants.{ValidatingAdmissionPolicy, ValidatingAdmissionPolicyBinding}
+use Rattle.names.specs.Key.{Key}
+use Rattle.overlay.specs.Covered.{AreCovered}
 use Rattle.documents.specs.Document.{Document}
 use Rattle.requests.specs.Codes.{document_in}
 use Rattle.requests.specs.Request.{Request, get, list, watch, create, replace, delete, refused}
+use Rattle.history.specs.declared.stored.Stored.{Stored}
 use Rattle.history.specs.Mapped.{mapped, mapped_write}
-use Rattle.history.specs.Prepared.{writes_of}
-use Rattle.history.specs.State.{State}
 use Rattle.history.specs.View as seen
+use Rattle.holdings.specs.Holdings as holdings
+use Rattle.holdings.specs.Holdings.{State}
+use Rattle.holdings.specs.Prepared.{writes_of, AreNext}
 use Rattle.expressions.specs.Specification.{Specification, IsSpecification, sound, bad_spec, bad_expression, plans_in, plans_bytes, MayHavePlans}
 use Rattle.apicore.specs.Beside.{Beside}
 use Rattle.apicore.specs.Standing.{View, IsView, with_plans, write_with_plans}
@@ -24,9 +29,30 @@ use Rattle.apicore.specs.declared.prepared.Prepared.{Prepared}
 abbrev pub plans_held : Document → Beside → Beside
 plans_held d beside = beside
 
--- The core shows a view: it has the plans of its trees, and what its documents spell.
+-- What is held is a view's: it has the plans of its trees, and what its documents spell.
 abbrev pub Shows : seen.View Beside → View → Type 0
 Shows held v = mapped plans_held held ≡ with_plans v
+
+-- No policy and no binding lies below: those are held in memory, with what they spell.
+pub record HasNoRules (base : List (Key × Stored Beside)) : Type 0 where
+  pub policies : AreCovered ValidatingAdmissionPolicy [] base
+  pub bindings : AreCovered ValidatingAdmissionPolicyBinding [] base
+
+-- Over the objects that lie below, the core shows a view.
+pub record ShowsOver (core : State Beside) (base : List (Key × Stored Beside)) (v : View) : Type 0 where
+  pub held : seen.View Beside
+  pub shows : holdings.Shows core base held
+  pub plans : Shows held v
+  pub free : HasNoRules base
+
+-- So it does over the objects that a source holds, at a view as histories have it.
+pub record IsOver (holds : List (Key × Stored Beside) → Type 0) (core : State Beside) (held : seen.View Beside) (v : View) : Type 0 where
+  pub base : List (Key × Stored Beside)
+  pub below : holds base
+  pub shows : holdings.Shows core base held
+  pub plans : Shows held v
+  pub free : HasNoRules base
+  pub seen : IsView v
 
 -- ---- what stands in a document
 
@@ -54,13 +80,14 @@ IsReadOf (refused r) s = Unit {0}
 
 -- ---- a step
 
--- The prepared step is that of a request at a view.
-pub record IsStepOf (rules : Rules) (v : View) (a : Asked) (p : Prepared) : Type 0 where
+-- The prepared step is that of a request at a view, and its write, if it makes one, the next one of what is held.
+pub record IsStepOf (rules : Rules) (held : seen.View Beside) (v : View) (a : Asked) (p : Prepared) : Type 0 where
   pub reply : p.reply ≡ reply rules v a
   pub writes : map (mapped_write plans_held) (writes_of p.write) ≡ map write_with_plans (writes rules v a)
+  pub next : AreNext held p.write
 
--- Something stands in the document of the request, by which the prepared step is the model's at what the core shows.
-pub record IsPrepared (core : State Beside) (r : Request) (p : Prepared) : Type 0 where
+-- Something stands in the document of the request, by which the prepared step is the model's at what the core shows over the objects of a source.
+pub record IsPrepared (holds : List (Key × Stored Beside) → Type 0) (core : State Beside) (r : Request) (p : Prepared) : Type 0 where
   pub specification : Specification Expr
   pub read : IsReadOf r specification
-  pub step : (v : View) → Shows core.view v → IsView v → IsStepOf core.rules v (record { request = r; specification = specification }) p
+  pub step : (held : seen.View Beside) (v : View) → IsOver holds core held v → IsStepOf core.rules held v (record { request = r; specification = specification }) p

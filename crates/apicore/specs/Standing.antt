@@ -12,7 +12,7 @@ use Rattle.documents.specs.Document.{Document, shown}
 use Rattle.history.specs.History as plain
 use Rattle.history.specs.History.{put, delete}
 use Rattle.history.specs.Mapped.{mapped, mapped_write}
-use Rattle.history.specs.declared.state.Stored.{Stored}
+use Rattle.history.specs.declared.stored.Stored.{Stored}
 use Rattle.history.specs.View as seen
 use Rattle.history.specs.View.{stored_at, exists, after, empty}
 use Rattle.matching.specs.Rules.{Attempt}

@@ -85,15 +85,27 @@ abbrev pub verdict_conditions : Verdict → List Condition
 verdict_conditions (admitted warnings) = []
 verdict_conditions (denied policy binding reason message) = (denied_by policy binding reason message, true) ∷ []
 
--- the text is that of the revision of the object at the key: texts are compared, not numbers
-abbrev pub is_current : {P : Type 0} → seen.View P → Key → (text : List ℕ) → Bool
-is_current v k text = option_map_or (λ s. bytes_eq text (decimal s.revision)) (stored_at v k) false
+-- the text is that of a revision: texts are compared, not numbers
+abbrev pub is_text_of : (revision : ℕ) → (text : List ℕ) → Bool
+is_text_of revision text = bytes_eq text (decimal revision)
 
--- an update asks for another revision than the object's: an empty text asks for none, and what asks for none is unconditional
+-- an update asks for another revision than this one: an empty text asks for none, and what asks for none is unconditional
+abbrev pub update_conflicts_at : (revision : ℕ) → (asked : Option (List ℕ)) → Bool
+update_conflicts_at revision asked = option_map_or (λ text. not (length text == 0) && not (is_text_of revision text)) asked false
+
+-- a deletion's precondition is another revision than this one
+abbrev pub deletion_conflicts_at : (revision : ℕ) → (asked : Option (List ℕ)) → Bool
+deletion_conflicts_at revision asked = option_map_or (λ text. not (is_text_of revision text)) asked false
+
+-- the text is that of the revision of the object at the key
+abbrev pub is_current : {P : Type 0} → seen.View P → Key → (text : List ℕ) → Bool
+is_current v k text = option_map_or (λ s. is_text_of s.revision text) (stored_at v k) false
+
+-- an update asks for another revision than the object's
 abbrev pub update_conflicts : {P : Type 0} → seen.View P → Key → (asked : Option (List ℕ)) → Bool
 update_conflicts v k asked = option_map_or (λ text. not (length text == 0) && not (is_current v k text)) asked false
 
--- a deletion's precondition is another revision than the object's
+-- so does a deletion
 abbrev pub deletion_conflicts : {P : Type 0} → seen.View P → Key → (asked : Option (List ℕ)) → Bool
 deletion_conflicts v k asked = option_map_or (λ text. not (is_current v k text)) asked false
 

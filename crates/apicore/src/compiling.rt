@@ -1,12 +1,14 @@
 //! Whether plans are those of the expressions beside which they stand.
 
-ghost use Rattle.std.specs.Prelude.{◌≡◌, List, false, IsTrue, IfOk};
+ghost use Rattle.std.specs.Prelude.{◌≡◌, List, [], false, IsTrue, IfOk};
 ghost use Rattle.std.specs.List.{AllByRecursion};
 ghost use Rattle.celtree.specs.Tree.{Expr};
 ghost use Rattle.expressions.specs.Specification.{plans_bytes};
-ghost use Rattle.apicore.specs.Beside.{beside_of};
+ghost use Rattle.history.specs.View.{View as Held};
+ghost use Rattle.holdings.specs.Holdings.{Shows};
+ghost use Rattle.apicore.specs.Beside.{Beside as BesideData, beside_of};
 ghost use Rattle.apicore.specs.Compiled.{HasOwnPlans};
-ghost use Rattle.apicore.specs.Prepared.{Shows};
+ghost use Rattle.apicore.specs.Prepared.{ShowsOver};
 ghost use Rattle.apicore.specs.Standing.{View, IsView, HasTrees};
 
 use crate::beside::Beside;
@@ -54,17 +56,19 @@ fn has_own(alloc: Global, key: &Key, stored: &Stored<Beside>) -> Result<bool, Al
     }
 }
 
-/// Whether each object that is held has the plans of its own expressions: they are read, typed and compiled again, and the bytes compared.
+/// Whether each object of a core below which nothing lies has the plans of its own expressions: they are read, typed and compiled again, and the
+/// bytes compared.
 ///
 /// # Errors
 ///
 /// Where there was no memory.
 pub fn has_own_plans(alloc: Global, core: &Core) -> Result<bool, AllocError>
-    ensures yes { IfOk result (λ has. IsTrue has → AllByRecursion HasOwnPlans core.now.view.objects) }
-    ensures no { IfOk result (λ has. has ≡ false → (v : View) → Shows core.now.view v → IsView v → ⊥) }
+    ensures yes { (held : Held BesideData) → Shows core.now [] held → IfOk result (λ has. IsTrue has → AllByRecursion HasOwnPlans held.objects) }
+    ensures no { (v : View) → ShowsOver core.now [] v → IsView v → IfOk result (λ has. has ≡ false → ⊥) }
 {
-    for held in core.objects() {
-        if !has_own(alloc, held.key(), held.value())? {
+    let objects = core.objects(alloc, &[])?;
+    for object in &objects {
+        if !has_own(alloc, object.key, object.value)? {
             return Ok(false);
         }
     }

@@ -1,6 +1,6 @@
 ghost use Rattle.std.specs.Prelude.{◌≡◌};
 
-use history::ReplayFault;
+use holdings::ReplayFault;
 use planlist::ReadPlansFault;
 use records::RecordFault;
 use std::alloc::AllocError;

@@ -1,29 +1,37 @@
 //! A write, asked of the policies.
 
-ghost use Rattle.std.specs.Prelude.{◌≡◌, ◌+◌, ◌<◌, List, [], ◌∷◌, map, option_map, Some, None, IsTrue, IfOk, string_bytes};
+ghost use Rattle.std.specs.Prelude.{◌≡◌, ◌+◌, ◌≤◌, ◌<◌, Bool, List, [], ◌∷◌, map, option_map, if◌then◌else◌, Option, Some, None, is_some, IsTrue, IfOk, IsErrOf, string_bytes};
 ghost use Rattle.celtree.specs.Tree.{Expr};
 ghost use Rattle.serde_json.specs.View.{view};
+ghost use Rattle.names.specs.Key.{Key as KeyData};
+ghost use Rattle.documents.specs.Document.{Document as DocumentData};
 ghost use Rattle.matching.specs.Rules.{attempt_seen};
-ghost use Rattle.matching.specs.declared.rules.Operation.TheVariants.{Delete};
+ghost use Rattle.matching.specs.declared.rules.Operation.TheVariants.{Create, Update, Delete};
+ghost use Rattle.objects.specs.Failing.{HasGrown};
+ghost use Rattle.objects.specs.declared.fault.LookupFault.TheVariants as LookupFault;
 ghost use Rattle.requests.specs.Codes.{document_in};
+ghost use Rattle.history.specs.declared.stored.Stored.{Stored as StoredData};
 ghost use Rattle.history.specs.History.{put, delete};
-ghost use Rattle.history.specs.Prepared.{AreReady, writes_of};
 ghost use Rattle.history.specs.Reply.{showing};
-ghost use Rattle.history.specs.View.{exists, document_at};
+ghost use Rattle.history.specs.View.{View as Held, stored_at, exists};
+ghost use Rattle.holdings.specs.Holdings.{Shows, ShowsSame};
+ghost use Rattle.holdings.specs.Prepared.{writes_of, AreNext, HasRoomFor};
+ghost use Rattle.holdings.specs.Sources.{found_in};
 ghost use Rattle.expressions.specs.Specification.{plans_in};
 ghost use Rattle.verdict.specs.Admission.{verdict};
 ghost use Rattle.verdict.specs.Seen.{verdict_seen};
-ghost use Rattle.apicore.specs.Beside.{spelled};
+ghost use Rattle.apicore.specs.Beside.{Beside as BesideData, spelled};
 ghost use Rattle.apicore.specs.Judged.{IsJudged};
-ghost use Rattle.apicore.specs.Prepared.{Shows};
-ghost use Rattle.apicore.specs.Standing.{View, IsView, objects_of};
+ghost use Rattle.apicore.specs.Prepared.{IsOver};
+ghost use Rattle.apicore.specs.Standing.{View, objects_of};
 
 use crate::beside::Beside;
 use crate::prepared::{Core, Prepared};
 use crate::refusing::denied;
 use crate::sight::Sight;
 use documents::Document;
-use history::{PreparedWrite, Reply};
+use history::Reply;
+use holdings::{Found, PreparedWrite, Source};
 use matching::{Attempt, Operation};
 use names::Key;
 use objects::LookupFault;
@@ -34,141 +42,182 @@ use std::alloc::{AllocError, Global};
 use verdict::{Verdict, admit};
 
 // The verdict of what the core shows on a write.
-#[tactic(auto, using(crate::proofs::Finding::sees_shown, crate::proofs::Finding::have_trees))]
-fn verdict_of(core: &Core, alloc: Global, attempt: &Attempt<'_>) -> Result<Verdict, AllocError>
-    ensures { (v : View) → Shows core.now.view v → IsView v
+fn verdict_of<S: Source<Beside>>(
+    core: &Core,
+    alloc: Global,
+    source: &mut S,
+    attempt: &Attempt<'_>,
+) -> Result<Verdict, LookupFault>
+    ensures verdict { (held : Held BesideData) (v : View) → IsOver (S.holds source.old) core.now held v
         → IfOk result (λ x. verdict_seen x ≡ verdict (objects_of v) (attempt_seen attempt.now)) }
+    ensures kept { (base : List (KeyData × StoredData BesideData)) → S.holds source.old base → S.holds source.new base }
+    ensures goes { S.goes_to source.old source.new }
+    ensures counts { S.failures source.old ≤ S.failures source.new }
+    ensures device { IsErrOf result LookupFault.Device → HasGrown (S.failures source.old) (S.failures source.new) }
+    ensures damaged { IsErrOf result LookupFault.Damaged → S.is_damaged source.new }
 {
-    let mut sight = Sight { core };
-    match admit(alloc, &mut sight, attempt) {
-        Ok(verdict) => Ok(verdict),
-        Err(LookupFault::Memory) => Err(AllocError),
-        Err(LookupFault::Device) => unreachable!("no device is asked"),
-        Err(LookupFault::Damaged) => unreachable!("what is held in memory is whole"),
-    }
+    let mut sight = Sight { core, source };
+    admit(alloc, &mut sight, attempt)
 }
 
-// The put of a document that the policies admit, shown with their warnings.
+// The code that shows a put: of an object that changes, or of a new one.
+fn put_code(stands: bool) -> u16
+    ensures { result ≡ if stands then 200 else 201 }
+{
+    if stands { 200 } else { 201 }
+}
+
+// The put of a document that the policies admit, shown with their warnings. It is told whether an object stands at the key.
 fn admitted_put(
     core: &mut Core,
     alloc: Global,
     manifest: &Manifest,
     plans: Vec<Verified>,
-    code: u16,
+    stands: bool,
     warnings: Vec<String>,
 ) -> Result<Prepared, AllocError>
-    requires { core.old.view.revision < core.old.rules.greatest_revision }
+    requires { core.old.revision < core.old.rules.greatest_revision }
     ensures rules { core.new.rules ≡ core.old.rules }
-    ensures view { core.new.view ≡ core.old.view }
+    ensures revision { core.new.revision ≡ core.old.revision }
+    ensures shows { ShowsSame core.old core.new }
     ensures reply { IfOk result
-        (λ p. p.reply ≡ showing code (map string_bytes warnings.items) (document_in manifest.now.body) (core.old.view.revision + 1)) }
+        (λ p. p.reply ≡ showing (if stands then 200 else 201) (map string_bytes warnings.items) (document_in manifest.now.body) (core.old.revision + 1)) }
     ensures write { IfOk result (λ p. writes_of p.write ≡ put manifest.now.key (document_in manifest.now.body) (spelled (document_in manifest.now.body).json plans.items) ∷ []) }
-    ensures ready { IfOk result (λ p. AreReady core.new p.write) }
+    ensures next { (held : Held BesideData) → core.old.revision ≡ held.revision → stands ≡ exists held manifest.now.key → IfOk result (λ p. AreNext held p.write) }
+    ensures ready { IfOk result (λ p. HasRoomFor core.new p.write) }
 {
-    let beside = Beside::of(alloc, manifest.document().json(), plans)?;
-    let put = core.prepare_put(alloc, manifest, beside)?;
-    let reply = Reply::showing(alloc, code, warnings, put.document(), put.revision())?;
+    // The revision is below the greatest one, so that the next one fits.
+    let _greatest = core.rules().greatest_revision;
+    let revision = core.revision() + 1;
+    let document = manifest.document();
+    let reply = Reply::showing(alloc, put_code(stands), warnings, document, revision)?;
+    let beside = Beside::of(alloc, document.json(), plans)?;
+    let put = core.prepare_put(alloc, manifest, beside, stands)?;
     Ok(Prepared {
         reply,
         write: Some(PreparedWrite::Put(put)),
     })
 }
 
-// What a put attempts, with the object at its key as it is shown.
-fn put_attempt<'x>(
-    operation: Operation,
-    manifest: &'x Manifest,
-    old_object: Option<&'x Value>,
-) -> Attempt<'x>
-    ensures { attempt_seen result
-        ≡ record { operation = operation; key = manifest.now.key; object = Some (document_in manifest.now.body).json; old_object = option_map (λ d. view d.now) old_object.entry } }
+// What a put does to an object: it updates one that stands there, or creates one.
+fn put_operation(stands: bool) -> Operation
+    ensures { result ≡ if stands then Update else Create }
+{
+    if stands {
+        Operation::Update
+    } else {
+        Operation::Create
+    }
+}
+
+// What a put attempts, with the object at its key as it is shown, if one stands there.
+fn put_attempt<'x>(manifest: &'x Manifest, old_object: Option<&'x Value>) -> Attempt<'x>
+    ensures { let old = option_map (λ d. view d.now) old_object.entry in attempt_seen result
+        ≡ record { operation = if is_some old then Update else Create; key = manifest.now.key; object = Some (document_in manifest.now.body).json; old_object = old } }
 {
     Attempt {
-        operation,
+        operation: put_operation(old_object.is_some()),
         key: manifest.key(),
         object: Some(manifest.document().json().value()),
         old_object,
     }
 }
 
-/// The put of a document that nothing but the policies may refuse, with the object at its key as it is shown.
-pub(crate) fn judged_put<'x>(
+/// The put of a document that nothing but the policies may refuse, with the object at its key as it is shown, if one stands there.
+pub(crate) fn judged_put<'x, S: Source<Beside>>(
     core: &mut Core,
     alloc: Global,
+    source: &mut S,
     manifest: &'x Manifest,
     plans: Vec<Verified>,
-    operation: Operation,
     old_object: Option<&'x Value>,
-    code: u16,
-) -> Result<Prepared, AllocError>
-    requires { core.old.view.revision < core.old.rules.greatest_revision }
+) -> Result<Prepared, LookupFault>
+    requires { core.old.revision < core.old.rules.greatest_revision }
     ensures rules { core.new.rules ≡ core.old.rules }
-    ensures view { core.new.view ≡ core.old.view }
-    ensures ready { IfOk result (λ p. AreReady core.new p.write) }
-    ensures judged { (v : View) (trees : List Expr) → Shows core.old.view v → IsView v → plans.items ≡ plans_in (document_in manifest.now.body).json trees
-        → IfOk result (IsJudged (λ warnings. showing code warnings (document_in manifest.now.body) (core.old.view.revision + 1))
+    ensures revision { core.new.revision ≡ core.old.revision }
+    ensures shows { ShowsSame core.old core.new }
+    ensures ready { IfOk result (λ p. HasRoomFor core.new p.write) }
+    ensures judged { let old = option_map (λ d. view d.now) old_object.entry in
+        (held : Held BesideData) (v : View) (trees : List Expr) → IsOver (S.holds source.old) core.old held v → is_some old ≡ exists held manifest.now.key
+        → plans.items ≡ plans_in (document_in manifest.now.body).json trees
+        → IfOk result (IsJudged held (λ warnings. showing (if is_some old then 200 else 201) warnings (document_in manifest.now.body) (held.revision + 1))
         (put manifest.now.key (document_in manifest.now.body) trees)
-        (verdict (objects_of v) (record { operation = operation; key = manifest.now.key; object = Some (document_in manifest.now.body).json; old_object = option_map (λ d. view d.now) old_object.entry }))) }
+        (verdict (objects_of v) (record { operation = if is_some old then Update else Create; key = manifest.now.key; object = Some (document_in manifest.now.body).json; old_object = old }))) }
+    ensures kept { (base : List (KeyData × StoredData BesideData)) → S.holds source.old base → S.holds source.new base }
+    ensures goes { S.goes_to source.old source.new }
+    ensures counts { S.failures source.old ≤ S.failures source.new }
+    ensures device { IsErrOf result LookupFault.Device → HasGrown (S.failures source.old) (S.failures source.new) }
+    ensures damaged { IsErrOf result LookupFault.Damaged → S.is_damaged source.new }
 {
-    let attempt = put_attempt(operation, manifest, old_object);
-    match verdict_of(core, alloc, &attempt)? {
-        Verdict::Admitted(warnings) => admitted_put(core, alloc, manifest, plans, code, warnings),
+    let attempt = put_attempt(manifest, old_object);
+    match verdict_of(core, alloc, source, &attempt)? {
+        Verdict::Admitted(warnings) => Ok(admitted_put(
+            core,
+            alloc,
+            manifest,
+            plans,
+            old_object.is_some(),
+            warnings,
+        )?),
         Verdict::Denied {
             policy,
             binding,
             reason,
             message,
-        } => denied(
-            alloc,
-            policy.as_str(),
-            binding.as_str(),
-            reason,
-            message.as_str(),
-        ),
+        } => Ok(denied(alloc, policy, binding, reason, message)?),
     }
 }
 
-// The deletion of an object that the policies admit, shown with their warnings.
+// The deletion of an object that the policies admit, shown with their warnings. It is told the document that stands there.
 fn admitted_delete(
-    core: &Core,
+    core: &mut Core,
     alloc: Global,
     key: &Key,
     document: Document,
     warnings: Vec<String>,
 ) -> Result<Prepared, AllocError>
-    requires object { IsTrue (exists core.now.view key.now) }
-    requires document { document ≡ document_at core.now.view key.now }
-    requires greatest { core.now.view.revision < core.now.rules.greatest_revision }
-    ensures reply { IfOk result
-        (λ p. p.reply ≡ showing 200 (map string_bytes warnings.items) (document_at core.now.view key.now) (core.now.view.revision + 1)) }
+    requires { core.old.revision < core.old.rules.greatest_revision }
+    ensures rules { core.new.rules ≡ core.old.rules }
+    ensures revision { core.new.revision ≡ core.old.revision }
+    ensures shows { ShowsSame core.old core.new }
+    ensures reply { IfOk result (λ p. p.reply ≡ showing 200 (map string_bytes warnings.items) document (core.old.revision + 1)) }
     ensures write { IfOk result (λ p. writes_of p.write ≡ delete key.now ∷ []) }
-    ensures ready { IfOk result (λ p. AreReady core.now p.write) }
+    ensures next { (held : Held BesideData) (s : StoredData BesideData) → stored_at held key.now ≡ Some s → s.document ≡ document → IfOk result (λ p. AreNext held p.write) }
+    ensures ready { IfOk result (λ p. HasRoomFor core.new p.write) }
 {
     // The revision is below the greatest one, so that the next one fits.
     let _greatest = core.rules().greatest_revision;
     let revision = core.revision() + 1;
     let reply = Reply::showing(alloc, 200, warnings, &document, revision)?;
+    let deletion = core.prepare_deletion(alloc, key, document)?;
     Ok(Prepared {
         reply,
-        write: Some(PreparedWrite::Delete(key.clone()?, document)),
+        write: Some(PreparedWrite::Delete(deletion)),
     })
 }
 
-/// The deletion of an object that nothing but the policies may refuse, with the object as it is shown.
-pub(crate) fn judged_delete<'x>(
-    core: &Core,
+/// The deletion of an object that nothing but the policies may refuse, with what was found of it, and that as it is shown.
+pub(crate) fn judged_delete<'x, S: Source<Beside>>(
+    core: &mut Core,
     alloc: Global,
+    source: &mut S,
     key: &'x Key,
-    document: Document,
+    found: Found,
     old_object: &'x Value,
-) -> Result<Prepared, AllocError>
-    requires object { IsTrue (exists core.now.view key.now) }
-    requires document { document ≡ document_at core.now.view key.now }
-    requires greatest { core.now.view.revision < core.now.rules.greatest_revision }
-    ensures ready { IfOk result (λ p. AreReady core.now p.write) }
-    ensures judged { (v : View) → Shows core.now.view v → IsView v
-        → IfOk result (IsJudged (λ warnings. showing 200 warnings (document_at core.now.view key.now) (core.now.view.revision + 1)) (delete key.now)
+) -> Result<Prepared, LookupFault>
+    requires { core.old.revision < core.old.rules.greatest_revision }
+    ensures rules { core.new.rules ≡ core.old.rules }
+    ensures revision { core.new.revision ≡ core.old.revision }
+    ensures shows { ShowsSame core.old core.new }
+    ensures ready { IfOk result (λ p. HasRoomFor core.new p.write) }
+    ensures judged { (held : Held BesideData) (v : View) → IsOver (S.holds source.old) core.old held v → option_map found_in (stored_at held key.now) ≡ Some found
+        → IfOk result (IsJudged held (λ warnings. showing 200 warnings found.document (held.revision + 1)) (delete key.now)
         (verdict (objects_of v) (record { operation = Delete; key = key.now; object = None; old_object = Some (view old_object.now) }))) }
+    ensures kept { (base : List (KeyData × StoredData BesideData)) → S.holds source.old base → S.holds source.new base }
+    ensures goes { S.goes_to source.old source.new }
+    ensures counts { S.failures source.old ≤ S.failures source.new }
+    ensures device { IsErrOf result LookupFault.Device → HasGrown (S.failures source.old) (S.failures source.new) }
+    ensures damaged { IsErrOf result LookupFault.Damaged → S.is_damaged source.new }
 {
     let deletion = Attempt {
         operation: Operation::Delete,
@@ -176,19 +225,15 @@ pub(crate) fn judged_delete<'x>(
         object: None,
         old_object: Some(old_object),
     };
-    match verdict_of(core, alloc, &deletion)? {
-        Verdict::Admitted(warnings) => admitted_delete(core, alloc, key, document, warnings),
+    match verdict_of(core, alloc, source, &deletion)? {
+        Verdict::Admitted(warnings) => {
+            Ok(admitted_delete(core, alloc, key, found.document, warnings)?)
+        }
         Verdict::Denied {
             policy,
             binding,
             reason,
             message,
-        } => denied(
-            alloc,
-            policy.as_str(),
-            binding.as_str(),
-            reason,
-            message.as_str(),
-        ),
+        } => Ok(denied(alloc, policy, binding, reason, message)?),
     }
 }

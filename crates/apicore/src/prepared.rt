@@ -1,10 +1,11 @@
 ghost use Rattle.std.specs.Prelude.{◌≡◌, None};
 
 use crate::beside::Beside;
-use history::{PreparedWrite, Reply};
+use history::Reply;
+use holdings::{Holdings, PreparedWrite};
 
-/// What is stored, with what each document spells beside it.
-pub type Core = history::Core<Beside>;
+/// What memory holds of what is stored, with what each document spells beside it.
+pub type Core = Holdings<Beside>;
 
 /// A step that has all its memory: the reply, and the write that it makes if it makes one.
 #[derive(Drop)]

@@ -1,51 +1,75 @@
 // The step of a request, with all its memory.
-ghost use Rattle.std.specs.Prelude.{◌≡◌, List, Some, None, false, IsTrue, IfOk, option_map, string_bytes};
+ghost use Rattle.std.specs.Prelude.{◌≡◌, ◌≤◌, ◌<◌, List, Some, None, false, IsTrue, IfOk, IsErrOf, option_map, string_bytes};
 ghost use Rattle.celtree.specs.Tree.{Expr};
-ghost use Rattle.names.specs.Key.{is_key};
+ghost use Rattle.names.specs.Key.{Key as KeyData, is_key};
+ghost use Rattle.objects.specs.Failing.{HasGrown};
+ghost use Rattle.objects.specs.declared.fault.LookupFault.TheVariants as LookupFault;
 ghost use Rattle.requests.specs.Codes.{document_in};
 ghost use Rattle.requests.specs.Manifest.{BodyHasForm};
 ghost use Rattle.requests.specs.Request.{create, replace, delete, RequestHasForm};
 ghost use Rattle.requests.specs.RequestOf.{request_of};
-ghost use Rattle.history.specs.Prepared.{AreReady};
-ghost use Rattle.history.specs.View.{exists};
+ghost use Rattle.history.specs.declared.stored.Stored.{Stored as StoredData};
+ghost use Rattle.history.specs.View.{View as Held, stored_at};
+ghost use Rattle.holdings.specs.Holdings.{ShowsSame};
+ghost use Rattle.holdings.specs.Prepared.{HasRoomFor};
+ghost use Rattle.holdings.specs.Sources.{found_in};
 ghost use Rattle.expressions.specs.Specification.{Specification as SpecificationOf, sound, compiled, plans_in, specification_seen};
-ghost use Rattle.apicore.specs.Prepared.{IsPrepared, IsRead, IsStepOf, Shows};
-ghost use Rattle.apicore.specs.Standing.{View, IsView, shown_at};
-ghost use Rattle.apicore.specs.Step.{first_of, replace_conditions, replace_limits, delete_conditions};
+ghost use Rattle.apicore.specs.Beside.{Beside as BesideData};
+ghost use Rattle.apicore.specs.Prepared.{IsOver, IsPrepared, IsRead, IsStepOf};
+ghost use Rattle.apicore.specs.Standing.{View};
+ghost use Rattle.apicore.specs.Step.{first_of, replace_limits, update_conflicts_at, deletion_conflicts_at};
 
+use crate::beside::Beside;
+use crate::conflicts::{deletion_conflicts, update_conflicts};
 use crate::judging::{judged_delete, judged_put};
 use crate::prepared::{Core, Prepared};
 use crate::reading::{get, list, refuse, watch};
-use crate::refusing::{
-    bad_expression, create_limit, delete_refusal, refused, replace_limit, replace_refusal,
-};
+use crate::refusing::{bad_expression, create_limit, refused, replace_limit};
 use documents::shown_document;
 use expressions::{Specification, specification_of};
-use jsondoc::Doc;
-use matching::Operation;
+use holdings::{Found, Source};
 use names::Key;
+use objects::LookupFault;
 use plancode::Verified;
 use requests::{Manifest, Refusal, Request};
 use std::alloc::{AllocError, Global};
 
-/// Prepares the step of a request: takes all its memory, and leaves what is seen as it was, also where there is none.
-pub fn prepare(core: &mut Core, alloc: Global, request: &Request) -> Result<Prepared, AllocError>
+/// Prepares the step of a request over the objects that a source holds: takes all its memory, and leaves what is seen as it was, also where there is
+/// none. What stands under the request's key is looked up once; of the objects below, a verdict reads the parameters alone.
+///
+/// # Errors
+///
+/// Those of the source, and `Memory` where no memory is left.
+pub fn prepare<S: Source<Beside>>(
+    core: &mut Core,
+    alloc: Global,
+    source: &mut S,
+    request: &Request,
+) -> Result<Prepared, LookupFault>
     ensures rules { core.new.rules ≡ core.old.rules }
-    ensures view { core.new.view ≡ core.old.view }
-    ensures step { IfOk result (IsPrepared core.old (request_of request.now)) }
-    ensures ready { IfOk result (λ p. AreReady core.new p.write) }
+    ensures revision { core.new.revision ≡ core.old.revision }
+    ensures shows { ShowsSame core.old core.new }
+    ensures step { IfOk result (IsPrepared (S.holds source.old) core.old (request_of request.now)) }
+    ensures ready { IfOk result (λ p. HasRoomFor core.new p.write) }
 
     // So that what it writes may follow.
     ensures form { RequestHasForm (request_of request.now) }
+
+    // What looks leave of the source, whatever the answer.
+    ensures kept { (base : List (KeyData × StoredData BesideData)) → S.holds source.old base → S.holds source.new base }
+    ensures goes { S.goes_to source.old source.new }
+    ensures counts { S.failures source.old ≤ S.failures source.new }
+    ensures device { IsErrOf result LookupFault.Device → HasGrown (S.failures source.old) (S.failures source.new) }
+    ensures damaged { IsErrOf result LookupFault.Damaged → S.is_damaged source.new }
 {
     match request {
-        Request::Get(key) => get(core, alloc, key),
-        Request::List(collection, selector) => list(core, alloc, collection, selector),
-        Request::Watch(collection, revision) => watch(core, alloc, collection, *revision),
-        Request::Create(manifest) => prepare_create(core, alloc, manifest),
-        Request::Replace(manifest) => prepare_replace(core, alloc, manifest),
-        Request::Delete(key, version) => prepare_delete(core, alloc, key, version),
-        Request::Refused(refusal) => refuse(core, alloc, *refusal),
+        Request::Get(key) => get(core, alloc, source, key),
+        Request::List(collection, selector) => list(core, alloc, source, collection, selector),
+        Request::Watch(collection, revision) => Ok(watch(core, alloc, collection, *revision)?),
+        Request::Create(manifest) => prepare_create(core, alloc, source, manifest),
+        Request::Replace(manifest) => prepare_replace(core, alloc, source, manifest),
+        Request::Delete(key, version) => prepare_delete(core, alloc, source, key, version),
+        Request::Refused(refusal) => Ok(refuse(alloc, *refusal)?),
     }
 }
 
@@ -60,218 +84,317 @@ fn specified(alloc: Global, manifest: &Manifest) -> Result<Specification, AllocE
 }
 
 // The creation of an object.
-fn prepare_create(
+fn prepare_create<S: Source<Beside>>(
     core: &mut Core,
     alloc: Global,
+    source: &mut S,
     manifest: &Manifest,
-) -> Result<Prepared, AllocError>
+) -> Result<Prepared, LookupFault>
     ensures rules { core.new.rules ≡ core.old.rules }
-    ensures view { core.new.view ≡ core.old.view }
-    ensures step { IfOk result (IsPrepared core.old (create manifest.now)) }
-    ensures ready { IfOk result (λ p. AreReady core.new p.write) }
+    ensures revision { core.new.revision ≡ core.old.revision }
+    ensures shows { ShowsSame core.old core.new }
+    ensures step { IfOk result (IsPrepared (S.holds source.old) core.old (create manifest.now)) }
+    ensures ready { IfOk result (λ p. HasRoomFor core.new p.write) }
     ensures form { BodyHasForm manifest.now.key manifest.now.body }
+    ensures kept { (base : List (KeyData × StoredData BesideData)) → S.holds source.old base → S.holds source.new base }
+    ensures goes { S.goes_to source.old source.new }
+    ensures counts { S.failures source.old ≤ S.failures source.new }
+    ensures device { IsErrOf result LookupFault.Device → HasGrown (S.failures source.old) (S.failures source.new) }
+    ensures damaged { IsErrOf result LookupFault.Damaged → S.is_damaged source.new }
 {
     // The document, of which the form speaks.
     let _document = manifest.document();
     let specification = specified(alloc, manifest)?;
-    create_of(core, alloc, manifest, specification)
+    match core.find(alloc, source, manifest.key())? {
+        Some(_) => Ok(refused(alloc, Refusal::AlreadyExists)?),
+        None => create_free(core, alloc, source, manifest, specification),
+    }
 }
 
-// The creation of an object, in whose document this stands.
-fn create_of(
+// The creation of an object, in whose document this stands, at a key that has none.
+fn create_free<S: Source<Beside>>(
     core: &mut Core,
     alloc: Global,
+    source: &mut S,
     manifest: &Manifest,
     specification: Specification,
-) -> Result<Prepared, AllocError>
+) -> Result<Prepared, LookupFault>
     ensures rules { core.new.rules ≡ core.old.rules }
-    ensures view { core.new.view ≡ core.old.view }
+    ensures revision { core.new.revision ≡ core.old.revision }
+    ensures shows { ShowsSame core.old core.new }
     ensures step { (s : SpecificationOf Expr) → specification_seen specification ≡ compiled (document_in manifest.now.body).json s
-        → (v : View) → Shows core.old.view v → IsView v
-        → IfOk result (IsStepOf core.old.rules v (record { request = create manifest.now; specification = s })) }
-    ensures ready { IfOk result (λ p. AreReady core.new p.write) }
+        → (held : Held BesideData) (v : View) → IsOver (S.holds source.old) core.old held v → stored_at held manifest.now.key ≡ None
+        → IfOk result (IsStepOf core.old.rules held v (record { request = create manifest.now; specification = s })) }
+    ensures ready { IfOk result (λ p. HasRoomFor core.new p.write) }
+    ensures kept { (base : List (KeyData × StoredData BesideData)) → S.holds source.old base → S.holds source.new base }
+    ensures goes { S.goes_to source.old source.new }
+    ensures counts { S.failures source.old ≤ S.failures source.new }
+    ensures device { IsErrOf result LookupFault.Device → HasGrown (S.failures source.old) (S.failures source.new) }
+    ensures damaged { IsErrOf result LookupFault.Damaged → S.is_damaged source.new }
 {
-    if core.holds(manifest.key()) {
-        return refused(alloc, Refusal::AlreadyExists);
-    }
     match specification {
-        Specification::Sound(plans) => create_sound(core, alloc, manifest, plans),
-        Specification::BadSpec => refused(alloc, Refusal::BadSpec),
-        Specification::BadExpression(text) => bad_expression(alloc, text.as_str()),
+        Specification::Sound(plans) => create_sound(core, alloc, source, manifest, plans),
+        Specification::BadSpec => Ok(refused(alloc, Refusal::BadSpec)?),
+        Specification::BadExpression(text) => Ok(bad_expression(alloc, text.as_str())?),
     }
 }
 
 // The creation of an object at a key that has none, with these plans.
-fn create_sound(
+fn create_sound<S: Source<Beside>>(
     core: &mut Core,
     alloc: Global,
+    source: &mut S,
     manifest: &Manifest,
     plans: Vec<Verified>,
-) -> Result<Prepared, AllocError>
-    requires { exists core.old.view manifest.now.key ≡ false }
+) -> Result<Prepared, LookupFault>
     ensures rules { core.new.rules ≡ core.old.rules }
-    ensures view { core.new.view ≡ core.old.view }
+    ensures revision { core.new.revision ≡ core.old.revision }
+    ensures shows { ShowsSame core.old core.new }
     ensures step { (trees : List Expr) → plans.items ≡ plans_in (document_in manifest.now.body).json trees
-        → (v : View) → Shows core.old.view v → IsView v
-        → IfOk result (IsStepOf core.old.rules v (record { request = create manifest.now; specification = sound trees })) }
-    ensures ready { IfOk result (λ p. AreReady core.new p.write) }
+        → (held : Held BesideData) (v : View) → IsOver (S.holds source.old) core.old held v → stored_at held manifest.now.key ≡ None
+        → IfOk result (IsStepOf core.old.rules held v (record { request = create manifest.now; specification = sound trees })) }
+    ensures ready { IfOk result (λ p. HasRoomFor core.new p.write) }
+    ensures kept { (base : List (KeyData × StoredData BesideData)) → S.holds source.old base → S.holds source.new base }
+    ensures goes { S.goes_to source.old source.new }
+    ensures counts { S.failures source.old ≤ S.failures source.new }
+    ensures device { IsErrOf result LookupFault.Device → HasGrown (S.failures source.old) (S.failures source.new) }
+    ensures damaged { IsErrOf result LookupFault.Damaged → S.is_damaged source.new }
 {
     match create_limit(core, manifest) {
-        Some(refusal) => refused(alloc, refusal),
-        None => judged_put(core, alloc, manifest, plans, Operation::Create, None, 201),
+        Some(refusal) => Ok(refused(alloc, refusal)?),
+        None => judged_put(core, alloc, source, manifest, plans, None),
     }
 }
 
 // The replacement of an object.
-fn prepare_replace(
+fn prepare_replace<S: Source<Beside>>(
     core: &mut Core,
     alloc: Global,
+    source: &mut S,
     manifest: &Manifest,
-) -> Result<Prepared, AllocError>
+) -> Result<Prepared, LookupFault>
     ensures rules { core.new.rules ≡ core.old.rules }
-    ensures view { core.new.view ≡ core.old.view }
-    ensures step { IfOk result (IsPrepared core.old (replace manifest.now)) }
-    ensures ready { IfOk result (λ p. AreReady core.new p.write) }
+    ensures revision { core.new.revision ≡ core.old.revision }
+    ensures shows { ShowsSame core.old core.new }
+    ensures step { IfOk result (IsPrepared (S.holds source.old) core.old (replace manifest.now)) }
+    ensures ready { IfOk result (λ p. HasRoomFor core.new p.write) }
     ensures form { BodyHasForm manifest.now.key manifest.now.body }
+    ensures kept { (base : List (KeyData × StoredData BesideData)) → S.holds source.old base → S.holds source.new base }
+    ensures goes { S.goes_to source.old source.new }
+    ensures counts { S.failures source.old ≤ S.failures source.new }
+    ensures device { IsErrOf result LookupFault.Device → HasGrown (S.failures source.old) (S.failures source.new) }
+    ensures damaged { IsErrOf result LookupFault.Damaged → S.is_damaged source.new }
 {
     // The document, of which the form speaks.
     let _document = manifest.document();
     let specification = specified(alloc, manifest)?;
-    replace_of(core, alloc, manifest, specification)
-}
-
-// The replacement of an object by a document in which this stands.
-fn replace_of(
-    core: &mut Core,
-    alloc: Global,
-    manifest: &Manifest,
-    specification: Specification,
-) -> Result<Prepared, AllocError>
-    ensures rules { core.new.rules ≡ core.old.rules }
-    ensures view { core.new.view ≡ core.old.view }
-    ensures step { (s : SpecificationOf Expr) → specification_seen specification ≡ compiled (document_in manifest.now.body).json s
-        → (v : View) → Shows core.old.view v → IsView v
-        → IfOk result (IsStepOf core.old.rules v (record { request = replace manifest.now; specification = s })) }
-    ensures ready { IfOk result (λ p. AreReady core.new p.write) }
-{
-    match replace_refusal(core, alloc, manifest)? {
-        Some(refusal) => refused(alloc, refusal),
-        None => replace_as(core, alloc, manifest, specification),
+    match core.find(alloc, source, manifest.key())? {
+        Some(found) => replace_of(core, alloc, source, manifest, specification, &found),
+        None => Ok(refused(alloc, Refusal::NotFound)?),
     }
 }
 
-// The replacement of an object that stands as the manifest wants it.
-fn replace_as(
+// The replacement of an object that was found, by a document in which this stands.
+fn replace_of<S: Source<Beside>>(
     core: &mut Core,
     alloc: Global,
+    source: &mut S,
     manifest: &Manifest,
     specification: Specification,
-) -> Result<Prepared, AllocError>
-    requires { first_of (replace_conditions core.old.view manifest.now.key manifest.now.version) ≡ None }
+    found: &Found,
+) -> Result<Prepared, LookupFault>
     ensures rules { core.new.rules ≡ core.old.rules }
-    ensures view { core.new.view ≡ core.old.view }
+    ensures revision { core.new.revision ≡ core.old.revision }
+    ensures shows { ShowsSame core.old core.new }
     ensures step { (s : SpecificationOf Expr) → specification_seen specification ≡ compiled (document_in manifest.now.body).json s
-        → (v : View) → Shows core.old.view v → IsView v
-        → IfOk result (IsStepOf core.old.rules v (record { request = replace manifest.now; specification = s })) }
-    ensures ready { IfOk result (λ p. AreReady core.new p.write) }
+        → (held : Held BesideData) (v : View) → IsOver (S.holds source.old) core.old held v
+        → option_map found_in (stored_at held manifest.now.key) ≡ Some found.now
+        → IfOk result (IsStepOf core.old.rules held v (record { request = replace manifest.now; specification = s })) }
+    ensures ready { IfOk result (λ p. HasRoomFor core.new p.write) }
+    ensures kept { (base : List (KeyData × StoredData BesideData)) → S.holds source.old base → S.holds source.new base }
+    ensures goes { S.goes_to source.old source.new }
+    ensures counts { S.failures source.old ≤ S.failures source.new }
+    ensures device { IsErrOf result LookupFault.Device → HasGrown (S.failures source.old) (S.failures source.new) }
+    ensures damaged { IsErrOf result LookupFault.Damaged → S.is_damaged source.new }
+{
+    if update_conflicts(alloc, manifest, found.revision)? {
+        return Ok(refused(alloc, Refusal::VersionNotCurrent)?);
+    }
+    replace_as(core, alloc, source, manifest, specification, found)
+}
+
+// The replacement of an object that was found as the manifest wants it.
+fn replace_as<S: Source<Beside>>(
+    core: &mut Core,
+    alloc: Global,
+    source: &mut S,
+    manifest: &Manifest,
+    specification: Specification,
+    found: &Found,
+) -> Result<Prepared, LookupFault>
+    requires { update_conflicts_at found.now.revision manifest.now.version ≡ false }
+    ensures rules { core.new.rules ≡ core.old.rules }
+    ensures revision { core.new.revision ≡ core.old.revision }
+    ensures shows { ShowsSame core.old core.new }
+    ensures step { (s : SpecificationOf Expr) → specification_seen specification ≡ compiled (document_in manifest.now.body).json s
+        → (held : Held BesideData) (v : View) → IsOver (S.holds source.old) core.old held v
+        → option_map found_in (stored_at held manifest.now.key) ≡ Some found.now
+        → IfOk result (IsStepOf core.old.rules held v (record { request = replace manifest.now; specification = s })) }
+    ensures ready { IfOk result (λ p. HasRoomFor core.new p.write) }
+    ensures kept { (base : List (KeyData × StoredData BesideData)) → S.holds source.old base → S.holds source.new base }
+    ensures goes { S.goes_to source.old source.new }
+    ensures counts { S.failures source.old ≤ S.failures source.new }
+    ensures device { IsErrOf result LookupFault.Device → HasGrown (S.failures source.old) (S.failures source.new) }
+    ensures damaged { IsErrOf result LookupFault.Damaged → S.is_damaged source.new }
 {
     match specification {
-        Specification::Sound(plans) => replace_sound(core, alloc, manifest, plans),
-        Specification::BadSpec => refused(alloc, Refusal::BadSpec),
-        Specification::BadExpression(text) => bad_expression(alloc, text.as_str()),
+        Specification::Sound(plans) => replace_sound(core, alloc, source, manifest, plans, found),
+        Specification::BadSpec => Ok(refused(alloc, Refusal::BadSpec)?),
+        Specification::BadExpression(text) => Ok(bad_expression(alloc, text.as_str())?),
     }
 }
 
-// The replacement of an object that stands as the manifest wants it, with these plans.
-fn replace_sound(
+// The replacement of an object that was found as the manifest wants it, with these plans.
+fn replace_sound<S: Source<Beside>>(
     core: &mut Core,
     alloc: Global,
+    source: &mut S,
     manifest: &Manifest,
     plans: Vec<Verified>,
-) -> Result<Prepared, AllocError>
-    requires { first_of (replace_conditions core.old.view manifest.now.key manifest.now.version) ≡ None }
+    found: &Found,
+) -> Result<Prepared, LookupFault>
+    requires { update_conflicts_at found.now.revision manifest.now.version ≡ false }
     ensures rules { core.new.rules ≡ core.old.rules }
-    ensures view { core.new.view ≡ core.old.view }
+    ensures revision { core.new.revision ≡ core.old.revision }
+    ensures shows { ShowsSame core.old core.new }
     ensures step { (trees : List Expr) → plans.items ≡ plans_in (document_in manifest.now.body).json trees
-        → (v : View) → Shows core.old.view v → IsView v
-        → IfOk result (IsStepOf core.old.rules v (record { request = replace manifest.now; specification = sound trees })) }
-    ensures ready { IfOk result (λ p. AreReady core.new p.write) }
+        → (held : Held BesideData) (v : View) → IsOver (S.holds source.old) core.old held v
+        → option_map found_in (stored_at held manifest.now.key) ≡ Some found.now
+        → IfOk result (IsStepOf core.old.rules held v (record { request = replace manifest.now; specification = sound trees })) }
+    ensures ready { IfOk result (λ p. HasRoomFor core.new p.write) }
+    ensures kept { (base : List (KeyData × StoredData BesideData)) → S.holds source.old base → S.holds source.new base }
+    ensures goes { S.goes_to source.old source.new }
+    ensures counts { S.failures source.old ≤ S.failures source.new }
+    ensures device { IsErrOf result LookupFault.Device → HasGrown (S.failures source.old) (S.failures source.new) }
+    ensures damaged { IsErrOf result LookupFault.Damaged → S.is_damaged source.new }
 {
     match replace_limit(core, manifest) {
-        Some(refusal) => refused(alloc, refusal),
-        None => replace_there(core, alloc, manifest, plans),
+        Some(refusal) => Ok(refused(alloc, refusal)?),
+        None => replace_there(core, alloc, source, manifest, plans, found),
     }
 }
 
 // The replacement of an object that nothing but the policies may refuse.
-fn replace_there(
+fn replace_there<S: Source<Beside>>(
     core: &mut Core,
     alloc: Global,
+    source: &mut S,
     manifest: &Manifest,
     plans: Vec<Verified>,
-) -> Result<Prepared, AllocError>
-    requires there { first_of (replace_conditions core.old.view manifest.now.key manifest.now.version) ≡ None }
-    requires limits { first_of (replace_limits core.old.rules core.old.view (document_in manifest.now.body)) ≡ None }
+    found: &Found,
+) -> Result<Prepared, LookupFault>
+    requires conflicts { update_conflicts_at found.now.revision manifest.now.version ≡ false }
+    requires room { core.old.revision < core.old.rules.greatest_revision }
     ensures rules { core.new.rules ≡ core.old.rules }
-    ensures view { core.new.view ≡ core.old.view }
+    ensures revision { core.new.revision ≡ core.old.revision }
+    ensures shows { ShowsSame core.old core.new }
     ensures step { (trees : List Expr) → plans.items ≡ plans_in (document_in manifest.now.body).json trees
-        → (v : View) → Shows core.old.view v → IsView v
-        → IfOk result (IsStepOf core.old.rules v (record { request = replace manifest.now; specification = sound trees })) }
-    ensures ready { IfOk result (λ p. AreReady core.new p.write) }
+        → (held : Held BesideData) (v : View) → IsOver (S.holds source.old) core.old held v
+        → option_map found_in (stored_at held manifest.now.key) ≡ Some found.now → first_of (replace_limits core.old.rules held (document_in manifest.now.body)) ≡ None
+        → IfOk result (IsStepOf core.old.rules held v (record { request = replace manifest.now; specification = sound trees })) }
+    ensures ready { IfOk result (λ p. HasRoomFor core.new p.write) }
+    ensures kept { (base : List (KeyData × StoredData BesideData)) → S.holds source.old base → S.holds source.new base }
+    ensures goes { S.goes_to source.old source.new }
+    ensures counts { S.failures source.old ≤ S.failures source.new }
+    ensures device { IsErrOf result LookupFault.Device → HasGrown (S.failures source.old) (S.failures source.new) }
+    ensures damaged { IsErrOf result LookupFault.Damaged → S.is_damaged source.new }
 {
-    let old = shown_at(core, alloc, manifest.key())?;
+    let old = shown_document(alloc, &found.document, found.revision)?;
     let old_object = Some(old.value());
-    judged_put(
-        core,
-        alloc,
-        manifest,
-        plans,
-        Operation::Update,
-        old_object,
-        200,
-    )
+    judged_put(core, alloc, source, manifest, plans, old_object)
 }
 
 // The deletion of an object, which shows the object that it removes with the revision that it makes.
-fn prepare_delete(
-    core: &Core,
+fn prepare_delete<S: Source<Beside>>(
+    core: &mut Core,
     alloc: Global,
+    source: &mut S,
     key: &Key,
     version: &Option<String>,
-) -> Result<Prepared, AllocError>
-    ensures step { IfOk result (IsPrepared core.now (delete key.now (option_map string_bytes version.now))) }
-    ensures ready { IfOk result (λ p. AreReady core.now p.write) }
+) -> Result<Prepared, LookupFault>
+    ensures rules { core.new.rules ≡ core.old.rules }
+    ensures revision { core.new.revision ≡ core.old.revision }
+    ensures shows { ShowsSame core.old core.new }
+    ensures step { IfOk result (IsPrepared (S.holds source.old) core.old (delete key.now (option_map string_bytes version.now))) }
+    ensures ready { IfOk result (λ p. HasRoomFor core.new p.write) }
     ensures form { IsTrue (is_key key.now) }
+    ensures kept { (base : List (KeyData × StoredData BesideData)) → S.holds source.old base → S.holds source.new base }
+    ensures goes { S.goes_to source.old source.new }
+    ensures counts { S.failures source.old ≤ S.failures source.new }
+    ensures device { IsErrOf result LookupFault.Device → HasGrown (S.failures source.old) (S.failures source.new) }
+    ensures damaged { IsErrOf result LookupFault.Damaged → S.is_damaged source.new }
 {
-    match delete_refusal(core, alloc, key, version)? {
-        Some(refusal) => refused(alloc, refusal),
-        None => delete_there(core, alloc, key, version),
+    // A name of the key, which is well-formed.
+    let _name = key.name();
+    match core.find(alloc, source, key)? {
+        Some(found) => delete_found(core, alloc, source, key, version, found),
+        None => Ok(refused(alloc, Refusal::NotFound)?),
     }
 }
 
-// The deletion of an object that nothing but the policies may refuse.
-fn delete_there(
-    core: &Core,
+// The deletion of an object that was found.
+fn delete_found<S: Source<Beside>>(
+    core: &mut Core,
     alloc: Global,
+    source: &mut S,
     key: &Key,
     version: &Option<String>,
-) -> Result<Prepared, AllocError>
-    requires { first_of (delete_conditions core.now.rules core.now.view key.now (option_map string_bytes version.now)) ≡ None }
-    ensures step { IfOk result (IsPrepared core.now (delete key.now (option_map string_bytes version.now))) }
-    ensures ready { IfOk result (λ p. AreReady core.now p.write) }
+    found: Found,
+) -> Result<Prepared, LookupFault>
+    ensures rules { core.new.rules ≡ core.old.rules }
+    ensures revision { core.new.revision ≡ core.old.revision }
+    ensures shows { ShowsSame core.old core.new }
+    ensures step { (held : Held BesideData) (v : View) → IsOver (S.holds source.old) core.old held v → option_map found_in (stored_at held key.now) ≡ Some found
+        → (s : SpecificationOf Expr) → IfOk result (IsStepOf core.old.rules held v (record { request = delete key.now (option_map string_bytes version.now); specification = s })) }
+    ensures ready { IfOk result (λ p. HasRoomFor core.new p.write) }
+    ensures kept { (base : List (KeyData × StoredData BesideData)) → S.holds source.old base → S.holds source.new base }
+    ensures goes { S.goes_to source.old source.new }
+    ensures counts { S.failures source.old ≤ S.failures source.new }
+    ensures device { IsErrOf result LookupFault.Device → HasGrown (S.failures source.old) (S.failures source.new) }
+    ensures damaged { IsErrOf result LookupFault.Damaged → S.is_damaged source.new }
 {
-    let document = core.removed(key)?;
-    let old = shown_at(core, alloc, key)?;
-    judged_delete(core, alloc, key, document, old.value())
+    if deletion_conflicts(alloc, version, found.revision)? {
+        return Ok(refused(alloc, Refusal::VersionNotCurrent)?);
+    }
+    if core.is_exhausted() {
+        return Ok(refused(alloc, Refusal::RevisionExhausted)?);
+    }
+    delete_there(core, alloc, source, key, version, found)
 }
 
-// The object that stands at a key, as it is shown.
-fn shown_at(core: &Core, alloc: Global, key: &Key) -> Result<Doc, AllocError>
-    requires { IsTrue (exists core.now.view key.now) }
-    ensures { IfOk result (λ d. Some d ≡ shown_at core.now.view key.now) }
+// The deletion of an object that was found, which nothing but the policies may refuse.
+fn delete_there<S: Source<Beside>>(
+    core: &mut Core,
+    alloc: Global,
+    source: &mut S,
+    key: &Key,
+    version: &Option<String>,
+    found: Found,
+) -> Result<Prepared, LookupFault>
+    requires conflicts { deletion_conflicts_at found.revision (option_map string_bytes version.now) ≡ false }
+    requires room { core.old.revision < core.old.rules.greatest_revision }
+    ensures rules { core.new.rules ≡ core.old.rules }
+    ensures revision { core.new.revision ≡ core.old.revision }
+    ensures shows { ShowsSame core.old core.new }
+    ensures step { (held : Held BesideData) (v : View) → IsOver (S.holds source.old) core.old held v → option_map found_in (stored_at held key.now) ≡ Some found
+        → (s : SpecificationOf Expr) → IfOk result (IsStepOf core.old.rules held v (record { request = delete key.now (option_map string_bytes version.now); specification = s })) }
+    ensures ready { IfOk result (λ p. HasRoomFor core.new p.write) }
+    ensures kept { (base : List (KeyData × StoredData BesideData)) → S.holds source.old base → S.holds source.new base }
+    ensures goes { S.goes_to source.old source.new }
+    ensures counts { S.failures source.old ≤ S.failures source.new }
+    ensures device { IsErrOf result LookupFault.Device → HasGrown (S.failures source.old) (S.failures source.new) }
+    ensures damaged { IsErrOf result LookupFault.Damaged → S.is_damaged source.new }
 {
-    match core.stored(key) {
-        Some(stored) => shown_document(alloc, &stored.document, stored.revision),
-        None => unreachable!("there is an object with this key"),
-    }
+    let old = shown_document(alloc, &found.document, found.revision)?;
+    judged_delete(core, alloc, source, key, found, old.value())
 }

@@ -1,75 +1,140 @@
 //! The steps of requests that write nothing.
 
-ghost use Rattle.std.specs.Prelude.{◌≡◌, [], None, IfOk};
+ghost use Rattle.std.specs.Prelude.{◌≡◌, ◌≤◌, List, [], None, IfOk, IsErrOf};
 ghost use Rattle.std.specs.Option.{option_map_or};
+ghost use Rattle.names.specs.Key.{Key as KeyData};
 ghost use Rattle.requests.specs.Collection.{collection_of};
-ghost use Rattle.requests.specs.Request.{get, list, watch, refused};
+ghost use Rattle.requests.specs.Refusal.{first_of};
+ghost use Rattle.requests.specs.Request.{get, list};
 ghost use Rattle.requests.specs.Selector.{selector_seen};
 ghost use Rattle.requests.specs.declared.refusal.Refusal.TheVariants.{NotFound};
+ghost use Rattle.objects.specs.Failing.{HasGrown};
+ghost use Rattle.objects.specs.declared.fault.LookupFault.TheVariants as LookupFault;
+ghost use Rattle.history.specs.declared.stored.Stored.{Stored as StoredData};
+ghost use Rattle.history.specs.Listing.{listing, watch_conditions, watching};
 ghost use Rattle.history.specs.Reply.{showing, status};
-ghost use Rattle.history.specs.View.{stored_at};
-ghost use Rattle.apicore.specs.Prepared.{IsPrepared};
+ghost use Rattle.history.specs.View.{View as Held, stored_at};
+ghost use Rattle.holdings.specs.Holdings.{Shows};
+ghost use Rattle.apicore.specs.Beside.{Beside as BesideData};
+ghost use Rattle.apicore.specs.Prepared.{IsOver, IsPrepared};
+ghost use Rattle.apicore.specs.Standing.{View};
 
+use crate::beside::Beside;
 use crate::prepared::{Core, Prepared};
 use history::Reply;
+use holdings::{Found, Source};
 use names::Key;
+use objects::LookupFault;
 use requests::{Collection, Refusal, Selector};
 use std::alloc::{AllocError, Global};
 
-// The reply to a GET.
-fn shown(core: &Core, alloc: Global, key: &Key) -> Result<Reply, AllocError>
-    ensures { IfOk result (λ r. r ≡ option_map_or (λ s. showing 200 [] s.document s.revision) (stored_at core.now.view key.now) (status NotFound)) }
+// The reply that shows what was found, if anything was.
+fn reply_of(alloc: Global, found: Option<&Found>) -> Result<Reply, AllocError>
+    ensures { IfOk result (λ r. r ≡ option_map_or (λ f. showing 200 [] f.now.document f.now.revision) found.entry (status NotFound)) }
 {
-    match core.stored(key) {
-        Some(stored) => {
+    match found {
+        Some(found) => {
             let warnings = Vec::new(alloc);
-            Reply::showing(alloc, 200, warnings, &stored.document, stored.revision)
+            Reply::showing(alloc, 200, warnings, &found.document, found.revision)
         }
         None => Reply::status(alloc, Refusal::NotFound),
     }
 }
 
-/// The step of a GET.
-#[tactic(auto, using(crate::proofs::Deciding::get_prepared))]
-pub(crate) fn get(core: &Core, alloc: Global, key: &Key) -> Result<Prepared, AllocError>
-    ensures step { IfOk result (IsPrepared core.now (get key.now)) }
-    ensures ready { IfOk result (λ p. p.write ≡ None) }
+// The reply to a GET.
+fn shown<S: Source<Beside>>(
+    core: &Core,
+    alloc: Global,
+    source: &mut S,
+    key: &Key,
+) -> Result<Reply, LookupFault>
+    ensures reply { (held : Held BesideData) (v : View) → IsOver (S.holds source.old) core.now held v → IfOk result
+        (λ r. r ≡ option_map_or (λ s. showing 200 [] s.document s.revision) (stored_at held key.now) (status NotFound)) }
+    ensures kept { (base : List (KeyData × StoredData BesideData)) → S.holds source.old base → S.holds source.new base }
+    ensures goes { S.goes_to source.old source.new }
+    ensures counts { S.failures source.old ≤ S.failures source.new }
+    ensures device { IsErrOf result LookupFault.Device → HasGrown (S.failures source.old) (S.failures source.new) }
+    ensures damaged { IsErrOf result LookupFault.Damaged → S.is_damaged source.new }
 {
-    Ok(Prepared::replying(shown(core, alloc, key)?))
+    let found = core.find(alloc, source, key)?;
+    Ok(reply_of(alloc, found.as_ref())?)
+}
+
+/// The step of a GET.
+pub(crate) fn get<S: Source<Beside>>(
+    core: &Core,
+    alloc: Global,
+    source: &mut S,
+    key: &Key,
+) -> Result<Prepared, LookupFault>
+    ensures step { IfOk result (IsPrepared (S.holds source.old) core.now (get key.now)) }
+    ensures ready { IfOk result (λ p. p.write ≡ None) }
+    ensures kept { (base : List (KeyData × StoredData BesideData)) → S.holds source.old base → S.holds source.new base }
+    ensures goes { S.goes_to source.old source.new }
+    ensures counts { S.failures source.old ≤ S.failures source.new }
+    ensures device { IsErrOf result LookupFault.Device → HasGrown (S.failures source.old) (S.failures source.new) }
+    ensures damaged { IsErrOf result LookupFault.Damaged → S.is_damaged source.new }
+{
+    Ok(Prepared::replying(shown(core, alloc, source, key)?))
+}
+
+// The reply to a list.
+fn listed<S: Source<Beside>>(
+    core: &Core,
+    alloc: Global,
+    source: &mut S,
+    collection: &Collection,
+    selector: &Selector,
+) -> Result<Reply, LookupFault>
+    ensures reply { (held : Held BesideData) (v : View) → IsOver (S.holds source.old) core.now held v
+        → IfOk result (λ r. r ≡ listing held (collection_of collection.now) (selector_seen selector.now)) }
+    ensures kept { (base : List (KeyData × StoredData BesideData)) → S.holds source.old base → S.holds source.new base }
+    ensures goes { S.goes_to source.old source.new }
+    ensures counts { S.failures source.old ≤ S.failures source.new }
+    ensures device { IsErrOf result LookupFault.Device → HasGrown (S.failures source.old) (S.failures source.new) }
+    ensures damaged { IsErrOf result LookupFault.Damaged → S.is_damaged source.new }
+{
+    let below = source.list(alloc, collection.resource, collection.namespace())?;
+    Ok(core.listed(alloc, collection, selector, &below)?)
 }
 
 /// The step of a list.
-#[tactic(auto, using(crate::proofs::Deciding::list_prepared))]
-pub(crate) fn list(
+pub(crate) fn list<S: Source<Beside>>(
     core: &Core,
     alloc: Global,
+    source: &mut S,
     collection: &Collection,
     selector: &Selector,
-) -> Result<Prepared, AllocError>
-    ensures step { IfOk result (IsPrepared core.now (list (collection_of collection.now) (selector_seen selector.now))) }
+) -> Result<Prepared, LookupFault>
+    ensures step { IfOk result (IsPrepared (S.holds source.old) core.now (list (collection_of collection.now) (selector_seen selector.now))) }
     ensures ready { IfOk result (λ p. p.write ≡ None) }
+    ensures kept { (base : List (KeyData × StoredData BesideData)) → S.holds source.old base → S.holds source.new base }
+    ensures goes { S.goes_to source.old source.new }
+    ensures counts { S.failures source.old ≤ S.failures source.new }
+    ensures device { IsErrOf result LookupFault.Device → HasGrown (S.failures source.old) (S.failures source.new) }
+    ensures damaged { IsErrOf result LookupFault.Damaged → S.is_damaged source.new }
 {
-    Ok(Prepared::replying(core.listed(alloc, collection, selector)?))
+    let reply = listed(core, alloc, source, collection, selector)?;
+    Ok(Prepared::replying(reply))
 }
 
-/// The step of a watch.
-#[tactic(auto, using(crate::proofs::Deciding::watch_prepared))]
+/// The step of a watch, which asks no source.
 pub(crate) fn watch(
     core: &Core,
     alloc: Global,
     collection: &Collection,
     revision: u64,
 ) -> Result<Prepared, AllocError>
-    ensures step { IfOk result (IsPrepared core.now (watch (collection_of collection.now) revision)) }
+    ensures reply { (base : List (KeyData × StoredData BesideData)) (held : Held BesideData) → Shows core.now base held
+        → IfOk result (λ p. p.reply ≡ option_map_or status (first_of (watch_conditions core.now.rules held revision)) (watching held (collection_of collection.now) revision)) }
     ensures ready { IfOk result (λ p. p.write ≡ None) }
 {
     Ok(Prepared::replying(core.told(alloc, collection, revision)?))
 }
 
 /// The step of a request that is refused for itself.
-#[tactic(auto, using(crate::proofs::Deciding::refused_prepared))]
-pub(crate) fn refuse(core: &Core, alloc: Global, refusal: Refusal) -> Result<Prepared, AllocError>
-    ensures step { IfOk result (IsPrepared core.now (refused refusal)) }
+pub(crate) fn refuse(alloc: Global, refusal: Refusal) -> Result<Prepared, AllocError>
+    ensures reply { IfOk result (λ p. p.reply ≡ status refusal) }
     ensures ready { IfOk result (λ p. p.write ≡ None) }
 {
     Ok(Prepared::replying(Reply::status(alloc, refusal)?))

@@ -1,23 +1,27 @@
 //! What refuses a request before the policies are asked, and the steps that tell a refusal.
 
-ghost use Rattle.std.specs.Prelude.{◌≡◌, IsTrue, IfOk, option_map, string_bytes};
-ghost use Rattle.names.specs.Key.{is_key};
+ghost use Rattle.std.specs.Prelude.{◌≡◌, ◌<◌, List, None, IfOk, option_map, string_bytes};
+ghost use Rattle.names.specs.Key.{Key as KeyData};
 ghost use Rattle.requests.specs.Codes.{document_in};
+ghost use Rattle.history.specs.declared.stored.Stored.{Stored as StoredData};
+ghost use Rattle.history.specs.View.{View as Held};
+ghost use Rattle.holdings.specs.Holdings.{Shows};
+ghost use Rattle.apicore.specs.Beside.{Beside as BesideData};
 ghost use Rattle.apicore.specs.Judged.{IsRefused};
-ghost use Rattle.apicore.specs.Step.{known, with_bad_expression, denied_by, first_of, reason_code, reason_word, create_limits, replace_conditions, replace_limits, delete_conditions};
+ghost use Rattle.apicore.specs.Step.{known, with_bad_expression, denied_by, first_of, reason_code, reason_word, create_limits, replace_limits};
 
-use crate::conflicts::{deletion_conflicts, update_conflicts};
 use crate::prepared::{Core, Prepared};
 use bindings::denial_text;
 use history::Reply;
-use names::Key;
 use policy::Reason;
 use requests::{Manifest, Refusal};
 use std::alloc::{AllocError, Global};
 
 /// The first limit of the store that refuses a new object.
 pub(crate) fn create_limit(core: &Core, manifest: &Manifest) -> Option<Refusal>
-    ensures { option_map known result ≡ first_of (create_limits core.now.rules core.now.view (document_in manifest.now.body)) }
+    ensures shown { (base : List (KeyData × StoredData BesideData)) (held : Held BesideData) → Shows core.now base held
+        → option_map known result ≡ first_of (create_limits core.now.rules held (document_in manifest.now.body)) }
+    ensures room { result ≡ None → core.now.revision < core.now.rules.greatest_revision }
 {
     // The document, of which the text speaks.
     let _document = manifest.document();
@@ -33,26 +37,11 @@ pub(crate) fn create_limit(core: &Core, manifest: &Manifest) -> Option<Refusal>
     None
 }
 
-/// What refuses an update for the object that stands at its key.
-pub(crate) fn replace_refusal(
-    core: &Core,
-    alloc: Global,
-    manifest: &Manifest,
-) -> Result<Option<Refusal>, AllocError>
-    ensures { IfOk result (λ r. option_map known r ≡ first_of (replace_conditions core.now.view manifest.now.key manifest.now.version)) }
-{
-    if !core.holds(manifest.key()) {
-        return Ok(Some(Refusal::NotFound));
-    }
-    if update_conflicts(core, alloc, manifest)? {
-        return Ok(Some(Refusal::VersionNotCurrent));
-    }
-    Ok(None)
-}
-
 /// The first limit of the store that refuses an update.
 pub(crate) fn replace_limit(core: &Core, manifest: &Manifest) -> Option<Refusal>
-    ensures { option_map known result ≡ first_of (replace_limits core.now.rules core.now.view (document_in manifest.now.body)) }
+    ensures shown { (base : List (KeyData × StoredData BesideData)) (held : Held BesideData) → Shows core.now base held
+        → option_map known result ≡ first_of (replace_limits core.now.rules held (document_in manifest.now.body)) }
+    ensures room { result ≡ None → core.now.revision < core.now.rules.greatest_revision }
 {
     // The document, of which the text speaks.
     let _document = manifest.document();
@@ -63,31 +52,6 @@ pub(crate) fn replace_limit(core: &Core, manifest: &Manifest) -> Option<Refusal>
         return Some(Refusal::RevisionExhausted);
     }
     None
-}
-
-/// The first refusal of a deletion.
-pub(crate) fn delete_refusal(
-    core: &Core,
-    alloc: Global,
-    key: &Key,
-    version: &Option<String>,
-) -> Result<Option<Refusal>, AllocError>
-    ensures refusal { IfOk result
-        (λ r. option_map known r ≡ first_of (delete_conditions core.now.rules core.now.view key.now (option_map string_bytes version.now))) }
-    ensures form { IsTrue (is_key key.now) }
-{
-    // A name of the key, which is well-formed.
-    let _name = key.name();
-    if !core.holds(key) {
-        return Ok(Some(Refusal::NotFound));
-    }
-    if deletion_conflicts(core, alloc, key, version)? {
-        return Ok(Some(Refusal::VersionNotCurrent));
-    }
-    if core.is_exhausted() {
-        return Ok(Some(Refusal::RevisionExhausted));
-    }
-    Ok(None)
 }
 
 /// The step that a refusal of the table makes.
@@ -134,14 +98,14 @@ fn reason_word(reason: Reason) -> &'static str
 /// The step of a write that a policy denies.
 pub(crate) fn denied(
     alloc: Global,
-    policy: &str,
-    binding: &str,
+    policy: String,
+    binding: String,
     reason: Reason,
-    message: &str,
+    message: String,
 ) -> Result<Prepared, AllocError>
-    ensures { IfOk result (IsRefused (denied_by policy.now binding.now reason message.now)) }
+    ensures { IfOk result (IsRefused (denied_by (string_bytes policy) (string_bytes binding) reason (string_bytes message))) }
 {
-    let text = denial_text(alloc, policy, binding, message)?;
+    let text = denial_text(alloc, policy.as_str(), binding.as_str(), message.as_str())?;
     let reply = Reply::saying(
         alloc,
         reason_code(reason),

@@ -1,4 +1,4 @@
-//! The core, as objects are looked up in it.
+//! The core over a source, as objects are looked up in them.
 
 ghost use Rattle.std.specs.Prelude.{◌≡◌, map, IfOk};
 ghost use Rattle.bindings.specs.Seen.{held_by, listed_seen};
@@ -8,52 +8,52 @@ use crate::beside::Beside;
 use crate::prepared::Core;
 use bindings::{Found, Listed, Lookup, wanted_among};
 use history::Stored;
+use holdings::Source;
 use jsondoc::Doc;
 use names::{Key, Resource};
-use objects::{Entry, LookupFault};
+use objects::LookupFault;
+use overlay::Lent;
 use policy::Wanted;
 use std::alloc::{AllocError, Global};
 
-/// A core, as objects are looked up in it.
+/// A core over a source, as objects are looked up in them: policies and bindings in memory, parameters in both.
 #[derive(Drop)]
-pub(crate) struct Sight<'a> {
+pub(crate) struct Sight<'a, 's, S> {
     pub(crate) core: &'a Core,
+    pub(crate) source: &'s mut S,
 }
 
-impl<'a> Lookup<'a> for Sight<'a> {
-    ghost use Rattle.std.specs.Prelude.{◌≡◌, refl};
-    ghost use Rattle.std.proofs.Common.{◌∙◌};
-    ghost use Rattle.apicore.specs.Sights.{Sees};
+impl<'a, 's, S: Source<Beside>> Lookup<'a> for Sight<'a, 's, S> {
+    ghost use Rattle.apicore.specs.Sights.{Sees, Goes, stays, goes_on};
 
-    ghost shows = { Sees };
+    ghost shows = { Sees S.holds };
 
-    ghost failures = { λ _. 0 };
+    ghost failures = { λ s. S.failures s.source.now };
 
-    ghost is_damaged = { λ _. ⊥ };
+    ghost is_damaged = { λ s. S.is_damaged s.source.now };
 
-    ghost goes_to = { λ before after. after.core.now ≡ before.core.now };
+    ghost goes_to = { Goes S.holds S.goes_to };
 
-    ghost ascending = { λ _ _ sees. sees.1 };
+    ghost ascending = { λ _ _ sees. sees.ascends };
 
-    ghost shows_nothing = { λ _ _ _ never. never };
+    ghost shows_nothing = { λ s _ sees damaged. S.holds_nothing s.source.now sees.base sees.below damaged };
 
-    ghost stays = { λ _. refl };
+    ghost stays = { stays S.holds S.goes_to S.stays };
 
-    ghost goes_on = { λ _ _ _ first second. second ∙ first };
+    ghost goes_on = { goes_on S.holds S.goes_to S.goes_on };
 
-    #[tactic(auto, using(crate::proofs::Finding::value_found))]
     fn policy(&mut self, _alloc: Global, key: &Key) -> Result<Option<Found<'a>>, LookupFault> {
-        match self.core.stored(key) {
-            Some(stored) => Ok(Some(lent(stored))),
+        match self.core.change(key) {
+            Some(Some(stored)) => Ok(Some(lent(stored))),
+            Some(None) => Ok(None),
             None => Ok(None),
         }
     }
 
-    #[tactic(auto, using(crate::proofs::Finding::listed_found))]
     fn bindings(&mut self, alloc: Global) -> Result<Vec<Listed<'a>>, LookupFault> {
         let bindings = Resource::ValidatingAdmissionPolicyBinding;
-        let entries = self.core.entries_of(alloc, bindings, None)?;
-        Ok(all_lent(alloc, &entries)?)
+        let objects = self.core.held(alloc, bindings)?;
+        Ok(all_lent(alloc, &objects)?)
     }
 
     fn parameters(
@@ -63,8 +63,9 @@ impl<'a> Lookup<'a> for Sight<'a> {
         namespace: &str,
         wanted: &Wanted,
     ) -> Result<Vec<Doc>, LookupFault> {
-        let entries = self.core.entries_of(alloc, resource, Some(namespace))?;
-        let listed = all_lent(alloc, &entries)?;
+        let below = self.source.list(alloc, resource, Some(namespace))?;
+        let objects = self.core.list(alloc, resource, Some(namespace), &below)?;
+        let listed = all_lent(alloc, &objects)?;
         Ok(wanted_among(alloc, wanted, &listed)?)
     }
 }
@@ -76,18 +77,18 @@ fn lent(stored: &Stored<Beside>) -> Found<'_>
     stored.beside.found(&stored.document, stored.revision)
 }
 
-// The entries, lent.
+// Objects, lent.
 fn all_lent<'a>(
     alloc: Global,
-    entries: &[&'a Entry<Stored<Beside>>],
+    objects: &[Lent<'a, Stored<Beside>>],
 ) -> Result<Vec<Listed<'a>>, AllocError>
-    ensures { IfOk result (λ v. map listed_seen v.items ≡ map entry_held (map (λ entry. entry.now) entries.now)) }
+    ensures { IfOk result (λ v. map listed_seen v.items ≡ map entry_held objects.now) }
 {
-    let mut listed = Vec::with_capacity(alloc, entries.len())?;
-    for entry in entries {
+    let mut listed = Vec::with_capacity(alloc, objects.len())?;
+    for object in objects {
         listed.push(Listed {
-            key: entry.key(),
-            found: lent(entry.value()),
+            key: object.key,
+            found: lent(object.value),
         })?;
     }
     Ok(listed)

@@ -8,7 +8,7 @@ use Rattle.device.specs.Run.{Ran}
 use Rattle.device.proofs.Runs.{ran_then}
 use Rattle.names.specs.Key.{Key}
 use Rattle.documents.specs.Document.{Document}
-use Rattle.history.specs.declared.state.Stored.{Stored}
+use Rattle.history.specs.declared.stored.Stored.{Stored}
 use Rattle.pages.specs.Page.{Entry}
 use Rattle.shelf.specs.Shelf.{device_of, root_of, Shelves}
 use Rattle.stock.specs.declared.stocked.Stocked.{Stocked}

@@ -6,7 +6,7 @@ use Rattle.std.specs.Ordering.{eq_by_cmp}
 use Rattle.names.specs.Key.{Key, key_cmp}
 use Rattle.documents.specs.Document.{Document}
 use Rattle.objects.specs.Objects.{value_at}
-use Rattle.history.specs.declared.state.Stored.{Stored}
+use Rattle.history.specs.declared.stored.Stored.{Stored}
 use Rattle.holdings.specs.Sources.{found_in}
 use Rattle.stock.specs.Stock.{plain}
 use Rattle.base.specs.Base.{found_of, whole}

@@ -7,7 +7,7 @@ use Rattle.device.specs.Step.{Same}
 use Rattle.device.specs.Run.{Ran}
 use Rattle.names.specs.Key.{Key}
 use Rattle.documents.specs.Document.{Document}
-use Rattle.history.specs.declared.state.Stored.{Stored}
+use Rattle.history.specs.declared.stored.Stored.{Stored}
 use Rattle.holdings.specs.declared.source.Found.{Found}
 use Rattle.pages.specs.Page.{Entry}
 use Rattle.shelf.specs.Shelf.{device_of, root_of, Shelves}

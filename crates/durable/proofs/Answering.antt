@@ -1,35 +1,39 @@
 -- What a prepared step makes of a store.
-use Rattle.std.proofs.Common.{arith, ◌≡◌, ◌∙◌, sym, ap, subst, map, ◌≤◌, ◌^◌, ◌++◌, ℕ, List, [], ◌∷◌, refl, true, false, Option, Some, None, Result, Ok, Err, IfOk, OnOk, IsErrOf, is_ok, true≢false}
+use Rattle.std.proofs.Common.{arith, ◌≡◌, ◌∙◌, sym, ap, subst, map, ◌≤◌, ◌^◌, ◌++◌, ℕ, List, [], ◌∷◌, length, refl, true, false, Option, Some, None, Result, Ok, Err, IfOk, OnOk, OnErr, IsErrOf, is_ok, true≢false}
 use Rattle.std.specs.List.{AllByRecursion}
 use Rattle.device.specs.declared.device.Device.{Ghosts}
 use Rattle.device.specs.Run.{Stands}
 use Rattle.names.specs.declared.format.Rules.{Rules}
+use Rattle.names.specs.Key.{Key}
 use Rattle.requests.specs.Request.{Request, RequestHasForm}
 use Rattle.history.specs.History as plain
 use Rattle.history.specs.History.{put, delete}
-use Rattle.history.specs.Mapped.{mapped, mapped_write}
-use Rattle.history.specs.Prepared.{write_of, writes_of}
-use Rattle.history.specs.declared.prepared.PreparedWrite.{PreparedWrite}
-use Rattle.history.specs.State.{State}
+use Rattle.history.specs.Mapped.{mapped_write}
 use Rattle.history.specs.View as seen
 use Rattle.history.specs.View.{view, empty, after_all}
-use Rattle.history.proofs.Mapping.{all_mapped}
+use Rattle.history.specs.declared.stored.Stored.{Stored}
 use Rattle.history.proofs.ViewLemmas.{after_all-append, objects_ascend}
+use Rattle.holdings.specs.Holdings as holdings
+use Rattle.holdings.specs.Holdings.{State, ShowsSame}
+use Rattle.holdings.specs.Prepared.{puts, writes_of, AreNext}
+use Rattle.holdings.specs.declared.prepared.PreparedWrite.{PreparedWrite}
+use Rattle.holdings.specs.declared.prepared.PreparedWrite.TheVariants as prepared
 use Rattle.records.specs.Payload as bytes
-use Rattle.records.specs.Gathered.{Gathers}
+use Rattle.records.specs.Gathered.{Gathers, count_of}
 use Rattle.records.specs.declared.group.Group.{Group}
 use Rattle.apicore.specs.Beside.{Beside}
 use Rattle.apicore.specs.declared.prepared.Prepared.{Prepared}
-use Rattle.apicore.specs.Standing.{Write, History, View, IsView, MayFollow, AllMayFollow, plans_beside, with_plans, write_with_plans, recorded}
+use Rattle.apicore.specs.Standing.{Write, History, View, IsView, MayFollow, AllMayFollow, write_with_plans, recorded}
 use Rattle.apicore.specs.Step.{Asked, writes}
-use Rattle.apicore.specs.Prepared.{Shows, IsReadOf, IsStepOf, IsPrepared, plans_held}
+use Rattle.apicore.specs.Prepared.{ShowsOver, IsReadOf, IsPrepared, plans_held}
 use Rattle.apicore.proofs.Following.{IsKeyOf, key_of_written, AllMayFollow-writes}
 use Rattle.apicore.proofs.Staying.{trees_stay, histories_show}
 use Rattle.durable.specs.declared.store.Store.{Store}
 use Rattle.durable.specs.Ready.{HoldsHistory}
-use Rattle.durable.specs.Gathered.{in_record, prepared_in_record, CanBeAppended, HasStepped}
+use Rattle.durable.specs.Gathered.{in_record, prepared_in_record, CanBeAppended, HasStepped, StaysAs}
 use Rattle.durable.specs.Stands.{StandsFor}
-use Rattle.durable.specs.Settled.{ServesAt, IsSettledAt, device_of, serves, kept_rules, shown}
+use Rattle.durable.specs.Settled.{ServesAt, IsSettledAt, IsShown, revision_of, device_of, serves, kept_rules}
+use Rattle.durable.proofs.Showing.{shown_still, revision_shown, step_at, shown_then}
 
 -- ---- results
 
@@ -44,11 +48,33 @@ pub on_success : {T E : Type 0} (P : Type 0) (r : Result T E) → is_ok r ≡ tr
 on_success P (Ok x) ok holds = holds
 on_success P (Err e) ok holds = absurd (true≢false (sym ok))
 
+-- what holds anyway holds at an error
+pub on_err : {T E P : Type 0} (r : Result T E) → P → OnErr r P
+on_err (Ok x) holds = tt
+on_err (Err e) holds = holds
+
 -- ---- what a store shows, and what its device holds
 
 -- what is seen after the writes
 pub view-after : (rules : Rules) (h : History) (ws : List Write) → after_all rules (view rules h) ws ≡ view rules (h ++ ws)
 view-after rules h ws = sym (after_all-append rules empty h ws)
+
+-- a store shows what another one with its core shows
+pub shown_by : {D : Type 0} {g : Ghosts D} (old new : Store D g) (v : View) → new.core ≡ old.core → IsShown old v → IsShown new v
+shown_by old new v same is = let Shown : State Beside → Type 0 = λ core. ShowsOver core [] v in subst Shown (sym same) is
+
+-- and has the revision of what it shows
+pub revision_is : {D : Type 0} {g : Ghosts D} (store : Store D g) (v : View) → IsShown store v → revision_of store ≡ v.revision
+revision_is store v is = revision_shown [] store.core v is
+
+-- A store that serves, with the core of one that served this, serves this.
+pub serving_by : {D : Type 0} {g : Ghosts D} (old new : Store D g) → new.core ≡ old.core → serves new ≡ true → (rules : Rules) (v : View) → ServesAt rules old v → ServesAt rules new v
+serving_by old new same working rules v serving = record {
+  working = working;
+  rules_are = ap (λ (core : State Beside). core.rules) same ∙ serving.rules_are;
+  shows = shown_by old new v same serving.shows;
+  seen = serving.seen;
+}
 
 -- a settled store's device holds its history
 pub held : {D : Type 0} {g : Ghosts D} (rules : Rules) (store : Store D g) (h : History) → IsSettledAt rules store h → HoldsHistory rules g.disk (device_of store) h
@@ -57,19 +83,17 @@ held rules store h settled = record { keeps = settled.keeps; read = settled.read
 -- A store that shows what it showed is settled at the history that its device holds.
 pub settled_by : {D : Type 0} {g : Ghosts D} (rules : Rules) (old new : Store D g) (h : History) → IsSettledAt rules old h → new.core ≡ old.core → serves new ≡ true
     → Stands g.disk (device_of old) (device_of new) (λ c. StandsFor rules c h) (λ c. StandsFor rules c h) → IsSettledAt rules new h
-settled_by rules old new h settled same working stands =
-    let Shown : State Beside → Type 0 = λ core. Shows core.view (view rules h) in
-    record {
-      working = working;
-      rules_are = ap (λ (core : State Beside). core.rules) same ∙ settled.rules_are;
-      keeps = stands.kept;
-      shows = subst Shown (sym same) settled.shows;
-      read = stands.seen;
-      left = stands.crash;
-    }
+settled_by rules old new h settled same working stands = record {
+  working = working;
+  rules_are = ap (λ (core : State Beside). core.rules) same ∙ settled.rules_are;
+  keeps = stands.kept;
+  shows = shown_by old new (view rules h) same settled.shows;
+  read = stands.seen;
+  left = stands.crash;
+}
 
 -- and the other way round
-pub settled_from : {D : Type 0} {g : Ghosts D} (rules : Rules) (store : Store D g) (h : History) → serves store ≡ true → kept_rules store ≡ rules → Shows (shown store) (view rules h)
+pub settled_from : {D : Type 0} {g : Ghosts D} (rules : Rules) (store : Store D g) (h : History) → serves store ≡ true → kept_rules store ≡ rules → IsShown store (view rules h)
     → HoldsHistory rules g.disk (device_of store) h → IsSettledAt rules store h
 settled_from rules store h working numbers shows holds = record { working = working; rules_are = numbers; keeps = holds.keeps; shows = shows; read = holds.read; left = holds.left }
 
@@ -82,17 +106,8 @@ settled_serves rules store h settled =
 pub settled_after : {D : Type 0} {g : Ghosts D} (rules : Rules) (store : Store D g) (h : History) (ws : List Write) → ServesAt rules store (after_all rules (view rules h) ws)
     → HoldsHistory rules g.disk (device_of store) (h ++ ws) → IsSettledAt rules store (h ++ ws)
 settled_after rules store h ws serving holds =
-    let Shown : View → Type 0 = λ v. Shows (shown store) v in
+    let Shown : View → Type 0 = λ v. IsShown store v in
     settled_from rules store (h ++ ws) serving.working serving.rules_are (subst Shown (view-after rules h ws) serving.shows) holds
-
--- what is shown after writes that are held with the plans of these
-shown_after : (rules : Rules) (held : seen.View Beside) (v : View) (ws : List (plain.Write Beside)) (us : List Write) → Shows held v
-    → map (mapped_write plans_held) ws ≡ map write_with_plans us → Shows (after_all rules held ws) (after_all rules v us)
-shown_after rules held v ws us shows same =
-    all_mapped plans_held rules held ws
-    ∙ ap (λ (x : seen.View Beside). after_all rules x (map (mapped_write plans_held) ws)) shows
-    ∙ ap (λ (xs : List (plain.Write Beside)). after_all rules (with_plans v) xs) same
-    ∙ sym (all_mapped plans_beside rules v us)
 
 -- the plans of a text can be held
 abbrev pub Small : Rules → Type 0
@@ -105,21 +120,21 @@ seen_after rules small v a is form read = record {
   trees = trees_stay rules v (writes rules v a) is.trees (AllMayFollow-writes rules v a.request a.specification small form read);
 }
 
--- ---- the step
-
--- the step under the store's numbers
-step_under : (kept rules : Rules) (v : View) (a : Asked) (p : Prepared) → kept ≡ rules → IsStepOf kept v a p → IsStepOf rules v a p
-step_under kept rules v a p same step = let Of : Rules → Type 0 = λ r. IsStepOf r v a p in subst Of same step
-
--- at what the store shows it is the model's
-step_at : {D : Type 0} {g : Ghosts D} (rules : Rules) (old : Store D g) (r : Request) (p : Prepared) (is : IsPrepared old.core r p) (v : View) → ServesAt rules old v
-    → IsStepOf rules v (record { request = r; specification = is.specification }) p
-step_at rules old r p is v serving =
-    step_under old.core.rules rules v (record { request = r; specification = is.specification }) p serving.rules_are (is.step v serving.shows serving.seen)
-
 -- those of the texts that a store takes can
 small_at : {D : Type 0} {g : Ghosts D} (rules : Rules) (store : Store D g) → kept_rules store ≡ rules → Small rules
 small_at rules store same = subst Small same store.limits
+
+-- ---- the step
+
+puts_at_most : (k : Key) (stored : Option (Stored Beside)) → length (puts k stored) ≤ 1
+puts_at_most k None = omega arith
+puts_at_most k (Some s) = omega arith
+
+-- a prepared step makes one write at most
+one_at_most : (asked : Option (PreparedWrite Beside)) → length (writes_of asked) ≤ 1
+one_at_most None = omega arith
+one_at_most (Some (prepared.Put p)) = puts_at_most p.key p.stored
+one_at_most (Some (prepared.Delete d)) = omega arith
 
 none_of : (ws : List Write) → [] ≡ map write_with_plans ws → ws ≡ []
 none_of [] is = refl
@@ -135,19 +150,21 @@ storable_of rules small v (put k d trees) may key = (may.0.form, omega (arith, s
 storable_of rules small v (delete k) may key = key
 
 -- What a request writes may follow, and a record can hold it.
-appendable_of : (rules : Rules) → Small rules → (v : View) (a : Asked) (p : Prepared) → IsStepOf rules v a p → RequestHasForm a.request → IsReadOf a.request a.specification
+appendable_of : (rules : Rules) → Small rules → (v : View) (a : Asked) (asked : Option (PreparedWrite Beside))
+    → map (mapped_write plans_held) (writes_of asked) ≡ map write_with_plans (writes rules v a) → RequestHasForm a.request → IsReadOf a.request a.specification
     → CanBeAppended rules v (writes rules v a)
-appendable_of rules small v a p step form read = record { follow = follow; storable = go p.write step.writes }
+appendable_of rules small v a asked are form read = record { follow = follow; storable = go (writes_of asked) (one_at_most asked) are }
   where
     follow : AllMayFollow rules v (writes rules v a)
     follow = AllMayFollow-writes rules v a.request a.specification small form read
 
-    go : (asked : Option (PreparedWrite Beside)) → map (mapped_write plans_held) (writes_of asked) ≡ map write_with_plans (writes rules v a)
+    go : (us : List (plain.Write Beside)) → length us ≤ 1 → map (mapped_write plans_held) us ≡ map write_with_plans (writes rules v a)
         → AllByRecursion bytes.IsStorable (in_record (writes rules v a))
-    go None are = let Storable : List Write → Type 0 = λ ws. AllByRecursion bytes.IsStorable (in_record ws) in subst Storable (sym (none_of (writes rules v a) are)) tt
-    go (Some q) are =
+    go [] few are = let Storable : List Write → Type 0 = λ ws. AllByRecursion bytes.IsStorable (in_record ws) in subst Storable (sym (none_of (writes rules v a) are)) tt
+    go (u ∷ w ∷ us) few are = absurd (omega (arith, few))
+    go (u ∷ []) few are =
         let Storable : List Write → Type 0 = λ ws. AllByRecursion bytes.IsStorable (in_record ws) in
-        let one = one_of (writes rules v a) (mapped_write plans_held (write_of q)) are in
+        let one = one_of (writes rules v a) (mapped_write plans_held u) are in
         let All : List Write → Type 0 = λ ws. AllMayFollow rules v ws in
         subst Storable (sym one.1)
         (storable_of rules small v one.0 (subst All one.1 follow).0 (key_of_written rules v a.request a.specification one.0 form one.1), tt)
@@ -155,33 +172,44 @@ appendable_of rules small v a p step form read = record { follow = follow; stora
 -- ---- a step of a request, whose writes are gathered
 
 -- A store that shows what it showed serves what it served.
-pub serving_still : {D : Type 0} {g : Ghosts D} (old new : Store D g) → serves new ≡ serves old → kept_rules new ≡ kept_rules old → shown new ≡ shown old
+serving_still : {D : Type 0} {g : Ghosts D} (old new : Store D g) → serves new ≡ serves old → kept_rules new ≡ kept_rules old → ShowsSame old.core new.core
     → (rules : Rules) (v : View) → ServesAt rules old v → ServesAt rules new v
-serving_still old new working kept shows rules v serving =
-    record { working = working ∙ serving.working; rules_are = kept ∙ serving.rules_are; shows = ap (mapped plans_held) shows ∙ serving.shows; seen = serving.seen }
+serving_still old new working kept same rules v serving = record {
+  working = working ∙ serving.working;
+  rules_are = kept ∙ serving.rules_are;
+  shows = shown_still [] old.core new.core v same serving.shows;
+  seen = serving.seen;
+}
+
+-- memory was refused to the step
+pub not_stepped : {D : Type 0} {g : Ghosts D} (old new : Store D g) (before now : Group) → serves new ≡ serves old → kept_rules new ≡ kept_rules old → ShowsSame old.core new.core
+    → ((ws : List (plain.Write (List ℕ))) → Gathers before ws → Gathers now ws) → count_of now ≡ count_of before → StaysAs old new before now
+not_stepped old new before now working kept same gathered counted =
+    record { serving = serving_still old new working kept same; gathered = gathered; counted = counted }
 
 -- the step that was prepared is taken
-pub stepped : {D : Type 0} {g : Ghosts D} (old new : Store D g) (before now : Group) (r : Request) (p : Prepared) → IsPrepared old.core r p → RequestHasForm r → serves new ≡ serves old
-    → kept_rules new ≡ kept_rules old → shown new ≡ after_all (kept_rules old) (shown old) (writes_of p.write)
+pub stepped : {D : Type 0} {g : Ghosts D} (old new : Store D g) (before now : Group) (r : Request) (p : Prepared) (holds : List (Key × Stored Beside) → Type 0) → holds []
+    → IsPrepared holds old.core r p → RequestHasForm r → serves new ≡ serves old → kept_rules new ≡ kept_rules old
+    → ((base : List (Key × Stored Beside)) (held : seen.View Beside) → holdings.Shows old.core base held → AreNext held p.write
+    → holdings.Shows new.core base (after_all (kept_rules old) held (writes_of p.write)))
     → ((ws : List (plain.Write (List ℕ))) → Gathers before ws → Gathers now (ws ++ prepared_in_record p.write)) → HasStepped old new before now r p.reply
-stepped old new before now r p is form working kept shows gathered =
+stepped old new before now r p holds below is form working kept taken gathered =
     let a : Asked = record { request = r; specification = is.specification } in
     record {
       specification = is.specification;
       read = is.read;
       shown = λ rules v serving.
-          let step = step_at rules old r p is v serving in
+          let step = step_at [] holds below old.core rules r p is serving.rules_are v serving.shows serving.seen in
           let small = small_at rules old serving.rules_are in
           record {
             reply = step.reply;
             serving = record {
               working = working ∙ serving.working;
               rules_are = kept ∙ serving.rules_are;
-              shows = ap (mapped plans_held) (shows ∙ ap (λ (x : Rules). after_all x (shown old) (writes_of p.write)) serving.rules_are)
-                  ∙ shown_after rules (shown old) v (writes_of p.write) (writes rules v a) serving.shows step.writes;
+              shows = shown_then [] old.core new.core rules v a p serving.rules_are serving.shows step (taken []);
               seen = seen_after rules small v a serving.seen form is.read;
             };
-            appendable = appendable_of rules small v a p step form is.read;
+            appendable = appendable_of rules small v a p.write step.writes form is.read;
             gathered = λ ws has.
                 let Now : List (plain.Write (List ℕ)) → Type 0 = λ us. Gathers now (ws ++ us) in
                 subst Now (ap (map recorded) step.writes) (gathered ws has);

@@ -11,13 +11,10 @@ use Rattle.names.specs.declared.format.Rules.{Rules}
 use Rattle.requests.specs.Request.{Request}
 use Rattle.history.specs.History as plain
 use Rattle.history.specs.Reply.{Reply}
-use Rattle.history.specs.State.{State}
 use Rattle.history.specs.View.{view, after_all}
 use Rattle.records.specs.Gathered.{Gathers, count_of}
 use Rattle.records.specs.Payload.{IsStorable, group_limit}
 use Rattle.records.specs.declared.group.Group.{Group}
-use Rattle.apicore.specs.Beside.{Beside}
-use Rattle.apicore.specs.Prepared.{Shows}
 use Rattle.apicore.specs.Standing.{Write, History, View, write_with_plans, recorded}
 use Rattle.apicore.specs.Step.{Asked, writes, accepted, replies}
 use Rattle.apicore.proofs.Admitting.{written_admitted, accepted_admitted}
@@ -30,7 +27,7 @@ use Rattle.durable.specs.Recorded.{IsGroup}
 use Rattle.durable.specs.Gathered.{in_record, CanBeAppended, HasStepped, StaysAs, HasGathered, HasGatheredMore, HasAnswered}
 use Rattle.durable.specs.Settled.{added, AreAsked, IsFound, ServesAt, IsSettledAt, IsLeftAt, LeavesSome, HasReplied, HasFailedAt, HasServed, HasStopped, device_of, serves}
 use Rattle.durable.proofs.Findings.{found_none, leaves-idle}
-use Rattle.durable.proofs.Answering.{held, settled_from, settled_serves, settled_after}
+use Rattle.durable.proofs.Answering.{held, serving_by, settled_from, settled_serves, settled_after}
 use Rattle.durable.proofs.Running.{accepted-append, replies-append, view_then, first_of}
 use Rattle.durable.proofs.Runs.{asked_then, run_none, run_then, run_stopped}
 
@@ -198,13 +195,7 @@ module _ {D : Type 0} {g : Ghosts D} (old mid new : Store D g) (group : Group) (
 
   -- a store that goes on serves what it served
   pub serving_then : serves new ≡ true → (rules : Rules) (v : View) → ServesAt rules mid v → ServesAt rules new v
-  serving_then working rules v serving =
-      record {
-        working = working;
-        rules_are = ap (λ (x : State Beside). x.rules) core ∙ serving.rules_are;
-        shows = let Shown : State Beside → Type 0 = λ x. Shows x.view v in subst Shown (sym core) serving.shows;
-        seen = serving.seen;
-      }
+  serving_then working rules v serving = serving_by mid new core working rules v serving
 
   module _ (rules : Rules) (h : History) (ws : List Write) (settled : IsSettledAt rules old h) (has : Gathers group (in_record ws)) (can : CanBeAppended rules (view rules h) ws) where
     pub appended_moments : LeavesSome rules old new h ws

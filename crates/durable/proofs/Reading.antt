@@ -15,25 +15,33 @@ use Rattle.history.specs.History.{put, delete}
 use Rattle.history.specs.View as seen
 use Rattle.history.specs.View.{view, after, after_all, empty}
 use Rattle.history.proofs.Mapping.{all_mapped, all_follow_mapped}
+use Rattle.history.specs.Mapped.{mapped}
 use Rattle.history.proofs.ViewLemmas.{after_all-append}
+use Rattle.holdings.specs.Holdings as holdings
+use Rattle.holdings.specs.Holdings.{State}
 use Rattle.apicore.specs.Beside.{Beside}
+use Rattle.apicore.specs.Prepared.{Shows, ShowsOver, plans_held}
 use Rattle.apicore.specs.Standing.{Write, History, View, PutsTrees, HasTrees, AllMayFollow, IsHistory, plans_beside, with_plans, write_with_plans}
 use Rattle.records.specs.Payload.{writes_in}
 use Rattle.apicore.specs.Written as written
 use Rattle.apicore.specs.Written.{IsWritten}
-use Rattle.apicore.proofs.Histories.{one_list}
+use Rattle.apicore.specs.Taken.{HasReplayed}
+use Rattle.apicore.proofs.Histories.{one_list, written_storable}
 use Rattle.durable.specs.Recorded.{payload, IsGroup}
 use Rattle.apicore.proofs.Following.{AllMayFollow-first, AllMayFollow-others}
 use Rattle.apicore.proofs.Staying.{histories_show}
-use Rattle.snapshots.specs.Keeping.{entries_of, IsKeepable}
+use Rattle.snapshots.specs.Keeping.{entries_of, IsKeepable, IsHeld}
+use Rattle.snapshots.proofs.Shown.{held_as_it_is}
 use Rattle.snapshots.proofs.Histories.{histories_are_kept}
 use Rattle.snapshots.proofs.Kept.{entries_have_one_view}
 use Rattle.durable.specs.Laws.{AtMostOneView, ReplayedIsShown}
+use Rattle.durable.specs.Opened.{IsReplayed}
 use Rattle.names.specs.declared.format.Format.{Format}
 use Rattle.names.specs.declared.format.Format.TheVariants.{First}
 use Rattle.names.specs.Format.{rules_of}
 use Rattle.durable.specs.Rules.{first_rules, AreOfFormat}
 use Rattle.durable.specs.Stands.{HoldsBase, StandsFor}
+use Rattle.durable.proofs.Showing.{no_rules}
 
 -- ---- with plans for trees
 
@@ -180,7 +188,7 @@ module _ (rules : Rules) (content : List ℕ) (h : History) (stands : StandsFor 
     }
 
     -- what was read of them, over what the checkpoint keeps, shows the history
-    pub shows_here : (payloads : List (List ℕ)) (last : ℕ) (base held : seen.View Beside) → base ≡ with_plans (view rules stands.base)
+    shows_here : (payloads : List (List ℕ)) (last : ℕ) (base held : seen.View Beside) → base ≡ with_plans (view rules stands.base)
         → HoldsLog (log_start root) payloads last content
         → (ws : List written.Write) × IsWritten rules base ws payloads × (held ≡ after_all rules base ws) → held ≡ with_plans (view rules h)
     shows_here payloads last base held shown log found =
@@ -192,6 +200,40 @@ module _ (rules : Rules) (content : List ℕ) (h : History) (stands : StandsFor 
         ∙ ap (λ (ws : List written.Write). after_all rules (with_plans v) ws) same
         ∙ sym (all_mapped plans_beside rules v (writes_in stands.groups))
         ∙ ap with_plans seen_in_parts
+
+    module _ (payloads : List (List ℕ)) (last : ℕ) (held : seen.View Beside) (shown : Shows held (view rules stands.base)) (log : HoldsLog (log_start root) payloads last content) where
+      -- over what is held of the checkpoint those payloads are of writes that may follow
+      pub written_over : IsWritten rules (mapped plans_held held) (map write_with_plans (writes_in stands.groups)) payloads
+      written_over =
+          let later : List written.Write = map write_with_plans (writes_in stands.groups) in
+          let Of : seen.View Beside → Type 0 = λ b. IsWritten rules b later payloads in
+          subst Of (sym shown) (written_here payloads last log)
+
+      -- and the store that took them shows the history
+      pub opened_shows : (core : State Beside) → HasReplayed rules held core payloads → ShowsOver core [] (view rules h)
+      opened_shows core replayed = record {
+        held = replayed.now;
+        shows = replayed.shows;
+        plans = shows_here payloads last (mapped plans_held held) (mapped plans_held replayed.now) shown log (replayed.writes, replayed.written, replayed.left);
+        free = no_rules;
+      }
+
+-- what a store holds that took writes over what it held of a checkpoint
+pub replayed_holds : (rules : Rules) (held : seen.View Beside) (core : State Beside) (payloads : List (List ℕ)) → IsHeld rules held → HasReplayed rules held core payloads
+    → (now : seen.View Beside) × holdings.Shows core [] now × IsReplayed rules now
+replayed_holds rules held core payloads is replayed =
+    let Held : seen.View Beside → Type 0 = λ v. IsHeld rules v in (
+      replayed.now,
+      replayed.shows,
+      record {
+        base = mapped plans_held held;
+        kept = subst Held (sym (held_as_it_is held)) is;
+        writes = replayed.writes;
+        storable = written_storable rules (mapped plans_held held) replayed.writes payloads replayed.written;
+        follow = replayed.written.follow;
+        shows = replayed.left;
+      },
+    )
 
 -- under the same numbers a content stands for histories of one view
 one_view_of : (rules : Rules) (content : List ℕ) (g h : History) → StandsFor rules content g → StandsFor rules content h → view rules g ≡ view rules h

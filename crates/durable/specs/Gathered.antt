@@ -6,10 +6,10 @@ use Rattle.names.specs.declared.format.Rules.{Rules}
 use Rattle.requests.specs.Request.{Request}
 use Rattle.history.specs.History as plain
 use Rattle.history.specs.Mapped.{mapped_write}
-use Rattle.history.specs.Prepared.{writes_of}
 use Rattle.history.specs.Reply.{Reply}
 use Rattle.history.specs.View.{after_all}
-use Rattle.history.specs.declared.prepared.PreparedWrite.{PreparedWrite}
+use Rattle.holdings.specs.Prepared.{writes_of}
+use Rattle.holdings.specs.declared.prepared.PreparedWrite.{PreparedWrite}
 use Rattle.records.specs.Gathered.{Gathers, count_of}
 use Rattle.records.specs.Payload.{IsStorable}
 use Rattle.records.specs.declared.group.Group.{Group}

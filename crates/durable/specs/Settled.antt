@@ -11,12 +11,13 @@ use Rattle.history.specs.Reply.{Reply}
 use Rattle.records.specs.Payload.{group_limit}
 use Rattle.history.specs.View as seen
 use Rattle.history.specs.View.{view, after_all}
+use Rattle.holdings.specs.Holdings as holdings
 use Rattle.celtree.specs.Tree.{Expr}
 use Rattle.expressions.specs.Specification.{Specification}
 use Rattle.apicore.specs.Beside.{Beside}
 use Rattle.apicore.specs.Standing.{Write, History, View, IsView, AreAdmitted}
 use Rattle.apicore.specs.Step.{Asked, writes, reply, accepted, replies}
-use Rattle.apicore.specs.Prepared.{Shows, IsReadOf}
+use Rattle.apicore.specs.Prepared.{ShowsOver, IsReadOf}
 use Rattle.durable.specs.declared.store.Store.{Store}
 use Rattle.durable.specs.Stands.{StandsFor}
 
@@ -50,8 +51,16 @@ module _ {D : Type 0} {g : Ghosts D} where
   kept_rules store = store.core.rules
 
   -- what a store holds of its objects, with their plans
-  abbrev pub shown : Store D g → seen.View Beside
-  shown store = store.core.view
+  abbrev pub Holds : Store D g → seen.View Beside → Type 0
+  Holds store held = holdings.Shows store.core [] held
+
+  -- it shows a view
+  abbrev pub IsShown : Store D g → View → Type 0
+  IsShown store v = ShowsOver store.core [] v
+
+  -- the revision that it shows
+  abbrev pub revision_of : Store D g → ℕ
+  revision_of store = store.core.revision
 
   -- the root that counts on it
   abbrev pub root_of : Store D g → Root
@@ -69,7 +78,7 @@ module _ {D : Type 0} {g : Ghosts D} where
 pub record ServesAt {D : Type 0} {g : Ghosts D} (rules : Rules) (store : Store D g) (v : View) : Type 0 where
   pub working : serves store ≡ true
   pub rules_are : kept_rules store ≡ rules
-  pub shows : Shows (shown store) v
+  pub shows : IsShown store v
   pub seen : IsView v
 
 -- The store serves, keeps to these numbers and shows this history, and it would be found again, after a crash and without one.
@@ -77,7 +86,7 @@ pub record IsSettledAt {D : Type 0} {g : Ghosts D} (rules : Rules) (store : Stor
   pub working : serves store ≡ true
   pub rules_are : kept_rules store ≡ rules
   pub keeps : g.disk.keeps (device_of store)
-  pub shows : Shows (shown store) (view rules h)
+  pub shows : IsShown store (view rules h)
   pub read : StandsFor rules (g.disk.content (device_of store)) h
   pub left : (c : List ℕ) → g.disk.left (device_of store) c → StandsFor rules c h
 

@@ -1,6 +1,6 @@
 //! What is found on a device that is opened.
 
-ghost use Rattle.std.specs.Prelude.{◌≡◌, ◌≢◌, ◌<◌, ◌≤◌, ◌*◌, ◌^◌, false, ℕ, List, length, map, IfOk, OnOk, OnErr, IsErrOf};
+ghost use Rattle.std.specs.Prelude.{◌≡◌, ◌≢◌, ◌<◌, ◌≤◌, ◌*◌, ◌^◌, [], false, ℕ, List, length, map, IfOk, OnOk, OnErr, IsErrOf};
 ghost use Rattle.device.specs.Disk.{Only, HasFailed};
 ghost use Rattle.device.specs.Step.{Same};
 ghost use Rattle.device.specs.Run.{Ran};
@@ -11,8 +11,11 @@ ghost use Rattle.apicore.specs.Standing.{History, IsHistory};
 ghost use Rattle.durable.specs.declared.fault.Damage.{Damage};
 ghost use Rattle.durable.specs.declared.fault.Fault.TheVariants as Fault;
 ghost use Rattle.durable.specs.Opened.{IsLogOf, IsReplayed};
-ghost use Rattle.apicore.specs.Prepared.{Shows};
+ghost use Rattle.apicore.specs.Beside.{Beside as BesideData};
+ghost use Rattle.apicore.specs.Prepared.{Shows, ShowsOver};
+ghost use Rattle.history.specs.View as seen;
 ghost use Rattle.history.specs.View.{view};
+ghost use Rattle.holdings.specs.Holdings as holdings;
 ghost use Rattle.snapshots.specs.Keeping.{IsHeld};
 ghost use Rattle.durable.specs.Rules.{first_rules, AreOfFormat};
 ghost use Rattle.durable.specs.Stands.{HoldsBase, StandsFor};
@@ -48,9 +51,10 @@ fn read_base<D: Device>(alloc: Global, device: &mut D, root: &Root) -> Result<Co
     requires small { log_start root.now < 2 ^ 54 }
     requires inside { D.disk.keeps device.old → 512 * log_start root.now ≤ length (D.disk.content device.old) }
     ensures rules { IfOk result (λ core. core.rules ≡ first_rules) }
-    ensures held { IfOk result (λ core. IsHeld core.rules core.view) }
+    ensures held { IfOk result (λ core. (held : seen.View BesideData) × holdings.Shows core [] held × IsHeld core.rules held) }
     ensures found { D.disk.keeps device.old → (rules : Rules) (base : History) → AreOfFormat rules → IsHistory rules base
-        → HoldsBase rules (D.disk.content device.old) root.now base → IfOk result (λ core. Shows core.view (view rules base)) }
+        → HoldsBase rules (D.disk.content device.old) root.now base
+        → IfOk result (λ core. (held : seen.View BesideData) → holdings.Shows core [] held → Shows held (view rules base)) }
     ensures damaged { D.disk.keeps device.old → (damage : Damage) → IsErrOf result (Fault.Damaged damage)
         → (rules : Rules) (base : History) → AreOfFormat rules → IsHistory rules base
         → HoldsBase rules (D.disk.content device.old) root.now base → ⊥ }
@@ -84,8 +88,8 @@ fn read_store<D: Device>(alloc: Global, device: &mut D) -> Result<Opened, Fault>
     ensures works { IfOk result (λ opened. opened.log.failed ≡ false) }
     ensures in_data { IfOk result (λ opened. 8 ≤ opened.log.start) }
     ensures found { D.disk.keeps device.old → (rules : Rules) (h : History) → StandsFor rules (D.disk.content device.old) h
-        → IfOk result (λ opened. (opened.core.rules ≡ rules) × Shows opened.core.view (view rules h)) }
-    ensures replayed { IfOk result (λ opened. IsReplayed opened.core.rules opened.core.view) }
+        → IfOk result (λ opened. (opened.core.rules ≡ rules) × ShowsOver opened.core [] (view rules h)) }
+    ensures replayed { IfOk result (λ opened. (held : seen.View BesideData) × holdings.Shows opened.core [] held × IsReplayed opened.core.rules held) }
     ensures log { D.disk.keeps device.old → IfOk result (λ opened. IsLogOf (D.disk.content device.old) opened.root opened.log) }
     ensures damaged { D.disk.keeps device.old → (damage : Damage) → IsErrOf result (Fault.Damaged damage)
         → (rules : Rules) (h : History) → StandsFor rules (D.disk.content device.old) h → ⊥ }
@@ -106,8 +110,8 @@ pub(crate) fn synced_store<D: Device>(alloc: Global, device: &mut D) -> Result<O
     ensures works { IfOk result (λ opened. opened.log.failed ≡ false) }
     ensures in_data { IfOk result (λ opened. 8 ≤ opened.log.start) }
     ensures found { D.disk.keeps device.old → (rules : Rules) (h : History) → StandsFor rules (D.disk.content device.old) h
-        → IfOk result (λ opened. (opened.core.rules ≡ rules) × Shows opened.core.view (view rules h)) }
-    ensures replayed { IfOk result (λ opened. IsReplayed opened.core.rules opened.core.view) }
+        → IfOk result (λ opened. (opened.core.rules ≡ rules) × ShowsOver opened.core [] (view rules h)) }
+    ensures replayed { IfOk result (λ opened. (held : seen.View BesideData) × holdings.Shows opened.core [] held × IsReplayed opened.core.rules held) }
     ensures log { D.disk.keeps device.old → IfOk result (λ opened. IsLogOf (D.disk.content device.old) opened.root opened.log) }
     ensures durable { D.disk.keeps device.old → OnOk result (Only (D.disk.content device.new) (D.disk.left device.new)) }
     ensures damaged { D.disk.keeps device.old → (damage : Damage) → IsErrOf result (Fault.Damaged damage)

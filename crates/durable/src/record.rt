@@ -1,11 +1,7 @@
 //! The writes of a group of requests, gathered for one record.
 
-ghost use Rattle.std.specs.Prelude.{◌≡◌, ◌<◌, ◌≤◌, ◌+◌, ◌++◌, ◌∷◌, [], ℕ, List, OnOk, OnErr};
+ghost use Rattle.std.specs.Prelude.{◌≡◌, ◌<◌, ◌≤◌, ◌+◌, ◌++◌, ℕ, List, Some, OnOk, OnErr};
 ghost use Rattle.history.specs.History.{Write as Recorded};
-ghost use Rattle.history.specs.Mapped.{mapped_write};
-ghost use Rattle.history.specs.Prepared.{write_of};
-ghost use Rattle.apicore.specs.Standing.{recorded};
-ghost use Rattle.apicore.specs.Prepared.{plans_held};
 ghost use Rattle.records.specs.Gathered.{Gathers, count_of};
 ghost use Rattle.records.specs.Payload.{group_limit};
 ghost use Rattle.durable.specs.declared.fault.Fault.TheVariants as Fault;
@@ -15,7 +11,7 @@ use crate::Fault;
 use apicore::Beside;
 use expressions::plans_bytes;
 use gatelog::LogFault;
-use history::PreparedWrite;
+use holdings::PreparedWrite;
 use records::Group;
 use std::alloc::Global;
 
@@ -46,7 +42,7 @@ pub(crate) fn gather(
 fn add(alloc: Global, group: &mut Group, write: &PreparedWrite<Beside>) -> Result<(), LogFault>
     requires { count_of group.old < group_limit }
     ensures added { (ws : List (Recorded (List ℕ))) → Gathers group.old ws
-        → OnOk result (Gathers group.new (ws ++ recorded (mapped_write plans_held (write_of write.now)) ∷ [])) }
+        → OnOk result (Gathers group.new (ws ++ prepared_in_record (Some write.now))) }
     ensures same { (ws : List (Recorded (List ℕ))) → Gathers group.old ws → OnErr result (Gathers group.new ws) }
     ensures uncounted { OnErr result (count_of group.new ≡ count_of group.old) }
     ensures count { count_of group.new ≤ count_of group.old + 1 }
@@ -60,6 +56,6 @@ fn add(alloc: Global, group: &mut Group, write: &PreparedWrite<Beside>) -> Resul
             };
             group.put(alloc, put.key(), put.text(), &plans)
         }
-        PreparedWrite::Delete(key, _) => group.delete(alloc, key),
+        PreparedWrite::Delete(deletion) => group.delete(alloc, deletion.key()),
     }
 }

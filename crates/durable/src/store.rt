@@ -7,8 +7,9 @@ ghost use Rattle.durable.specs.Ready.{IsReady};
 use crate::compacted::{Checked, Compacted};
 use crate::fault::{Damage, Fault};
 use crate::opening::synced_store;
+use crate::preparing::prepare_step;
 use crate::record::gather;
-use apicore::{Core, Prepared, has_own_plans, prepare};
+use apicore::{Core, Prepared, has_own_plans};
 use checkpoint::{EntryList, WriteFault, write};
 use device::{Device, MemDevice};
 use gatelog::{Body, Log};
@@ -55,9 +56,11 @@ impl<D: Device> Store<D> {
     ghost use Rattle.roots.specs.Root.{log_start, HoldsRoot};
     ghost use Rattle.names.specs.declared.format.Rules.{Rules};
     ghost use Rattle.requests.specs.RequestOf.{request_of};
+    ghost use Rattle.history.specs.View as seen;
     ghost use Rattle.history.specs.View.{view};
     ghost use Rattle.records.specs.Gathered.{Gathers, count_of};
     ghost use Rattle.records.specs.Payload.{group_limit};
+    ghost use Rattle.apicore.specs.Beside.{Beside};
     ghost use Rattle.apicore.specs.Standing.{Write, History, View, AllMayFollow};
     ghost use Rattle.apicore.specs.Compiled.{HasOwnPlans};
     ghost use Rattle.durable.specs.declared.fault.Damage.{Damage};
@@ -68,7 +71,7 @@ impl<D: Device> Store<D> {
     ghost use Rattle.durable.specs.Gathered.{in_record, CanBeAppended, HasStepped, StaysAs, HasGatheredMore, HasAnswered};
     ghost use Rattle.durable.specs.Ready.{IsReadyAt, HoldsHistory};
     ghost use Rattle.durable.specs.Stands.{StandsFor};
-    ghost use Rattle.durable.specs.Settled.{device_of, root_of, log_of, serves, kept_rules, shown, ServesAt, IsFound, IsSettledAt, IsLeftAt, LeavesSome, HasReplied, HasFailedAt, HasServed, HasStopped};
+    ghost use Rattle.durable.specs.Settled.{device_of, root_of, log_of, serves, kept_rules, revision_of, Holds, ServesAt, IsFound, IsSettledAt, IsLeftAt, LeavesSome, HasReplied, HasFailedAt, HasServed, HasStopped};
 
     /// Opens the store on a device: syncs it, reads it, and writes nothing. With a refusal it gives the device back.
     ///
@@ -82,7 +85,7 @@ impl<D: Device> Store<D> {
 
         // Whatever the device: it keeps to the numbers of a format, and shows what the writes that were read left, with their plans.
         ensures rules { IfOk result (λ store. AreOfFormat (kept_rules store)) }
-        ensures replayed { IfOk result (λ store. IsReplayed (kept_rules store) (shown store)) }
+        ensures replayed { IfOk result (λ store. (held : seen.View Beside) × Holds store held × IsReplayed (kept_rules store) held) }
 
         // At every moment a crash leaves what it might have left before.
         ensures any_moment { D.disk.keeps device → IfOk result (λ store. LeavesOnly D.disk device (device_of store) (D.disk.left device)) }
@@ -119,7 +122,8 @@ impl<D: Device> Store<D> {
 
     /// The revision that the store shows.
     pub fn revision(&self) -> u64
-        ensures { result ≡ (shown self.now).revision }
+        ensures value { result ≡ revision_of self.now }
+        ensures shown { (rules : Rules) (v : View) → ServesAt rules self.now v → result ≡ v.revision }
     {
         self.core.revision()
     }
@@ -173,7 +177,7 @@ impl<D: Device> Store<D> {
         ensures refusal { OnErr result (result ≡ Err Fault.Memory) }
         ensures count { count_of group.new ≤ count_of group.old + 1 }
     {
-        let prepared = prepare(&mut self.core, alloc, request)?;
+        let prepared = prepare_step(alloc, &mut self.core, request)?;
         gather(alloc, group, &prepared.write)?;
         let Prepared { reply, write } = prepared;
         self.core.take(write);
@@ -388,14 +392,14 @@ impl<D: Device> Store<D> {
         requires serves { serves self.old ≡ true }
         requires ascending { IsTrue (is_sorted bytes_cmp (in_list entries.old)) }
         ensures core { self.new.core ≡ self.old.core }
-        ensures stands { (rules : Rules) (h : History) → HoldsHistory rules D.disk (device_of self.old) h → (shown self.old).revision ≡ (view rules h).revision
+        ensures stands { (rules : Rules) (h : History) → HoldsHistory rules D.disk (device_of self.old) h → revision_of self.old ≡ (view rules h).revision
             → in_list entries.old ≡ entries_of (view rules h)
             → Stands D.disk (device_of self.old) (device_of self.new) (λ c. StandsFor rules c h) (λ c. StandsFor rules c h) }
-        ensures counts { (rules : Rules) (h : History) → HoldsHistory rules D.disk (device_of self.old) h → (shown self.old).revision ≡ (view rules h).revision
+        ensures counts { (rules : Rules) (h : History) → HoldsHistory rules D.disk (device_of self.old) h → revision_of self.old ≡ (view rules h).revision
             → in_list entries.old ≡ entries_of (view rules h)
             → OnOk result (HoldsRoot (D.disk.content (device_of self.new)) (root_of self.new)
             × HoldsLog (log_start (root_of self.new)) [] (log_start (root_of self.new)) (D.disk.content (device_of self.new))) }
-        ensures damaged { (rules : Rules) (h : History) (damage : Damage) → HoldsHistory rules D.disk (device_of self.old) h → (shown self.old).revision ≡ (view rules h).revision
+        ensures damaged { (rules : Rules) (h : History) (damage : Damage) → HoldsHistory rules D.disk (device_of self.old) h → revision_of self.old ≡ (view rules h).revision
             → in_list entries.old ≡ entries_of (view rules h) → IsErrOf result (Fault.Damaged damage) → ⊥ }
         ensures next { OnOk result ((root_of self.new).generation ≡ (root_of self.old).generation + 1) }
         ensures empty { OnOk result (((log_of self.new).start ≡ log_start (root_of self.new)) × ((log_of self.new).last ≡ (log_of self.new).start)) }
@@ -457,10 +461,10 @@ impl<D: Device> Store<D> {
     /// `Memory` changes nothing. `Damaged` where plans are not those of their expressions, and never from a store that shows the view of a
     /// history; the store answers `Failed` from then on. `Failed` after a failure.
     pub fn check(&mut self, alloc: Global) -> Result<Checked, Fault>
-        ensures told { IfOk result (IsCheckOf (root_of self.old) (shown self.old)) }
+        ensures told { (held : seen.View Beside) → Holds self.old held → IfOk result (IsCheckOf (root_of self.old) held) }
         ensures counted { (rules : Rules) (h : History) (settled : IsSettledAt rules self.old h)
             → IfOk result (λ c. c.generation ≡ settled.read.root.generation) }
-        ensures plans { OnOk result (AllByRecursion HasOwnPlans (shown self.old).objects) }
+        ensures plans { (held : seen.View Beside) → Holds self.old held → OnOk result (AllByRecursion HasOwnPlans held.objects) }
         ensures unchanged { OnOk result (self.new ≡ self.old) }
         ensures memory { IsErrOf result Fault.Memory → self.new ≡ self.old }
         ensures device { device_of self.new ≡ device_of self.old }
@@ -486,12 +490,12 @@ impl Store<MemDevice> {
     ghost use Rattle.device.specs.Memory.{memory};
     ghost use Rattle.names.specs.declared.format.Rules.{Rules};
     ghost use Rattle.apicore.specs.Standing.{History};
-    ghost use Rattle.durable.specs.Settled.{device_of, shown, IsSettledAt};
+    ghost use Rattle.durable.specs.Settled.{device_of, IsSettledAt};
 
     /// From the n-th device call from now on all fail; 0 asks for none.
     pub(crate) fn stop_on(&mut self, n: u64)
         ensures asked { memory (device_of self.new) ≡ record (memory (device_of self.old)) { script = record (device_of self.old).script { stop_in = n } } }
-        ensures shown { shown self.new ≡ shown self.old }
+        ensures core { self.new.core ≡ self.old.core }
         ensures settled { (rules : Rules) (h : History) → IsSettledAt rules self.old h → IsSettledAt rules self.new h }
     {
         self.device.stop_on(n);

@@ -23,7 +23,7 @@ use Rattle.names.proofs.KeyOrder.{slice_cmp-key_bytes, IsPlain-name}
 use Rattle.window.specs.declared.event.Event.{Event}
 use Rattle.window.specs.Window.{AreNumberedFrom}
 use Rattle.documents.specs.Document.{Document}
-use Rattle.history.specs.declared.state.Stored.{Stored}
+use Rattle.history.specs.declared.stored.Stored.{Stored}
 use Rattle.history.specs.View.{View}
 use Rattle.pages.specs.Page.{Entry, bytes_cmp}
 use Rattle.entries.specs.Entries.{plan_entry, plan_entries, event_entry, stored_entry, plans_among, entries_of}

@@ -13,7 +13,7 @@ use Rattle.names.specs.declared.format.Rules.{Rules}
 use Rattle.names.specs.Key.{Key, key_bytes, key_cmp}
 use Rattle.window.specs.declared.event.Event.{Event}
 use Rattle.documents.specs.Document.{Document}
-use Rattle.history.specs.declared.state.Stored.{Stored}
+use Rattle.history.specs.declared.stored.Stored.{Stored}
 use Rattle.history.specs.View.{View}
 use Rattle.pages.specs.Page.{Entry}
 use Rattle.entries.specs.declared.object.StoredObject.{StoredObject}

@@ -13,7 +13,7 @@ use Rattle.names.proofs.KeyOrder.{key_cmp-IsAntisymmetric}
 use Rattle.objects.specs.Objects.{value_at, with_value, without_key}
 use Rattle.window.proofs.Numbered.{IsNumberedTo, IsNumberedTo-push}
 use Rattle.requests.specs.Manifest.{HasForm}
-use Rattle.history.specs.declared.state.Stored.{Stored}
+use Rattle.history.specs.declared.stored.Stored.{Stored}
 use Rattle.history.specs.History.{Write, put, delete}
 use Rattle.history.proofs.ViewLemmas.{objects_ascend}
 use Rattle.history.specs.View.{View, event_of, after, after_all, view, empty, MayFollow, AllMayFollow, AllFollow}

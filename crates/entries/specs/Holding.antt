@@ -10,7 +10,7 @@ use Rattle.window.specs.declared.event.Event.{Event}
 use Rattle.window.specs.Window.{AreNumberedFrom}
 use Rattle.documents.specs.Document.{Document}
 use Rattle.requests.specs.Manifest.{HasForm}
-use Rattle.history.specs.declared.state.Stored.{Stored}
+use Rattle.history.specs.declared.stored.Stored.{Stored}
 use Rattle.history.specs.View.{View}
 
 -- An object that an entry can hold: its document has the form of its key, and its revision has room in eight bytes.

@@ -6,7 +6,7 @@ use Rattle.names.specs.declared.format.Rules.{Rules}
 use Rattle.names.specs.Key.{Key}
 use Rattle.window.specs.declared.event.Event.{Event}
 use Rattle.documents.specs.Document.{Document}
-use Rattle.history.specs.declared.state.Stored.{Stored}
+use Rattle.history.specs.declared.stored.Stored.{Stored}
 use Rattle.history.specs.History.{Write}
 use Rattle.history.specs.View.{View, view, AllFollow}
 use Rattle.pages.specs.Page.{bytes_cmp, room_of}

@@ -6,7 +6,7 @@ use Rattle.names.specs.Key.{Key}
 use Rattle.requests.specs.Codes.{document_in}
 use Rattle.names.specs.declared.resource.Resource.TheVariants.{ValidatingAdmissionPolicy}
 use Rattle.window.specs.Window.{AreNumberedFrom}
-use Rattle.history.specs.declared.state.Stored.{Stored}
+use Rattle.history.specs.declared.stored.Stored.{Stored}
 use Rattle.history.specs.View.{View}
 use Rattle.pages.specs.Page.{Entry, bytes_cmp}
 use Rattle.entries.specs.declared.object.StoredObject.{StoredObject}

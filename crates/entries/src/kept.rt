@@ -18,7 +18,7 @@ impl Model for KeptObject {
     ghost use Rattle.std.specs.Prelude.{ℕ, List};
     ghost use Rattle.names.specs.Key.{Key as KeyData};
     ghost use Rattle.requests.specs.Codes.{document_in};
-    ghost use Rattle.history.specs.declared.state.Stored.{Stored};
+    ghost use Rattle.history.specs.declared.stored.Stored.{Stored};
 
     ghost Value = { KeyData × Stored (List ℕ) };
 

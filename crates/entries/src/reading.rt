@@ -8,7 +8,7 @@ ghost use Rattle.names.specs.Key.{Key as KeyData, key_cmp};
 ghost use Rattle.window.specs.declared.event.Event.{Event as EventData};
 ghost use Rattle.window.specs.Window.{AreNumberedFrom};
 ghost use Rattle.documents.specs.Document.{Document as DocumentData};
-ghost use Rattle.history.specs.declared.state.Stored.{Stored};
+ghost use Rattle.history.specs.declared.stored.Stored.{Stored};
 ghost use Rattle.history.specs.View.{View};
 ghost use Rattle.pages.specs.Page.{Entry as EntryData};
 ghost use Rattle.entries.specs.declared.fault.EntryFault.TheVariants as EntryFault;

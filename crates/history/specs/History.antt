@@ -4,7 +4,7 @@ use Rattle.std.specs.Prelude.{ℕ, ◌+◌, List, [], ◌∷◌, Bool, if◌then
 use Rattle.std.specs.Ordering.{eq_by_cmp}
 use Rattle.names.specs.Key.{Key, key_cmp}
 use Rattle.documents.specs.Document.{Document}
-use Rattle.history.specs.declared.state.Stored.{Stored}
+use Rattle.history.specs.declared.stored.Stored.{Stored}
 
 pub data Write (P : Type 0) : Type 0 where
   put : Key → Document → (beside : P) → Write P

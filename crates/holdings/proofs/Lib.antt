@@ -1,1 +1,3 @@
 pub mod Showing
+mod Telling
+mod Replaying

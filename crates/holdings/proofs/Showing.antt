@@ -1,26 +1,31 @@
 -- What is shown over the objects that lie below.
-use Rattle.std.proofs.Common.{◌≡◌, ◌+◌, ◌-◌, ◌<◌, ◌^◌, ◌++◌, Bool, true, cond, List, [], ◌∷◌, length, is_some, sym, ap, subst, ◌∙◌, arith}
+use Rattle.std.proofs.Common.{◌≡◌, ◌+◌, ◌-◌, ◌<◌, ◌^◌, ◌++◌, Bool, true, false, cond, List, [], ◌∷◌, length, is_some, Result, Ok, Err, IfOk, refl, sym, ap, subst, ◌∙◌, arith}
 use Rattle.std.proofs.lemmas.Cmp.{tied_itself}
 use Rattle.std.specs.FinMap.Entries.{find-put}
+use Rattle.std.specs.List.{filter}
 use Rattle.std.specs.Option.{option_copied, option_map}
 use Rattle.std.specs.Ordering.{is_eq}
 use Rattle.std.specs.Prelude.{Option, Some, None}
 use denote.Ref.{Bor}
 use Rattle.circular_buffer.specs.Buffer.{keep_last}
+use Rattle.names.specs.declared.resource.Resource.{Resource}
 use Rattle.names.specs.Key.{Key, key_cmp}
 use Rattle.names.specs.KeyLaws.{key_cmp_total}
-use Rattle.objects.specs.Objects.{value_at, with_value}
-use Rattle.overlay.specs.Merged.{changed, over}
+use Rattle.objects.specs.Objects.{value_at, with_value, is_of}
+use Rattle.overlay.specs.Merged.{changed, merged, over}
+use Rattle.overlay.specs.Covered.{AreCovered}
 use Rattle.overlay.specs.Changes.{Leaves}
 use Rattle.overlay.proofs.Changing.{find-merged}
+use Rattle.overlay.proofs.Covering.{listed_where_covered}
 use Rattle.window.specs.declared.event.Change.{Change}
 use Rattle.window.specs.declared.event.Change.TheVariants.{Added, Modified, Deleted}
 use Rattle.window.specs.Window.{event_at}
 use Rattle.documents.specs.Document.{Document}
-use Rattle.history.specs.declared.state.Stored.{Stored}
+use Rattle.history.specs.declared.stored.Stored.{Stored}
 use Rattle.history.specs.History.{put, delete}
 use Rattle.history.specs.View.{View, stored_at, exists, after, after_all}
 use Rattle.holdings.specs.Holdings.{State, Shows}
+use Rattle.holdings.specs.Known.{IsKnown}
 use Rattle.holdings.specs.Prepared.{puts, IsNextPut, IsNextDeletion}
 use Rattle.holdings.specs.Writes.{Put, Deletion}
 
@@ -35,10 +40,18 @@ held_there {Y} k named y entry old new made is same =
     let value : entry.1 ≡ y = ap (λ (e : Key × Y). e.1) is in
     ap (value_at k) made ∙ (λ i. value_at k (with_value (under i) (value i) old)) ∙ found_put k y old
 
-some_same : {A : Type 0} (x y : A) → Some x ≡ Some y → x ≡ y
+pub some_same : {A : Type 0} (x y : A) → Some x ≡ Some y → x ≡ y
 some_same x y h = cc
 
 module _ {P : Type 0} where
+  -- over the same objects one view is shown
+  pub shown_alone : {s : State P} {base : List (Key × Stored P)} {v w : View P} → Shows s base v → Shows s base w → v ≡ w
+  shown_alone one other = λ i. record {
+    objects = (sym one.objects.are ∙ other.objects.are) i;
+    revision = (sym one.revision ∙ other.revision) i;
+    events = (sym one.events ∙ other.events) i;
+  }
+
   -- ---- what is found
 
   found_over : (s : State P) (base : List (Key × Stored P)) (v : View P) (k : Key) → Shows s base v
@@ -59,6 +72,23 @@ module _ {P : Type 0} where
       ap (λ found. over found (value_at k base)) (ap option_copied (sym is) ∙ copied ∙ ap (λ (t : State P). value_at k t.changes.made) same)
       ∙ sym (found_over now base v k shows)
 
+  -- nor where memory knows what stands under the key
+  pub found_nowhere : (now : State P) (base : List (Key × Stored P)) (v : View P) (k : Key) (got : Option (Bor (Option (Stored P)))) → option_copied got ≡ value_at k now.changes.made
+      → got ≡ None → IsKnown now base k → Shows now base v → stored_at v k ≡ None
+  found_nowhere now base v k got copied is known shows =
+      sym (found_below now now base v k got refl copied is shows) ∙ known (sym copied ∙ ap option_copied is)
+
+  -- what is held of a resource, where all of it is
+  pub shows_held : {E V : Type 0} (items : V → List (Key × Stored P)) (old now : State P) (base : List (Key × Stored P)) (v : View P) (r : Resource) (result : Result V E)
+      → old ≡ now → Shows now base v → AreCovered r now.changes.made base
+      → IfOk result (λ listed. items listed ≡ merged (filter (λ c. is_of r None c.0) old.changes.made) [])
+      → IfOk result (λ listed. items listed ≡ filter (λ o. is_of r None o.0) v.objects)
+  shows_held items old now base v r (Err e) same shows covered is = tt
+  shows_held items old now base v r (Ok listed) same shows covered is =
+      is ∙ ap (λ (st : State P). merged (filter (λ c. is_of r None c.0) st.changes.made) []) same
+      ∙ sym (listed_where_covered r now.changes.made base shows.objects.ascends covered)
+      ∙ ap (filter (λ o. is_of r None o.0)) shows.objects.are
+
   -- ---- what is taken
 
   -- by a change of a view
@@ -74,6 +104,21 @@ module _ {P : Type 0} where
         revision = revision;
         events = events;
       }
+
+  -- an object that is held, where none stood
+  pub shows_restored : (old now new : State P) (base : List (Key × Stored P)) (v : View P) (k named : Key) (s : Stored P) (entry : Key × Option (Stored P))
+      → old ≡ now → Shows now base v → exists v k ≡ false → entry ≡ (named, Some s) → named ≡ k
+      → ((left : List (Key × Stored P)) → Leaves old.changes base left → false ≡ is_some (value_at entry.0 left) → length left < 2 ^ 64 - 1
+      → Leaves new.changes base (changed entry.0 entry.1 left))
+      → now.changes.count < 2 ^ 64 - 1 → new.revision ≡ old.revision → new.events ≡ old.events
+      → Shows new base (record { objects = with_value k s v.objects; revision = v.revision; events = v.events })
+  shows_restored old now new base v k named s entry same shows absent is called made room revision events =
+      let before : Shows old base v = subst (λ (st : State P). Shows st base v) (sym same) shows in
+      let under : entry.0 ≡ k = ap (λ (e : Key × Option (Stored P)). e.0) is ∙ called in
+      let value : entry.1 ≡ Some s = ap (λ (e : Key × Option (Stored P)). e.1) is in
+      shows_changed old new base v (record { objects = with_value k s v.objects; revision = v.revision; events = v.events }) entry false before made
+      (sym absent ∙ ap (exists v) (sym under)) (subst (λ (st : State P). st.changes.count < 2 ^ 64 - 1) (sym same) room)
+      (λ i. changed (under i) (value i) v.objects) (revision ∙ before.revision) (events ∙ before.events)
 
   pub shows_put : (old now new : State P) (base : List (Key × Stored P)) (v : View P) (p : Put P) (entry : Key × Option (Stored P)) (stood : Bool) (change : Change) (key : Key) (document : Document)
       → old ≡ now → Shows now base v → IsNextPut v p → entry ≡ (p.key, p.stored) → change ≡ p.change → key ≡ p.key → Some document ≡ option_map (λ s. s.document) p.stored

@@ -1,7 +1,7 @@
 -- A write that has all its memory, and where it may be taken.
 use Rattle.std.specs.Prelude.{◌≡◌, ◌+◌, ◌-◌, ◌^◌, ◌<◌, List, [], ◌∷◌, Option, Some, None, IsTrue}
 use Rattle.names.specs.Key.{Key}
-use Rattle.history.specs.declared.state.Stored.{Stored}
+use Rattle.history.specs.declared.stored.Stored.{Stored}
 use Rattle.history.specs.History.{Write, put, delete}
 use Rattle.history.specs.View.{View, exists, change_at, document_at}
 use Rattle.holdings.specs.Holdings.{State}
@@ -15,9 +15,14 @@ module _ {P : Type 0} where
   puts k (Some s) = put k s.document s.beside ∷ []
 
   -- the write that a prepared one makes
-  abbrev pub writes_of : PreparedWrite P → List (Write P)
-  writes_of (prepared.Put p) = puts p.key p.stored
-  writes_of (prepared.Delete d) = delete d.key ∷ []
+  abbrev pub write_of : PreparedWrite P → List (Write P)
+  write_of (prepared.Put p) = puts p.key p.stored
+  write_of (prepared.Delete d) = delete d.key ∷ []
+
+  -- the writes of a prepared step, which makes one or none
+  abbrev pub writes_of : Option (PreparedWrite P) → List (Write P)
+  writes_of None = []
+  writes_of (Some w) = write_of w
 
 -- A put is the next write of a view: what is to stand there has the next revision, and it is known whether it changes an object.
 pub record IsNextPut {P : Type 0} (v : View P) (p : Put P) : Type 0 where
@@ -31,12 +36,18 @@ pub record IsNextDeletion {P : Type 0} (v : View P) (d : Deletion) : Type 0 wher
   pub there : IsTrue (exists v d.key)
   pub document : d.document ≡ document_at v d.key
 
-abbrev pub IsNext : {P : Type 0} → View P → PreparedWrite P → Type 0
-IsNext v (prepared.Put p) = IsNextPut v p
-IsNext v (prepared.Delete d) = IsNextDeletion v d
+abbrev pub AreNext : {P : Type 0} → View P → Option (PreparedWrite P) → Type 0
+AreNext v None = Unit {0}
+AreNext v (Some (prepared.Put p)) = IsNextPut v p
+AreNext v (Some (prepared.Delete d)) = IsNextDeletion v d
 
 -- There is room for a write: for a key, for one object more, and for its revision.
 pub record HasRoom {P : Type 0} (s : State P) : Type 0 where
   pub key : 0 < s.changes.room
   pub count : s.changes.count < 2 ^ 64 - 1
   pub revision : s.revision < s.rules.greatest_revision
+
+-- so there is for that of a prepared step, if it makes one
+abbrev pub HasRoomFor : {P : Type 0} → State P → Option (PreparedWrite P) → Type 0
+HasRoomFor s None = Unit {0}
+HasRoomFor s (Some w) = HasRoom s

@@ -3,7 +3,7 @@ use Rattle.std.specs.Prelude.{Option}
 use Rattle.names.specs.Key.{Key}
 use Rattle.window.specs.declared.event.Change.{Change}
 use Rattle.documents.specs.Document.{Document}
-use Rattle.history.specs.declared.state.Stored.{Stored}
+use Rattle.history.specs.declared.stored.Stored.{Stored}
 
 -- a put: the key, what is to stand under it, and how that changes what stands there
 pub record Put (P : Type 0) : Type 0 where

@@ -1,21 +1,28 @@
 //! What is held in memory of a store.
 
-ghost use Rattle.std.specs.Prelude.{◌≡◌, ◌+◌, ◌^◌, ◌-◌, ◌<◌, ◌++◌, ◌∷◌, Bool, List, [], length, is_some, Some, None, IsTrue, IfOk, OnOk, OnErr, IfSome, option_copied, option_map, if◌then◌else◌};
+ghost use Rattle.std.specs.Prelude.{◌≡◌, ◌+◌, ◌^◌, ◌-◌, ◌<◌, ◌≤◌, ◌++◌, ◌∷◌, Bool, false, nat_le, List, [], length, is_some, Some, None, IsTrue, IfOk, OnOk, OnErr, IfErr, IsErrOf, option_copied, option_map, if◌then◌else◌};
 ghost use Rattle.std.specs.FinMap.{is_sorted};
 ghost use Rattle.std.specs.List.{filter};
 ghost use Rattle.circular_buffer.specs.Buffer.{keep_last};
 ghost use Rattle.names.specs.Key.{Key as KeyData, key_cmp};
-ghost use Rattle.objects.specs.Objects.{is_of, value_at};
+ghost use Rattle.std.specs.Option.{option_map_or};
+ghost use Rattle.objects.specs.Objects.{is_of, value_at, with_value};
+ghost use Rattle.overlay.specs.Covered.{AreCovered};
 ghost use Rattle.requests.specs.Codes.{document_in};
+ghost use Rattle.requests.specs.Collection.{collection_of};
 ghost use Rattle.requests.specs.Manifest.{sound};
+ghost use Rattle.requests.specs.Refusal.{first_of};
+ghost use Rattle.requests.specs.Selector.{selector_seen};
 ghost use Rattle.documents.specs.Document.{Document as DocumentData};
-ghost use Rattle.window.specs.Window.{event_at};
+ghost use Rattle.window.specs.Window.{event_at, events_above};
 ghost use Rattle.window.specs.declared.event.Change.TheVariants.{Added, Modified};
-ghost use Rattle.history.specs.declared.state.Stored.{Stored as StoredData};
+ghost use Rattle.history.specs.declared.stored.Stored.{Stored as StoredData};
 ghost use Rattle.history.specs.History as write;
-ghost use Rattle.history.specs.View.{View, stored_at, is_too_large, is_full, is_exhausted, after, after_all};
-ghost use Rattle.holdings.specs.Holdings.{Shows, ShowsSame};
-ghost use Rattle.holdings.specs.Prepared.{IsNext, IsNextPut, IsNextDeletion, HasRoom, puts, writes_of};
+ghost use Rattle.history.specs.Listing.{listing, watch_conditions, watching};
+ghost use Rattle.history.specs.Reply.{status};
+ghost use Rattle.history.specs.View.{View, stored_at, exists, is_too_large, is_full, is_exhausted, after, after_all};
+ghost use Rattle.holdings.specs.Holdings.{Shows, ShowsSame, watched};
+ghost use Rattle.holdings.specs.Prepared.{AreNext, IsNextPut, IsNextDeletion, HasRoom, HasRoomFor, puts, writes_of};
 ghost use Rattle.objects.specs.Failing.{HasGrown};
 ghost use Rattle.holdings.specs.Sources.{found_in};
 ghost use Rattle.objects.specs.declared.fault.LookupFault.TheVariants as LookupFault;
@@ -23,17 +30,17 @@ ghost use Rattle.objects.specs.declared.fault.LookupFault.TheVariants as LookupF
 use crate::prepared::{Deletion, PreparedWrite, Put};
 use crate::source::{Found, Source};
 use documents::Document;
-use history::Stored;
+use history::{Reply, Stored, listed, told};
 use names::{Key, Resource, Rules};
 use objects::{Entry, LookupFault};
 use overlay::{Changes, Lent};
-use requests::Manifest;
+use requests::{Collection, Manifest, Refusal, Selector};
 use std::alloc::{AllocError, Global};
 use std::marker::Model;
-use window::{Change, Event, Events, Window};
+use window::{Change, Event, Events, Window, WindowFault};
 
-// What a change says is found.
-fn found<P>(change: &Option<Stored<P>>) -> Result<Option<Found>, AllocError>
+/// What a change says is found.
+pub(crate) fn found<P>(change: &Option<Stored<P>>) -> Result<Option<Found>, AllocError>
     ensures { IfOk result (λ found. found ≡ option_map found_in change.now) }
 {
     match change {
@@ -117,6 +124,23 @@ impl<P: Drop> Holdings<P> {
         Ok(())
     }
 
+    /// Holds an object as it was stored, where none stands under its key. It makes no event, and no revision.
+    ///
+    /// # Errors
+    ///
+    /// Where there was no memory. What is shown stays.
+    pub fn restore(&mut self, alloc: Global, key: &Key, stored: Stored<P>) -> Result<(), AllocError>
+        ensures rules { self.new.rules ≡ self.old.rules }
+        ensures shows { (base : List (KeyData × StoredData P)) (v : View P) → Shows self.old base v → exists v key.now ≡ false
+            → OnOk result (Shows self.new base (record { objects = with_value key.now stored v.objects; revision = v.revision; events = v.events })) }
+        ensures kept { OnErr result (ShowsSame self.old self.new) }
+    {
+        self.make_room()?;
+        let entry = Entry::new(alloc, key.clone()?, Some(stored))?;
+        self.changes.make(entry, false);
+        Ok(())
+    }
+
     /// Keeps an event that was, as that of the next revision. It changes no object.
     pub fn keep(&mut self, event: Event<Document>)
         requires { self.old.revision + 1 < 2 ^ 64 }
@@ -175,7 +199,8 @@ impl<P: Drop> Holdings<P> {
 
     /// Whether the greatest revision is reached.
     pub fn is_exhausted(&self) -> bool
-        ensures { (base : List (KeyData × StoredData P)) (v : View P) → Shows self.now base v → result ≡ is_exhausted self.now.rules v }
+        ensures value { result ≡ nat_le self.now.rules.greatest_revision self.now.revision }
+        ensures shown { (base : List (KeyData × StoredData P)) (v : View P) → Shows self.now base v → result ≡ is_exhausted self.now.rules v }
     {
         self.rules.greatest_revision <= self.window.revision()
     }
@@ -209,8 +234,9 @@ impl<P: Drop> Holdings<P> {
             → IfOk result (λ found. found ≡ option_map found_in (stored_at v key.now)) }
         ensures kept { (base : List (KeyData × StoredData P)) → S.holds source.old base → S.holds source.new base }
         ensures goes { S.goes_to source.old source.new }
-        ensures device { result ≡ Err LookupFault.Device → HasGrown (S.failures source.old) (S.failures source.new) }
-        ensures damaged { result ≡ Err LookupFault.Damaged → S.is_damaged source.new }
+        ensures counts { S.failures source.old ≤ S.failures source.new }
+        ensures device { IsErrOf result LookupFault.Device → HasGrown (S.failures source.old) (S.failures source.new) }
+        ensures damaged { IsErrOf result LookupFault.Damaged → S.is_damaged source.new }
     {
         match self.changes.get(key) {
             Some(change) => Ok(found(change)?),
@@ -235,6 +261,90 @@ impl<P: Drop> Holdings<P> {
             → IfOk result (λ listed. listed.items ≡ filter (λ o. is_of resource text o.0) v.objects) }
     {
         self.changes.list(alloc, resource, namespace, below)
+    }
+
+    /// The objects of a resource that are held in memory, in key order, where none lies below that is not. No object is copied.
+    ///
+    /// # Errors
+    ///
+    /// Where there was no memory.
+    pub fn held(
+        &self,
+        alloc: Global,
+        resource: Resource,
+    ) -> Result<Vec<Lent<'_, Stored<P>>>, AllocError>
+        ensures { (base : List (KeyData × StoredData P)) (v : View P) → Shows self.now base v → AreCovered resource self.now.changes.made base
+            → IfOk result (λ listed. listed.items ≡ filter (λ o. is_of resource None o.0) v.objects) }
+    {
+        self.changes.list(alloc, resource, None, &[])
+    }
+
+    /// All objects, in key order, over those that lie below. No object is copied.
+    ///
+    /// # Errors
+    ///
+    /// Where there was no memory.
+    pub fn objects<'a>(
+        &'a self,
+        alloc: Global,
+        below: &'a [(Key, Stored<P>)],
+    ) -> Result<Vec<Lent<'a, Stored<P>>>, AllocError>
+        ensures { (v : View P) → Shows self.now below.now v → IfOk result (λ all. all.items ≡ v.objects) }
+    {
+        self.changes.left(alloc, below)
+    }
+
+    /// The reply that lists the objects of a collection that a selector selects, over those of them that lie below.
+    ///
+    /// # Errors
+    ///
+    /// Where there was no memory.
+    pub fn listed(
+        &self,
+        alloc: Global,
+        collection: &Collection,
+        selector: &Selector,
+        below: &[(Key, Stored<P>)],
+    ) -> Result<Reply, AllocError>
+        ensures { let c = collection_of collection.now in (base : List (KeyData × StoredData P)) (v : View P) → Shows self.now base v
+            → below.now ≡ filter (λ o. is_of c.resource c.namespace o.0) base → IfOk result (λ r. r ≡ listing v c (selector_seen selector.now)) }
+    {
+        let resource = collection.resource;
+        let objects = self.list(alloc, resource, collection.namespace(), below)?;
+        listed(alloc, &objects, resource, selector, self.revision())
+    }
+
+    // The events above a revision, oldest first, or what refuses a watch of them.
+    fn events_above(&self, revision: u64) -> Result<Events<'_, Document>, Refusal>
+        ensures events { IfOk result (λ events. events ≡ events_above revision self.now.events) }
+        ensures served { OnOk result (first_of (watch_conditions self.now.rules (watched self.now) revision) ≡ None) }
+        ensures refused { IfErr result (λ refusal. first_of (watch_conditions self.now.rules (watched self.now) revision) ≡ Some refusal) }
+    {
+        match self.window.since(revision) {
+            Ok(events) => Ok(events),
+            Err(WindowFault::TooNew) => Err(Refusal::BadVersion),
+            Err(WindowFault::TooOld) => Err(Refusal::Expired),
+        }
+    }
+
+    /// The reply that tells a collection's events above a revision.
+    ///
+    /// # Errors
+    ///
+    /// Where there was no memory.
+    pub fn told(
+        &self,
+        alloc: Global,
+        collection: &Collection,
+        revision: u64,
+    ) -> Result<Reply, AllocError>
+        ensures { (base : List (KeyData × StoredData P)) (v : View P) → Shows self.now base v
+            → IfOk result (λ r. r ≡ option_map_or status (first_of (watch_conditions self.now.rules v revision)) (watching v (collection_of collection.now) revision)) }
+    {
+        match self.events_above(revision) {
+            Ok(events) => told(alloc, collection, events),
+            Err(refusal) => Reply::status(alloc, refusal),
+        }
     }
 
     // Takes memory for one more key, and asks that one object more can be counted.
@@ -265,6 +375,7 @@ impl<P: Drop> Holdings<P> {
     ) -> Result<Put<P>, AllocError>
         requires { self.old.revision < self.old.rules.greatest_revision }
         ensures rules { self.new.rules ≡ self.old.rules }
+        ensures revision { self.new.revision ≡ self.old.revision }
         ensures shows { ShowsSame self.old self.new }
         ensures put { IfOk result (λ p. p ≡ record {
           key = manifest.now.key;
@@ -306,6 +417,7 @@ impl<P: Drop> Holdings<P> {
     ) -> Result<Deletion<P>, AllocError>
         requires { self.old.revision < self.old.rules.greatest_revision }
         ensures rules { self.new.rules ≡ self.old.rules }
+        ensures revision { self.new.revision ≡ self.old.revision }
         ensures shows { ShowsSame self.old self.new }
         ensures deletion { IfOk result (λ d. d ≡ record { key = key.now; document = document }) }
         ensures room { OnOk result (HasRoom self.new) }
@@ -314,21 +426,22 @@ impl<P: Drop> Holdings<P> {
         Deletion::new(alloc, key, document)
     }
 
-    /// Takes a prepared write. This takes no memory, and looks nothing up.
-    pub fn take(&mut self, write: PreparedWrite<P>)
-        requires { HasRoom self.old }
+    /// Takes a prepared write, if there is one. This takes no memory, and looks nothing up.
+    pub fn take(&mut self, write: Option<PreparedWrite<P>>)
+        requires { HasRoomFor self.old write }
         ensures rules { self.new.rules ≡ self.old.rules }
-        ensures shows { (base : List (KeyData × StoredData P)) (v : View P) → Shows self.old base v → IsNext v write
+        ensures shows { (base : List (KeyData × StoredData P)) (v : View P) → Shows self.old base v → AreNext v write
             → Shows self.new base (after_all self.old.rules v (writes_of write)) }
     {
         match write {
-            PreparedWrite::Put(put) => self.put(put),
-            PreparedWrite::Delete(deletion) => self.delete(deletion),
+            Some(PreparedWrite::Put(put)) => self.put(put),
+            Some(PreparedWrite::Delete(deletion)) => self.delete(deletion),
+            None => {}
         }
     }
 
     // Takes a put.
-    fn put(&mut self, put: Put<P>)
+    pub(crate) fn put(&mut self, put: Put<P>)
         requires { HasRoom self.old }
         ensures rules { self.new.rules ≡ self.old.rules }
         ensures shows { (base : List (KeyData × StoredData P)) (v : View P) → Shows self.old base v → IsNextPut v put
@@ -342,7 +455,7 @@ impl<P: Drop> Holdings<P> {
     }
 
     // Takes a deletion.
-    fn delete(&mut self, deletion: Deletion<P>)
+    pub(crate) fn delete(&mut self, deletion: Deletion<P>)
         requires { HasRoom self.old }
         ensures rules { self.new.rules ≡ self.old.rules }
         ensures shows { (base : List (KeyData × StoredData P)) (v : View P) → Shows self.old base v → IsNextDeletion v deletion

@@ -91,6 +91,16 @@ impl<P: Drop> Put<P> {
         &self.document
     }
 
+    /// What is to stand beside it.
+    pub fn beside(&self) -> &P
+        ensures { Some result.now ≡ option_map (λ s. s.beside) self.now.stored }
+    {
+        match self.entry.value() {
+            Some(stored) => &stored.beside,
+            None => unreachable!("a document is to stand under the key of a put"),
+        }
+    }
+
     /// The text of the document.
     pub fn text(&self) -> &str
         ensures { Some result.now ≡ option_map (λ s. text s.document.json) self.now.stored }

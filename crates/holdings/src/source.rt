@@ -4,7 +4,7 @@ ghost use Rattle.std.specs.Prelude.{◌≡◌, ◌≤◌, ℕ, List, option_map,
 ghost use Rattle.std.specs.List.{filter};
 ghost use Rattle.names.specs.Key.{Key as KeyData};
 ghost use Rattle.objects.specs.Objects.{value_at, is_of};
-ghost use Rattle.history.specs.declared.state.Stored.{Stored as StoredData};
+ghost use Rattle.history.specs.declared.stored.Stored.{Stored as StoredData};
 ghost use Rattle.objects.specs.Failing.{HasGrown};
 ghost use Rattle.holdings.specs.Sources.{found_in};
 ghost use Rattle.objects.specs.declared.fault.LookupFault.TheVariants as LookupFault;

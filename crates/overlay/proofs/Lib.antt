@@ -1,6 +1,6 @@
 pub mod Changing
 mod Walking
 pub mod Taking
-mod Covering
+pub mod Covering
 mod Leaving
 mod Listed

@@ -6,8 +6,9 @@ ghost use Rattle.std.specs.List.{filter};
 ghost use Rattle.std.specs.Option.{option_copied, option_map};
 ghost use Rattle.names.specs.Key.{Key as KeyData, key_cmp};
 ghost use Rattle.objects.specs.Objects.{value_at, with_value, is_of};
-ghost use Rattle.overlay.specs.Merged.{changed};
+ghost use Rattle.overlay.specs.Merged.{changed, merged};
 ghost use Rattle.overlay.specs.Changes.{Leaves};
+ghost use Rattle.overlay.specs.Steps.{changes_of};
 
 use crate::lent::Lent;
 use crate::merging::merged;
@@ -15,6 +16,16 @@ use names::{Key, Resource};
 use objects::{Entry, Objects};
 use std::alloc::{AllocError, Global};
 use std::marker::Model;
+
+// All of some changes.
+fn all_of<T>(
+    alloc: Global,
+    changes: &[Entry<Option<T>>],
+) -> Result<Vec<&Entry<Option<T>>>, AllocError>
+    ensures { IfOk result (λ all. changes_of all.items ≡ changes.now) }
+{
+    changes.iter().collect(alloc)
+}
 
 /// What was put or removed by key, over entries that lie below, and how many entries that leaves.
 #[derive(Drop)]
@@ -107,13 +118,31 @@ impl<T: Drop> Changes<T> {
         namespace: Option<&str>,
         below: &'a [(Key, T)],
     ) -> Result<Vec<Lent<'a, T>>, AllocError>
-        ensures { let text = option_map (λ text. text.now) namespace.entry in (base left : List (KeyData × T)) → Leaves self.now base left
+        ensures listed { let text = option_map (λ text. text.now) namespace.entry in (base left : List (KeyData × T)) → Leaves self.now base left
             → below.now ≡ filter (λ entry. is_of resource text entry.0) base
             → IfOk result (λ listed. listed.items ≡ filter (λ entry. is_of resource text entry.0) left) }
+        ensures merged { let text = option_map (λ text. text.now) namespace.entry in IsTrue (is_sorted key_cmp below.now)
+            → IfOk result (λ listed. listed.items ≡ merged (filter (λ change. is_of resource text change.0) self.now.made) below.now) }
     {
         // All changes, which ascend.
         let _made = self.made.entries();
         let changes = self.made.list(alloc, resource, namespace)?;
         merged(alloc, &changes, below)
+    }
+
+    /// All that is left of the entries that lie below, in key order. No entry is copied.
+    ///
+    /// # Errors
+    ///
+    /// Where there was no memory.
+    pub fn left<'a>(
+        &'a self,
+        alloc: Global,
+        below: &'a [(Key, T)],
+    ) -> Result<Vec<Lent<'a, T>>, AllocError>
+        ensures { (left : List (KeyData × T)) → Leaves self.now below.now left → IfOk result (λ all. all.items ≡ left) }
+    {
+        let made = all_of(alloc, self.made.entries())?;
+        merged(alloc, &made, below)
     }
 }

@@ -1,12 +1,13 @@
 //! A view without a device: what is stored in memory alone, with limits of its own. The calls of a view stand here.
 
 ghost use Rattle.std.specs.Prelude.{IfOk};
-ghost use Rattle.history.specs.Prepared.{AreReady};
+ghost use Rattle.holdings.specs.Prepared.{HasRoomFor};
 
 use crate::refusals::status;
 use apicore::{Beside, Core, Prepared, prepare};
 use cases::{TextBuilder, WordReader, Wrong, text, wanted};
-use history::{PreparedWrite, Put, ReplayFault, Reply};
+use history::Reply;
+use holdings::{Nothing, PreparedWrite, Put, ReplayFault};
 use http::StatusCode;
 use httpmsg::{Message, Response, Std};
 use names::{Format, Rules};
@@ -54,9 +55,9 @@ fn write_text(alloc: Global, write: &Option<PreparedWrite<Beside>>) -> Result<St
     let mut pushed = Ok(());
     match write {
         Some(PreparedWrite::Put(put)) => pushed = push_put(alloc, &mut line, put),
-        Some(PreparedWrite::Delete(key, _)) => {
+        Some(PreparedWrite::Delete(deletion)) => {
             line.push("delete");
-            push_key(&mut line, key);
+            push_key(&mut line, deletion.key());
         }
         None => line.push("no write"),
     }
@@ -95,20 +96,21 @@ fn replayed(alloc: Global, done: Result<(), ReplayFault>) -> Result<String, Wron
 }
 
 // Takes a put again, as one that was stored.
-fn put_again(alloc: Global, core: &mut Core, manifest: Manifest) -> Result<String, Wrong> {
+fn put_again(alloc: Global, core: &mut Core, manifest: &Manifest) -> Result<String, Wrong> {
     match Beside::of(alloc, manifest.document().json(), Vec::new(alloc)) {
         Ok(beside) => replayed(alloc, core.replay_put(alloc, manifest, beside)),
-        Err(_) => {
-            drop(manifest);
-            Err(Wrong::Memory)
-        }
+        Err(_) => Err(Wrong::Memory),
     }
 }
 
 // Takes the write of a request again, as one that was stored.
 fn taken_again(alloc: Global, core: &mut Core, request: Request) -> Result<String, Wrong> {
     match request {
-        Request::Replace(manifest) => put_again(alloc, core, manifest),
+        Request::Replace(manifest) => {
+            let done = put_again(alloc, core, &manifest);
+            drop(manifest);
+            done
+        }
         Request::Delete(key, None) => {
             let done = core.replay_delete(alloc, &key);
             drop(key);
@@ -150,7 +152,7 @@ impl View {
     fn with_limits(alloc: Global, line: &str) -> Result<View, Wrong> {
         let rules = rules_of(line)?;
         let routes = Routes::new(alloc)?;
-        let core = Core::new(alloc, rules)?;
+        let core = Core::over(alloc, rules, 1, 0)?;
         Ok(View { core, routes })
     }
 
@@ -167,14 +169,17 @@ impl View {
     }
 
     fn prepared(&mut self, alloc: Global, request: &Request) -> Result<Prepared, Wrong>
-        ensures { IfOk result (λ p. AreReady self.new.core p.write) }
+        ensures { IfOk result (λ p. HasRoomFor self.new.core p.write) }
     {
-        Ok(prepare(&mut self.core, alloc, request)?)
+        match prepare(&mut self.core, alloc, &mut Nothing, request) {
+            Ok(prepared) => Ok(prepared),
+            Err(_) => Err(Wrong::Memory),
+        }
     }
 
     // The step of a request, which is dropped here, and so in no function that drops its step too.
     fn step(&mut self, alloc: Global, request: Request) -> Result<Prepared, Wrong>
-        ensures { IfOk result (λ p. AreReady self.new.core p.write) }
+        ensures { IfOk result (λ p. HasRoomFor self.new.core p.write) }
     {
         let prepared = self.prepared(alloc, &request);
         drop(request);

@@ -138,7 +138,7 @@ impl Layers {
             return line.refuse("no revision is left");
         }
         match self.holdings.prepare_put(alloc, manifest, 0, stands) {
-            Ok(put) => self.holdings.take(PreparedWrite::Put(put)),
+            Ok(put) => self.holdings.take(Some(PreparedWrite::Put(put))),
             Err(_) => line.fail(Wrong::Memory),
         }
     }
@@ -152,7 +152,7 @@ impl Layers {
             return line.refuse("no revision is left");
         }
         match self.holdings.prepare_deletion(alloc, key, found.document) {
-            Ok(deletion) => self.holdings.take(PreparedWrite::Delete(deletion)),
+            Ok(deletion) => self.holdings.take(Some(PreparedWrite::Delete(deletion))),
             Err(_) => line.fail(Wrong::Memory),
         }
     }

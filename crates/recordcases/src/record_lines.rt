@@ -3,6 +3,7 @@
 use apicore::{Core, RecoveryFault, prepare, replayed};
 use cases::Wrong;
 use diskcases::Line;
+use holdings::Nothing;
 use names::{Format, Resource, Rules};
 use records::{RecordFault, StoredWrite, read_writes};
 use requests::{Manifest, Request};
@@ -64,7 +65,7 @@ fn store(alloc: Global, line: &mut Line<'_>) -> Result<Core, RecoveryFault> {
         ..Format::First.rules()
     };
     let log = line.payloads(alloc);
-    match Core::new(alloc, rules) {
+    match Core::over(alloc, rules, 1, 0) {
         Ok(empty) => replayed(alloc, empty, &log),
         Err(_) => Err(RecoveryFault::Memory),
     }
@@ -82,7 +83,7 @@ pub fn replay(alloc: Global, line: &mut Line<'_>) {
 }
 
 fn show_reply(alloc: Global, core: &mut Core, request: &Request, line: &mut Line<'_>) {
-    match prepare(core, alloc, request) {
+    match prepare(core, alloc, &mut Nothing, request) {
         Ok(prepared) => {
             line.show(&prepared.reply.code());
             line.answer.word(prepared.reply.body());

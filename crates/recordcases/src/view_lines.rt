@@ -4,7 +4,8 @@ use crate::entry_lines::check_written;
 use cases::Wrong;
 use diskcases::Line;
 use entries::{Entry, KeptObject, KeptView, event_entry, object_entry, plan_entries, read_view};
-use history::{Core, Stored};
+use history::Stored;
+use holdings::Holdings;
 use names::{Format, Key};
 use std::alloc::{AllocError, Global};
 
@@ -22,8 +23,12 @@ fn entries_of(alloc: Global, line: &mut Line<'_>) -> Vec<Entry> {
     entries
 }
 
-// Holds an object of a view in a core.
-fn hold(alloc: Global, core: &mut Core<Vec<u8>>, object: KeptObject) -> Result<(), AllocError> {
+// Holds an object of a view.
+fn hold(
+    alloc: Global,
+    holdings: &mut Holdings<Vec<u8>>,
+    object: KeptObject,
+) -> Result<(), AllocError> {
     let KeptObject {
         manifest,
         plans,
@@ -34,21 +39,21 @@ fn hold(alloc: Global, core: &mut Core<Vec<u8>>, object: KeptObject) -> Result<(
         beside: plans,
         revision,
     };
-    core.hold(alloc, manifest.key(), stored)
+    holdings.restore(alloc, manifest.key(), stored)
 }
 
-// Holds the objects of a view in a core, and keeps its events there.
-fn fill(alloc: Global, core: &mut Core<Vec<u8>>, view: KeptView, line: &mut Line<'_>) {
+// Holds the objects of a view, and keeps its events.
+fn fill(alloc: Global, holdings: &mut Holdings<Vec<u8>>, view: KeptView, line: &mut Line<'_>) {
     for object in view.objects {
-        if hold(alloc, core, object).is_err() {
+        if hold(alloc, holdings, object).is_err() {
             line.fail(Wrong::Memory);
         }
     }
     for event in view.events {
-        if core.revision() >= view.revision {
+        if holdings.revision() >= view.revision {
             return line.refuse("too many events");
         }
-        core.keep(event);
+        holdings.keep(event);
     }
 }
 
@@ -64,7 +69,7 @@ fn behind<'a>(
             rest
         }
         None => {
-            line.refuse("the core has more entries");
+            line.refuse("what is held has more entries");
             entries
         }
     }
@@ -93,22 +98,30 @@ fn behind_plans<'a>(
     rest
 }
 
-// Asks that these are the entries of what a core holds and keeps.
-fn check_entries(alloc: Global, core: &Core<Vec<u8>>, entries: &[Entry], line: &mut Line<'_>) {
+// Asks that these are the entries of what is held and kept.
+fn check_entries(
+    alloc: Global,
+    holdings: &Holdings<Vec<u8>>,
+    entries: &[Entry],
+    line: &mut Line<'_>,
+) {
+    let Ok(objects) = holdings.objects(alloc, &[]) else {
+        return line.fail(Wrong::Memory);
+    };
     let mut rest = entries;
-    for held in core.objects() {
-        let stored = held.value();
-        let written = object_entry(alloc, held.key(), &stored.document, stored.revision);
+    for object in &objects {
+        let stored = object.value;
+        let written = object_entry(alloc, object.key, &stored.document, stored.revision);
         rest = behind(rest, written, line);
     }
-    for held in core.objects() {
-        rest = behind_plans(alloc, rest, held.key(), &held.value().beside, line);
+    for object in &objects {
+        rest = behind_plans(alloc, rest, object.key, &object.value.beside, line);
     }
-    for event in core.events() {
+    for event in holdings.events() {
         rest = behind(rest, event_entry(alloc, event), line);
     }
     if !rest.is_empty() {
-        line.refuse("the core has fewer entries");
+        line.refuse("what is held has fewer entries");
     }
 }
 
@@ -117,17 +130,17 @@ fn show_view(alloc: Global, view: KeptView, entries: &[Entry], line: &mut Line<'
     if first == 0 {
         return line.refuse("a view has as many events as revisions");
     }
-    let Ok(mut core) = Core::behind(alloc, Format::First.rules(), first) else {
+    let Ok(mut holdings) = Holdings::over(alloc, Format::First.rules(), first, 0) else {
         return line.fail(Wrong::Memory);
     };
-    fill(alloc, &mut core, view, line);
-    check_entries(alloc, &core, entries, line);
-    line.show(&core.revision());
+    fill(alloc, &mut holdings, view, line);
+    check_entries(alloc, &holdings, entries, line);
+    line.show(&holdings.revision());
     line.answer.word("objects");
-    line.show(&core.objects().len());
+    line.show(&holdings.object_count());
 }
 
-/// `reads-view REVISION KEY ; CELL | ..`: the revision and the number of objects of the view whose entries these are, and that the core that holds it has the
+/// `reads-view REVISION KEY ; CELL | ..`: the revision and the number of objects of the view whose entries these are, and that what is held of it has the
 /// same entries.
 pub fn reads_view(alloc: Global, line: &mut Line<'_>) {
     let revision = line.number();

@@ -1,18 +1,21 @@
 -- What is held of objects that entries keep.
-use Rattle.std.proofs.Common.{◌≡◌, ◌∙◌, sym, ap, subst, refl, true, ℕ, List, [], ◌∷◌, ◌++◌, map, append_assoc, append-nil}
+use Rattle.std.proofs.Common.{◌≡◌, ◌∙◌, sym, ap, subst, refl, true, ◌+◌, ◌<◌, ℕ, List, [], ◌∷◌, ◌++◌, map, drop, length, get_or, append_assoc}
+use Rattle.std.proofs.lemmas.List.{drop_more}
 use Rattle.std.specs.FinMap.{is_sorted}
 use Rattle.std.specs.List.{AllByRecursion}
 use Rattle.names.specs.Key.{Key, key_cmp}
 use Rattle.documents.specs.Document.{Document}
-use Rattle.history.specs.declared.state.Stored.{Stored}
+use Rattle.history.specs.declared.stored.Stored.{Stored}
 use Rattle.history.specs.View.{View}
+use Rattle.holdings.specs.Holdings.{State, Shows}
 use Rattle.expressions.specs.Specification.{plans_bytes, MayHavePlans}
 use Rattle.expressions.proofs.Listed.{one_stored_list}
 use Rattle.entries.specs.Holding.{IsStorableObject}
 use Rattle.entries.specs.Reading.{IsStorableStored}
 use Rattle.apicore.specs.Beside.{Beside, spelled}
 use Rattle.snapshots.specs.Keeping.{held_plans, IsHeldObject}
-use Rattle.snapshots.specs.Restoring.{in_bytes, IsSpelled, IsHeldOf, AreHeldOf, with_object}
+use Rattle.snapshots.specs.Restoring.{in_bytes, IsSpelled, IsHeldOf, AreHeldOf, with_object, with_objects}
+use Rattle.snapshots.proofs.InBytes.{sorted_in_bytes}
 use Rattle.snapshots.proofs.Sorted.{sorted_front}
 
 abbrev pub Object : Type 0
@@ -20,6 +23,9 @@ Object = Key × Stored Beside
 
 abbrev pub Kept : Type 0
 Kept = Key × Stored (List ℕ)
+
+abbrev pub Core : Type 0
+Core = State Beside
 
 -- at most one object is held of what is kept of it
 one_held : (o p : Object) → IsSpelled o → IsSpelled p → in_bytes held_plans o ≡ in_bytes held_plans p → o ≡ p
@@ -49,43 +55,18 @@ same_held (o ∷ os) (p ∷ ps) a b same =
 pub one_held_list : (os ps : List Object) (kept : List Kept) → AreHeldOf os kept → AreHeldOf ps kept → os ≡ ps
 one_held_list os ps kept a b = same_held os ps a.spelled b.spelled (a.are ∙ sym b.are)
 
--- the object that stands behind those so far
-record Next (xs os : List Object) (kept : Kept) : Type 0 where
-  pub object : Object
-  pub more : List Object
-  pub parts : os ≡ xs ++ object ∷ more
-  pub held : IsHeldOf object kept
-
-next_held : (xs os : List Object) (kept : Kept) (next : List Kept) → AllByRecursion IsSpelled xs → AllByRecursion IsSpelled os
-    → map (in_bytes held_plans) os ≡ map (in_bytes held_plans) xs ++ kept ∷ next → Next xs os kept
-next_held [] [] kept next a b same = cc
-next_held [] (o ∷ os) kept next a b same =
-    let head : in_bytes held_plans o ≡ kept = cc in
-    record { object = o; more = os; parts = refl; held = record { is = head; spelled = b.0 } }
-next_held (x ∷ xs) [] kept next a b same = cc
-next_held (x ∷ xs) (o ∷ os) kept next a b same =
-    let head : in_bytes held_plans o ≡ in_bytes held_plans x = cc in
-    let rest : map (in_bytes held_plans) os ≡ map (in_bytes held_plans) xs ++ kept ∷ next = cc in
-    let here : o ≡ x = one_held o x b.0 a.0 head in
-    let found = next_held xs os kept next a.1 b.1 rest in
-    record { object = found.object; more = found.more; parts = λ i. here i ∷ found.parts i; held = found.held }
+-- where objects are held of all that is kept, one is held of each
+held_at : (os : List Object) (done : List Kept) (kept : Kept) (next : List Kept) → AllByRecursion IsSpelled os → map (in_bytes held_plans) os ≡ done ++ kept ∷ next
+    → (o : Object) × IsHeldOf o kept
+held_at [] [] kept next spelled are = cc
+held_at [] (d ∷ done) kept next spelled are = cc
+held_at (o ∷ os) [] kept next spelled are = let head : in_bytes held_plans o ≡ kept = cc in (o, record { is = head; spelled = spelled.0 })
+held_at (o ∷ os) (d ∷ done) kept next spelled are =
+    let rest : map (in_bytes held_plans) os ≡ done ++ kept ∷ next = cc in
+    held_at os done kept next spelled.1 rest
 
 key_kept : (o : Object) (kept : Kept) → IsHeldOf o kept → o.0 ≡ kept.0
 key_kept o kept held = ap (λ (x : Kept). x.0) held.is
-
--- Where objects are held of all that is kept, one is held of the next, behind those so far.
-pub goes_on : (xs os : List Object) (done : List Kept) (kept : Kept) (next all : List Kept) → AreHeldOf xs done → AreHeldOf os all → done ++ kept ∷ next ≡ all
-    → (s : Stored Beside) × IsHeldOf (kept.0, s) kept × (is_sorted key_cmp (xs ++ (kept.0, s) ∷ []) ≡ true)
-goes_on xs os done kept next all a b parts =
-    let n =
-    next_held xs os kept next a.spelled b.spelled (b.are ∙ sym parts ∙ ap (λ (ks : List Kept). ks ++ kept ∷ next) (sym a.are))
-    in
-    let o : Object = n.object in
-    let same : o ≡ (kept.0, o.1) = λ i. (key_kept o kept n.held i, o.1) in
-    let sorted : is_sorted key_cmp (xs ++ o ∷ []) ≡ true =
-    sorted_front xs o n.more (ap (λ (ps : List Object). is_sorted key_cmp ps) (sym n.parts) ∙ b.ascends)
-    in
-    (o.1, subst (λ (p : Object). IsHeldOf p kept) same n.held, ap (λ (p : Object). is_sorted key_cmp (xs ++ p ∷ [])) (sym same) ∙ sorted)
 
 all_push : {A : Type 0} (Q : A → Type 0) (xs : List A) (x : A) → AllByRecursion Q xs → Q x → AllByRecursion Q (xs ++ x ∷ [])
 all_push Q [] x all new = (new, tt)
@@ -95,11 +76,23 @@ map_push : {A B : Type 0} (f : A → B) (xs : List A) (x : A) → map f (xs ++ x
 map_push f [] x = refl
 map_push f (y ∷ xs) x = ap (λ ys. f y ∷ ys) (map_push f xs x)
 
+bytes_push : (xs : List Object) (done : List Kept) (o : Object) (kept : Kept) → AreHeldOf xs done → IsHeldOf o kept
+    → map (in_bytes held_plans) (xs ++ o ∷ []) ≡ done ++ kept ∷ []
+bytes_push xs done o kept all new = map_push (in_bytes held_plans) xs o ∙ (λ i. all.are i ++ new.is i ∷ [])
+
+-- where what is kept ascends, so does what is held of it, and one more
+sorted_push : (xs : List Object) (done : List Kept) (o : Object) (kept : Kept) (next : List Kept) → AreHeldOf xs done → IsHeldOf o kept
+    → is_sorted key_cmp (done ++ kept ∷ next) ≡ true → is_sorted key_cmp (xs ++ o ∷ []) ≡ true
+sorted_push xs done o kept next all new ascend =
+    sym (sorted_in_bytes held_plans (xs ++ o ∷ []))
+    ∙ ap (λ (ks : List Kept). is_sorted key_cmp ks) (bytes_push xs done o kept all new)
+    ∙ sorted_front done kept next ascend
+
 -- one more is held
-pub held_push : (xs : List Object) (done : List Kept) (o : Object) (kept : Kept) → AreHeldOf xs done → IsHeldOf o kept → is_sorted key_cmp (xs ++ o ∷ []) ≡ true
+held_push : (xs : List Object) (done : List Kept) (o : Object) (kept : Kept) → AreHeldOf xs done → IsHeldOf o kept → is_sorted key_cmp (xs ++ o ∷ []) ≡ true
     → AreHeldOf (xs ++ o ∷ []) (done ++ kept ∷ [])
 held_push xs done o kept all new sorted = record {
-  are = map_push (in_bytes held_plans) xs o ∙ (λ i. all.are i ++ new.is i ∷ []);
+  are = bytes_push xs done o kept all new;
   spelled = all_push IsSpelled xs o all.spelled new.spelled;
   ascends = sorted;
 }
@@ -123,41 +116,50 @@ all_held (o ∷ os) (k ∷ ks) are all can =
 pub held_objects : (os : List Object) (kept : List Kept) → AreHeldOf os kept → AllByRecursion IsStorableStored kept → AllByRecursion IsHeldObject os
 held_objects os kept held can = all_held os kept held.are held.spelled can
 
--- These are held so far, in front of those that are left.
-pub record HoldsSome (start now : View Beside) (all left : List Kept) : Type 0 where
+-- the next of those that are left
+pub at_index : (ks : List Kept) (i : ℕ) (k : Kept) → i < length ks → k ≡ get_or ks i k → drop i ks ≡ k ∷ drop (i + 1) ks
+at_index ks i k inside is = drop_more ks i k inside ∙ ap (λ (x : Kept). x ∷ drop (i + 1) ks) (sym is)
+
+-- These are restored so far, in front of those that are left.
+pub record HoldsSome (start now : Core) (all left : List Kept) : Type 0 where
   pub done : List Kept
   pub parts : done ++ left ≡ all
-  pub held : AreHeldOf now.objects done
-  pub revision : now.revision ≡ start.revision
-  pub events : now.events ≡ start.events
+  pub objects : List Object
+  pub held : AreHeldOf objects done
+  pub shows : (first : View Beside) → Shows start [] first → first.objects ≡ [] → Shows now [] (with_objects first objects)
 
-pub holds_none : (start : View Beside) (all : List Kept) → start.objects ≡ [] → HoldsSome start start all all
-holds_none start all none = record {
+pub holds_none : (start : Core) (all : List Kept) → HoldsSome start start all all
+holds_none start all = record {
   done = [];
   parts = refl;
-  held = subst (λ (os : List Object). AreHeldOf os []) (sym none) (record { are = refl; spelled = tt; ascends = refl });
-  revision = refl;
-  events = refl;
+  objects = [];
+  held = record { are = refl; spelled = tt; ascends = refl };
+  shows = λ first shows none. subst (Shows start []) (λ i. record { objects = none i; revision = first.revision; events = first.events }) shows;
 }
 
-pub holds_all : (start now : View Beside) (all left : List Kept) → HoldsSome start now all left → left ≡ [] → AreHeldOf now.objects all
-holds_all start now all left some none =
-    subst (AreHeldOf now.objects) (sym (append-nil some.done) ∙ ap (λ (ks : List Kept). some.done ++ ks) (sym none) ∙ some.parts) some.held
-
-pub holds_more : (start now new : View Beside) (all left : List Kept) (kept : Kept) (rest : List Kept) (s : Stored Beside) → HoldsSome start now all left → left ≡ kept ∷ rest
-    → IsHeldOf (kept.0, s) kept → new ≡ with_object now (kept.0, s) → is_sorted key_cmp (now.objects ++ (kept.0, s) ∷ []) ≡ true → HoldsSome start new all rest
-holds_more start now new all left kept rest s some step one is sorted =
-    let objects : new.objects ≡ now.objects ++ (kept.0, s) ∷ [] = ap (λ (v : View Beside). v.objects) is in
+pub holds_more : (start now new : Core) (all left : List Kept) (kept : Kept) (rest : List Kept) (s : Stored Beside) → is_sorted key_cmp all ≡ true
+    → HoldsSome start now all left → left ≡ kept ∷ rest → IsHeldOf (kept.0, s) kept
+    → ((v : View Beside) → Shows now [] v → is_sorted key_cmp (v.objects ++ (kept.0, s) ∷ []) ≡ true → Shows new [] (with_object v (kept.0, s)))
+    → HoldsSome start new all rest
+holds_more start now new all left kept rest s ascend some step one shows =
+    let o : Object = (kept.0, s) in
+    let parts : some.done ++ kept ∷ rest ≡ all = ap (λ (ks : List Kept). some.done ++ ks) (sym step) ∙ some.parts in
+    let sorted : is_sorted key_cmp (some.objects ++ o ∷ []) ≡ true =
+    sorted_push some.objects some.done o kept rest some.held one (ap (λ (ks : List Kept). is_sorted key_cmp ks) parts ∙ ascend)
+    in
     record {
       done = some.done ++ kept ∷ [];
-      parts = append_assoc some.done (kept ∷ []) rest ∙ ap (λ (ks : List Kept). some.done ++ ks) (sym step) ∙ some.parts;
-      held = subst (λ (os : List Object). AreHeldOf os (some.done ++ kept ∷ [])) (sym objects) (held_push now.objects some.done (kept.0, s) kept some.held one sorted);
-      revision = ap (λ (v : View Beside). v.revision) is ∙ some.revision;
-      events = ap (λ (v : View Beside). v.events) is ∙ some.events;
+      parts = append_assoc some.done (kept ∷ []) rest ∙ parts;
+      objects = some.objects ++ o ∷ [];
+      held = held_push some.objects some.done o kept some.held one sorted;
+      shows = λ first before none. shows (with_objects first some.objects) (some.shows first before none) sorted;
     }
 
 -- Where objects are held of all, one is held of the next.
-pub holds_next : (start now : View Beside) (all left : List Kept) (kept : Kept) (rest : List Kept) (os : List Object) → HoldsSome start now all left → left ≡ kept ∷ rest
-    → AreHeldOf os all → (s : Stored Beside) × IsHeldOf (kept.0, s) kept × (is_sorted key_cmp (now.objects ++ (kept.0, s) ∷ []) ≡ true)
+pub holds_next : (start now : Core) (all left : List Kept) (kept : Kept) (rest : List Kept) (os : List Object) → HoldsSome start now all left → left ≡ kept ∷ rest
+    → AreHeldOf os all → (s : Stored Beside) × IsHeldOf (kept.0, s) kept
 holds_next start now all left kept rest os some step are =
-    goes_on now.objects os some.done kept rest all some.held are (ap (λ (ks : List Kept). some.done ++ ks) (sym step) ∙ some.parts)
+    let found = held_at os some.done kept rest are.spelled (are.are ∙ sym some.parts ∙ ap (λ (ks : List Kept). some.done ++ ks) step) in
+    let o : Object = found.0 in
+    let same : o ≡ (kept.0, o.1) = λ i. (key_kept o kept found.1 i, o.1) in
+    (o.1, subst (λ (p : Object). IsHeldOf p kept) same found.1)

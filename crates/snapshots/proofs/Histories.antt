@@ -9,7 +9,7 @@ use Rattle.names.specs.declared.resource.Resource.TheVariants.{ConfigMap, Node, 
 use Rattle.names.specs.Key.{Key}
 use Rattle.window.specs.declared.event.Event.{Event}
 use Rattle.documents.specs.Document.{Document}
-use Rattle.history.specs.declared.state.Stored.{Stored}
+use Rattle.history.specs.declared.stored.Stored.{Stored}
 use Rattle.history.specs.Laws.{events_from}
 use Rattle.history.specs.View as seen
 use Rattle.history.specs.View.{after, view, empty}

@@ -6,7 +6,7 @@ use Rattle.std.specs.List.{AllByRecursion}
 use Rattle.std.specs.Ordering.{is_lt}
 use Rattle.names.specs.declared.format.Rules.{Rules}
 use Rattle.names.specs.Key.{Key, key_cmp}
-use Rattle.history.specs.declared.state.Stored.{Stored}
+use Rattle.history.specs.declared.stored.Stored.{Stored}
 use Rattle.history.specs.View.{View}
 use Rattle.pages.specs.Page.{Entry}
 use Rattle.entries.specs.Entries.{plan_entries, event_entry, stored_entry, plans_among, entries_of}
@@ -30,7 +30,7 @@ module _ {P : Type 0} (plans : Key × Stored P → List ℕ) where
   below_in_bytes k [] = refl
   below_in_bytes k (o ∷ os) = ap (λ (b : Bool). is_lt (key_cmp k o.0) && b) (below_in_bytes k os)
 
-  sorted_in_bytes : (os : List (Key × Stored P)) → is_sorted key_cmp (map (in_bytes plans) os) ≡ is_sorted key_cmp os
+  pub sorted_in_bytes : (os : List (Key × Stored P)) → is_sorted key_cmp (map (in_bytes plans) os) ≡ is_sorted key_cmp os
   sorted_in_bytes [] = refl
   sorted_in_bytes (o ∷ os) = λ i. below_in_bytes o.0 os i && sorted_in_bytes os i
 

@@ -1,10 +1,10 @@
 -- What is promised of the entries of a view.
-use Rattle.std.proofs.Common.{◌≡◌, ◌≤◌, subst, List, [], ◌∷◌}
+use Rattle.std.proofs.Common.{◌≡◌, subst, List, [], ◌∷◌}
 use Rattle.std.specs.List.{AllByRecursion}
 use Rattle.celtree.specs.Tree.{Expr}
 use Rattle.names.specs.Key.{Key}
 use Rattle.documents.specs.Document.{Document}
-use Rattle.history.specs.declared.state.Stored.{Stored}
+use Rattle.history.specs.declared.stored.Stored.{Stored}
 use Rattle.expressions.specs.Specification.{IsSpecification, sound}
 use Rattle.pages.specs.Page.{Entry}
 use Rattle.checkpoint.specs.Filling.{AllFit}

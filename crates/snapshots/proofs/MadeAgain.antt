@@ -1,11 +1,12 @@
 -- A store that holds what was read from entries.
-use Rattle.std.proofs.Common.{arith, ◌≡◌, ◌∙◌, sym, ap, subst, refl, ◌⊎◌, ⊎_elim, ◌-◌, ◌≤◌, min, ℕ, List, [], ◌++◌, length}
+use Rattle.std.proofs.Common.{arith, ◌≡◌, ◌∙◌, sym, ap, subst, refl, ◌⊎◌, ⊎_elim, ◌-◌, ◌<◌, ◌^◌, min, ℕ, List, [], length}
 use Rattle.std.specs.List.{AllByRecursion}
 use Rattle.names.specs.declared.format.Rules.{Rules}
 use Rattle.window.specs.declared.event.Event.{Event}
 use Rattle.window.specs.Window.{AreNumberedFrom}
 use Rattle.documents.specs.Document.{Document}
 use Rattle.history.specs.View as seen
+use Rattle.holdings.specs.Holdings.{Shows}
 use Rattle.entries.specs.declared.fault.EntryFault.{EntryFault}
 use Rattle.entries.specs.Entries.{entries_of as view_entries}
 use Rattle.entries.specs.Holding.{IsStorableEvent}
@@ -16,8 +17,8 @@ use Rattle.apicore.specs.Standing.{View}
 use Rattle.snapshots.specs.declared.fault.SnapshotFault.TheVariants as SnapshotFault
 use Rattle.snapshots.specs.Faults.{of_entry_fault}
 use Rattle.snapshots.specs.Keeping.{tree_plans, held_plans, held_entries, HasLastEvents, IsHeld}
-use Rattle.snapshots.specs.Restoring.{view_in_bytes, AreHeldOf, with_events}
-use Rattle.snapshots.proofs.Held.{Object, Kept, held_objects}
+use Rattle.snapshots.specs.Restoring.{view_in_bytes, AreHeldOf, CanKeep, behind, with_events, with_objects}
+use Rattle.snapshots.proofs.Held.{Core, Object, held_objects}
 use Rattle.snapshots.proofs.InBytes.{entries_in_bytes}
 
 abbrev Held : Type 0
@@ -37,25 +38,33 @@ entry_damaged EntryFault.Memory told = ⊎_elim (λ same. cc) (λ same. cc) told
 pub last_in_bytes : (rules : Rules) (v : View) → HasLastEvents rules v → HasLastEvents rules (view_in_bytes tree_plans v)
 last_in_bytes rules v last = record { begun = last.begun; events = last.events }
 
+-- the view that is shown in the end, of a view that was read
+abbrev pub made_again : KeptView → List Object → Held
+made_again kept objects = with_events (with_objects (behind kept) objects) kept.events
+
+-- its events are kept behind its objects
+pub can_keep : (rules : Rules) (core : Core) (kept : KeptView) (objects : List Object) (events : List Told) → core.rules ≡ rules
+    → Shows core [] (with_objects (behind kept) objects) → IsReadView kept → HasLastEvents rules kept → kept.revision < 2 ^ 64 → events ≡ kept.events
+    → CanKeep core (with_objects (behind kept) objects) events
+can_keep rules core kept objects events same shows read last small are =
+    let can : CanKeep core (with_objects (behind kept) objects) kept.events = record {
+      shows = shows;
+      numbered = read.numbered;
+      places = omega (arith, last.events, ap (λ (r : Rules). r.window_events) same);
+      room = omega (arith, last.begun, last.events, small);
+    }
+    in
+    subst (CanKeep core (with_objects (behind kept) objects)) (sym are) can
+
 -- It holds the view that was read.
 pub record IsRestoredOf (held : Held) (kept : KeptView) : Type 0 where
   pub objects : AreHeldOf held.objects kept.objects
   pub revision : held.revision ≡ kept.revision
   pub events : held.events ≡ kept.events
 
-pub restored_of : (rules : Rules) (kept : KeptView) (objects : List Kept) (events : List Told) (behind core new : Held) → HasLastEvents rules kept
-    → objects ≡ kept.objects → events ≡ kept.events → behind.revision ≡ kept.revision - length kept.events → behind.events ≡ []
-    → AreHeldOf core.objects objects → core.revision ≡ behind.revision → core.events ≡ behind.events → new ≡ with_events core events
-    → IsRestoredOf new kept
-restored_of rules kept objects events behind core new last same told number none held kept_number kept_none is =
-    let these : new.objects ≡ core.objects = ap (λ (v : Held). v.objects) is in
-    let few : length kept.events ≤ kept.revision = omega (arith, last.begun, last.events) in
-    let all : AreHeldOf core.objects kept.objects = subst (AreHeldOf core.objects) same held in
-    record {
-      objects = subst (λ (os : List Object). AreHeldOf os kept.objects) (sym these) all;
-      revision = ap (λ (v : Held). v.revision) is ∙ omega (arith, number, kept_number, few, ap length told);
-      events = ap (λ (v : Held). v.events) is ∙ (λ i. (kept_none ∙ none) i ++ told i);
-    }
+pub restored_of : (rules : Rules) (kept : KeptView) (objects : List Object) → HasLastEvents rules kept → AreHeldOf objects kept.objects
+    → IsRestoredOf (made_again kept objects) kept
+restored_of rules kept objects last held = record { objects = held; revision = omega (arith, last.begun, last.events); events = refl }
 
 -- so it is held as it may be
 pub held_restored : (rules : Rules) (held : Held) (kept : KeptView) → IsRestoredOf held kept → IsReadView kept → HasLastEvents rules kept → IsHeld rules held

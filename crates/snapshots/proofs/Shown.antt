@@ -8,7 +8,7 @@ use Rattle.celtree.specs.Tree.{Expr}
 use Rattle.names.specs.declared.format.Rules.{Rules}
 use Rattle.names.specs.Key.{Key, key_cmp}
 use Rattle.documents.specs.Document.{Document}
-use Rattle.history.specs.declared.state.Stored.{Stored}
+use Rattle.history.specs.declared.stored.Stored.{Stored}
 use Rattle.history.specs.Mapped.{each, mapped}
 use Rattle.history.specs.View as seen
 use Rattle.entries.specs.Entries.{entries_of as view_entries}

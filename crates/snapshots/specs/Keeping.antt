@@ -6,7 +6,7 @@ use Rattle.celtree.specs.Tree.{Expr}
 use Rattle.names.specs.declared.format.Rules.{Rules}
 use Rattle.names.specs.Key.{Key, key_cmp}
 use Rattle.window.specs.Window.{AreNumberedFrom}
-use Rattle.history.specs.declared.state.Stored.{Stored}
+use Rattle.history.specs.declared.stored.Stored.{Stored}
 use Rattle.history.specs.View as seen
 use Rattle.expressions.specs.Specification.{plans_in, plans_bytes, MayHavePlans}
 use Rattle.pages.specs.Page.{Entry}

@@ -1,20 +1,24 @@
 -- A store that is made again from what entries keep, part by part.
-use Rattle.std.specs.Prelude.{◌≡◌, ◌⊎◌, ℕ, ◌+◌, List, [], ◌∷◌, ◌++◌, map, length, Result, IsTrue, IsErrOf}
+use Rattle.std.specs.Prelude.{◌≡◌, ◌<◌, ◌≤◌, ◌^◌, ◌⊎◌, ℕ, ◌+◌, ◌-◌, List, [], ◌∷◌, ◌++◌, map, length, Result, IsTrue, IsErrOf}
 use Rattle.std.specs.FinMap.{is_sorted}
 use Rattle.std.specs.List.{AllByRecursion}
+use Rattle.names.specs.declared.format.Rules.{Rules}
 use Rattle.names.specs.Key.{Key, key_cmp}
 use Rattle.window.specs.declared.event.Event.{Event}
+use Rattle.window.specs.Window.{AreNumberedFrom}
 use Rattle.documents.specs.Document.{Document}
-use Rattle.history.specs.declared.state.Stored.{Stored}
+use Rattle.history.specs.declared.stored.Stored.{Stored}
 use Rattle.history.specs.View.{View}
+use Rattle.holdings.specs.Holdings.{State, Shows}
 use Rattle.expressions.specs.Specification.{MayHavePlans}
+use Rattle.pages.specs.Page.{Entry}
 use Rattle.apicore.specs.Beside.{Beside, spelled}
-use Rattle.snapshots.specs.Keeping.{held_plans}
+use Rattle.snapshots.specs.Keeping.{held_plans, held_entries, IsHeld}
 use Rattle.snapshots.specs.declared.fault.SnapshotFault.{SnapshotFault}
-use Rattle.snapshots.specs.declared.fault.SnapshotFault.TheVariants.{Entry, Plans}
+use Rattle.snapshots.specs.declared.fault.SnapshotFault.TheVariants as fault
 
 abbrev pub IsDamaged : {T : Type 0} → Result T SnapshotFault → Type 0
-IsDamaged r = IsErrOf r Entry ⊎ IsErrOf r Plans
+IsDamaged r = IsErrOf r fault.Entry ⊎ IsErrOf r fault.Plans
 
 module _ {P : Type 0} (plans : Key × Stored P → List ℕ) where
   -- an object with the bytes of its plans beside its document, as entries keep it
@@ -40,10 +44,41 @@ pub record AreHeldOf (os : List (Key × Stored Beside)) (kept : List (Key × Sto
   pub spelled : AllByRecursion IsSpelled os
   pub ascends : IsTrue (is_sorted key_cmp os)
 
+-- ---- what is shown
+
+-- no objects, and the revision before the events of a view that entries keep
+abbrev pub behind : View (List ℕ) → View Beside
+behind kept = record { objects = []; revision = kept.revision - length kept.events; events = [] }
+
 -- the view with one object more, behind the others
 abbrev pub with_object : View Beside → Key × Stored Beside → View Beside
 with_object v o = record { objects = v.objects ++ o ∷ []; revision = v.revision; events = v.events }
 
+-- the view with these objects
+abbrev pub with_objects : View Beside → List (Key × Stored Beside) → View Beside
+with_objects v os = record { objects = os; revision = v.revision; events = v.events }
+
 -- the view with these events more, each that of a revision more
 abbrev pub with_events : View Beside → List (Event Document) → View Beside
 with_events v events = record { objects = v.objects; revision = v.revision + length events; events = v.events ++ events }
+
+-- What was shown without objects is shown with those that entries keep. Nothing lies below.
+pub record AreRestored (old new : State Beside) (kept : List (Key × Stored (List ℕ))) : Type 0 where
+  pub objects : List (Key × Stored Beside)
+  pub held : AreHeldOf objects kept
+  pub shows : (first : View Beside) → Shows old [] first → first.objects ≡ [] → Shows new [] (with_objects first objects)
+
+-- This view is shown, and the events may be kept behind its own: their revisions count up from the view's, and the window has places for them.
+pub record CanKeep (core : State Beside) (v : View Beside) (events : List (Event Document)) : Type 0 where
+  pub shows : Shows core [] v
+  pub numbered : AreNumberedFrom v.revision events
+  pub places : length v.events + length events ≤ core.rules.window_events
+  pub room : v.revision + length events < 2 ^ 64
+
+-- A view is shown that the core may hold behind a checkpoint, and that has these entries and this revision.
+pub record IsRestored (rules : Rules) (all : List Entry) (number : ℕ) (core : State Beside) : Type 0 where
+  pub held : View Beside
+  pub shows : Shows core [] held
+  pub kept : IsHeld rules held
+  pub entries : held_entries held ≡ all
+  pub revision : held.revision ≡ number

@@ -1,16 +1,18 @@
 //! The store of entries.
 
-ghost use Rattle.std.specs.Prelude.{◌≡◌, ◌≢◌, ◌⊎◌, ◌+◌, ◌-◌, ◌<◌, ◌≤◌, ◌^◌, ◌↔◌, ◌++◌, ◌∷◌, [], List, length, IsTrue, IfOk, OnOk, IsErrOf};
+ghost use Rattle.std.specs.Prelude.{◌≡◌, ◌≢◌, ◌⊎◌, ◌++◌, ◌∷◌, [], List, IsTrue, IfOk, OnOk, ◌↔◌, IsErrOf};
 ghost use Rattle.std.specs.FinMap.{is_sorted};
+ghost use Rattle.std.specs.Ordering.{is_lt};
 ghost use Rattle.names.specs.declared.format.Rules.{Rules as RulesData};
 ghost use Rattle.names.specs.Key.{Key as KeyData, key_cmp};
-ghost use Rattle.window.specs.Window.{AreNumberedFrom};
-ghost use Rattle.history.specs.declared.state.Stored.{Stored as StoredData};
+ghost use Rattle.history.specs.declared.stored.Stored.{Stored as StoredData};
+ghost use Rattle.history.specs.View as seen;
+ghost use Rattle.holdings.specs.Holdings as holdings;
 ghost use Rattle.apicore.specs.Beside.{Beside as BesideData};
 ghost use Rattle.apicore.specs.Prepared.{Shows};
 ghost use Rattle.apicore.specs.Standing.{View};
-ghost use Rattle.snapshots.specs.Keeping.{entries_of, held_entries, HasLastEvents, IsKeepable, IsHeld};
-ghost use Rattle.snapshots.specs.Restoring.{IsDamaged, IsHeldOf, AreHeldOf, with_object, with_events};
+ghost use Rattle.snapshots.specs.Keeping.{entries_of, HasLastEvents, IsKeepable};
+ghost use Rattle.snapshots.specs.Restoring.{IsDamaged, IsHeldOf, AreHeldOf, AreRestored, CanKeep, IsRestored, behind, with_object, with_events};
 ghost use Rattle.snapshots.specs.declared.fault.SnapshotFault.TheVariants as SnapshotFault;
 
 use crate::fault::SnapshotFault;
@@ -19,18 +21,33 @@ use documents::Document;
 use entries::{Entry, KeptObject, KeptView, read_view};
 use expressions::stored_plans;
 use history::Stored;
+use holdings::Holdings;
 use names::Rules;
 use std::alloc::Global;
 use window::Event;
 
-// Whether an object comes behind all that are held.
-fn is_next(core: &Core, object: &KeptObject) -> bool
-    ensures { (s : StoredData BesideData) → result ≡ is_sorted key_cmp (core.now.view.objects ++ (object.now.0, s) ∷ []) }
+// Whether the key of an object comes behind that of another.
+fn is_behind(object: &KeptObject, before: &KeptObject) -> bool
+    ensures { result ≡ is_lt (key_cmp before.now.0 object.now.0) }
 {
-    match core.objects().last() {
-        Some(held) => held.key() < object.manifest.key(),
-        None => true,
+    before.manifest.key() < object.manifest.key()
+}
+
+// Whether the keys of objects ascend.
+fn ascends(objects: &[KeptObject]) -> bool
+    ensures { result ≡ is_sorted key_cmp objects.now }
+{
+    let Some((first, rest)) = objects.split_first() else {
+        return true;
+    };
+    let mut before = first;
+    for object in rest {
+        if !is_behind(object, before) {
+            return false;
+        }
+        before = object;
     }
+    true
 }
 
 // What is held of an object: its document, and beside it what that spells, with the plans of these bytes.
@@ -54,44 +71,37 @@ fn stored_of(alloc: Global, object: &KeptObject) -> Result<Stored<Beside>, Snaps
     })
 }
 
-// Holds an object behind those that are held.
-fn hold(alloc: Global, core: &mut Core, object: &KeptObject) -> Result<(), SnapshotFault>
+// Holds an object behind those that are shown.
+fn restore(alloc: Global, core: &mut Core, object: &KeptObject) -> Result<(), SnapshotFault>
     ensures rules { core.new.rules ≡ core.old.rules }
     ensures held { OnOk result ((s : StoredData BesideData) × IsHeldOf (object.now.0, s) object.now
-        × (core.new.view ≡ with_object core.old.view (object.now.0, s)) × IsTrue (is_sorted key_cmp (core.old.view.objects ++ (object.now.0, s) ∷ []))) }
-    ensures damaged { IsDamaged result → (s : StoredData BesideData) → IsHeldOf (object.now.0, s) object.now
-        → IsTrue (is_sorted key_cmp (core.old.view.objects ++ (object.now.0, s) ∷ [])) → ⊥ }
+        × ((v : seen.View BesideData) → holdings.Shows core.old [] v → IsTrue (is_sorted key_cmp (v.objects ++ (object.now.0, s) ∷ []))
+        → holdings.Shows core.new [] (with_object v (object.now.0, s)))) }
+    ensures damaged { IsDamaged result → (s : StoredData BesideData) → IsHeldOf (object.now.0, s) object.now → ⊥ }
 {
-    if !is_next(core, object) {
-        return Err(SnapshotFault::Entry);
-    }
     let stored = stored_of(alloc, object)?;
-    core.hold(alloc, object.manifest.key(), stored)?;
+    core.restore(alloc, object.manifest.key(), stored)?;
     Ok(())
 }
 
-// Holds objects, where none is held.
-fn hold_all(alloc: Global, core: &mut Core, objects: &[KeptObject]) -> Result<(), SnapshotFault>
-    requires { core.old.view.objects ≡ [] }
+// Holds objects whose keys ascend, where none is shown.
+fn restore_all(alloc: Global, core: &mut Core, objects: &[KeptObject]) -> Result<(), SnapshotFault>
+    requires { IsTrue (is_sorted key_cmp objects.now) }
     ensures rules { core.new.rules ≡ core.old.rules }
-    ensures held { OnOk result (AreHeldOf core.new.view.objects objects.now) }
-    ensures revision { OnOk result (core.new.view.revision ≡ core.old.view.revision) }
-    ensures events { OnOk result (core.new.view.events ≡ core.old.view.events) }
+    ensures held { OnOk result (AreRestored core.old core.new objects.now) }
     ensures damaged { IsDamaged result → (os : List (KeyData × StoredData BesideData)) → AreHeldOf os objects.now → ⊥ }
 {
     for object in objects {
-        hold(alloc, core, object)?;
+        restore(alloc, core, object)?;
     }
     Ok(())
 }
 
-// Keeps events as they were, for which the window has places.
+// Keeps events as they were, behind those of a view that is shown.
 fn keep_all(core: &mut Core, events: Vec<Event<Document>>)
-    requires numbered { AreNumberedFrom core.old.view.revision events.items }
-    requires places { length core.old.view.events + length events.items ≤ core.old.rules.window_events }
-    requires revision { core.old.view.revision + length events.items < 2 ^ 64 }
+    requires { (v : seen.View BesideData) × CanKeep core.old v events.items }
     ensures rules { core.new.rules ≡ core.old.rules }
-    ensures view { core.new.view ≡ with_events core.old.view events.items }
+    ensures shows { (v : seen.View BesideData) → CanKeep core.old v events.items → holdings.Shows core.new [] (with_events v events.items) }
 {
     for event in events {
         core.keep(event);
@@ -108,18 +118,19 @@ fn has_last_events(rules: Rules, view: &KeptView) -> bool
     }
 }
 
-// The store at the revision before the first event of a view, which has those of its last writes.
+// The store without objects, at the revision before the first event of a view: its keys ascend, and it has the events of its last writes.
 fn core_behind(alloc: Global, rules: Rules, view: &KeptView) -> Result<Core, SnapshotFault>
     ensures rules { IfOk result (λ core. core.rules ≡ rules) }
-    ensures view { IfOk result (λ core. core.view ≡ record { objects = []; revision = view.now.revision - length view.now.events; events = [] }) }
+    ensures shows { IfOk result (λ core. holdings.Shows core [] (behind view.now)) }
+    ensures ascends { OnOk result (IsTrue (is_sorted key_cmp view.now.objects)) }
     ensures last { OnOk result (HasLastEvents rules view.now) }
-    ensures damaged { IsDamaged result → HasLastEvents rules view.now → ⊥ }
+    ensures damaged { IsDamaged result → IsTrue (is_sorted key_cmp view.now.objects) → HasLastEvents rules view.now → ⊥ }
 {
-    if !has_last_events(rules, view) {
+    if !ascends(&view.objects) || !has_last_events(rules, view) {
         return Err(SnapshotFault::Entry);
     }
     let first = view.revision - view.events.len() as u64;
-    Ok(Core::behind(alloc, rules, first)?)
+    Ok(Holdings::over(alloc, rules, first, 0)?)
 }
 
 /// The core that shows what these entries keep, at a revision.
@@ -135,11 +146,9 @@ pub fn restored(
     revision: u64,
 ) -> Result<Core, SnapshotFault>
     ensures rules { IfOk result (λ core. core.rules ≡ rules) }
-    ensures held { IfOk result (λ core. IsHeld rules core.view) }
-    ensures entries { IfOk result (λ core. held_entries core.view ≡ entries.now) }
-    ensures revision { IfOk result (λ core. core.view.revision ≡ revision) }
+    ensures restored { IfOk result (IsRestored rules entries.now revision) }
     ensures found { (v : View) → IsKeepable rules v → entries_of v ≡ entries.now → v.revision ≡ revision
-        → IfOk result (λ core. Shows core.view v) }
+        → IfOk result (λ core. (held : seen.View BesideData) → holdings.Shows core [] held → Shows held v) }
     ensures damaged { IsErrOf result SnapshotFault.Entry ⊎ IsErrOf result SnapshotFault.Plans
         → (v : View) → IsKeepable rules v → entries_of v ≡ entries.now → v.revision ≢ revision }
 {
@@ -150,7 +159,7 @@ pub fn restored(
         events,
         ..
     } = view;
-    hold_all(alloc, &mut core, &objects)?;
+    restore_all(alloc, &mut core, &objects)?;
     keep_all(&mut core, events);
     Ok(core)
 }

@@ -6,7 +6,7 @@ use Rattle.std.specs.List.{AllByRecursion, filter, range_with_len}
 use Rattle.names.specs.Key.{Key, key_bytes}
 use Rattle.window.specs.declared.event.Event.{Event}
 use Rattle.documents.specs.Document.{Document}
-use Rattle.history.specs.declared.state.Stored.{Stored}
+use Rattle.history.specs.declared.stored.Stored.{Stored}
 use Rattle.history.specs.View.{View}
 use Rattle.pages.specs.Page.{Entry}
 use Rattle.entries.specs.Entries.{plan_entry, plan_entries, event_entry, stored_entry, plans_among, entries_of}

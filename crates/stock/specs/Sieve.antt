@@ -4,7 +4,7 @@ use Rattle.std.proofs.Common.{cond, refl, sym, ap, ◌∙◌, append_assoc, leng
 use Rattle.std.proofs.lemmas.List.{append-nil}
 use Rattle.std.specs.List.{filter}
 use Rattle.names.specs.Key.{Key, key_bytes}
-use Rattle.history.specs.declared.state.Stored.{Stored}
+use Rattle.history.specs.declared.stored.Stored.{Stored}
 use Rattle.history.specs.View.{View}
 use Rattle.pages.specs.Page.{Entry}
 use Rattle.stock.specs.declared.sieve.Sieve.{Sieve}

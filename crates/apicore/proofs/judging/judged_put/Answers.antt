@@ -1,14 +1,32 @@
-use Rattle.std.proofs.Common.{◌∙◌, ◌+◌, sym, ap, string_bytes}
+use Rattle.std.proofs.Common.{◌≡◌, ◌∙◌, ◌+◌, sym, ap, if◌then◌else◌, is_some, option_map, string_bytes, map, Bor}
+use Rattle.serde_json.specs.declared.value.Value.{Value}
+use Rattle.serde_json.specs.View.{view}
 use Rattle.requests.specs.Codes.{document_in}
 use Rattle.history.specs.History.{put}
 use Rattle.history.specs.Reply.{showing}
 use Rattle.verdict.specs.Seen.{verdict_seen}
-use Rattle.apicore.proofs.Deciding.{if_ok, denied_judged}
+use Rattle.apicore.proofs.Deciding.{admitted_judged, denied_judged, put_planned, some_mapped}
 use Rattle.apicore.proofs.judging.judged_put.Goals as goal
 
-pub returns-in-Denied-clause-judged : goal.returns-in-Denied-clause-judged
-returns-in-Denied-clause-judged c = λ v trees shows is_view _.
-    let is = sym (rw c.put_attempt-attempt.ensures at (c.in_ok-warnings.ensures v shows is_view)) ∙ ap verdict_seen c.in-Denied.is in
-    if_ok c.denied.result _ _
-    (λ p told. denied_judged (λ warnings. showing c.args.code warnings (document_in c.args.manifest.now.body) (c.args.core.now.view.revision + 1)) (put c.args.manifest.now.key (document_in c.args.manifest.now.body) trees) _ (string_bytes c.in-Denied.policy) (string_bytes c.in-Denied.binding) c.in-Denied.reason (string_bytes c.in-Denied.message) p is told)
-    (rw (c.as_str.ensures.value, c.as_str-in-Denied.ensures.value, c.as_str-in-Denied-2.ensures.value) at c.denied.ensures)
+pub returns-in_ok-admitted_put-in-Admitted-clause-judged : goal.returns-in_ok-admitted_put-in-Admitted-clause-judged
+returns-in_ok-admitted_put-in-Admitted-clause-judged g c = λ held v trees over stands same.
+    let m = c.args.manifest.now in
+    let d = document_in m.body in
+    let p = c.in_ok-admitted_put-in-Admitted.field-0 in
+    let stood = is_some (option_map (λ d. view d.now) c.args.old_object) in
+    let warnings = map string_bytes c.in-Admitted.warnings.items in
+    let code : c.is_some.result ≡ stood = c.is_some.ensures ∙ sym (some_mapped (λ (d : Bor Value). view d.now) c.args.old_object) in
+    let is = sym (rw c.put_attempt-attempt.ensures at (c.in_ok-warnings.ensures.verdict held v over)) ∙ ap verdict_seen c.in-Admitted.is in
+    admitted_judged held (λ ws. showing (if stood then 200 else 201) ws d (held.revision + 1)) (put m.key d trees) _ warnings p is
+    (c.in_ok-admitted_put-in-Admitted.ensures.reply ∙ (λ i. showing (if code i then 200 else 201) warnings d (over.shows.revision i + 1)))
+    (put_planned m.key d c.args.plans.items trees p c.in_ok-admitted_put-in-Admitted.ensures.write same)
+    (c.in_ok-admitted_put-in-Admitted.ensures.next held over.shows.revision (code ∙ stands))
+
+pub returns-in_ok-denied-in-Denied-clause-judged : goal.returns-in_ok-denied-in-Denied-clause-judged
+returns-in_ok-denied-in-Denied-clause-judged g c = λ held v trees over stands same.
+    let m = c.args.manifest.now in
+    let d = document_in m.body in
+    let stood = is_some (option_map (λ d. view d.now) c.args.old_object) in
+    let is = sym (rw c.put_attempt-attempt.ensures at (c.in_ok-warnings.ensures.verdict held v over)) ∙ ap verdict_seen c.in-Denied.is in
+    denied_judged held (λ ws. showing (if stood then 200 else 201) ws d (held.revision + 1)) (put m.key d trees) _ (string_bytes c.in-Denied.policy) (string_bytes c.in-Denied.binding) c.in-Denied.reason (string_bytes c.in-Denied.message) c.in_ok-denied-in-Denied.field-0 is
+    c.in_ok-denied-in-Denied.ensures

@@ -1,8 +1,24 @@
+use Rattle.std.proofs.Common.{◌∙◌, sym}
 use Rattle.requests.specs.Request.{create}
-use Rattle.apicore.proofs.Deciding.{prepared_of}
+use Rattle.apicore.proofs.Over.{over_kept}
+use Rattle.apicore.proofs.Deciding.{prepared_of, create_there, there_found, none_found}
 use Rattle.apicore.proofs.preparing.prepare_create.Goals as goal
 
-pub returns-clause-step : goal.returns-clause-step
-returns-clause-step c =
-    let found = c.in_ok-specification.ensures in
-    prepared_of c.args.core.now (create c.args.manifest.now) found.0 found.1 c.create_of.result (c.create_of.ensures.step found.0 found.2)
+pub returns-in_ok-refused-in-Some-clause-step : goal.returns-in_ok-refused-in-Some-clause-step
+returns-in_ok-refused-in-Some-clause-step g c =
+    let read = c.in_ok-specification.ensures in
+    record {
+      specification = read.0;
+      read = read.1;
+      step = λ held v over.
+          let found = sym (rw c.key.ensures at c.in_ok-find.ensures.found over.base held over.below over.shows) ∙ c.in-Some.is in
+          create_there c.args.core.now.rules held c.args.manifest.now v over.plans c.in_ok-refused-in-Some.field-0 read.0 (there_found _ _ found) c.in_ok-refused-in-Some.ensures;
+    }
+
+pub returns-in-None-clause-step : goal.returns-in-None-clause-step
+returns-in-None-clause-step g c =
+    let read = c.in_ok-specification.ensures in
+    prepared_of _ c.args.core.now (create c.args.manifest.now) read.0 read.1 c.create_free.result
+    (λ held v over.
+    let none = sym (rw c.key.ensures at c.in_ok-find.ensures.found over.base held over.below over.shows) ∙ c.in-None.is in
+    c.create_free.ensures.step read.0 read.2 held v (over_kept _ _ c.args.core.now held v c.in_ok-find.ensures.kept over) (none_found _ none))

@@ -1,8 +1,24 @@
+use Rattle.std.proofs.Common.{◌∙◌, sym}
 use Rattle.requests.specs.Request.{replace}
-use Rattle.apicore.proofs.Deciding.{prepared_of}
+use Rattle.apicore.proofs.Over.{over_kept}
+use Rattle.apicore.proofs.Deciding.{prepared_of, replace_missing}
 use Rattle.apicore.proofs.preparing.prepare_replace.Goals as goal
 
-pub returns-clause-step : goal.returns-clause-step
-returns-clause-step c =
-    let found = c.in_ok-specification.ensures in
-    prepared_of c.args.core.now (replace c.args.manifest.now) found.0 found.1 c.replace_of.result (c.replace_of.ensures.step found.0 found.2)
+pub returns-in-Some-clause-step : goal.returns-in-Some-clause-step
+returns-in-Some-clause-step g c =
+    let read = c.in_ok-specification.ensures in
+    prepared_of _ c.args.core.now (replace c.args.manifest.now) read.0 read.1 c.replace_of.result
+    (λ held v over.
+    let found = sym (rw c.key.ensures at c.in_ok-found.ensures.found over.base held over.below over.shows) ∙ c.in-Some.is in
+    c.replace_of.ensures.step read.0 read.2 held v (over_kept _ _ c.args.core.now held v c.in_ok-found.ensures.kept over) found)
+
+pub returns-in_ok-refused-in-None-clause-step : goal.returns-in_ok-refused-in-None-clause-step
+returns-in_ok-refused-in-None-clause-step g c =
+    let read = c.in_ok-specification.ensures in
+    record {
+      specification = read.0;
+      read = read.1;
+      step = λ held v over.
+          let none = sym (rw c.key.ensures at c.in_ok-found.ensures.found over.base held over.below over.shows) ∙ c.in-None.is in
+          replace_missing c.args.core.now.rules held c.args.manifest.now v over.plans c.in_ok-refused-in-None.field-0 read.0 none c.in_ok-refused-in-None.ensures;
+    }

@@ -1,8 +1,7 @@
-use Rattle.std.proofs.Common.{◌∙◌, sym, ap, option_map}
-use Rattle.apicore.specs.Step.{known}
-use Rattle.apicore.proofs.Deciding.{if_ok, replace_refused}
+use Rattle.std.proofs.Common.{◌∙◌, sym}
+use Rattle.apicore.proofs.Deciding.{replace_conflicting}
 use Rattle.apicore.proofs.preparing.replace_of.Goals as goal
 
-pub returns-in-Some-clause-step : goal.returns-in-Some-clause-step
-returns-in-Some-clause-step c = λ s is v shows _.
-    if_ok c.refused.result _ _ (λ p told. replace_refused c.args.core.now.rules c.args.core.now.view c.args.manifest.now v shows p s c.in-Some.refusal (sym (ap (option_map known) c.in-Some.is) ∙ c.in_ok-refusal.ensures) told) c.refused.ensures
+pub returns-then-branch-clause-step : goal.returns-then-branch-clause-step
+returns-then-branch-clause-step g c = λ s is held v over found.
+    replace_conflicting c.args.core.now.rules held c.args.manifest.now v over.plans c.in_ok-refused.field-0 c.args.found.now found s (sym c.in_ok-update_conflicts.ensures ∙ c.if-branch.true) c.in_ok-refused.ensures

@@ -1,10 +1,14 @@
-use Rattle.std.proofs.Common.{◌∙◌, sym, ap, Some}
+use Rattle.std.proofs.Common.{◌∙◌, sym, ap, false, Some}
+use Rattle.documents.specs.Document.{shown}
 use Rattle.serde_json.specs.View.{view}
-use Rattle.apicore.proofs.Deciding.{if_ok, replace_judged, held_at}
+use Rattle.apicore.proofs.Deciding.{if_ok, replace_judged, replace_found, there_found, told_found}
 use Rattle.apicore.proofs.preparing.replace_there.Goals as goal
 
 pub returns-clause-step : goal.returns-clause-step
-returns-clause-step c = λ trees same v shows is_view.
+returns-clause-step g c = λ trees same held v over found limits.
+    let m = c.args.manifest.now in
+    let there = there_found _ _ found in
     if_ok c.judged_put.result _ _
-    (λ p judged. replace_judged c.args.core.now.rules c.args.core.now.view c.args.manifest.now v shows p trees (view c.value.result.now) c.requires.there (held_at c.args.core.now.view c.args.manifest.now.key c.args.manifest.now.version c.requires.there) (sym c.requires.limits)
-    (ap Some c.value.ensures.value ∙ rw c.key.ensures at c.in_ok-old.ensures) judged) (c.judged_put.ensures.judged v trees shows is_view same)
+    (λ p judged. replace_judged c.args.core.now.rules held m v over.plans p trees (view c.value.result.now) (replace_found held m.key c.args.found.now found m.version false c.requires.conflicts) there (sym limits)
+    (ap Some (c.value.ensures.value ∙ c.in_ok-old.ensures) ∙ sym (told_found shown _ _ found)) judged)
+    (c.judged_put.ensures.judged held v trees over (sym there) same)

@@ -4,7 +4,5 @@ use Rattle.bindings.specs.Seen.{listed_seen}
 use Rattle.apicore.proofs.sight.all_lent.Given as goal
 
 -- those lent, and then those that are left
-abbrev pub invariant-loop-entry : goal.invariant-loop-entry
-invariant-loop-entry l =
-    map listed_seen l.listed.items ++ map entry_held (map (λ entry. entry.now) (drop l.entry-index l.entries))
-    ≡ map entry_held (map (λ entry. entry.now) l.entries)
+abbrev pub invariant-loop-object : goal.invariant-loop-object
+invariant-loop-object l = map listed_seen l.listed.items ++ map entry_held (drop l.object-index l.objects) ≡ map entry_held l.objects

@@ -1,14 +1,11 @@
-use Rattle.std.proofs.Common.{◌∙◌, sym, ap, subst, map, List, Result, Ok, Err, OnErr, true≢false}
+use Rattle.std.proofs.Common.{◌∙◌, sym, ap, subst, map, List, true≢false}
 use Rattle.requests.specs.Request.{Request}
 use Rattle.requests.specs.RequestOf.{request_of}
+use Rattle.history.specs.View.{view}
 use Rattle.durable.specs.Settled.{added, HasServed, HasStopped}
+use Rattle.durable.proofs.Answering.{on_err, settled_serves}
 use Rattle.durable.proofs.Driving.{episode_leaves, episode_stands}
 use Rattle.durable.proofs.lives.answered.Goals as goal
-
--- what holds anyway holds at an error
-on_err : {T E P : Type 0} (r : Result T E) → P → OnErr r P
-on_err (Ok x) holds = tt
-on_err (Err e) holds = holds
 
 pub returns-then-is_memory-clause-memory : goal.returns-then-is_memory-clause-memory
 returns-then-is_memory-clause-memory c rules h settled =
@@ -36,7 +33,7 @@ returns-clause-lived c rules h settled content left =
     let Stopped : List Request → Type 0 = λ rs. HasStopped c.stop_on.new.self c.run-replies.new.self rs given in
     episode_leaves rules c.stop_on.new.self c.run-replies.new.self c.compact_where.new.store h c.args.episode.now
     (record { revision = c.revision-revision.result; replies = c.run-replies.result.0 }) opened (λ x. c.compact_where.ensures.held rules x) c.compact_where.ensures.stopped
-    (c.revision-revision.ensures ∙ ap (λ v. v.revision) opened.shows) content left
+    (c.revision-revision.ensures.shown rules (view rules h) (settled_serves rules c.stop_on.new.self h opened)) content left
     c.run-replies.result.1 (λ is. true≢false (sym (c.is_memory.ensures.1 is) ∙ c.if-is_memory.false)) (c.run-replies.ensures.refusal opened.working)
     (λ none. subst Served (ap (map request_of) c.deref.ensures.value) (c.run-replies.ensures.all none))
     (λ device. subst Stopped (ap (map request_of) c.deref.ensures.value) (c.run-replies.ensures.device device))

@@ -1,7 +1,7 @@
 use Rattle.std.proofs.Common.{List, [], ◌∷◌, ℕ}
 use Rattle.std.specs.List.{AllByRecursion}
 use Rattle.names.specs.Key.{Key}
-use Rattle.history.specs.declared.state.Stored.{Stored}
+use Rattle.history.specs.declared.stored.Stored.{Stored}
 use Rattle.entries.specs.Laws.{bytes_beside}
 use Rattle.entries.proofs.Views.{one_view_of}
 use Rattle.entries.proofs.laws.entries_have_one_view.Goals as goal

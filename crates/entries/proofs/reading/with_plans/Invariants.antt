@@ -2,7 +2,7 @@ use Rattle.std.proofs.Common.{◌≡◌, ◌≤◌, ℕ, List, ◌++◌, map, dr
 use Rattle.std.specs.List.{AllByRecursion}
 use Rattle.std.specs.Vec.Iter.{into_iter_items}
 use Rattle.names.specs.Key.{Key}
-use Rattle.history.specs.declared.state.Stored.{Stored}
+use Rattle.history.specs.declared.stored.Stored.{Stored}
 use Rattle.pages.specs.Page.{Entry}
 use Rattle.entries.specs.declared.object.StoredObject.{StoredObject}
 use Rattle.entries.specs.Entries.{stored_entry, plans_among}

@@ -9,8 +9,8 @@ use Rattle.snapshots.proofs.Kept.{entries_ascend}
 use Rattle.history.specs.View.{view}
 use Rattle.durable.specs.Stands.{StandsFor}
 use Rattle.apicore.proofs.Histories.{on_ok_to}
-use Rattle.durable.specs.Settled.{device_of, IsFound}
-use Rattle.durable.proofs.Answering.{held, settled_by}
+use Rattle.durable.specs.Settled.{device_of, revision_of, IsFound}
+use Rattle.durable.proofs.Answering.{held, revision_is, settled_by}
 use Rattle.durable.proofs.Findings.{found_none, leaves-idle}
 use Rattle.roots.specs.declared.root.Root.{Root}
 use Rattle.durable.proofs.Keeping.{root_is}
@@ -40,7 +40,7 @@ pub returns-clause-settled : goal.returns-clause-settled
 returns-clause-settled g c rules h settled =
     let store = c.args.self.now in
     let shown : in_list c.in_ok-entries.entries ≡ entries_of (view rules h) = c.in_ok-entries.ensures.shown (view rules h) settled.shows in
-    let revision : store.core.view.revision ≡ (view rules h).revision = ap (λ v. v.revision) settled.shows in
+    let revision : revision_of store ≡ (view rules h).revision = revision_is store (view rules h) settled.shows in
     let stands = c.write_next.ensures.stands rules h (held rules store h settled) revision shown in
     on_ok_to c.write_next.result _ _ (λ serves. settled_by rules store c.write_next.new.self h settled c.write_next.ensures.core serves stands) c.write_next.ensures.serves
 
@@ -48,7 +48,7 @@ pub returns-clause-counts : goal.returns-clause-counts
 returns-clause-counts g c rules h settled =
     let store = c.args.self.now in
     let shown : in_list c.in_ok-entries.entries ≡ entries_of (view rules h) = c.in_ok-entries.ensures.shown (view rules h) settled.shows in
-    let revision : store.core.view.revision ≡ (view rules h).revision = ap (λ v. v.revision) settled.shows in
+    let revision : revision_of store ≡ (view rules h).revision = revision_is store (view rules h) settled.shows in
     c.write_next.ensures.counts rules h (held rules store h settled) revision shown
 
 pub returns-clause-counted : goal.returns-clause-counted
@@ -61,7 +61,7 @@ pub returns-clause-any_moment : goal.returns-clause-any_moment
 returns-clause-any_moment g c rules h settled =
     let store = c.args.self.now in
     let shown : in_list c.in_ok-entries.entries ≡ entries_of (view rules h) = c.in_ok-entries.ensures.shown (view rules h) settled.shows in
-    let revision : store.core.view.revision ≡ (view rules h).revision = ap (λ v. v.revision) settled.shows in
+    let revision : revision_of store ≡ (view rules h).revision = revision_is store (view rules h) settled.shows in
     let stands = c.write_next.ensures.stands rules h (held rules store h settled) revision shown in
     weaker g.D.Device.disk store.device (device_of c.write_next.new.self) (λ x. StandsFor rules x h) (IsFound rules h [] []) stands.moments
     (λ x found. found_none rules h [] x found)
@@ -70,7 +70,7 @@ pub returns-clause-device : goal.returns-clause-device
 returns-clause-device g c rules h settled told =
     let store = c.args.self.now in
     let shown : in_list c.in_ok-entries.entries ≡ entries_of (view rules h) = c.in_ok-entries.ensures.shown (view rules h) settled.shows in
-    let revision : store.core.view.revision ≡ (view rules h).revision = ap (λ v. v.revision) settled.shows in
+    let revision : revision_of store ≡ (view rules h).revision = revision_is store (view rules h) settled.shows in
     let stands = c.write_next.ensures.stands rules h (held rules store h settled) revision shown in
     record {
       stopped = c.write_next.ensures.stops told;
@@ -83,7 +83,7 @@ pub returns-clause-memory : goal.returns-clause-memory
 returns-clause-memory g c rules h settled told =
     let store = c.args.self.now in
     let shown : in_list c.in_ok-entries.entries ≡ entries_of (view rules h) = c.in_ok-entries.ensures.shown (view rules h) settled.shows in
-    let revision : store.core.view.revision ≡ (view rules h).revision = ap (λ v. v.revision) settled.shows in
+    let revision : revision_of store ≡ (view rules h).revision = revision_is store (view rules h) settled.shows in
     let stands = c.write_next.ensures.stands rules h (held rules store h settled) revision shown in
     let unchanged = c.write_next.ensures.unchanged told in
     (settled_by rules store c.write_next.new.self h settled c.write_next.ensures.core unchanged.1 stands, unchanged.0.seen settled.keeps)
@@ -92,5 +92,5 @@ pub returns-clause-damaged : goal.returns-clause-damaged
 returns-clause-damaged g c damage told rules h settled =
     let store = c.args.self.now in
     let shown : in_list c.in_ok-entries.entries ≡ entries_of (view rules h) = c.in_ok-entries.ensures.shown (view rules h) settled.shows in
-    let revision : store.core.view.revision ≡ (view rules h).revision = ap (λ v. v.revision) settled.shows in
+    let revision : revision_of store ≡ (view rules h).revision = revision_is store (view rules h) settled.shows in
     c.write_next.ensures.damaged rules h damage (held rules store h settled) revision shown told

@@ -4,4 +4,4 @@ use Rattle.holdings.proofs.holdings.Holdings.list.Goals as goal
 
 pub returns : goal.returns
 returns g c = λ base v shows below.
-    c.list.ensures base v.objects (subst (λ (st : State g.row.P.Denot). Shows st base v) (sym c.self.view_is) shows).objects below
+    c.list.ensures.listed base v.objects (subst (λ (st : State g.row.P.Denot). Shows st base v) (sym c.self.view_is) shows).objects below

@@ -1,4 +1,4 @@
-use Rattle.std.proofs.Common.{◌≡◌, List, sym, subst, IsTrue, rules}
+use Rattle.std.proofs.Common.{List, sym, subst, IsTrue, rules}
 use Rattle.std.specs.FinMap.{is_sorted}
 use Rattle.names.specs.Key.{Key, key_cmp}
 use Rattle.policycases.specs.declared.shelf.Stored.{Stored}

@@ -1,0 +1,10 @@
+use Rattle.apicore.specs.Standing.{objects_of}
+use Rattle.apicore.proofs.Finding.{sees_shown, have_trees}
+use Rattle.apicore.proofs.judging.verdict_of.Goals as goal
+
+pub returns-clause-verdict : goal.returns-clause-verdict
+returns-clause-verdict g c = λ held v over.
+    let sees = sees_shown held v over.plans over.seen in
+    c.admit.ensures.verdict (objects_of v)
+    (record { base = over.base; below = over.below; free = over.free; held = held; shows = over.shows; are = sees.0; ascends = sees.1 })
+    (have_trees v over.seen)
