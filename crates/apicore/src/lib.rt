@@ -1,13 +1,13 @@
 //! What a request does to what is stored, and to what the policies among it say: one step of the model of the server.
 //!
 //! ```text
-//! let prepared = prepare(&mut core, alloc, &Request::Create(manifest))?;
+//! let prepared = prepare(&mut core, alloc, &mut source, &Request::Create(manifest))?;
 //! core.take(prepared.write);
 //! ```
 //!
 //! A step takes a history and a request, with what stands in the document that it asks to be stored, to a history and a reply. Each
 //! write is asked of the policies and bindings that are stored just before it: one that they deny is refused, and stands nowhere.
-//! `prepare` takes all the memory of a step and changes nothing that is seen, `Core::take` takes none, and together they are one step.
+//! `prepare` takes all the memory of a step over the objects of a source and changes nothing that is seen, `Core::take` takes none; together they are one step.
 //! Beside each document the model has the trees of its expressions, and the core the plans of those trees, with what the document
 //! spells as a policy and as a binding.
 //!

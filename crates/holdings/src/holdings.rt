@@ -440,7 +440,7 @@ impl<P: Drop> Holdings<P> {
         }
     }
 
-    // Takes a put.
+    /// Takes a put.
     pub(crate) fn put(&mut self, put: Put<P>)
         requires { HasRoom self.old }
         ensures rules { self.new.rules ≡ self.old.rules }
@@ -454,7 +454,7 @@ impl<P: Drop> Holdings<P> {
         self.window.push(change, key, document);
     }
 
-    // Takes a deletion.
+    /// Takes a deletion.
     pub(crate) fn delete(&mut self, deletion: Deletion<P>)
         requires { HasRoom self.old }
         ensures rules { self.new.rules ≡ self.old.rules }
