@@ -18,6 +18,7 @@
 //! The device then has one sector.
 #![tactic(auto)]
 
+mod bytes;
 mod found;
 mod memory_file;
 mod recorded;

@@ -1,5 +1,6 @@
 ghost use Rattle.std.specs.Prelude.{◌≡◌, ◌<◌, ◌≤◌, ◌+◌, ◌-◌, ◌^◌, ◌⊎◌, ◌++◌, ◌∷◌, [], length, take, drop, IfOk, OnOk, OnErr};
 
+use crate::bytes::written;
 use device::{DeviceFault, RawFile};
 use std::alloc::{AllocError, Global};
 
@@ -85,20 +86,6 @@ impl MemoryFile {
         self.current = next;
         Ok(())
     }
-
-    // What reads give after a write.
-    fn written(&self, start: usize, bytes: &[u8]) -> Result<Vec<u8>, AllocError>
-        requires inside { start ≤ length self.now.current.items }
-        ensures { IfOk result (λ v. v.items ≡ take start self.now.current.items ++ bytes.now ++ drop (start + length bytes.now) self.now.current.items) }
-    {
-        let mut next = Vec::from_slice(self.alloc, &self.current[..start])?;
-        next.extend_from_slice(bytes)?;
-        let end = next.len();
-        if end < self.current.len() {
-            next.extend_from_slice(&self.current[end..])?;
-        }
-        Ok(next)
-    }
 }
 
 impl RawFile for MemoryFile {
@@ -128,7 +115,7 @@ impl RawFile for MemoryFile {
         if bytes.len() > MOST_BYTES - start {
             return Err(self.fail());
         }
-        match self.written(start, bytes) {
+        match written(self.alloc, &self.current, start, bytes) {
             Ok(next) => self.becomes(
                 Change::Written {
                     offset: start,

@@ -2,6 +2,7 @@
 
 ghost use Rattle.std.specs.Prelude.{◌≡◌, ◌<◌, ◌≤◌, ◌+◌, ◌-◌, ◌*◌, ◌/◌, ◌%◌, ◌^◌, ◌⊎◌, ◌++◌, ◌∷◌, [], length, take, drop, map, vec_len, IfOk, OnOk, OnErr, IsErr, Result};
 
+use crate::bytes::written;
 use device::{Device, DeviceFault};
 use std::alloc::{AllocError, Global};
 
@@ -84,20 +85,6 @@ impl Recorded {
         self.current = next;
         Ok(())
     }
-
-    // What reads give after a write.
-    fn written(&self, start: usize, bytes: &[u8]) -> Result<Vec<u8>, AllocError>
-        requires inside { start ≤ length self.now.current.items }
-        ensures { IfOk result (λ v. v.items ≡ take start self.now.current.items ++ bytes.now ++ drop (start + length bytes.now) self.now.current.items) }
-    {
-        let mut next = Vec::from_slice(self.alloc, &self.current[..start])?;
-        next.extend_from_slice(bytes)?;
-        let end = next.len();
-        if end < self.current.len() {
-            next.extend_from_slice(&self.current[end..])?;
-        }
-        Ok(next)
-    }
 }
 
 impl Device for Recorded {
@@ -129,7 +116,7 @@ impl Device for Recorded {
         if bytes.len() > MOST_BYTES - start {
             return Err(self.fail());
         }
-        match self.written(start, bytes) {
+        match written(self.alloc, &self.current, start, bytes) {
             Ok(next) => self.becomes(next),
             Err(_) => Err(self.fail()),
         }
