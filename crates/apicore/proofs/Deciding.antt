@@ -333,6 +333,10 @@ pub if_ok : {T E : Type 0} (result : Result T E) (P Q : T → Type 0) → ((x : 
 if_ok (Ok x) P Q to holds = to x holds
 if_ok (Err e) P Q to holds = tt
 
+-- what was read of a request was read of it as it is spelled
+pub read_as : (r q : Request) → r ≡ q → (s : Specification Expr) × IsReadOf q s → (s : Specification Expr) × IsReadOf r s
+read_as r q is read = (read.0, subst (λ x. IsReadOf x read.0) (sym is) read.1)
+
 -- ---- the verdict on a write
 
 pub admitted_judged : (held : seen.View Beside) (shows : List (List ℕ) → Reply) (w : Write) (j : Verdict) (warnings : List (List ℕ)) (p : Prepared) → j ≡ admitted warnings

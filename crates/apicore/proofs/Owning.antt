@@ -1,21 +1,26 @@
 -- Plans beside their own expressions.
-use Rattle.std.proofs.Common.{◌≡◌, ◌∙◌, sym, ap, subst, ℕ, ◌+◌, ◌<◌, List, [], ◌∷◌, length, take, get_or, zero, suc, arith}
+use Rattle.std.proofs.Common.{◌≡◌, ◌∙◌, sym, ap, subst, true, ℕ, ◌+◌, ◌<◌, List, [], ◌∷◌, length, take, get_or, zero, suc, arith}
 use Rattle.std.proofs.lemmas.List.{take_more}
+use Rattle.std.specs.FinMap.{is_sorted}
 use Rattle.std.specs.List.{AllByRecursion}
+use Rattle.std.specs.Prelude.{Option, Some}
 use Rattle.serde_json.specs.Data.{Data}
 use Rattle.celtree.specs.Tree.{Expr}
-use Rattle.names.specs.Key.{Key}
+use Rattle.names.specs.Key.{Key, key_cmp}
 use Rattle.names.specs.declared.resource.Resource.{Resource}
 use Rattle.documents.specs.Document.{Document}
+use Rattle.objects.specs.Objects.{value_at}
 use Rattle.history.specs.declared.stored.Stored.{Stored}
 use Rattle.history.specs.Mapped.{one, each}
 use Rattle.history.specs.View as seen
+use Rattle.holdings.specs.Holdings.{State}
 use Rattle.plancode.specs.Plans.{Judged}
 use Rattle.records.proofs.Groups.{all-push}
 use Rattle.expressions.specs.Specification.{Specification, IsSpecification, IsCompiled, compiled, sound, plans_in}
 use Rattle.apicore.specs.Beside.{Beside, beside_of}
-use Rattle.apicore.specs.Prepared.{plans_held, Shows}
+use Rattle.apicore.specs.Prepared.{plans_held, Shows, ShowsOver}
 use Rattle.apicore.specs.Standing.{View, IsView, HasTrees, plans_beside}
+use Rattle.apicore.proofs.Changed.{all_stand, put_has}
 
 -- ---- one object
 
@@ -64,9 +69,19 @@ module _ {X : Type 0} (P : X → Type 0) where
   pub all_more : (xs : List X) (i : ℕ) (x : X) → i < length xs → AllByRecursion P (take i xs) → P (get_or xs i x) → AllByRecursion P (take (i + 1) xs)
   all_more xs i x inside all here = subst (AllByRecursion P) (sym (take_more xs i x inside)) (all-push P (take i xs) (get_or xs i x) all here)
 
--- an object of a core that shows a view, at an index of the program's list
-pub planned_at : (core : seen.View Beside) (v : View) (items : List (Key × Stored Beside)) (i : ℕ) (o : Key × Stored Beside) → Shows core v → IsView v
-    → items ≡ core.objects → i < length items → o ≡ get_or items i o → IsPlanned o
-planned_at core v items i o shows is_view are inside is =
-    let same : each plans_held items ≡ each plans_beside v.objects = ap (each plans_held) are ∙ ap (λ (u : seen.View Beside). u.objects) shows in
-    subst IsPlanned (sym is) (at_place IsPlanned items i o (all_planned items v.objects same is_view.trees) inside)
+-- what a change puts that a core holds, at an index of the program's list, where the core shows a view
+pub planned_put : (core : State Beside) (base : List (Key × Stored Beside)) (v : View) (i : ℕ) (c : Key × Option (Stored Beside)) (s : Stored Beside)
+    → ShowsOver core base v → IsView v → is_sorted key_cmp core.changes.made ≡ true → i < length core.changes.made → c ≡ get_or core.changes.made i c → c.1 ≡ Some s
+    → IsPlanned (c.0, s)
+planned_put core base v i c s over is_view sorted inside is put =
+    let changes : List (Key × Option (Stored Beside)) = core.changes.made in
+    let planned : AllByRecursion IsPlanned over.held.objects =
+    all_planned over.held.objects v.objects (ap (λ (u : seen.View Beside). u.objects) over.plans) is_view.trees
+    in
+    let there : value_at (get_or changes i c).0 changes ≡ Some (get_or changes i c).1 =
+    at_place (λ e. value_at e.0 changes ≡ Some e.1) changes i c (all_stand changes sorted) inside
+    in
+    let found : value_at c.0 changes ≡ Some (Some s) =
+    subst (λ (e : Key × Option (Stored Beside)). value_at e.0 changes ≡ Some e.1) (sym is) there ∙ ap (λ (x : Option (Stored Beside)). Some x) put
+    in
+    put_has IsPlanned changes base c.0 s (subst (AllByRecursion IsPlanned) (sym over.shows.objects.are) planned) found

@@ -1,5 +1,5 @@
 -- Plans that stand beside their own expressions.
-use Rattle.std.specs.Prelude.{◌≡◌, List}
+use Rattle.std.specs.Prelude.{◌≡◌, List, Option, IfSome}
 use Rattle.celtree.specs.Tree.{Expr}
 use Rattle.names.specs.Key.{Key}
 use Rattle.history.specs.declared.stored.Stored.{Stored}
@@ -11,3 +11,7 @@ pub record HasOwnPlans (o : Key × Stored Beside) : Type 0 where
   pub trees : List Expr
   pub spelled : IsSpecification o.0.resource o.1.document.json (sound trees)
   pub bytes : plans_bytes o.0.resource o.1.beside.plans ≡ plans_bytes o.0.resource (plans_in o.1.document.json trees)
+
+-- What a change puts has its own plans.
+abbrev pub PutsOwnPlans : Key × Option (Stored Beside) → Type 0
+PutsOwnPlans c = IfSome c.1 (λ stored. HasOwnPlans (c.0, stored))

@@ -6,6 +6,7 @@ pub mod Judged
 pub mod Sights
 pub mod Written
 pub mod Taken
+pub mod Known
 pub mod Faults
 pub mod Laws
 pub mod Compiled

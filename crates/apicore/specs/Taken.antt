@@ -1,9 +1,11 @@
 -- The writes of a payload, as they are taken.
-use Rattle.std.specs.Prelude.{◌≡◌, ℕ, List, [], ◌++◌, map}
+use Rattle.std.specs.Prelude.{◌≡◌, ℕ, List, ◌++◌, map}
 use Rattle.std.specs.List.{AllByRecursion}
 use Rattle.names.specs.declared.format.Rules.{Rules}
+use Rattle.names.specs.Key.{Key}
 use Rattle.history.specs.History as plain
 use Rattle.history.specs.Mapped.{mapped}
+use Rattle.history.specs.declared.stored.Stored.{Stored}
 use Rattle.history.specs.View.{View, after, after_all, MayFollow, AllMayFollow}
 use Rattle.holdings.specs.Holdings as holdings
 use Rattle.apicore.specs.Beside.{Beside}
@@ -32,10 +34,10 @@ pub record AreTaken (rules : Rules) (v now : View Beside) (all left : List (plai
   pub follow : AllMayFollow rules v writes
   pub shows : now ≡ after_all rules v writes
 
--- The store shows what the writes with these payloads left of what was held.
-pub record HasReplayed (rules : Rules) (held : View Beside) (new : holdings.State Beside) (payloads : List (List ℕ)) : Type 0 where
+-- Over the objects that lie below, the store shows what the writes with these payloads left of what was held.
+pub record HasReplayed (rules : Rules) (base : List (Key × Stored Beside)) (held : View Beside) (new : holdings.State Beside) (payloads : List (List ℕ)) : Type 0 where
   pub now : View Beside
-  pub shows : holdings.Shows new [] now
+  pub shows : holdings.Shows new base now
   pub writes : List Write
   pub written : IsWritten rules (mapped plans_held held) writes payloads
   pub left : mapped plans_held now ≡ after_all rules (mapped plans_held held) writes

@@ -1,13 +1,15 @@
 //! Whether plans are those of the expressions beside which they stand.
 
-ghost use Rattle.std.specs.Prelude.{◌≡◌, List, [], false, IsTrue, IfOk};
+ghost use Rattle.std.specs.Prelude.{◌≡◌, List, Some, false, IsTrue, IfOk};
 ghost use Rattle.std.specs.List.{AllByRecursion};
 ghost use Rattle.celtree.specs.Tree.{Expr};
+ghost use Rattle.names.specs.Key.{Key as KeyData};
 ghost use Rattle.expressions.specs.Specification.{plans_bytes};
+ghost use Rattle.history.specs.declared.stored.Stored.{Stored as StoredData};
 ghost use Rattle.history.specs.View.{View as Held};
 ghost use Rattle.holdings.specs.Holdings.{Shows};
 ghost use Rattle.apicore.specs.Beside.{Beside as BesideData, beside_of};
-ghost use Rattle.apicore.specs.Compiled.{HasOwnPlans};
+ghost use Rattle.apicore.specs.Compiled.{HasOwnPlans, PutsOwnPlans};
 ghost use Rattle.apicore.specs.Prepared.{ShowsOver};
 ghost use Rattle.apicore.specs.Standing.{View, IsView, HasTrees};
 
@@ -16,6 +18,7 @@ use crate::prepared::Core;
 use expressions::{Specification, plans_bytes, specification_of};
 use history::Stored;
 use names::{Key, Resource};
+use objects::Entry;
 use plancode::Verified;
 use std::alloc::{AllocError, Global};
 
@@ -56,19 +59,31 @@ fn has_own(alloc: Global, key: &Key, stored: &Stored<Beside>) -> Result<bool, Al
     }
 }
 
-/// Whether each object of a core below which nothing lies has the plans of its own expressions: they are read, typed and compiled again, and the
-/// bytes compared.
+// Whether the plans that a change puts are those of the object's own expressions. A removal puts none.
+fn puts_own(alloc: Global, change: &Entry<Option<Stored<Beside>>>) -> Result<bool, AllocError>
+    ensures yes { IfOk result (λ puts. IsTrue puts → PutsOwnPlans change.now) }
+    ensures no { IfOk result (λ puts. puts ≡ false → (stored : StoredData BesideData) × (change.now.1 ≡ Some stored)
+        × ((trees : List Expr) → HasTrees change.now.0.resource stored.document.json trees → stored.beside ≡ beside_of stored.document.json trees → ⊥)) }
+{
+    match change.value() {
+        Some(stored) => has_own(alloc, change.key(), stored),
+        None => Ok(true),
+    }
+}
+
+/// Whether each object that a core shows has the plans of its own expressions, where each that lies below has: of those that it holds they are read, typed and
+/// compiled again, and the bytes compared.
 ///
 /// # Errors
 ///
 /// Where there was no memory.
 pub fn has_own_plans(alloc: Global, core: &Core) -> Result<bool, AllocError>
-    ensures yes { (held : Held BesideData) → Shows core.now [] held → IfOk result (λ has. IsTrue has → AllByRecursion HasOwnPlans held.objects) }
-    ensures no { (v : View) → ShowsOver core.now [] v → IsView v → IfOk result (λ has. has ≡ false → ⊥) }
+    ensures yes { (base : List (KeyData × StoredData BesideData)) (held : Held BesideData) → Shows core.now base held → AllByRecursion HasOwnPlans base
+        → IfOk result (λ has. IsTrue has → AllByRecursion HasOwnPlans held.objects) }
+    ensures no { (base : List (KeyData × StoredData BesideData)) (v : View) → ShowsOver core.now base v → IsView v → IfOk result (λ has. has ≡ false → ⊥) }
 {
-    let objects = core.objects(alloc, &[])?;
-    for object in &objects {
-        if !has_own(alloc, object.key, object.value)? {
+    for change in core.changes() {
+        if !puts_own(alloc, change)? {
             return Ok(false);
         }
     }

@@ -13,11 +13,14 @@
 //!
 //! ```text
 //! let payloads = log.records(alloc, &mut device)?;
+//! let keys = written_keys(alloc, &payloads)?;
+//! // the core is made to know what stands under each of these keys
 //! let core = replayed(alloc, core, &payloads)?;
 //! ```
 //!
 //! `replayed` gives what is seen of a store behind the writes that have these payloads, in order, and answers `Damaged` or `Plans` only where no
-//! writes that may follow have them. At most one list of writes has them. `has_own_plans` compiles the expressions of each policy, and
+//! writes that may follow have them. At most one list of writes has them. It looks nothing up below: memory has to know each key that the payloads write,
+//! and `written_keys` tells which those are. `has_own_plans` compiles the expressions of each policy, and
 //! compares their plans with those that stand beside it.
 #![tactic(auto)]
 
@@ -26,6 +29,7 @@ mod compiling;
 mod conflicts;
 mod fault;
 mod judging;
+mod keys;
 mod laws;
 mod prepared;
 mod preparing;
@@ -37,6 +41,7 @@ mod sight;
 pub use beside::Beside;
 pub use compiling::has_own_plans;
 pub use fault::RecoveryFault;
+pub use keys::written_keys;
 pub use laws::{
     accepted_are_admitted, events_are_last, histories_show, key_has_last_write, objects_ascend,
     payloads_have_one_list, revision_counts, runs_are_steps, view_decides, writes_follow,

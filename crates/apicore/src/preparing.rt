@@ -1,5 +1,5 @@
 // The step of a request, with all its memory.
-ghost use Rattle.std.specs.Prelude.{◌≡◌, ◌≤◌, ◌<◌, List, Some, None, false, IsTrue, IfOk, IsErrOf, option_map, string_bytes};
+ghost use Rattle.std.specs.Prelude.{◌≡◌, ◌≤◌, ◌<◌, ◌⊎◌, List, Some, None, false, IsTrue, IfOk, IsErrOf, option_map, string_bytes};
 ghost use Rattle.celtree.specs.Tree.{Expr};
 ghost use Rattle.names.specs.Key.{Key as KeyData, is_key};
 ghost use Rattle.objects.specs.Failing.{HasGrown};
@@ -15,7 +15,7 @@ ghost use Rattle.holdings.specs.Prepared.{HasRoomFor};
 ghost use Rattle.holdings.specs.Sources.{found_in};
 ghost use Rattle.expressions.specs.Specification.{Specification as SpecificationOf, sound, compiled, plans_in, specification_seen};
 ghost use Rattle.apicore.specs.Beside.{Beside as BesideData};
-ghost use Rattle.apicore.specs.Prepared.{IsOver, IsPrepared, IsRead, IsStepOf};
+ghost use Rattle.apicore.specs.Prepared.{IsOver, IsPrepared, IsRead, IsReadOf, IsStepOf};
 ghost use Rattle.apicore.specs.Standing.{View};
 ghost use Rattle.apicore.specs.Step.{first_of, replace_limits, update_conflicts_at, deletion_conflicts_at};
 
@@ -61,6 +61,9 @@ pub fn prepare<S: Source<Beside>>(
     ensures counts { S.failures source.old ≤ S.failures source.new }
     ensures device { IsErrOf result LookupFault.Device → HasGrown (S.failures source.old) (S.failures source.new) }
     ensures damaged { IsErrOf result LookupFault.Damaged → S.is_damaged source.new }
+
+    // What stands in the request's document was read before the look that failed.
+    ensures read { IsErrOf result LookupFault.Device ⊎ IsErrOf result LookupFault.Damaged → (s : SpecificationOf Expr) × IsReadOf (request_of request.now) s }
 {
     match request {
         Request::Get(key) => get(core, alloc, source, key),
@@ -101,6 +104,7 @@ fn prepare_create<S: Source<Beside>>(
     ensures counts { S.failures source.old ≤ S.failures source.new }
     ensures device { IsErrOf result LookupFault.Device → HasGrown (S.failures source.old) (S.failures source.new) }
     ensures damaged { IsErrOf result LookupFault.Damaged → S.is_damaged source.new }
+    ensures read { IsErrOf result LookupFault.Device ⊎ IsErrOf result LookupFault.Damaged → (s : SpecificationOf Expr) × IsReadOf (create manifest.now) s }
 {
     // The document, of which the form speaks.
     let _document = manifest.document();
@@ -184,6 +188,7 @@ fn prepare_replace<S: Source<Beside>>(
     ensures counts { S.failures source.old ≤ S.failures source.new }
     ensures device { IsErrOf result LookupFault.Device → HasGrown (S.failures source.old) (S.failures source.new) }
     ensures damaged { IsErrOf result LookupFault.Damaged → S.is_damaged source.new }
+    ensures read { IsErrOf result LookupFault.Device ⊎ IsErrOf result LookupFault.Damaged → (s : SpecificationOf Expr) × IsReadOf (replace manifest.now) s }
 {
     // The document, of which the form speaks.
     let _document = manifest.document();

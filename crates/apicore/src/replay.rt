@@ -1,11 +1,15 @@
 ghost use Rattle.std.specs.Prelude.{◌≡◌, ◌⊎◌, ℕ, List, [], map, IfOk, OnOk, IsErrOf};
+ghost use Rattle.names.specs.Key.{Key as KeyData};
+ghost use Rattle.history.specs.declared.stored.Stored.{Stored as StoredData};
 ghost use Rattle.history.specs.View.{View, after_all, MayFollow, AllMayFollow};
 ghost use Rattle.history.specs.Mapped.{mapped};
 ghost use Rattle.requests.specs.Codes.{document_in};
 ghost use Rattle.history.specs.History.{put, delete};
 ghost use Rattle.holdings.specs.Holdings.{Shows};
+ghost use Rattle.holdings.specs.Known.{IsKnown, KnowsSame};
 ghost use Rattle.records.specs.WriteOf.{write_of};
 ghost use Rattle.apicore.specs.Beside.{Beside as BesideData};
+ghost use Rattle.apicore.specs.Known.{written_key, Writes, AllKnown, KnowsEach};
 ghost use Rattle.apicore.specs.Standing.{recorded};
 ghost use Rattle.apicore.specs.Prepared.{plans_held};
 ghost use Rattle.apicore.specs.declared.fault.RecoveryFault.TheVariants as RecoveryFault;
@@ -21,7 +25,8 @@ use records::{StoredWrite, read_writes};
 use requests::Manifest;
 use std::alloc::Global;
 
-/// The store, once it took the writes of a log with these payloads. Nothing lies below it.
+/// The store, once it took the writes of a log with these payloads, over the objects that lie below. Of those nothing is looked up: memory has to know
+/// each key that the payloads write, which `written_keys` tells.
 ///
 /// # Errors
 ///
@@ -29,8 +34,10 @@ use std::alloc::Global;
 /// `Memory` where there was none.
 pub fn replayed(alloc: Global, core: Core, payloads: &[Vec<u8>]) -> Result<Core, RecoveryFault>
     ensures rules { IfOk result (λ new. new.rules ≡ core.rules) }
-    ensures found { (held : View BesideData) → Shows core [] held → IfOk result (λ new. HasReplayed core.rules held new (map (λ p. p.items) payloads.now)) }
-    ensures damaged { (held : View BesideData) → Shows core [] held → IsErrOf result RecoveryFault.Damaged ⊎ IsErrOf result RecoveryFault.Plans
+    ensures found { (base : List (KeyData × StoredData BesideData)) (held : View BesideData) → Shows core base held → AllKnown core base (map (λ p. p.items) payloads.now)
+        → IfOk result (λ new. HasReplayed core.rules base held new (map (λ p. p.items) payloads.now)) }
+    ensures damaged { (base : List (KeyData × StoredData BesideData)) (held : View BesideData) → Shows core base held → AllKnown core base (map (λ p. p.items) payloads.now)
+        → IsErrOf result RecoveryFault.Damaged ⊎ IsErrOf result RecoveryFault.Plans
         → (ws : List Write) → IsWritten core.rules (mapped plans_held held) ws (map (λ p. p.items) payloads.now) → ⊥ }
 {
     let mut core = core;
@@ -43,10 +50,15 @@ pub fn replayed(alloc: Global, core: Core, payloads: &[Vec<u8>]) -> Result<Core,
 // Takes the writes that have a payload. `Damaged` or `Plans` where no group of writes that may follow has it.
 fn replay(alloc: Global, core: &mut Core, bytes: &[u8]) -> Result<(), RecoveryFault>
     ensures rules { core.new.rules ≡ core.old.rules }
-    ensures taken { (held : View BesideData) → Shows core.old [] held → OnOk result ((now : View BesideData) × Shows core.new [] now
+    ensures known { KnowsSame core.old core.new }
+    ensures taken { (base : List (KeyData × StoredData BesideData)) (held : View BesideData) → Shows core.old base held
+        → ((key : KeyData) → Writes bytes.now key → IsKnown core.old base key)
+        → OnOk result ((now : View BesideData) × Shows core.new base now
         × ((ws : List Write) × IsGroup ws × (payload ws ≡ bytes.now)
         × AllMayFollow core.old.rules (mapped plans_held held) ws × (mapped plans_held now ≡ after_all core.old.rules (mapped plans_held held) ws))) }
-    ensures damaged { (held : View BesideData) → Shows core.old [] held → IsErrOf result RecoveryFault.Damaged ⊎ IsErrOf result RecoveryFault.Plans
+    ensures damaged { (base : List (KeyData × StoredData BesideData)) (held : View BesideData) → Shows core.old base held
+        → ((key : KeyData) → Writes bytes.now key → IsKnown core.old base key)
+        → IsErrOf result RecoveryFault.Damaged ⊎ IsErrOf result RecoveryFault.Plans
         → (ws : List Write) → IsGroup ws → payload ws ≡ bytes.now → AllMayFollow core.old.rules (mapped plans_held held) ws → ⊥ }
 {
     let writes = read_writes(alloc, bytes)?;
@@ -60,9 +72,14 @@ fn replay_writes(
     writes: Vec<StoredWrite<'_>>,
 ) -> Result<(), RecoveryFault>
     ensures rules { core.new.rules ≡ core.old.rules }
-    ensures taken { (held : View BesideData) → Shows core.old [] held → OnOk result ((now : View BesideData) × Shows core.new [] now
+    ensures known { KnowsSame core.old core.new }
+    ensures taken { (base : List (KeyData × StoredData BesideData)) (held : View BesideData) → Shows core.old base held
+        → KnowsEach core.old base (map write_of writes.entry.items)
+        → OnOk result ((now : View BesideData) × Shows core.new base now
         × AreTaken core.old.rules (mapped plans_held held) (mapped plans_held now) (map write_of writes.entry.items) []) }
-    ensures damaged { (held : View BesideData) → Shows core.old [] held → IsErrOf result RecoveryFault.Damaged ⊎ IsErrOf result RecoveryFault.Plans
+    ensures damaged { (base : List (KeyData × StoredData BesideData)) (held : View BesideData) → Shows core.old base held
+        → KnowsEach core.old base (map write_of writes.entry.items)
+        → IsErrOf result RecoveryFault.Damaged ⊎ IsErrOf result RecoveryFault.Plans
         → (ws : List Write) → AreRecorded ws (map write_of writes.entry.items) → AllMayFollow core.old.rules (mapped plans_held held) ws → ⊥ }
 {
     for write in writes {
@@ -74,9 +91,14 @@ fn replay_writes(
 // Takes a write.
 fn replay_write(alloc: Global, core: &mut Core, write: StoredWrite<'_>) -> Result<(), RecoveryFault>
     ensures rules { core.new.rules ≡ core.old.rules }
-    ensures taken { (held : View BesideData) → Shows core.old [] held → OnOk result ((now : View BesideData) × Shows core.new [] now
+    ensures known { KnowsSame core.old core.new }
+    ensures taken { (base : List (KeyData × StoredData BesideData)) (held : View BesideData) → Shows core.old base held
+        → IsKnown core.old base (written_key (write_of write.entry))
+        → OnOk result ((now : View BesideData) × Shows core.new base now
         × IsTaken core.old.rules (mapped plans_held held) (mapped plans_held now) (write_of write.entry)) }
-    ensures damaged { (held : View BesideData) → Shows core.old [] held → IsErrOf result RecoveryFault.Damaged ⊎ IsErrOf result RecoveryFault.Plans
+    ensures damaged { (base : List (KeyData × StoredData BesideData)) (held : View BesideData) → Shows core.old base held
+        → IsKnown core.old base (written_key (write_of write.entry))
+        → IsErrOf result RecoveryFault.Damaged ⊎ IsErrOf result RecoveryFault.Plans
         → (w : Write) → HasPlans w → recorded w ≡ write_of write.entry → MayFollow core.old.rules (mapped plans_held held) w → ⊥ }
 {
     match write {
@@ -93,9 +115,12 @@ fn replay_put(
     plans: &[u8],
 ) -> Result<(), RecoveryFault>
     ensures rules { core.new.rules ≡ core.old.rules }
-    ensures taken { (held : View BesideData) → Shows core.old [] held → OnOk result ((now : View BesideData) × Shows core.new [] now
+    ensures known { KnowsSame core.old core.new }
+    ensures taken { (base : List (KeyData × StoredData BesideData)) (held : View BesideData) → Shows core.old base held → IsKnown core.old base manifest.now.key
+        → OnOk result ((now : View BesideData) × Shows core.new base now
         × IsTaken core.old.rules (mapped plans_held held) (mapped plans_held now) (put manifest.now.key (document_in manifest.now.body) plans.now)) }
-    ensures damaged { (held : View BesideData) → Shows core.old [] held → IsErrOf result RecoveryFault.Damaged ⊎ IsErrOf result RecoveryFault.Plans
+    ensures damaged { (base : List (KeyData × StoredData BesideData)) (held : View BesideData) → Shows core.old base held → IsKnown core.old base manifest.now.key
+        → IsErrOf result RecoveryFault.Damaged ⊎ IsErrOf result RecoveryFault.Plans
         → (w : Write) → HasPlans w → recorded w ≡ put manifest.now.key (document_in manifest.now.body) plans.now → MayFollow core.old.rules (mapped plans_held held) w → ⊥ }
 {
     let plans = stored_plans(
@@ -112,9 +137,12 @@ fn replay_put(
 // Takes a deletion.
 fn replay_delete(alloc: Global, core: &mut Core, key: &Key) -> Result<(), RecoveryFault>
     ensures rules { core.new.rules ≡ core.old.rules }
-    ensures taken { (held : View BesideData) → Shows core.old [] held → OnOk result ((now : View BesideData) × Shows core.new [] now
+    ensures known { KnowsSame core.old core.new }
+    ensures taken { (base : List (KeyData × StoredData BesideData)) (held : View BesideData) → Shows core.old base held → IsKnown core.old base key.now
+        → OnOk result ((now : View BesideData) × Shows core.new base now
         × IsTaken core.old.rules (mapped plans_held held) (mapped plans_held now) (delete key.now)) }
-    ensures damaged { (held : View BesideData) → Shows core.old [] held → IsErrOf result RecoveryFault.Damaged ⊎ IsErrOf result RecoveryFault.Plans
+    ensures damaged { (base : List (KeyData × StoredData BesideData)) (held : View BesideData) → Shows core.old base held → IsKnown core.old base key.now
+        → IsErrOf result RecoveryFault.Damaged ⊎ IsErrOf result RecoveryFault.Plans
         → MayFollow core.old.rules (mapped plans_held held) (delete key.now) → ⊥ }
 {
     core.replay_delete(alloc, key)?;

@@ -2,11 +2,15 @@
 use Rattle.std.proofs.Common.{◌≡◌, ℕ, ◌+◌, ◌<◌, ◌∙◌, refl, sym, ap, subst, nat_le, Bool, true, false, not, cond, ◌&&◌, ◌||◌, IsTrue, List, length, is_some, Option, Some, None, option_map, inl, inr, ⊎_elim, arith}
 use Rattle.std.proofs.lemmas.Bool.{false≢true}
 use borrow.Author.Tests.{ltb-true, ltb-false, leb-true, leb-false}
+use Rattle.std.specs.FinMap.Entries.{find-put}
 use Rattle.std.specs.Option.{option_map_or}
+use Rattle.std.specs.Ordering.{is_eq}
 use Rattle.serde_json.specs.Data.{null}
 use Rattle.jsondoc.specs.Document.{text}
 use Rattle.names.specs.declared.format.Rules.{Rules}
-use Rattle.names.specs.Key.{Key}
+use Rattle.names.specs.Key.{Key, key_cmp}
+use Rattle.names.specs.KeyLaws.{key_cmp_total}
+use Rattle.objects.specs.Objects.{value_at, with_value}
 use Rattle.documents.specs.Document.{Document}
 use Rattle.window.specs.declared.event.Change.TheVariants.{Added, Modified}
 use Rattle.requests.specs.Manifest.{HasForm}
@@ -15,6 +19,7 @@ use Rattle.history.specs.History.{put, delete}
 use Rattle.history.specs.View.{View, stored_at, exists, is_too_large, is_full, is_exhausted, after, after_all, MayPut, MayDelete}
 use Rattle.holdings.specs.declared.source.Found.{Found}
 use Rattle.holdings.specs.Holdings.{State, Shows, ShowsSame}
+use Rattle.holdings.specs.Known.{KnowsSame}
 use Rattle.holdings.specs.Prepared.{puts, IsNextPut, IsNextDeletion}
 use Rattle.holdings.specs.Sources.{found_in}
 use Rattle.holdings.specs.Writes.{Put, Deletion}
@@ -27,7 +32,33 @@ revision_left greatest revision true false stands full is holds = absurd (false�
 revision_left greatest revision false true stands full is holds = absurd (false≢true holds)
 revision_left greatest revision false false stands full is holds = leb-false greatest revision (sym is)
 
+none_of_either : {Y : Type 0} (b : Bool) (y : Y) (o : Option Y) → cond b (Some y) o ≡ None → o ≡ None
+none_of_either true y o is = cc
+none_of_either false y o is = is
+
+-- a key that has no value behind a put had none before
+none_before : {Y : Type 0} (q k : Key) (y : Y) (old new : List (Key × Y)) → new ≡ with_value k y old → value_at q new ≡ None → value_at q old ≡ None
+none_before q k y old new made none =
+    none_of_either (is_eq (key_cmp q k)) y (value_at q old) (sym (find-put key_cmp key_cmp_total q k y old) ∙ ap (value_at q) (sym made) ∙ none)
+
 module _ {P : Type 0} where
+  -- ---- what memory knows
+
+  -- one change more
+  pub made_put : (old now : State P) (k : Key) (value : Option (Stored P)) (entry : Key × Option (Stored P)) (made : List (Key × Option (Stored P))) → old ≡ now → entry ≡ (k, value)
+      → made ≡ with_value entry.0 entry.1 old.changes.made → made ≡ with_value k value now.changes.made
+  made_put old now k value entry made same is are =
+      are ∙ ap (λ (e : Key × Option (Stored P)). with_value e.0 e.1 old.changes.made) is ∙ ap (λ (st : State P). with_value k value st.changes.made) same
+
+  -- leaves known what was known, as none does
+  pub knows_made : (old mid new : State P) (k : Key) (value : Option (Stored P)) → mid.changes.made ≡ old.changes.made → new.changes.made ≡ with_value k value mid.changes.made
+      → KnowsSame old new
+  knows_made old mid new k value same made base key known none =
+      known (ap (value_at key) (sym same) ∙ none_before key k value mid.changes.made new.changes.made made none)
+
+  pub knows_same : (old new : State P) → new.changes.made ≡ old.changes.made → KnowsSame old new
+  knows_same old new same base key known none = known (ap (value_at key) (sym same) ∙ none)
+
   -- ---- what may be put
 
   may_from_test : (rules : Rules) (v : View P) (k : Key) (d : Document) (large exhausted stands full : Bool) → HasForm k d → large ≡ is_too_large rules d → exhausted ≡ is_exhausted rules v

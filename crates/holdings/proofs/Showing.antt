@@ -40,6 +40,14 @@ held_there {Y} k named y entry old new made is same =
     let value : entry.1 ≡ y = ap (λ (e : Key × Y). e.1) is in
     ap (value_at k) made ∙ (λ i. value_at k (with_value (under i) (value i) old)) ∙ found_put k y old
 
+-- and the changes are those with it
+pub held_made : {Y : Type 0} (k named : Key) (y : Y) (entry : Key × Y) (old now new : List (Key × Y)) → new ≡ with_value entry.0 entry.1 old → entry ≡ (named, y)
+    → named ≡ k → old ≡ now → new ≡ with_value k y now
+held_made {Y} k named y entry old now new made is same before =
+    let under : entry.0 ≡ k = ap (λ (e : Key × Y). e.0) is ∙ same in
+    let value : entry.1 ≡ y = ap (λ (e : Key × Y). e.1) is in
+    made ∙ (λ i. with_value (under i) (value i) (before i))
+
 pub some_same : {A : Type 0} (x y : A) → Some x ≡ Some y → x ≡ y
 some_same x y h = cc
 

@@ -97,6 +97,8 @@ impl<P: Drop> Holdings<P> {
     ) -> Result<Holdings<P>, AllocError>
         requires { 0 < revision }
         ensures rules { IfOk result (λ h. h.rules ≡ rules) }
+        ensures revision { IfOk result (λ h. h.revision ≡ revision) }
+        ensures made { IfOk result (λ h. h.changes.made ≡ []) }
         ensures shows { (base : List (KeyData × StoredData P)) → IsTrue (is_sorted key_cmp base) → length base ≡ count
             → IfOk result (λ h. Shows h base (record { objects = base; revision = revision; events = [] })) }
     {
@@ -117,6 +119,7 @@ impl<P: Drop> Holdings<P> {
         ensures rules { self.new.rules ≡ self.old.rules }
         ensures shows { (base : List (KeyData × StoredData P)) (v : View P) → Shows self.old base v → stored_at v key.now ≡ stored → Shows self.new base v }
         ensures held { OnOk result (value_at key.now self.new.changes.made ≡ Some stored) }
+        ensures made { OnOk result (self.new.changes.made ≡ with_value key.now stored self.old.changes.made) }
     {
         self.changes.reserve(1)?;
         let entry = Entry::new(alloc, key.clone()?, stored)?;
@@ -133,6 +136,7 @@ impl<P: Drop> Holdings<P> {
         ensures rules { self.new.rules ≡ self.old.rules }
         ensures shows { (base : List (KeyData × StoredData P)) (v : View P) → Shows self.old base v → exists v key.now ≡ false
             → OnOk result (Shows self.new base (record { objects = with_value key.now stored v.objects; revision = v.revision; events = v.events })) }
+        ensures made { OnOk result (self.new.changes.made ≡ with_value key.now (Some stored) self.old.changes.made) }
         ensures kept { OnErr result (ShowsSame self.old self.new) }
     {
         self.make_room()?;
@@ -145,6 +149,8 @@ impl<P: Drop> Holdings<P> {
     pub fn keep(&mut self, event: Event<Document>)
         requires { self.old.revision + 1 < 2 ^ 64 }
         ensures rules { self.new.rules ≡ self.old.rules }
+        ensures revision { self.new.revision ≡ self.old.revision + 1 }
+        ensures changes { self.new.changes ≡ self.old.changes }
         ensures shows { (base : List (KeyData × StoredData P)) (v : View P) → Shows self.old base v → Shows self.new base (record {
           objects = v.objects;
           revision = v.revision + 1;
@@ -351,6 +357,7 @@ impl<P: Drop> Holdings<P> {
     fn make_room(&mut self) -> Result<(), AllocError>
         ensures rules { self.new.rules ≡ self.old.rules }
         ensures revision { self.new.revision ≡ self.old.revision }
+        ensures made { self.new.changes.made ≡ self.old.changes.made }
         ensures shows { ShowsSame self.old self.new }
         ensures key { OnOk result (0 < self.new.changes.room) }
         ensures count { OnOk result (self.new.changes.count < 2 ^ 64 - 1) }
@@ -376,6 +383,7 @@ impl<P: Drop> Holdings<P> {
         requires { self.old.revision < self.old.rules.greatest_revision }
         ensures rules { self.new.rules ≡ self.old.rules }
         ensures revision { self.new.revision ≡ self.old.revision }
+        ensures made { self.new.changes.made ≡ self.old.changes.made }
         ensures shows { ShowsSame self.old self.new }
         ensures put { IfOk result (λ p. p ≡ record {
           key = manifest.now.key;
@@ -418,6 +426,7 @@ impl<P: Drop> Holdings<P> {
         requires { self.old.revision < self.old.rules.greatest_revision }
         ensures rules { self.new.rules ≡ self.old.rules }
         ensures revision { self.new.revision ≡ self.old.revision }
+        ensures made { self.new.changes.made ≡ self.old.changes.made }
         ensures shows { ShowsSame self.old self.new }
         ensures deletion { IfOk result (λ d. d ≡ record { key = key.now; document = document }) }
         ensures room { OnOk result (HasRoom self.new) }
@@ -444,6 +453,7 @@ impl<P: Drop> Holdings<P> {
     pub(crate) fn put(&mut self, put: Put<P>)
         requires { HasRoom self.old }
         ensures rules { self.new.rules ≡ self.old.rules }
+        ensures made { self.new.changes.made ≡ with_value put.key put.stored self.old.changes.made }
         ensures shows { (base : List (KeyData × StoredData P)) (v : View P) → Shows self.old base v → IsNextPut v put
             → Shows self.new base (after_all self.old.rules v (puts put.key put.stored)) }
     {
@@ -458,6 +468,7 @@ impl<P: Drop> Holdings<P> {
     pub(crate) fn delete(&mut self, deletion: Deletion<P>)
         requires { HasRoom self.old }
         ensures rules { self.new.rules ≡ self.old.rules }
+        ensures made { self.new.changes.made ≡ with_value deletion.key None self.old.changes.made }
         ensures shows { (base : List (KeyData × StoredData P)) (v : View P) → Shows self.old base v → IsNextDeletion v deletion
             → Shows self.new base (after self.old.rules v (write.delete deletion.key)) }
     {

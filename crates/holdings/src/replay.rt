@@ -7,7 +7,7 @@ ghost use Rattle.history.specs.declared.stored.Stored.{Stored as StoredData};
 ghost use Rattle.history.specs.History.{put, delete};
 ghost use Rattle.history.specs.View.{View, stored_at, exists, after, MayFollow, MayPut};
 ghost use Rattle.holdings.specs.Holdings.{Shows, ShowsSame};
-ghost use Rattle.holdings.specs.Known.{IsKnown};
+ghost use Rattle.holdings.specs.Known.{IsKnown, KnowsSame};
 ghost use Rattle.holdings.specs.Sources.{found_in};
 ghost use Rattle.holdings.specs.declared.replay.ReplayFault.TheVariants as ReplayFault;
 
@@ -50,7 +50,7 @@ impl<P: Drop> Holdings<P> {
     ///
     /// # Errors
     ///
-    /// `NotAllowed` where the put may not follow what is shown; `Memory`. What is shown stays.
+    /// `NotAllowed` where the put may not follow what is shown; `Memory`. What is shown stays, and what memory knows.
     pub fn replay_put(
         &mut self,
         alloc: Global,
@@ -63,6 +63,7 @@ impl<P: Drop> Holdings<P> {
             → OnOk result (MayFollow self.old.rules v write × Shows self.new base (after self.old.rules v write)) }
         ensures not_allowed { (base : List (KeyData × StoredData P)) (v : View P) → Shows self.old base v → IsKnown self.old base manifest.now.key
             → IsErrOf result ReplayFault.NotAllowed → MayFollow self.old.rules v (put manifest.now.key (document_in manifest.now.body) beside) → ⊥ }
+        ensures known { KnowsSame self.old self.new }
         ensures kept { OnErr result (ShowsSame self.old self.new) }
     {
         if !self.may_put(manifest) {
@@ -86,6 +87,7 @@ impl<P: Drop> Holdings<P> {
             → OnOk result (MayFollow self.old.rules v (delete key.now) × Shows self.new base (after self.old.rules v (delete key.now))) }
         ensures not_allowed { (base : List (KeyData × StoredData P)) (v : View P) → Shows self.old base v → IsKnown self.old base key.now
             → IsErrOf result ReplayFault.NotAllowed → MayFollow self.old.rules v (delete key.now) → ⊥ }
+        ensures known { KnowsSame self.old self.new }
         ensures kept { OnErr result (ShowsSame self.old self.new) }
     {
         if self.is_exhausted() {

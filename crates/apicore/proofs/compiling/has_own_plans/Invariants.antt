@@ -1,7 +1,7 @@
 use Rattle.std.proofs.Common.{take}
 use Rattle.std.specs.List.{AllByRecursion}
-use Rattle.apicore.specs.Compiled.{HasOwnPlans}
+use Rattle.apicore.specs.Compiled.{PutsOwnPlans}
 use Rattle.apicore.proofs.compiling.has_own_plans.Given as goal
 
-abbrev pub invariant-loop-object : goal.invariant-loop-object
-invariant-loop-object l = AllByRecursion HasOwnPlans (take l.object-index l.object-items)
+abbrev pub invariant-loop-change : goal.invariant-loop-change
+invariant-loop-change l = AllByRecursion PutsOwnPlans (take l.change-index l.change-items)

@@ -1,4 +1,4 @@
-use Rattle.std.proofs.Common.{◌∙◌, sym}
+use Rattle.std.proofs.Common.{rules, ◌∙◌, sym, inl, inr}
 use Rattle.requests.specs.Request.{create}
 use Rattle.apicore.proofs.Over.{over_kept}
 use Rattle.apicore.proofs.Deciding.{prepared_of, create_there, there_found, none_found}
@@ -22,3 +22,20 @@ returns-in-None-clause-step g c =
     (λ held v over.
     let none = sym (rw c.key.ensures at c.in_ok-find.ensures.found over.base held over.below over.shows) ∙ c.in-None.is in
     c.create_free.ensures.step read.0 read.2 held v (over_kept _ _ c.args.core.now held v c.in_ok-find.ensures.kept over) (none_found _ none))
+
+pub returns-in_err-specification-clause-read : goal.returns-in_err-specification-clause-read
+returns-in_err-specification-clause-read g c = λ told.
+    let never : ⊥ = elim told [ inl device ↦ search rules | inr damaged ↦ search rules ] in
+    absurd never
+
+pub returns-in_err-find-clause-read : goal.returns-in_err-find-clause-read
+returns-in_err-find-clause-read g c = λ _. (c.in_ok-specification.ensures.0, c.in_ok-specification.ensures.1)
+
+pub returns-in_err-refused-in-Some-clause-read : goal.returns-in_err-refused-in-Some-clause-read
+returns-in_err-refused-in-Some-clause-read g c = λ _. (c.in_ok-specification.ensures.0, c.in_ok-specification.ensures.1)
+
+pub returns-in_ok-refused-in-Some-clause-read : goal.returns-in_ok-refused-in-Some-clause-read
+returns-in_ok-refused-in-Some-clause-read g c = λ _. (c.in_ok-specification.ensures.0, c.in_ok-specification.ensures.1)
+
+pub returns-in-None-clause-read : goal.returns-in-None-clause-read
+returns-in-None-clause-read g c = λ _. (c.in_ok-specification.ensures.0, c.in_ok-specification.ensures.1)

@@ -1,4 +1,4 @@
-use Rattle.std.proofs.Common.{◌∙◌, sym}
+use Rattle.std.proofs.Common.{rules, ◌∙◌, sym, inl, inr}
 use Rattle.requests.specs.Request.{replace}
 use Rattle.apicore.proofs.Over.{over_kept}
 use Rattle.apicore.proofs.Deciding.{prepared_of, replace_missing}
@@ -22,3 +22,20 @@ returns-in_ok-refused-in-None-clause-step g c =
           let none = sym (rw c.key.ensures at c.in_ok-found.ensures.found over.base held over.below over.shows) ∙ c.in-None.is in
           replace_missing c.args.core.now.rules held c.args.manifest.now v over.plans c.in_ok-refused-in-None.field-0 read.0 none c.in_ok-refused-in-None.ensures;
     }
+
+pub returns-in_err-specification-clause-read : goal.returns-in_err-specification-clause-read
+returns-in_err-specification-clause-read g c = λ told.
+    let never : ⊥ = elim told [ inl device ↦ search rules | inr damaged ↦ search rules ] in
+    absurd never
+
+pub returns-in_err-found-clause-read : goal.returns-in_err-found-clause-read
+returns-in_err-found-clause-read g c = λ _. (c.in_ok-specification.ensures.0, c.in_ok-specification.ensures.1)
+
+pub returns-in-Some-clause-read : goal.returns-in-Some-clause-read
+returns-in-Some-clause-read g c = λ _. (c.in_ok-specification.ensures.0, c.in_ok-specification.ensures.1)
+
+pub returns-in_err-refused-in-None-clause-read : goal.returns-in_err-refused-in-None-clause-read
+returns-in_err-refused-in-None-clause-read g c = λ _. (c.in_ok-specification.ensures.0, c.in_ok-specification.ensures.1)
+
+pub returns-in_ok-refused-in-None-clause-read : goal.returns-in_ok-refused-in-None-clause-read
+returns-in_ok-refused-in-None-clause-read g c = λ _. (c.in_ok-specification.ensures.0, c.in_ok-specification.ensures.1)

@@ -1,4 +1,4 @@
-use Rattle.std.proofs.Common.{rules, refl, ◌≡◌, ap, subst, sym, ◌∙◌, ℕ, List, []}
+use Rattle.std.proofs.Common.{rules, ◌≡◌, ap, subst, sym, ◌∙◌, ℕ, List}
 use Rattle.std.specs.Prelude.{IsErrOf}
 use Rattle.requests.specs.Codes.{document_in}
 use Rattle.names.specs.Key.{Key}
@@ -17,22 +17,22 @@ use Rattle.apicore.proofs.Histories.{put_of_recorded}
 use Rattle.apicore.proofs.replay.replay_put.Goals as goal
 
 pub returns-in_err-replay_put-clause-damaged : goal.returns-in_err-replay_put-clause-damaged
-returns-in_err-replay_put-clause-damaged c = λ held shows is_damaged w has is may.
+returns-in_err-replay_put-clause-damaged c = λ base held shows known is_damaged w has is may.
     let told : IsErrOf c.replay_put.result ReplayFault.NotAllowed = search rules in
     let m = c.args.manifest.now in
     let core = c.args.core.now in
-    c.replay_put.ensures.not_allowed [] held shows (λ _. refl) told
+    c.replay_put.ensures.not_allowed base held shows known told
     (follows_back plans_held core.rules held (put m.key (document_in m.body) c.in_ok-beside.beside)
     (put_of_recorded core.rules (mapped plans_held held) w m.key (document_in m.body) c.args.plans.now is may))
 
 pub returns-clause-taken : goal.returns-clause-taken
-returns-clause-taken c = λ held shows.
+returns-clause-taken c = λ base held shows known.
     let m = c.args.manifest.now in
     let core = c.args.core.now in
     let vec = c.in_ok-plans.plans in
     let beside = c.in_ok-beside.beside in
     let w = put m.key (document_in m.body) beside in
-    let taken = c.in_ok-replay_put.ensures.taken [] held shows (λ _. refl) in
+    let taken = c.in_ok-replay_put.ensures.taken base held shows known in
     let again : c.json-2.result.now ≡ (document_in m.body).json = c.json-2.ensures ∙ sym (ap (λ b. (document_in b).json) c.document-2.ensures.body) in
     let alone : beside ≡ spelled (document_in m.body).json vec.items = c.in_ok-beside.ensures ∙ ap (λ (d : Data). spelled d vec.items) again in
     let listed : beside.plans ≡ vec.items = ap (λ (b : Beside). b.plans) alone in

@@ -1,8 +1,9 @@
-use Rattle.std.proofs.Common.{ap, ◌∙◌, ◌+◌, ◌++◌, ◌∷◌, []}
+use Rattle.std.proofs.Common.{ap, ◌∙◌, ◌+◌, ◌++◌, ◌∷◌, [], None}
 use Rattle.circular_buffer.specs.Buffer.{keep_last}
 use Rattle.window.specs.Window.{event_at}
 use Rattle.window.specs.declared.event.Change.TheVariants.{Deleted}
 use Rattle.holdings.specs.Holdings.{State}
+use Rattle.holdings.proofs.Replaying.{made_put}
 use Rattle.holdings.proofs.Showing.{shows_deletion}
 use Rattle.holdings.proofs.holdings.Holdings.delete.Goals as goal
 
@@ -16,3 +17,7 @@ returns-clause-shows g c = λ base v shows next.
     (c.make.ensures.leaves base) c.requires.count
     (ap (λ w. w.revision) c.push.ensures.value)
     (ap (λ w. w.events) c.push.ensures.value ∙ ap (λ n. keep_last n (old.events ++ event_at (old.revision + 1) Deleted told.1 told.2 ∷ [])) places)
+
+pub returns-clause-made : goal.returns-clause-made
+returns-clause-made g c =
+    made_put _ c.args.self.now c.args.deletion.key None c.into_parts-entry.result.0 _ c.self.view_is c.into_parts-entry.ensures.entry c.make.ensures.made

@@ -2,6 +2,7 @@ use Rattle.std.proofs.Common.{ap, ◌∙◌, ◌+◌, ◌++◌, ◌∷◌, []}
 use Rattle.circular_buffer.specs.Buffer.{keep_last}
 use Rattle.window.specs.Window.{event_at}
 use Rattle.holdings.specs.Holdings.{State}
+use Rattle.holdings.proofs.Replaying.{made_put}
 use Rattle.holdings.proofs.Showing.{shows_put}
 use Rattle.holdings.proofs.holdings.Holdings.put.Goals as goal
 
@@ -15,3 +16,7 @@ returns-clause-shows g c = λ base v shows next.
     (c.make.ensures.leaves base) c.is_modification.ensures c.requires.count
     (ap (λ w. w.revision) c.push.ensures.value)
     (ap (λ w. w.events) c.push.ensures.value ∙ ap (λ n. keep_last n (old.events ++ event_at (old.revision + 1) told.1 told.2 told.3 ∷ [])) places)
+
+pub returns-clause-made : goal.returns-clause-made
+returns-clause-made g c =
+    made_put _ c.args.self.now c.args.put.key c.args.put.stored c.into_parts-entry.result.0 _ c.self.view_is c.into_parts-entry.ensures.entry c.make.ensures.made

@@ -1,6 +1,6 @@
-use Rattle.std.proofs.Common.{◌∙◌, sym}
+use Rattle.std.proofs.Common.{◌∙◌, sym, None}
 use borrow.Author.Tests.{leb-false}
-use Rattle.holdings.proofs.Replaying.{nothing_there, may_delete_shown, shows_replayed_deletion, none_left}
+use Rattle.holdings.proofs.Replaying.{knows_made, knows_same, nothing_there, may_delete_shown, shows_replayed_deletion, none_left}
 use Rattle.holdings.proofs.holdings.Holdings.replay_delete.Goals as goal
 
 pub returns-then-is_exhausted-clause-not_allowed : goal.returns-then-is_exhausted-clause-not_allowed
@@ -20,3 +20,10 @@ returns-clause-taken g c = λ base v shows known.
       shows_replayed_deletion now c.prepare_deletion.new.self _ base v c.args.key.now c.in-Some.found c.in_ok-deletion.deletion shows
           c.prepare_deletion.ensures.shows c.prepare_deletion.ensures.rules c.in_ok-deletion.ensures.deletion there (c.delete.ensures.shows base v),
     )
+
+pub returns-in_err-deletion-clause-known : goal.returns-in_err-deletion-clause-known
+returns-in_err-deletion-clause-known g c = knows_same c.args.self.now c.prepare_deletion.new.self c.prepare_deletion.ensures.made
+
+pub returns-clause-known : goal.returns-clause-known
+returns-clause-known g c =
+    knows_made c.args.self.now c.prepare_deletion.new.self c.delete.new.self c.in_ok-deletion.deletion.key None c.prepare_deletion.ensures.made c.delete.ensures.made

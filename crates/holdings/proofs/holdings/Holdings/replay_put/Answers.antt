@@ -4,7 +4,7 @@ use Rattle.names.specs.Key.{Key}
 use Rattle.requests.specs.Codes.{document_in}
 use Rattle.history.specs.View.{exists}
 use Rattle.holdings.specs.Known.{IsKnown}
-use Rattle.holdings.proofs.Replaying.{shows_replayed_put}
+use Rattle.holdings.proofs.Replaying.{shows_replayed_put, knows_made, knows_same}
 use Rattle.holdings.proofs.holdings.Holdings.replay_put.Goals as goal
 
 pub returns-then-not-may_put-clause-not_allowed : goal.returns-then-not-may_put-clause-not_allowed
@@ -22,3 +22,10 @@ returns-clause-taken g c = λ base v shows known.
       shows_replayed_put now c.prepare_put.new.self _ base v m.key (document_in m.body) c.args.beside c.has-stands.result c.in_ok-put.put shows
           c.prepare_put.ensures.shows c.prepare_put.ensures.rules c.in_ok-put.ensures.put stands (c.put.ensures.shows base v),
     )
+
+pub returns-in_err-put-clause-known : goal.returns-in_err-put-clause-known
+returns-in_err-put-clause-known g c = knows_same c.args.self.now c.prepare_put.new.self c.prepare_put.ensures.made
+
+pub returns-clause-known : goal.returns-clause-known
+returns-clause-known g c =
+    knows_made c.args.self.now c.prepare_put.new.self c.put.new.self c.in_ok-put.put.key c.in_ok-put.put.stored c.prepare_put.ensures.made c.put.ensures.made
