@@ -1,2 +1,3 @@
 mod Objects
 mod Looking
+pub mod Lying

@@ -1,37 +1,71 @@
--- A look leaves what is held.
-use Rattle.std.specs.Prelude.{◌≡◌, List, map}
+-- A look leaves what lies below.
+use Rattle.std.specs.Prelude.{◌≡◌, ◌≤◌, ◌*◌, ℕ, Bool, List, map, length}
 use Rattle.std.proofs.Common.{sym, ◌∙◌, subst}
-use Rattle.std.specs.List.{AllByRecursion}
 use Rattle.device.specs.declared.device.Device.{Ghosts}
+use Rattle.device.specs.Disk.{Disk}
 use Rattle.device.specs.Step.{Same}
 use Rattle.device.specs.Run.{Ran}
 use Rattle.device.proofs.Runs.{ran_then}
+use Rattle.names.specs.declared.resource.Resource.{Resource}
 use Rattle.names.specs.Key.{Key}
 use Rattle.documents.specs.Document.{Document}
 use Rattle.history.specs.declared.stored.Stored.{Stored}
 use Rattle.pages.specs.Page.{Entry}
-use Rattle.shelf.specs.Shelf.{device_of, root_of, Shelves}
+use Rattle.roots.specs.declared.root.Root.{Root}
+use Rattle.roots.specs.Root.{log_start}
+use Rattle.shelf.specs.declared.shelf.Shelf.{Shelf}
+use Rattle.shelf.specs.Shelf.{root_of, Shelves}
 use Rattle.stock.specs.declared.stocked.Stocked.{Stocked}
-use Rattle.stock.specs.Stock.{plain, Stocks}
+use Rattle.stock.specs.Stock.{Stocks}
+use Rattle.base.specs.Whole.{whole}
 use Rattle.base.specs.declared.base.Base.{Base}
-use Rattle.base.specs.Base.{HoldsBase, GoesTo}
+use Rattle.base.specs.Base.{not_held, HoldsBase, GoesTo}
+
+-- the pages lie inside still
+pub inside_still : {D : Type 0} (disk : Disk D) (before after : D) (old new : Root) → new ≡ old → Ran disk before after Same
+    → (disk.keeps before → 512 * log_start old ≤ length (disk.content before)) → disk.keeps after → 512 * log_start new ≤ length (disk.content after)
+inside_still disk before after old new root ran inside keeps =
+    let kept = ran.had_kept keeps in
+    let Of : Root → Type 0 = λ r. 512 * log_start r ≤ length (disk.content after) in
+    let Inside : List ℕ → Type 0 = λ content. 512 * log_start old ≤ length content in
+    subst Of (sym root) (subst Inside (sym (ran.seen kept)) (inside kept))
 
 module _ {D M : Type 0} {g : Ghosts D} where
   -- what the shelf holds stays
-  pub held_still : {P : Type 0} (made : M → Document → P) (old new : Base D M g) (objects : List (Key × Stored P)) → HoldsBase made old objects → new.making ≡ old.making
-      → new.is_damaged ≡ old.is_damaged → ((os : List (Key × Stocked)) → Stocks old.shelf os → Stocks new.shelf os) → HoldsBase made new objects
-  held_still made old new objects held making whole stocks = record {
-    whole = whole ∙ held.whole;
-    stocks = stocks (map plain objects) held.stocks;
-    beside = subst (λ m. AllByRecursion (λ o. o.1.beside ≡ made m o.1.document) objects) (sym making) held.beside;
-  }
+  pub held_still : {P : Type 0} (made : M → Document → P) (held : M → Resource → Bool) (old new : Base D M g) (device : D) (shelf : Shelf) (objects : List (Key × Stored P))
+      → new.making ≡ old.making → new.is_damaged ≡ old.is_damaged → new.device.now ≡ device → new.shelf.now ≡ shelf
+      → ((os : List (Key × Stocked)) → Stocks g.disk old.device.now old.shelf.now os → Stocks g.disk device shelf os)
+      → HoldsBase made held old objects → HoldsBase made held new objects
+  held_still made held old new device shelf objects making undamaged device_is shelf_is stocks holds =
+      let all : List (Key × Stocked) = holds.lies.all in
+      let On : D → Type 0 = λ d. Stocks g.disk d new.shelf.now all in
+      let Of : Shelf → Type 0 = λ s. Stocks g.disk device s all in
+      let Are : M → Type 0 = λ m. objects ≡ map (whole (made m)) (not_held (held m) all) in
+      record {
+        whole = undamaged ∙ holds.whole;
+        lies = record {
+          all = all;
+          stocks = subst On (sym device_is) (subst Of (sym shelf_is) (stocks all holds.lies.stocks));
+          are = subst Are (sym making) holds.lies.are;
+        };
+      }
 
   -- one run of calls more which changes nothing
-  pub goes : (old new : Base D M g) → new.making ≡ old.making → root_of new.shelf ≡ root_of old.shelf
-      → ((es : List Entry) → Shelves old.shelf es → Shelves new.shelf es) → Ran g.disk (device_of old.shelf) (device_of new.shelf) Same → GoesTo old new
-  goes old new making root entries ran = record {
-    making = making;
-    root = root;
-    entries = entries;
-    ran = λ first before. ran_then g.disk first (device_of old.shelf) (device_of new.shelf) Same Same Same before ran (λ _ _ same. same) (λ _ _ _ one two. two ∙ one);
-  }
+  pub goes : (old new : Base D M g) (device : D) (shelf : Shelf)
+      → new.device.ghost_name ≡ old.device.ghost_name → new.shelf.ghost_name ≡ old.shelf.ghost_name → new.making ≡ old.making
+      → new.device.now ≡ device → new.shelf.now ≡ shelf → root_of shelf ≡ root_of old.shelf.now
+      → ((es : List Entry) → Shelves g.disk old.device.now old.shelf.now es → Shelves g.disk device shelf es) → Ran g.disk old.device.now device Same → GoesTo old new
+  goes old new device shelf same_device same_shelf making device_is shelf_is root entries ran =
+      let Root_is : Shelf → Type 0 = λ s. root_of s ≡ root_of old.shelf.now in
+      let On : List Entry → D → Type 0 = λ es d. Shelves g.disk d new.shelf.now es in
+      let Of : List Entry → Shelf → Type 0 = λ es s. Shelves g.disk device s es in
+      let To : D → Type 0 = λ d. Ran g.disk old.device.now d Same in
+      record {
+        same_device = same_device;
+        same_shelf = same_shelf;
+        making = making;
+        root = subst Root_is (sym shelf_is) root;
+        entries = λ es held. subst (On es) (sym device_is) (subst (Of es) (sym shelf_is) (entries es held));
+        ran = λ first before.
+            ran_then g.disk first old.device.now new.device.now Same Same Same before (subst To (sym device_is) ran) (λ _ _ same. same) (λ _ _ _ one two. two ∙ one);
+      }

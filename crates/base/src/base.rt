@@ -1,8 +1,15 @@
 //! Objects of a shelf, found and listed for what is held over them.
 
-ghost use Rattle.std.specs.Prelude.{◌≡◌, false, true, map, option_map, IfOk};
-ghost use Rattle.base.specs.Base.{found_of, stored_of, whole};
+ghost use Rattle.std.specs.Prelude.{◌≡◌, ◌≤◌, ◌*◌, List, not, false, true, map, option_map, length, IfOk, IsErrOf};
+ghost use Rattle.std.specs.List.{filter};
+ghost use Rattle.names.specs.Key.{Key as KeyData};
+ghost use Rattle.objects.specs.Failing.{HasGrown};
+ghost use Rattle.objects.specs.declared.fault.LookupFault.TheVariants as LookupFault;
+ghost use Rattle.history.specs.declared.stored.Stored.{Stored as StoredData};
+ghost use Rattle.roots.specs.Root.{log_start};
+ghost use Rattle.shelf.specs.Shelf.{root_of};
 ghost use Rattle.base.specs.Faults.{of_stock_fault};
+ghost use Rattle.base.specs.Whole.{found_of, stored_of, whole};
 ghost use Rattle.stock.specs.declared.fault.StockFault.TheVariants as StockFault;
 
 use crate::making::FromDocument;
@@ -13,41 +20,46 @@ use names::{Key, Resource};
 use objects::LookupFault;
 use shelf::{Reading, Shelf};
 use std::alloc::{AllocError, Global};
-use stock::{StockFault, Stocked, find, list};
+use stock::{StockFault, Stocked, find, list, list_all};
 
-/// The objects of a shelf, and how what stands beside each is made.
+/// The objects of a shelf, on the device that its pages stand on, without those that are held in memory; and how what stands beside each is made.
 #[derive(Drop)]
-pub struct Base<D: Device, M> {
-    shelf: Shelf<D>,
+pub struct Base<'a, D: Device, M> {
+    device: &'a mut D,
+    shelf: &'a mut Shelf,
     making: M,
     is_damaged: bool,
+    ghost inside: { D.disk.keeps device.now → 512 * log_start (root_of shelf.now) ≤ length (D.disk.content device.now) },
 }
 
-impl<D: Device, M: Drop> Base<D, M> {
-    /// The objects of this shelf.
-    pub fn new(shelf: Shelf<D>, making: M) -> Base<D, M>
-        ensures shelf { result.shelf ≡ shelf }
+impl<'a, D: Device, M: Drop> Base<'a, D, M> {
+    ghost use Rattle.base.specs.Base.{HoldsBase, GoesTo};
+
+    /// The objects of this shelf, which stands on this device.
+    pub fn new(device: &'a mut D, shelf: &'a mut Shelf, making: M) -> Base<'a, D, M>
+        requires inside { D.disk.keeps device.old → 512 * log_start (root_of shelf.old) ≤ length (D.disk.content device.old) }
+        ensures same_device { result.device.ghost_name ≡ device.entry.ghost_name }
+        ensures device { result.device.now ≡ device.old }
+        ensures same_shelf { result.shelf.ghost_name ≡ shelf.entry.ghost_name }
+        ensures shelf { result.shelf.now ≡ shelf.old }
         ensures making { result.making ≡ making }
         ensures whole { result.is_damaged ≡ false }
     {
         Base {
+            device,
             shelf,
             making,
             is_damaged: false,
         }
     }
 
-    /// The shelf.
-    pub fn into_shelf(self) -> Shelf<D>
-        ensures { result ≡ self.shelf }
-    {
-        self.shelf
-    }
-
     // What is told of a fault; damage is kept in mind.
     fn told(&mut self, fault: StockFault) -> LookupFault
         ensures fault { result ≡ of_stock_fault fault }
-        ensures shelf { self.new.shelf ≡ self.old.shelf }
+        ensures same_device { self.new.device.ghost_name ≡ self.old.device.ghost_name }
+        ensures device { self.new.device.now ≡ self.old.device.now }
+        ensures same_shelf { self.new.shelf.ghost_name ≡ self.old.shelf.ghost_name }
+        ensures shelf { self.new.shelf.now ≡ self.old.shelf.now }
         ensures making { self.new.making ≡ self.old.making }
         ensures whole { (fault ≡ StockFault.Damaged → ⊥) → self.new.is_damaged ≡ self.old.is_damaged }
         ensures damaged { fault ≡ StockFault.Damaged → self.new.is_damaged ≡ true }
@@ -59,6 +71,30 @@ impl<D: Device, M: Drop> Base<D, M> {
                 LookupFault::Damaged
             }
             StockFault::Memory => LookupFault::Memory,
+        }
+    }
+
+    /// All objects that lie below, in key order. Each page is read once, and what of them lies in memory stays as it is.
+    ///
+    /// # Errors
+    ///
+    /// Those of [`Source::list`].
+    pub fn all<P: Drop>(&mut self, alloc: Global) -> Result<Vec<(Key, Stored<P>)>, LookupFault>
+    where
+        M: FromDocument<P>,
+        ensures listed { (objects : List (KeyData × StoredData P)) → HoldsBase M.made M.held self.old objects → IfOk result (λ listed. listed.items ≡ objects) }
+        ensures kept { (objects : List (KeyData × StoredData P)) → HoldsBase M.made M.held self.old objects → HoldsBase M.made M.held self.new objects }
+        ensures goes { GoesTo self.old self.new }
+        ensures counts { D.disk.failures self.old.device.now ≤ D.disk.failures self.new.device.now }
+        ensures device { IsErrOf result LookupFault.Device → HasGrown (D.disk.failures self.old.device.now) (D.disk.failures self.new.device.now) }
+        ensures damaged { IsErrOf result LookupFault.Damaged → self.new.is_damaged ≡ true }
+    {
+        match list_all(alloc, self.shelf, self.device) {
+            Ok(objects) => {
+                let objects = lying::<P, M>(&self.making, objects);
+                Ok(all_of(alloc, &self.making, objects)?)
+            }
+            Err(fault) => Err(self.told(fault)),
         }
     }
 }
@@ -108,26 +144,38 @@ fn all_of<P: Drop, M: FromDocument<P>>(
     Ok(listed)
 }
 
-impl<P: Drop, D: Device, M: FromDocument<P> + Drop> Source<P> for Base<D, M> {
+// Those of the objects that are not held in memory.
+fn lying<P, M: FromDocument<P>>(making: &M, objects: Vec<(Key, Stocked)>) -> Vec<(Key, Stocked)>
+    ensures { result.items ≡ filter (λ o. not (M.held making.now o.0.resource)) objects.items }
+{
+    let mut lying = objects;
+    lying.retain(|object| !making.is_held(object.0.resource()));
+    lying
+}
+
+impl<'a, P: Drop, D: Device, M: FromDocument<P> + Drop> Source<P> for Base<'a, D, M> {
     ghost use Rattle.std.specs.Prelude.{◌≡◌, true, ◌-◌, ◌<◌};
     ghost use Rattle.base.specs.Base.{HoldsBase, GoesTo, holds_nothing, stays, goes_on};
 
-    ghost holds = { HoldsBase M.made };
+    ghost holds = { HoldsBase M.made M.held };
 
-    ghost failures = { λ base. D.disk.failures base.shelf.device };
+    ghost failures = { λ base. D.disk.failures base.device.now };
 
     ghost is_damaged = { λ base. base.is_damaged ≡ true };
 
     ghost goes_to = { GoesTo };
 
-    ghost holds_nothing = { holds_nothing M.made };
+    ghost holds_nothing = { holds_nothing M.made M.held };
 
     ghost stays = { stays };
 
     ghost goes_on = { goes_on };
 
     fn find(&mut self, alloc: Global, key: &Key) -> Result<Option<Found>, LookupFault> {
-        match find(alloc, &mut self.shelf, key) {
+        if self.making.is_held(key.resource()) {
+            return Ok(None);
+        }
+        match find(alloc, self.shelf, self.device, key) {
             Ok(stocked) => Ok(found(stocked)),
             Err(fault) => Err(self.told(fault)),
         }
@@ -139,9 +187,13 @@ impl<P: Drop, D: Device, M: FromDocument<P> + Drop> Source<P> for Base<D, M> {
         resource: Resource,
         namespace: Option<&str>,
     ) -> Result<Vec<(Key, Stored<P>)>, LookupFault> {
+        if self.making.is_held(resource) {
+            return Ok(Vec::new(alloc));
+        }
         match list(
             alloc,
-            &mut self.shelf,
+            self.shelf,
+            self.device,
             resource,
             namespace,
             Reading::Passing,

@@ -1,17 +1,16 @@
 -- A shelf that shows what another one does.
-use Rattle.std.proofs.Common.{arith, ◌≡◌, ◌∙◌, sym, ap, subst, refl, ◌+◌, ◌*◌, ◌<◌, ◌≤◌, ℕ, zero, suc, List, [], length, get_or}
-use Rattle.device.specs.declared.device.Device.{Ghosts}
+use Rattle.std.proofs.Common.{arith, ◌≡◌, ◌∙◌, sym, ap, subst, refl, ◌+◌, ◌*◌, ◌<◌, ◌≤◌, ℕ, zero, suc, List, [], length, get_or, Contains}
 use Rattle.device.specs.Disk.{Disk}
 use Rattle.device.specs.Run.{Ran}
 use Rattle.device.specs.Step.{Same}
 use Rattle.gatelog.specs.Record.{part}
 use Rattle.pages.specs.Page.{Entry, entries_in}
 use Rattle.roots.specs.declared.root.Root.{Root}
-use Rattle.checkpoint.specs.Pages.{pages_at, pages_of_root, joined, AreSound, IsIndex}
+use Rattle.checkpoint.specs.Pages.{pages_at, pages_of_root, joined, AreSound, HoldsEntries, IsIndex}
 use Rattle.roots.specs.Root.{log_start}
 use Rattle.checkpoint.proofs.Joining.{page_at}
 use Rattle.shelf.specs.declared.shelf.Shelf.{Shelf}
-use Rattle.shelf.specs.Shelf.{device_of, root_of, firsts_of, pages_of, IsHeld, Shelves}
+use Rattle.shelf.specs.Shelf.{root_of, firsts_of, pages_of, IsHeld, Shelves}
 use Rattle.shelf.proofs.Cached.{AreCached}
 
 -- ---- pages by number
@@ -38,17 +37,17 @@ page_inside root page size inside all = omega (arith, inside, all)
 
 -- ---- shelves
 
-module _ {D : Type 0} {g : Ghosts D} (old new : Shelf D g) where
-  same_pages : root_of new ≡ root_of old → (0 < (root_of old).pages → g.disk.content (device_of new) ≡ g.disk.content (device_of old)) → pages_of new ≡ pages_of old
+module _ {D : Type 0} (disk : Disk D) (before after : D) (old new : Shelf) where
+  same_pages : root_of new ≡ root_of old → (0 < (root_of old).pages → disk.content after ≡ disk.content before) → pages_of disk after new ≡ pages_of disk before old
   same_pages root same =
-      ap (λ (r : Root). pages_of_root r (g.disk.content (device_of new))) root
-      ∙ same_at (root_of old).first (root_of old).pages (g.disk.content (device_of old)) (g.disk.content (device_of new)) same
+      ap (λ (r : Root). pages_of_root r (disk.content after)) root
+      ∙ same_at (root_of old).first (root_of old).pages (disk.content before) (disk.content after) same
 
-  held_still : root_of new ≡ root_of old → pages_of new ≡ pages_of old → IsHeld old → g.disk.keeps (device_of new)
-      → g.disk.content (device_of new) ≡ g.disk.content (device_of old) → AreCached (pages_of old) new.cache → IsHeld new
+  held_still : root_of new ≡ root_of old → pages_of disk after new ≡ pages_of disk before old → IsHeld disk before old → disk.keeps after
+      → disk.content after ≡ disk.content before → AreCached (pages_of disk before old) new.cache → IsHeld disk after new
   held_still root pages held keeps same cached =
       let Sound : List ℕ → Type 0 = λ content. AreSound (root_of old).first (root_of old).pages content in
-      let Whole : Root → Type 0 = λ r. AreSound r.first r.pages (g.disk.content (device_of new)) in
+      let Whole : Root → Type 0 = λ r. AreSound r.first r.pages (disk.content after) in
       let Cached : List (List Entry) → Type 0 = λ ps. AreCached ps new.cache in
       record {
         keeps = keeps;
@@ -58,13 +57,13 @@ module _ {D : Type 0} {g : Ghosts D} (old new : Shelf D g) where
 
   -- what lies in memory is of the same pages, and the device holds what it held, if it held pages
   pub shelves_still : (entries : List Entry) → root_of new ≡ root_of old → firsts_of new ≡ firsts_of old
-      → (IsHeld old → g.disk.keeps (device_of new) × (g.disk.content (device_of new) ≡ g.disk.content (device_of old)) × AreCached (pages_of old) new.cache)
-      → Shelves old entries → Shelves new entries
+      → (IsHeld disk before old → disk.keeps after × (disk.content after ≡ disk.content before) × AreCached (pages_of disk before old) new.cache)
+      → Shelves disk before old entries → Shelves disk after new entries
   shelves_still entries root firsts same shelves =
-      let seen : 0 < (root_of old).pages → g.disk.content (device_of new) ≡ g.disk.content (device_of old) = λ some. (same (shelves.held some)).1 in
+      let seen : 0 < (root_of old).pages → disk.content after ≡ disk.content before = λ some. (same (shelves.held some)).1 in
       let pages = same_pages root seen in
       let Of : List (List Entry) → Type 0 = λ ps. IsIndex (firsts_of new) ps in
-      let By : List (List ℕ) → Type 0 = λ keys. IsIndex keys (pages_of old) in
+      let By : List (List ℕ) → Type 0 = λ keys. IsIndex keys (pages_of disk before old) in
       record {
         index = subst Of (sym pages) (subst By (sym firsts) shelves.index);
         held = λ some.
@@ -74,16 +73,36 @@ module _ {D : Type 0} {g : Ghosts D} (old new : Shelf D g) where
         are = ap joined pages ∙ shelves.are;
       }
 
--- where a device keeps the disk model after reads, it did before, and the pages lie inside still
-pub inside_still : {D : Type 0} (disk : Disk D) (old new : D) (n : ℕ) → Ran disk old new Same → (disk.keeps old → n ≤ length (disk.content old))
-    → disk.keeps new → n ≤ length (disk.content new)
-inside_still disk old new n ran inside keeps =
-    let before = ran.had_kept keeps in
-    subst (λ (content : List ℕ). n ≤ length content) (sym (ran.seen before)) (inside before)
+no_page : (number : ℕ) (page : List Entry) → Contains {X = ℕ × List Entry} [] (number, page) → ⊥
+no_page number page there = let within = there.1 in omega arith
+
+-- a shelf none of whose pages lies in memory
+pub shelves_unread : {D : Type 0} (disk : Disk D) (device : D) (shelf : Shelf) (entries : List Entry) → shelf.cache.entries ≡ []
+    → IsIndex (firsts_of shelf) (pages_of disk device shelf) → (0 < (root_of shelf).pages → disk.keeps device)
+    → HoldsEntries (disk.content device) (root_of shelf) entries → Shelves disk device shelf entries
+shelves_unread disk device shelf entries none index keeps holds = record {
+  index = index;
+  held = λ some. record {
+    keeps = keeps some;
+    sound = holds.sound;
+    cached = λ number page there.
+        let In : List (ℕ × List Entry) → Type 0 = λ es. Contains es (number, page) in absurd (no_page number page (subst In none there));
+  };
+  are = holds.are;
+}
+
+-- where a device keeps the disk model after reads, it did before, and the pages of the same root lie inside still
+pub inside_still : {D : Type 0} (disk : Disk D) (before after : D) (old new : Root) → new ≡ old → Ran disk before after Same
+    → (disk.keeps before → 512 * log_start old ≤ length (disk.content before)) → disk.keeps after → 512 * log_start new ≤ length (disk.content after)
+inside_still disk before after old new root ran inside keeps =
+    let kept = ran.had_kept keeps in
+    let Of : Root → Type 0 = λ r. 512 * log_start r ≤ length (disk.content after) in
+    let Inside : List ℕ → Type 0 = λ content. 512 * log_start old ≤ length content in
+    subst Of (sym root) (subst Inside (sym (ran.seen kept)) (inside kept))
 
 -- a read leaves what a device holds
 pub ran_same : {D : Type 0} (disk : Disk D) (old new : D) → Ran disk old new Same → disk.keeps old → disk.keeps new × (disk.content new ≡ disk.content old)
 ran_same disk old new ran keeps = (ran.kept keeps, ran.seen keeps)
 
-pub length-pages_of : {D : Type 0} {g : Ghosts D} (shelf : Shelf D g) → length (pages_of shelf) ≡ (root_of shelf).pages
-length-pages_of {g = g} shelf = length-pages_at (root_of shelf).first (root_of shelf).pages (g.disk.content (device_of shelf))
+pub length-pages_of : {D : Type 0} (disk : Disk D) (device : D) (shelf : Shelf) → length (pages_of disk device shelf) ≡ (root_of shelf).pages
+length-pages_of disk device shelf = length-pages_at (root_of shelf).first (root_of shelf).pages (disk.content device)

@@ -6,3 +6,4 @@ mod Places
 mod Cached
 mod Holding
 mod Telling
+pub mod Staying

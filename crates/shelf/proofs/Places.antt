@@ -217,7 +217,7 @@ split_of test (key ∷ keys) count point =
     }
 
 module _ (keys : List (Vec ℕ Global)) (pages : List (List Entry)) (index : IsIndex (keys_of keys) pages) where
-  keys_length : length keys ≡ length pages
+  pub keys_length : length keys ≡ length pages
   keys_length = sym (length-map keys (λ (k : Vec ℕ Global). k.items)) ∙ firsts_length (keys_of keys) pages index
 
   pub parted_at : (key : List ℕ) → IsPartitionedBy (λ (first : Vec ℕ Global). is_at_or_below key first.items) keys

@@ -1,6 +1,6 @@
 //! The pages of a root, as they are looked up.
 
-ghost use Rattle.std.specs.Prelude.{◌≡◌, ◌⊎◌, ◌<◌, ◌≤◌, ◌+◌, ◌*◌, ◌^◌, [], ℕ, List, length, get_or, option_map, true, IsTrue, IfOk, IfErr, OnOk, IsErrOf};
+ghost use Rattle.std.specs.Prelude.{◌≡◌, ◌⊎◌, ◌<◌, ◌≤◌, ◌+◌, ◌*◌, ◌^◌, [], ℕ, List, length, get_or, option_map, true, IsTrue, IfOk, OnOk, IsErrOf};
 ghost use Rattle.std.specs.FinMap.{find};
 ghost use Rattle.device.specs.Disk.{HasFailed};
 ghost use Rattle.device.specs.Step.{Same};
@@ -19,7 +19,7 @@ use device::Device;
 use lru::LruCache;
 use pages::{OwnedPage, Page};
 use roots::Root;
-use std::alloc::Global;
+use std::alloc::{AllocError, Global};
 use std::num::NonZeroUsize;
 
 /// How many pages lie in memory, at most.
@@ -51,54 +51,68 @@ fn may_begin(prefix: &[u8], first: &[u8]) -> bool
     is_at_or_below(prefix, first) || first.starts_with(prefix)
 }
 
-/// A device, and the pages of the root that counts on it: the first key of each, and those that were used last in memory.
+/// The pages of a root: the first key of each, and those that were used last in memory. They stand on a device that each call is given, since more is
+/// written there than pages.
 #[derive(Drop)]
-pub struct Shelf<D: Device> {
-    device: D,
+pub struct Shelf {
     root: Root,
     first_keys: Vec<Vec<u8>>,
     cache: LruCache<u32, OwnedPage>,
     ghost small: { log_start root < 2 ^ 54 },
     ghost counted: { length first_keys.items ≡ root.pages },
-    ghost inside: { D.disk.keeps device → 512 * log_start root ≤ length (D.disk.content device) },
 }
 
-impl<D: Device> Shelf<D> {
+impl Shelf {
     ghost use Rattle.checkpoint.specs.Index.{keys_of};
     ghost use Rattle.checkpoint.specs.Pages.{HoldsEntries, IsIndex, pages_of_root};
     ghost use Rattle.shelf.specs.Places.{IsSplit};
-    ghost use Rattle.shelf.specs.Shelf.{device_of, root_of, firsts_of, pages_of, Has, Shelves, IsBrought};
+    ghost use Rattle.shelf.specs.Shelf.{root_of, firsts_of, pages_of, Has, Shelves, IsBrought};
 
-    /// The shelf of a root's pages, with the first key of each. None of them lies in memory, for which there is room. Where there is no memory for that the
-    /// device comes back.
-    pub fn new(
+    /// The shelf of a root's pages, with the first key of each. None of them lies in memory, for which there is room. The device is there to speak of it.
+    ///
+    /// # Errors
+    ///
+    /// Where there was no memory.
+    pub fn new<D: Device>(
         alloc: Global,
-        device: D,
+        device: &D,
         root: Root,
         first_keys: Vec<Vec<u8>>,
-    ) -> Result<Shelf<D>, D>
+    ) -> Result<Shelf, AllocError>
         requires small { log_start root < 2 ^ 54 }
         requires counted { length first_keys.items ≡ root.pages }
-        requires inside { D.disk.keeps device → 512 * log_start root ≤ length (D.disk.content device) }
-        ensures device { IfOk result (λ shelf. device_of shelf ≡ device) }
         ensures root { IfOk result (λ shelf. root_of shelf ≡ root) }
-        ensures shelves { (entries : List Entry) → IsIndex (keys_of first_keys.items) (pages_of_root root (D.disk.content device))
-            → (0 < root.pages → D.disk.keeps device)
-            → HoldsEntries (D.disk.content device) root entries → IfOk result (λ shelf. Shelves shelf entries) }
-        ensures err { IfErr result (λ back. back ≡ device) }
+        ensures firsts { IfOk result (λ shelf. firsts_of shelf ≡ keys_of first_keys.items) }
+        ensures shelves { (entries : List Entry) → IsIndex (keys_of first_keys.items) (pages_of_root root (D.disk.content device.now))
+            → (0 < root.pages → D.disk.keeps device.now)
+            → HoldsEntries (D.disk.content device.now) root entries → IfOk result (λ shelf. Shelves D.disk device.now shelf entries) }
     {
+        let _ = device;
         match NonZeroUsize::new(PAGES_IN_MEMORY) {
-            Some(most) => match LruCache::new(alloc, most) {
-                Ok(cache) => Ok(Shelf {
-                    device,
-                    root,
-                    first_keys,
-                    cache,
-                }),
-                Err(_) => Err(device),
-            },
-            None => Err(device),
+            Some(most) => Ok(Shelf {
+                root,
+                first_keys,
+                cache: LruCache::new(alloc, most)?,
+            }),
+            None => Err(AllocError),
         }
+    }
+
+    /// The pages of another root, with the first key of each, in place of those that it has. None of them lies in memory. This takes no memory. The
+    /// device is there to speak of it.
+    pub fn start_over<D: Device>(&mut self, device: &D, root: Root, first_keys: Vec<Vec<u8>>)
+        requires small { log_start root < 2 ^ 54 }
+        requires counted { length first_keys.items ≡ root.pages }
+        ensures root { root_of self.new ≡ root }
+        ensures firsts { firsts_of self.new ≡ keys_of first_keys.items }
+        ensures shelves { (entries : List Entry) → IsIndex (keys_of first_keys.items) (pages_of_root root (D.disk.content device.now))
+            → (0 < root.pages → D.disk.keeps device.now)
+            → HoldsEntries (D.disk.content device.now) root entries → Shelves D.disk device.now self.new entries }
+    {
+        let _ = device;
+        self.root = root;
+        self.first_keys = first_keys;
+        self.cache.clear();
     }
 
     /// The root whose pages it has.
@@ -106,14 +120,6 @@ impl<D: Device> Shelf<D> {
         ensures { result.now ≡ root_of self.now }
     {
         &self.root
-    }
-
-    /// The device, without what lies in memory.
-    pub fn into_device(self) -> D
-        ensures { result ≡ device_of self }
-    {
-        let Shelf { device, .. } = self;
-        device
     }
 
     // How many pages do not begin above the key.
@@ -139,32 +145,39 @@ impl<D: Device> Shelf<D> {
     }
 
     // Brings a page into memory, where it is not there by one read of 64 sectors. It counts as used.
-    fn fetch(&mut self, alloc: Global, page: u32) -> Result<(), ShelfFault>
-        requires inside { page < (root_of self.old).pages }
+    fn fetch<D: Device>(
+        &mut self,
+        alloc: Global,
+        device: &mut D,
+        page: u32,
+    ) -> Result<(), ShelfFault>
+        requires number { page < (root_of self.old).pages }
+        requires inside { D.disk.keeps device.old → 512 * log_start (root_of self.old) ≤ length (D.disk.content device.old) }
         ensures there { OnOk result (Has self.new page) }
-        ensures kept { (entries : List Entry) → Shelves self.old entries → Shelves self.new entries }
+        ensures kept { (entries : List Entry) → Shelves D.disk device.old self.old entries → Shelves D.disk device.new self.new entries }
         ensures root { root_of self.new ≡ root_of self.old }
         ensures firsts { firsts_of self.new ≡ firsts_of self.old }
-        ensures damaged { (entries : List Entry) → Shelves self.old entries → IsErrOf result ShelfFault.Page → ⊥ }
+        ensures damaged { (entries : List Entry) → Shelves D.disk device.old self.old entries → IsErrOf result ShelfFault.Page → ⊥ }
         ensures refusal { IsErrOf result ShelfFault.Entry → ⊥ }
-        ensures ran { Ran D.disk (device_of self.old) (device_of self.new) Same }
-        ensures cause { IsErrOf result ShelfFault.Device → HasFailed D.disk (device_of self.old) (device_of self.new) }
+        ensures ran { Ran D.disk device.old device.new Same }
+        ensures cause { IsErrOf result ShelfFault.Device → HasFailed D.disk device.old device.new }
     {
         if self.cache.promote(&page) {
             return Ok(());
         }
         let at = self.root.first + PAGE_SECTORS * u64::from(page);
-        let owned = read_page(alloc, &mut self.device, at)?;
+        let owned = read_page(alloc, device, at)?;
         self.cache.put(page, owned)?;
         Ok(())
     }
 
     // A page that lies in memory.
-    fn page(&self, page: u32) -> Page<'_>
+    fn page<D: Device>(&self, device: &D, page: u32) -> Page<'_>
         requires there { Has self.now page }
-        ensures { (entries : List Entry) → Shelves self.now entries → page < (root_of self.now).pages
-            → result ≡ get_or (pages_of self.now) page [] }
+        ensures { (entries : List Entry) → Shelves D.disk device.now self.now entries → page < (root_of self.now).pages
+            → result ≡ get_or (pages_of D.disk device.now self.now) page [] }
     {
+        let _ = device;
         match self.cache.peek(&page) {
             Some(owned) => owned.page(),
             None => unreachable!("the page lies in memory"),
@@ -177,82 +190,96 @@ impl<D: Device> Shelf<D> {
     ///
     /// `Device` only where the device failed in this call; `Page` only where the pages hold no ascending entries; `Memory`. What the shelf
     /// shows stays in each case.
-    pub fn bring(&mut self, alloc: Global, key: &[u8]) -> Result<Option<u32>, ShelfFault>
+    pub fn bring<D: Device>(
+        &mut self,
+        alloc: Global,
+        device: &mut D,
+        key: &[u8],
+    ) -> Result<Option<u32>, ShelfFault>
+        requires inside { D.disk.keeps device.old → 512 * log_start (root_of self.old) ≤ length (D.disk.content device.old) }
         ensures brought { IfOk result (IsBrought self.new key.now) }
-        ensures kept { (entries : List Entry) → Shelves self.old entries → Shelves self.new entries }
+        ensures kept { (entries : List Entry) → Shelves D.disk device.old self.old entries → Shelves D.disk device.new self.new entries }
         ensures root { root_of self.new ≡ root_of self.old }
-        ensures damaged { (entries : List Entry) → Shelves self.old entries → IsErrOf result ShelfFault.Page → ⊥ }
+        ensures damaged { (entries : List Entry) → Shelves D.disk device.old self.old entries → IsErrOf result ShelfFault.Page → ⊥ }
         ensures refusal { IsErrOf result ShelfFault.Entry → ⊥ }
-        ensures ran { Ran D.disk (device_of self.old) (device_of self.new) Same }
-        ensures cause { IsErrOf result ShelfFault.Device → HasFailed D.disk (device_of self.old) (device_of self.new) }
+        ensures ran { Ran D.disk device.old device.new Same }
+        ensures cause { IsErrOf result ShelfFault.Device → HasFailed D.disk device.old device.new }
     {
         let count = self.count_up_to(key);
         if count == 0 {
             return Ok(None);
         }
-        self.fetch(alloc, count - 1)?;
+        self.fetch(alloc, device, count - 1)?;
         Ok(Some(count - 1))
     }
 
-    /// What stands under a key whose page was brought into memory. Takes no memory.
-    pub fn cell(&self, place: Option<u32>, key: &[u8]) -> Option<&[u8]>
+    /// What stands under a key whose page was brought into memory. Takes no memory. The device is there to speak of it.
+    pub fn cell<D: Device>(&self, device: &D, place: Option<u32>, key: &[u8]) -> Option<&[u8]>
         requires { IsBrought self.now key.now place }
-        ensures { (entries : List Entry) → Shelves self.now entries
+        ensures { (entries : List Entry) → Shelves D.disk device.now self.now entries
             → option_map (λ cell. cell.now) result ≡ find bytes_cmp key.now entries }
     {
         match place {
-            Some(page) => self.page(page).find(key),
+            Some(page) => self.page(device, page).find(key),
             None => None,
         }
     }
 
     // Reads a page, and leaves what lies in memory as it is.
-    fn read(&mut self, alloc: Global, page: u32) -> Result<OwnedPage, ShelfFault>
-        requires inside { page < (root_of self.old).pages }
-        ensures page { (entries : List Entry) → Shelves self.old entries → IfOk result (λ read. read ≡ get_or (pages_of self.old) page []) }
-        ensures kept { (entries : List Entry) → Shelves self.old entries → Shelves self.new entries }
-        ensures root { root_of self.new ≡ root_of self.old }
-        ensures firsts { firsts_of self.new ≡ firsts_of self.old }
-        ensures damaged { (entries : List Entry) → Shelves self.old entries → IsErrOf result ShelfFault.Page → ⊥ }
+    fn read<D: Device>(
+        &self,
+        alloc: Global,
+        device: &mut D,
+        page: u32,
+    ) -> Result<OwnedPage, ShelfFault>
+        requires number { page < (root_of self.now).pages }
+        requires inside { D.disk.keeps device.old → 512 * log_start (root_of self.now) ≤ length (D.disk.content device.old) }
+        ensures page { (entries : List Entry) → Shelves D.disk device.old self.now entries
+            → IfOk result (λ read. read ≡ get_or (pages_of D.disk device.old self.now) page []) }
+        ensures kept { (entries : List Entry) → Shelves D.disk device.old self.now entries → Shelves D.disk device.new self.now entries }
+        ensures damaged { (entries : List Entry) → Shelves D.disk device.old self.now entries → IsErrOf result ShelfFault.Page → ⊥ }
         ensures refusal { IsErrOf result ShelfFault.Entry → ⊥ }
-        ensures ran { Ran D.disk (device_of self.old) (device_of self.new) Same }
-        ensures cause { IsErrOf result ShelfFault.Device → HasFailed D.disk (device_of self.old) (device_of self.new) }
+        ensures ran { Ran D.disk device.old device.new Same }
+        ensures cause { IsErrOf result ShelfFault.Device → HasFailed D.disk device.old device.new }
     {
         let at = self.root.first + PAGE_SECTORS * u64::from(page);
-        read_page(alloc, &mut self.device, at)
+        read_page(alloc, device, at)
     }
 
     // Tells the entries of a page whose keys begin with a prefix.
-    fn tell_one<R: Reader>(
+    fn tell_one<D: Device, R: Reader>(
         &mut self,
         alloc: Global,
+        device: &mut D,
         page: u32,
         prefix: &[u8],
         reading: Reading,
         reader: &mut R,
     ) -> Result<(), ShelfFault>
-        requires inside { page < (root_of self.old).pages }
-        ensures told { (entries : List Entry) → Shelves self.old entries
-            → OnOk result (R.told reader.old reader.new (beginning prefix.now (get_or (pages_of self.old) page []))) }
-        ensures refused { (entries : List Entry) → Shelves self.old entries → IsErrOf result ShelfFault.Entry
-            → IsRefused R.told R.refuses reader.old (beginning prefix.now (get_or (pages_of self.old) page [])) }
-        ensures kept { (entries : List Entry) → Shelves self.old entries → Shelves self.new entries }
-        ensures pages { (entries : List Entry) → Shelves self.old entries → pages_of self.new ≡ pages_of self.old }
+        requires number { page < (root_of self.old).pages }
+        requires inside { D.disk.keeps device.old → 512 * log_start (root_of self.old) ≤ length (D.disk.content device.old) }
+        ensures told { (entries : List Entry) → Shelves D.disk device.old self.old entries
+            → OnOk result (R.told reader.old reader.new (beginning prefix.now (get_or (pages_of D.disk device.old self.old) page []))) }
+        ensures refused { (entries : List Entry) → Shelves D.disk device.old self.old entries → IsErrOf result ShelfFault.Entry
+            → IsRefused R.told R.refuses reader.old (beginning prefix.now (get_or (pages_of D.disk device.old self.old) page [])) }
+        ensures kept { (entries : List Entry) → Shelves D.disk device.old self.old entries → Shelves D.disk device.new self.new entries }
+        ensures pages { (entries : List Entry) → Shelves D.disk device.old self.old entries
+            → pages_of D.disk device.new self.new ≡ pages_of D.disk device.old self.old }
         ensures root { root_of self.new ≡ root_of self.old }
-        ensures damaged { (entries : List Entry) → Shelves self.old entries → IsErrOf result ShelfFault.Page → ⊥ }
-        ensures ran { Ran D.disk (device_of self.old) (device_of self.new) Same }
-        ensures cause { IsErrOf result ShelfFault.Device → HasFailed D.disk (device_of self.old) (device_of self.new) }
+        ensures damaged { (entries : List Entry) → Shelves D.disk device.old self.old entries → IsErrOf result ShelfFault.Page → ⊥ }
+        ensures ran { Ran D.disk device.old device.new Same }
+        ensures cause { IsErrOf result ShelfFault.Device → HasFailed D.disk device.old device.new }
     {
         match reading {
             Reading::Kept => {
-                self.fetch(alloc, page)?;
-                Ok(tell_page(alloc, &self.page(page), prefix, reader)?)
+                self.fetch(alloc, device, page)?;
+                Ok(tell_page(alloc, &self.page(device, page), prefix, reader)?)
             }
             Reading::Passing if self.cache.contains(&page) => {
-                Ok(tell_page(alloc, &self.page(page), prefix, reader)?)
+                Ok(tell_page(alloc, &self.page(device, page), prefix, reader)?)
             }
             Reading::Passing => {
-                let owned = self.read(alloc, page)?;
+                let owned = self.read(alloc, device, page)?;
                 Ok(tell_page(alloc, &owned.page(), prefix, reader)?)
             }
         }
@@ -264,26 +291,28 @@ impl<D: Device> Shelf<D> {
     /// # Errors
     ///
     /// Those of `bring`, and `Entry` where the reader refused an entry; it is told nothing more then. It may have been told some of the entries.
-    pub fn tell<R: Reader>(
+    pub fn tell<D: Device, R: Reader>(
         &mut self,
         alloc: Global,
+        device: &mut D,
         prefix: &[u8],
         reading: Reading,
         reader: &mut R,
     ) -> Result<(), ShelfFault>
-        ensures told { (entries : List Entry) → Shelves self.old entries
+        requires inside { D.disk.keeps device.old → 512 * log_start (root_of self.old) ≤ length (D.disk.content device.old) }
+        ensures told { (entries : List Entry) → Shelves D.disk device.old self.old entries
             → OnOk result (R.told reader.old reader.new (beginning prefix.now entries)) }
-        ensures refused { (entries : List Entry) → Shelves self.old entries → IsErrOf result ShelfFault.Entry
+        ensures refused { (entries : List Entry) → Shelves D.disk device.old self.old entries → IsErrOf result ShelfFault.Entry
             → IsRefused R.told R.refuses reader.old (beginning prefix.now entries) }
-        ensures kept { (entries : List Entry) → Shelves self.old entries → Shelves self.new entries }
+        ensures kept { (entries : List Entry) → Shelves D.disk device.old self.old entries → Shelves D.disk device.new self.new entries }
         ensures root { root_of self.new ≡ root_of self.old }
-        ensures damaged { (entries : List Entry) → Shelves self.old entries → IsErrOf result ShelfFault.Page → ⊥ }
-        ensures ran { Ran D.disk (device_of self.old) (device_of self.new) Same }
-        ensures cause { IsErrOf result ShelfFault.Device → HasFailed D.disk (device_of self.old) (device_of self.new) }
+        ensures damaged { (entries : List Entry) → Shelves D.disk device.old self.old entries → IsErrOf result ShelfFault.Page → ⊥ }
+        ensures ran { Ran D.disk device.old device.new Same }
+        ensures cause { IsErrOf result ShelfFault.Device → HasFailed D.disk device.old device.new }
     {
         let start = self.count_up_to(prefix).saturating_sub(1);
         for i in 0..self.count_with(prefix).saturating_sub(start) {
-            self.tell_one(alloc, start + i, prefix, reading, reader)?;
+            self.tell_one(alloc, device, start + i, prefix, reading, reader)?;
         }
         Ok(())
     }

@@ -1,5 +1,5 @@
 -- What is found among entries that hold objects.
-use Rattle.std.proofs.Common.{◌≡◌, ◌∙◌, sym, ap, subst, refl, ⊎_elim, ℕ, Bool, true, false, cond, List, [], ◌∷◌, ◌++◌, map, Option, Some, None, IsTrue}
+use Rattle.std.proofs.Common.{◌≡◌, ◌<◌, ◌∙◌, sym, ap, subst, refl, ⊎_elim, ℕ, Bool, true, false, cond, List, [], ◌∷◌, ◌++◌, map, Option, Some, None, IsTrue}
 use Rattle.std.proofs.lemmas.Bool.{cases_Bool}
 use Rattle.std.specs.FinMap.{find, nat_cmp-IsAntisymmetric, slice_cmp-IsAntisymmetric}
 use Rattle.std.specs.List.{AllByRecursion, filter}
@@ -7,7 +7,9 @@ use Rattle.std.specs.Ordering.{is_eq}
 use Rattle.std.specs.Prelude.{option_map}
 use Rattle.std.specs.declared.cmp.Ordering.{Ordering}
 use Rattle.std.specs.declared.cmp.Ordering.TheVariants.{Less, Equal, Greater}
-use Rattle.device.specs.declared.device.Device.{Ghosts}
+use Rattle.device.specs.Disk.{Disk}
+use Rattle.device.specs.Run.{Ran}
+use Rattle.device.specs.Step.{Same}
 use Rattle.names.specs.declared.resource.Resource.{Resource}
 use Rattle.names.specs.Key.{Key, is_key, key_bytes, key_cmp}
 use Rattle.names.proofs.KeyOrder.{slice_cmp-key_bytes, key_cmp-IsAntisymmetric}
@@ -16,13 +18,14 @@ use Rattle.pages.specs.Page.{Entry, bytes_cmp}
 use Rattle.checkpoint.specs.Reader.{IsRefused}
 use Rattle.shelf.specs.declared.shelf.Shelf.{Shelf}
 use Rattle.shelf.specs.Prefix.{beginning}
-use Rattle.shelf.specs.Shelf.{Shelves}
+use Rattle.shelf.specs.Shelf.{root_of, Shelves}
+use Rattle.shelf.proofs.Staying.{HoldsAsBefore, shelves_stay, shelves_ran}
 use Rattle.entries.proofs.One.{one_object}
 use Rattle.stock.specs.declared.stocked.Stocked.{Stocked}
 use Rattle.stock.specs.declared.listed.Listed.{Listed}
-use Rattle.stock.specs.Stock.{cell_of, stocked_entry, IsStorable, IsOther, HoldObjects, Stocks, prefix_of}
+use Rattle.stock.specs.Stock.{cell_of, stocked_entry, IsStorable, IsOther, HoldObjects, Stocks, AreOf, prefix_of}
 use Rattle.stock.specs.Listed.{IsTold, Refuses}
-use Rattle.stock.proofs.Prefixes.{begins_of, other_begins}
+use Rattle.stock.proofs.Prefixes.{begins_of, other_begins, object_begins, other_object}
 
 -- ---- under a key
 
@@ -86,6 +89,17 @@ beginning_of resource namespace (o ∷ objects) can rest other =
       | true ↦ ap (λ (es : List Entry). stocked_entry o ∷ es) more
       | false ↦ more
     ]
+
+-- The entries that begin with 1 are those of objects.
+pub beginning_all : (objects : List (Key × Stocked)) (rest : List Entry) → AllByRecursion IsOther rest
+    → beginning (1 ∷ []) (map stocked_entry objects ++ rest) ≡ map stocked_entry objects
+beginning_all [] [] other = refl
+beginning_all [] (entry ∷ rest) other =
+    let behind : List Entry = beginning (1 ∷ []) rest in
+    ap (λ b. cond b (entry ∷ behind) behind) (other_object entry other.0) ∙ beginning_all [] rest other.1
+beginning_all (o ∷ objects) rest other =
+    let behind : List Entry = beginning (1 ∷ []) (map stocked_entry objects ++ rest) in
+    ap (λ b. cond b (stocked_entry o ∷ behind) behind) (object_begins o.0) ∙ ap (λ (es : List Entry). stocked_entry o ∷ es) (beginning_all objects rest other)
 
 pub filter_storable : (p : Key × Stocked → Bool) (objects : List (Key × Stocked)) → AllByRecursion IsStorable objects → AllByRecursion IsStorable (filter p objects)
 filter_storable p [] can = tt
@@ -166,22 +180,42 @@ module _ (entries : List Entry) (objects : List (Key × Stocked)) (hold : HoldOb
     can_begin : AllByRecursion IsStorable (filter (λ o. is_of resource namespace o.0) objects)
     can_begin = filter_storable (λ o. is_of resource namespace o.0) objects hold.storable
 
-    -- A reader that was told the entries with the prefix of a resource has its objects.
-    pub told_objects : (old new : Listed) → old.objects.items ≡ [] → IsTold old new (beginning prefix entries)
-        → new.objects.items ≡ filter (λ o. is_of resource namespace o.0) objects
-    told_objects old new none told =
-        told.added ∙ ap (λ (os : List (Key × Stocked)). os ++ told.objects) none
-        ∙ same_objects told.objects (filter (λ o. is_of resource namespace o.0) objects) told.storable can_begin (told.are ∙ begin_so)
+    -- The entries with the prefix of a resource are those of its objects.
+    pub are_of : AreOf (beginning prefix entries) (filter (λ o. is_of resource namespace o.0) objects)
+    are_of = record { are = begin_so; storable = can_begin }
 
-    -- It refuses none of them.
-    pub none_refused : (old : Listed) → IsRefused IsTold Refuses old (beginning prefix entries) → ⊥
-    none_refused old refused =
-        let found =
-        stands_among (filter (λ o. is_of resource namespace o.0) objects) can_begin refused.before refused.entry refused.after (sym begin_so ∙ refused.are)
-        in
-        refused.refused found.0 found.1 found.2
+  -- Those that begin with 1 are those of all objects.
+  pub are_all : AreOf (beginning (1 ∷ []) entries) objects
+  are_all = record { are = ap (λ (es : List Entry). beginning (1 ∷ []) es) hold.are ∙ beginning_all objects hold.rest hold.other; storable = hold.storable }
 
--- A shelf whose pages hold what another's do holds the same objects.
-pub still : {D : Type 0} {g : Ghosts D} (old new : Shelf D g) → ((entries : List Entry) → Shelves old entries → Shelves new entries)
-    → (objects : List (Key × Stocked)) → Stocks old objects → Stocks new objects
-still old new kept objects stocks = record { entries = stocks.entries; shelves = kept stocks.entries stocks.shelves; hold = stocks.hold }
+-- ---- of a reader of objects' entries
+
+module _ (entries : List Entry) (objects : List (Key × Stocked)) (of : AreOf entries objects) where
+  -- A reader that was told them has the objects.
+  pub told_objects : (old new : Listed) → old.objects.items ≡ [] → IsTold old new entries → new.objects.items ≡ objects
+  told_objects old new none told =
+      told.added ∙ ap (λ (os : List (Key × Stocked)). os ++ told.objects) none ∙ same_objects told.objects objects told.storable of.storable (told.are ∙ of.are)
+
+  -- It refuses none of them.
+  pub none_refused : (old : Listed) → IsRefused IsTold Refuses old entries → ⊥
+  none_refused old refused =
+      let found = stands_among objects of.storable refused.before refused.entry refused.after (sym of.are ∙ refused.are) in
+      refused.refused found.0 found.1 found.2
+
+-- ---- of shelves
+
+module _ {D : Type 0} (disk : Disk D) where
+  -- A shelf whose pages hold what another's do holds the same objects.
+  pub still : (before after : D) (old new : Shelf) → ((entries : List Entry) → Shelves disk before old entries → Shelves disk after new entries)
+      → (objects : List (Key × Stocked)) → Stocks disk before old objects → Stocks disk after new objects
+  still before after old new kept objects stocks = record { entries = stocks.entries; shelves = kept stocks.entries stocks.shelves; hold = stocks.hold }
+
+  -- What a shelf holds stays where the device holds, up to the start of the log, what it held. Where there are no pages nothing is asked of it.
+  pub stocks_stay : (shelf : Shelf) (old new : D) (objects : List (Key × Stocked)) → (0 < (root_of shelf).pages → HoldsAsBefore disk shelf old new)
+      → Stocks disk old shelf objects → Stocks disk new shelf objects
+  stocks_stay shelf old new objects as_before stocks =
+      still old new shelf shelf (λ entries shelves. shelves_stay disk shelf old new entries as_before shelves) objects stocks
+
+  -- So it does where the device was read, and nothing was written.
+  pub stocks_ran : (shelf : Shelf) (old new : D) (objects : List (Key × Stocked)) → Ran disk old new Same → Stocks disk old shelf objects → Stocks disk new shelf objects
+  stocks_ran shelf old new objects ran stocks = still old new shelf shelf (λ entries shelves. shelves_ran disk shelf old new entries ran shelves) objects stocks

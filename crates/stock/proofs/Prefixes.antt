@@ -67,3 +67,11 @@ other_begins resource (Some namespace) entry other =
     ⊎_elim
     (λ yes. absurd (other (((row resource).number ∷ namespace ++ 0 ∷ []) ++ drop (length prefix) entry.0) (begins-split prefix entry.0 yes)))
     (λ no. no) (cases_Bool (begins prefix entry.0))
+
+-- An object's key begins with 1, and none of another entry's does.
+pub object_begins : (key : Key) → begins (1 ∷ []) (1 ∷ key_bytes key) ≡ true
+object_begins key = refl
+
+pub other_object : (entry : Entry) → IsOther entry → begins (1 ∷ []) entry.0 ≡ false
+other_object entry other =
+    ⊎_elim (λ yes. absurd (other (drop 1 entry.0) (begins-split (1 ∷ []) entry.0 yes))) (λ no. no) (cases_Bool (begins (1 ∷ []) entry.0))

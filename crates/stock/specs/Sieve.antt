@@ -3,8 +3,7 @@ use Rattle.std.specs.Prelude.{◌≡◌, ℕ, ◌+◌, ◌<◌, ◌^◌, Bool, t
 use Rattle.std.proofs.Common.{cond, refl, sym, ap, ◌∙◌, append_assoc, length-append, arith}
 use Rattle.std.proofs.lemmas.List.{append-nil}
 use Rattle.std.specs.List.{filter}
-use Rattle.names.specs.Key.{Key, key_bytes}
-use Rattle.history.specs.declared.stored.Stored.{Stored}
+use Rattle.names.specs.Key.{key_bytes}
 use Rattle.history.specs.View.{View}
 use Rattle.pages.specs.Page.{Entry}
 use Rattle.stock.specs.declared.sieve.Sieve.{Sieve}

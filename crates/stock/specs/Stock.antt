@@ -1,10 +1,10 @@
--- Objects in entries, and a shelf that holds them.
+-- Objects in entries, and a shelf that holds them on a device.
 use Rattle.std.specs.Prelude.{◌≡◌, ◌≢◌, ℕ, List, [], ◌∷◌, ◌++◌, map, Option, Some, None, IsTrue}
 use Rattle.std.specs.FinMap.{is_sorted}
 use Rattle.std.specs.List.{AllByRecursion}
 use Rattle.byteorder.specs.Endian.{big_bytes}
 use Rattle.jsondoc.specs.Document.{text}
-use Rattle.device.specs.declared.device.Device.{Ghosts}
+use Rattle.device.specs.Disk.{Disk}
 use Rattle.names.specs.declared.resource.Resource.{Resource}
 use Rattle.names.specs.Key.{Key, key_cmp}
 use Rattle.names.specs.Resource.{row}
@@ -44,11 +44,16 @@ pub record HoldObjects (entries : List Entry) (objects : List (Key × Stocked)) 
   pub storable : AllByRecursion IsStorable objects
   pub ascend : IsTrue (is_sorted key_cmp objects)
 
--- The pages of the shelf hold these objects.
-pub record Stocks {D : Type 0} {g : Ghosts D} (shelf : Shelf D g) (objects : List (Key × Stocked)) : Type 0 where
+-- The pages of the shelf hold these objects on the device.
+pub record Stocks {D : Type 0} (disk : Disk D) (device : D) (shelf : Shelf) (objects : List (Key × Stocked)) : Type 0 where
   pub entries : List Entry
-  pub shelves : Shelves shelf entries
+  pub shelves : Shelves disk device shelf entries
   pub hold : HoldObjects entries objects
+
+-- The entries are those of these objects, and no others.
+pub record AreOf (entries : List Entry) (objects : List (Key × Stocked)) : Type 0 where
+  pub are : entries ≡ map stocked_entry objects
+  pub storable : AllByRecursion IsStorable objects
 
 -- With what the keys of a resource's entries begin, in one namespace if one is given.
 abbrev pub prefix_of : Resource → (namespace : Option (List ℕ)) → List ℕ

@@ -7,8 +7,8 @@ ghost use Rattle.stock.specs.Stock.{prefix_of};
 use names::{Key, Resource};
 use std::alloc::{AllocError, Global};
 
-// The first byte of the key of an object's entry.
-const OBJECT: u8 = 1;
+/// The first byte of the key of an object's entry.
+pub(crate) const OBJECT: u8 = 1;
 
 /// With what the keys of a resource's entries begin, in one namespace if one is given.
 pub(crate) fn prefix_of(

@@ -3,12 +3,10 @@
 ghost use Rattle.std.specs.Prelude.{◌≡◌, ℕ, ◌+◌, ◌<◌, ◌^◌, ◌++◌, ◌∷◌, Bool, List, [], OnOk};
 ghost use Rattle.stock.specs.Sieve.{is_object, is_kept, kept_of, objects_among};
 
+use crate::keys::OBJECT;
 use checkpoint::{ReadFault, Reader};
 use entries::Entry;
 use std::alloc::{AllocError, Global};
-
-// The first byte of the key of an object's entry.
-const OBJECT: u8 = 1;
 
 /// Tells which objects are held in memory.
 pub trait Choice {

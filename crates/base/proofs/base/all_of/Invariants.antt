@@ -1,6 +1,6 @@
 use Rattle.std.proofs.Common.{◌≡◌, ◌++◌, map}
 use Rattle.std.specs.Vec.Iter.{into_iter_items}
-use Rattle.base.specs.Base.{whole}
+use Rattle.base.specs.Whole.{whole}
 use Rattle.base.proofs.base.all_of.Given as goal
 
 -- what is listed, and then what is left

@@ -7,10 +7,10 @@ use Rattle.stock.proofs.Holding.{none_there, stands_there, read_there, still}
 use Rattle.stock.proofs.looking.find.Goals as goal
 
 pub returns-in_err-place-clause-kept : goal.returns-in_err-place-clause-kept
-returns-in_err-place-clause-kept g c = still c.args.shelf.now c.bring.new.self c.bring.ensures.kept
+returns-in_err-place-clause-kept g c = still g.D.Device.disk c.args.device.now c.bring.new.device c.args.shelf.now c.bring.new.self c.bring.ensures.kept
 
 pub returns-in_err-read_entry-in-Some-clause-kept : goal.returns-in_err-read_entry-in-Some-clause-kept
-returns-in_err-read_entry-in-Some-clause-kept g c = still c.args.shelf.now c.bring.new.self c.bring.ensures.kept
+returns-in_err-read_entry-in-Some-clause-kept g c = still g.D.Device.disk c.args.device.now c.bring.new.device c.args.shelf.now c.bring.new.self c.bring.ensures.kept
 
 pub returns-in_err-read_entry-in-Some-clause-damaged : goal.returns-in_err-read_entry-in-Some-clause-damaged
 returns-in_err-read_entry-in-Some-clause-damaged g c objects stocks is =
@@ -39,7 +39,7 @@ returns-in-Some-clause-found g c objects stocks =
     read.storable (read.entry ∙ λ i. (c.deref-in-Some.ensures.value i, cell))
 
 pub returns-in-Some-clause-kept : goal.returns-in-Some-clause-kept
-returns-in-Some-clause-kept g c = still c.args.shelf.now c.bring.new.self c.bring.ensures.kept
+returns-in-Some-clause-kept g c = still g.D.Device.disk c.args.device.now c.bring.new.device c.args.shelf.now c.bring.new.self c.bring.ensures.kept
 
 pub returns-clause-found : goal.returns-clause-found
 returns-clause-found g c objects stocks =
@@ -51,4 +51,4 @@ returns-clause-found g c objects stocks =
     none_there entries objects stocks.hold c.args.key.now c.entry_key.ensures.key bytes c.in_ok-bytes.ensures.bytes none
 
 pub returns-clause-kept : goal.returns-clause-kept
-returns-clause-kept g c = still c.args.shelf.now c.bring.new.self c.bring.ensures.kept
+returns-clause-kept g c = still g.D.Device.disk c.args.device.now c.bring.new.device c.args.shelf.now c.bring.new.self c.bring.ensures.kept

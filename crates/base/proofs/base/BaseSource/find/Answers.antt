@@ -1,36 +1,48 @@
-use Rattle.std.proofs.Common.{refl, sym, ap, ◌∙◌, subst, Err, map, option_map}
-use Rattle.device.specs.Step.{Same}
-use Rattle.device.specs.Run.{Ran}
-use Rattle.shelf.specs.Shelf.{device_of, root_of, Shelves}
-use Rattle.stock.specs.Stock.{plain, Stocks}
-use Rattle.base.specs.Base.{found_of}
-use Rattle.base.proofs.Objects.{found_still}
+use Rattle.std.specs.Prelude.{◌≡◌, true, false}
+use Rattle.std.proofs.Common.{refl, sym, ap, ◌∙◌, Err, option_map}
+use Rattle.objects.specs.Objects.{value_at}
+use Rattle.holdings.specs.Sources.{found_in}
+use Rattle.base.specs.Whole.{found_of}
+use Rattle.base.proofs.Objects.{found_lying, none_lies}
 use Rattle.base.proofs.Looking.{held_still, goes}
 use Rattle.base.proofs.base.BaseSource.find.Goals as goal
 
+pub returns-then-is_held-clause-found : goal.returns-then-is_held-clause-found
+returns-then-is_held-clause-found g c objects holds =
+    let making = c.args.self.now.making in
+    let key = c.args.key.now in
+    let hidden : g.M.FromDocument.held making key.resource ≡ true =
+    ap (g.M.FromDocument.held making) (sym c.resource.ensures.value) ∙ sym c.is_held.ensures ∙ c.if-is_held.true
+    in
+    ap (option_map found_in)
+    (sym (ap (value_at key) holds.lies.are ∙ none_lies (g.M.FromDocument.made making) (g.M.FromDocument.held making) key holds.lies.all hidden))
+
 pub returns-in-Ok-clause-found : goal.returns-in-Ok-clause-found
-returns-in-Ok-clause-found g c objects held =
-    c.found.ensures ∙ ap (option_map found_of) (c.in-Ok.ensures.found (map plain objects) held.stocks) ∙ found_still c.args.key.now objects
+returns-in-Ok-clause-found g c objects holds =
+    let making = c.args.self.now.making in
+    let key = c.args.key.now in
+    let shown : g.M.FromDocument.held making key.resource ≡ false =
+    ap (g.M.FromDocument.held making) (sym c.resource.ensures.value) ∙ sym c.is_held.ensures ∙ c.if-is_held.false
+    in
+    c.found.ensures ∙ ap (option_map found_of) (c.in-Ok.ensures.found holds.lies.all holds.lies.stocks)
+    ∙ found_lying (g.M.FromDocument.made making) (g.M.FromDocument.held making) key holds.lies.all shown
+    ∙ ap (λ os. option_map found_in (value_at key os)) (sym holds.lies.are)
 
 pub returns-in-Ok-clause-kept : goal.returns-in-Ok-clause-kept
-returns-in-Ok-clause-kept g c objects held =
-    held_still g.M.FromDocument.made c.args.self.now (record { shelf = c.find.new.shelf; making = c.args.self.now.making; is_damaged = c.args.self.now.is_damaged }) objects held
-    refl refl c.find.ensures.kept
+returns-in-Ok-clause-kept g c objects holds =
+    held_still g.M.FromDocument.made g.M.FromDocument.held c.args.self.now _ c.find.new.device c.find.new.shelf objects refl refl refl refl c.find.ensures.kept holds
 
 pub returns-in-Ok-clause-goes : goal.returns-in-Ok-clause-goes
 returns-in-Ok-clause-goes g c =
-    goes c.args.self.now (record { shelf = c.find.new.shelf; making = c.args.self.now.making; is_damaged = c.args.self.now.is_damaged }) refl c.find.ensures.root
-    c.find.ensures.entries c.find.ensures.ran
+    goes c.args.self.now _ c.find.new.device c.find.new.shelf refl refl refl refl refl c.find.ensures.root c.find.ensures.entries c.find.ensures.ran
 
 pub returns-in-Err-clause-kept : goal.returns-in-Err-clause-kept
-returns-in-Err-clause-kept g c objects held =
-    held_still g.M.FromDocument.made c.args.self.now c.told.new.self objects held c.told.ensures.making
-    (c.told.ensures.whole (λ damaged. c.in-Err.ensures.damaged (map plain objects) held.stocks (λ i. Err (damaged i))))
-    (λ os stocks. subst (λ s. Stocks s os) (sym c.told.ensures.shelf) (c.find.ensures.kept os stocks))
+returns-in-Err-clause-kept g c objects holds =
+    held_still g.M.FromDocument.made g.M.FromDocument.held c.args.self.now c.told.new.self c.find.new.device c.find.new.shelf objects c.told.ensures.making
+    (c.told.ensures.whole (λ damaged. c.in-Err.ensures.damaged holds.lies.all holds.lies.stocks (λ i. Err (damaged i)))) c.told.ensures.device c.told.ensures.shelf
+    c.find.ensures.kept holds
 
 pub returns-in-Err-clause-goes : goal.returns-in-Err-clause-goes
 returns-in-Err-clause-goes g c =
-    let told = c.told.ensures.shelf in
-    goes c.args.self.now c.told.new.self c.told.ensures.making (ap root_of told ∙ c.find.ensures.root)
-    (λ es held. subst (λ s. Shelves s es) (sym told) (c.find.ensures.entries es held))
-    (subst (λ s. Ran g.D.Device.disk (device_of c.args.self.now.shelf) (device_of s) Same) (sym told) c.find.ensures.ran)
+    goes c.args.self.now c.told.new.self c.find.new.device c.find.new.shelf c.told.ensures.same_device c.told.ensures.same_shelf c.told.ensures.making
+    c.told.ensures.device c.told.ensures.shelf c.find.ensures.root c.find.ensures.entries c.find.ensures.ran

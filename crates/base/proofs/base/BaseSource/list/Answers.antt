@@ -1,49 +1,54 @@
-use Rattle.std.proofs.Common.{refl, sym, ap, ◌∙◌, subst, Err, map, option_map}
-use Rattle.device.specs.Step.{Same}
-use Rattle.device.specs.Run.{Ran}
-use Rattle.shelf.specs.Shelf.{device_of, root_of, Shelves}
-use Rattle.stock.specs.Stock.{plain, Stocks}
+use Rattle.std.specs.Prelude.{◌≡◌, true, false, map}
+use Rattle.std.proofs.Common.{refl, sym, ap, ◌∙◌, Err, option_map}
+use Rattle.std.specs.List.{filter}
 use Rattle.objects.specs.Objects.{is_of}
-use Rattle.base.specs.Base.{whole}
-use Rattle.base.proofs.Objects.{whole_again}
+use Rattle.base.specs.Whole.{whole}
+use Rattle.base.proofs.Objects.{listed_lying, none_listed}
 use Rattle.base.proofs.Looking.{held_still, goes}
 use Rattle.base.proofs.base.BaseSource.list.Goals as goal
 
+pub returns-then-is_held-clause-listed : goal.returns-then-is_held-clause-listed
+returns-then-is_held-clause-listed g c objects holds =
+    let making = c.args.self.now.making in
+    let namespace = option_map (λ text. text.now) c.args.namespace in
+    let hidden : g.M.FromDocument.held making c.args.resource ≡ true = sym c.is_held.ensures ∙ c.if-is_held.true in
+    c.new.ensures.items
+    ∙ sym (ap (filter (λ o. is_of c.args.resource namespace o.0)) holds.lies.are
+    ∙ none_listed (g.M.FromDocument.made making) (g.M.FromDocument.held making) c.args.resource namespace holds.lies.all hidden)
+
 pub returns-in_ok-all_of-in-Ok-clause-listed : goal.returns-in_ok-all_of-in-Ok-clause-listed
-returns-in_ok-all_of-in-Ok-clause-listed g c objects held =
-    let made = g.M.FromDocument.made c.args.self.now.making in
-    c.in_ok-all_of-in-Ok.ensures ∙ ap (map (whole made)) (c.in-Ok.ensures.found (map plain objects) held.stocks)
-    ∙ whole_again made (is_of c.args.resource (option_map (λ text. text.now) c.args.namespace)) objects held.beside
+returns-in_ok-all_of-in-Ok-clause-listed g c objects holds =
+    let making = c.args.self.now.making in
+    let namespace = option_map (λ text. text.now) c.args.namespace in
+    let made = g.M.FromDocument.made making in
+    let shown : g.M.FromDocument.held making c.args.resource ≡ false = sym c.is_held.ensures ∙ c.if-is_held.false in
+    c.in_ok-all_of-in-Ok.ensures ∙ ap (map (whole made)) (c.in-Ok.ensures.found holds.lies.all holds.lies.stocks)
+    ∙ listed_lying made (g.M.FromDocument.held making) c.args.resource namespace holds.lies.all shown
+    ∙ ap (filter (λ o. is_of c.args.resource namespace o.0)) (sym holds.lies.are)
 
 pub returns-in_ok-all_of-in-Ok-clause-kept : goal.returns-in_ok-all_of-in-Ok-clause-kept
-returns-in_ok-all_of-in-Ok-clause-kept g c objects held =
-    held_still g.M.FromDocument.made c.args.self.now (record { shelf = c.list.new.shelf; making = c.args.self.now.making; is_damaged = c.args.self.now.is_damaged }) objects held
-    refl refl c.list.ensures.kept
+returns-in_ok-all_of-in-Ok-clause-kept g c objects holds =
+    held_still g.M.FromDocument.made g.M.FromDocument.held c.args.self.now _ c.list.new.device c.list.new.shelf objects refl refl refl refl c.list.ensures.kept holds
 
 pub returns-in_ok-all_of-in-Ok-clause-goes : goal.returns-in_ok-all_of-in-Ok-clause-goes
 returns-in_ok-all_of-in-Ok-clause-goes g c =
-    goes c.args.self.now (record { shelf = c.list.new.shelf; making = c.args.self.now.making; is_damaged = c.args.self.now.is_damaged }) refl c.list.ensures.root
-    c.list.ensures.entries c.list.ensures.ran
+    goes c.args.self.now _ c.list.new.device c.list.new.shelf refl refl refl refl refl c.list.ensures.root c.list.ensures.entries c.list.ensures.ran
 
 pub returns-in_err-all_of-in-Ok-clause-kept : goal.returns-in_err-all_of-in-Ok-clause-kept
-returns-in_err-all_of-in-Ok-clause-kept g c objects held =
-    held_still g.M.FromDocument.made c.args.self.now (record { shelf = c.list.new.shelf; making = c.args.self.now.making; is_damaged = c.args.self.now.is_damaged }) objects held
-    refl refl c.list.ensures.kept
+returns-in_err-all_of-in-Ok-clause-kept g c objects holds =
+    held_still g.M.FromDocument.made g.M.FromDocument.held c.args.self.now _ c.list.new.device c.list.new.shelf objects refl refl refl refl c.list.ensures.kept holds
 
 pub returns-in_err-all_of-in-Ok-clause-goes : goal.returns-in_err-all_of-in-Ok-clause-goes
 returns-in_err-all_of-in-Ok-clause-goes g c =
-    goes c.args.self.now (record { shelf = c.list.new.shelf; making = c.args.self.now.making; is_damaged = c.args.self.now.is_damaged }) refl c.list.ensures.root
-    c.list.ensures.entries c.list.ensures.ran
+    goes c.args.self.now _ c.list.new.device c.list.new.shelf refl refl refl refl refl c.list.ensures.root c.list.ensures.entries c.list.ensures.ran
 
 pub returns-in-Err-clause-kept : goal.returns-in-Err-clause-kept
-returns-in-Err-clause-kept g c objects held =
-    held_still g.M.FromDocument.made c.args.self.now c.told.new.self objects held c.told.ensures.making
-    (c.told.ensures.whole (λ damaged. c.in-Err.ensures.damaged (map plain objects) held.stocks (λ i. Err (damaged i))))
-    (λ os stocks. subst (λ s. Stocks s os) (sym c.told.ensures.shelf) (c.list.ensures.kept os stocks))
+returns-in-Err-clause-kept g c objects holds =
+    held_still g.M.FromDocument.made g.M.FromDocument.held c.args.self.now c.told.new.self c.list.new.device c.list.new.shelf objects c.told.ensures.making
+    (c.told.ensures.whole (λ damaged. c.in-Err.ensures.damaged holds.lies.all holds.lies.stocks (λ i. Err (damaged i)))) c.told.ensures.device c.told.ensures.shelf
+    c.list.ensures.kept holds
 
 pub returns-in-Err-clause-goes : goal.returns-in-Err-clause-goes
 returns-in-Err-clause-goes g c =
-    let told = c.told.ensures.shelf in
-    goes c.args.self.now c.told.new.self c.told.ensures.making (ap root_of told ∙ c.list.ensures.root)
-    (λ es held. subst (λ s. Shelves s es) (sym told) (c.list.ensures.entries es held))
-    (subst (λ s. Ran g.D.Device.disk (device_of c.args.self.now.shelf) (device_of s) Same) (sym told) c.list.ensures.ran)
+    goes c.args.self.now c.told.new.self c.list.new.device c.list.new.shelf c.told.ensures.same_device c.told.ensures.same_shelf c.told.ensures.making
+    c.told.ensures.device c.told.ensures.shelf c.list.ensures.root c.list.ensures.entries c.list.ensures.ran

@@ -10,7 +10,7 @@ use Rattle.shelf.proofs.shelf.Shelf.count_up_to.Goals as goal
 
 -- the closure tests the first key of a page
 pub returns-clause-split : goal.returns-clause-split
-returns-clause-split g c pages index =
+returns-clause-split c pages index =
     let test : Vec ℕ Global → Bool = λ first. is_at_or_below c.args.key.now first.items in
     let Parted : List (Vec ℕ Global) → Type 0 = λ keys. IsPartitionedBy test keys in
     let parted = subst Parted (sym c.deref.ensures.value) (parted_at c.args.self.now.first_keys.items pages index c.args.key.now) in

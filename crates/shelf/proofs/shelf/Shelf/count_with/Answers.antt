@@ -10,7 +10,7 @@ use Rattle.shelf.proofs.shelf.Shelf.count_with.Goals as goal
 
 -- the closure tests the first key of a page
 pub returns-clause-split : goal.returns-clause-split
-returns-clause-split g c pages index =
+returns-clause-split c pages index =
     let test : Vec ℕ Global → Bool = λ first. may_begin c.args.prefix.now first.items in
     let Parted : List (Vec ℕ Global) → Type 0 = λ keys. IsPartitionedBy test keys in
     let parted = subst Parted (sym c.deref.ensures.value) (parted_with c.args.self.now.first_keys.items pages index c.args.prefix.now) in

@@ -18,21 +18,21 @@ returns-then-promote-clause-there g c =
 
 pub returns-then-promote-clause-kept : goal.returns-then-promote-clause-kept
 returns-then-promote-clause-kept g c entries shelves =
-    shelves_still c.args.self.now _ entries refl refl
+    shelves_still g.D.Device.disk c.args.device.now _ c.args.self.now _ entries refl refl
     (λ held. (held.keeps, refl, cached_promoted _ c.args.page c.args.self.now.cache c.promote.new.self c.promote.ensures.entries held.cached)) shelves
 
 pub read_page-requires : goal.read_page-requires
 read_page-requires g c = record {
   inside = λ keeps.
       let root = c.args.self.now.root in
-      let size : ℕ = length (g.D.Device.disk.content c.args.self.now.device) in
-      let inside = page_inside root c.args.page size c.requires.inside (c.args.self.now.inside keeps) in
+      let size : ℕ = length (g.D.Device.disk.content c.args.device.now) in
+      let inside = page_inside root c.args.page size c.requires.number (c.requires.inside keeps) in
       omega (arith, c.from.ensures, inside);
 }
 
 pub returns-in_err-owned-clause-kept : goal.returns-in_err-owned-clause-kept
 returns-in_err-owned-clause-kept g c entries shelves =
-    shelves_still c.args.self.now _ entries refl refl
+    shelves_still g.D.Device.disk c.args.device.now _ c.args.self.now _ entries refl refl
     (λ held.
     let still = ran_same _ _ _ c.read_page.ensures.ran held.keeps in
     (still.0, still.1, cached_promoted _ c.args.page c.args.self.now.cache c.promote.new.self c.promote.ensures.entries held.cached)) shelves
@@ -40,19 +40,19 @@ returns-in_err-owned-clause-kept g c entries shelves =
 pub returns-in_err-owned-clause-damaged : goal.returns-in_err-owned-clause-damaged
 returns-in_err-owned-clause-damaged g c entries shelves is =
     let root = c.args.self.now.root in
-    let content : List ℕ = g.D.Device.disk.content c.args.self.now.device in
-    let held = shelves.held (omega (arith, c.requires.inside)) in
+    let content : List ℕ = g.D.Device.disk.content c.args.device.now in
+    let held = shelves.held (omega (arith, c.requires.number)) in
     let told : IsErrOf c.read_page.result ShelfFault.Page = search rules in
     let place : root.first + 64 * c.args.page ≡ root.first + 64 * c.from.result = omega (arith, c.from.ensures) in
     c.read_page.ensures.damaged held.keeps told
-    (subst (λ at. IsSound (part (512 * at) 32768 content)) place (sound_at root.first root.pages c.args.page content held.sound c.requires.inside))
+    (subst (λ at. IsSound (part (512 * at) 32768 content)) place (sound_at root.first root.pages c.args.page content held.sound c.requires.number))
 
 pub returns-in_err-put-clause-kept : goal.returns-in_err-put-clause-kept
 returns-in_err-put-clause-kept g c entries shelves =
-    shelves_still c.args.self.now _ entries refl refl
+    shelves_still g.D.Device.disk c.args.device.now _ c.args.self.now _ entries refl refl
     (λ held.
     let still = ran_same _ _ _ c.read_page.ensures.ran held.keeps in
-    let Cached : LruCache ℕ (List Entry) → Type 0 = λ cache. AreCached (pages_of c.args.self.now) cache in
+    let Cached : LruCache ℕ (List Entry) → Type 0 = λ cache. AreCached (pages_of g.D.Device.disk c.args.device.now c.args.self.now) cache in
     (still.0, still.1, subst Cached (sym c.in_err-put.ensures.err) (cached_promoted _ c.args.page c.args.self.now.cache c.promote.new.self c.promote.ensures.entries held.cached))) shelves
 
 pub returns-clause-there : goal.returns-clause-there
@@ -61,15 +61,15 @@ returns-clause-there g c =
 
 pub returns-clause-kept : goal.returns-clause-kept
 returns-clause-kept g c entries shelves =
-    shelves_still c.args.self.now _ entries refl refl
+    shelves_still g.D.Device.disk c.args.device.now _ c.args.self.now _ entries refl refl
     (λ held.
     let root = c.args.self.now.root in
-    let content : List ℕ = g.D.Device.disk.content c.args.self.now.device in
+    let content : List ℕ = g.D.Device.disk.content c.args.device.now in
     let still = ran_same _ _ _ c.read_page.ensures.ran held.keeps in
     let place : root.first + 64 * c.from.result ≡ root.first + 64 * c.args.page = omega (arith, c.from.ensures) in
-    let read : c.in_ok-owned.owned ≡ get_or (pages_of c.args.self.now) c.args.page [] =
+    let read : c.in_ok-owned.owned ≡ get_or (pages_of g.D.Device.disk c.args.device.now c.args.self.now) c.args.page [] =
     c.in_ok-owned.ensures.page held.keeps ∙ ap (λ at. entries_in (part (512 * at) 32768 content)) place
-    ∙ sym (get-pages_at root.first root.pages c.args.page content c.requires.inside)
+    ∙ sym (get-pages_at root.first root.pages c.args.page content c.requires.number)
     in (
       still.0,
       still.1,

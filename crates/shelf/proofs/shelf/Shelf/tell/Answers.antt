@@ -4,22 +4,36 @@ use Rattle.gatelog.proofs.Walking.{same_then}
 use Rattle.pages.specs.Page.{Entry}
 use Rattle.checkpoint.specs.Pages.{joined}
 use Rattle.checkpoint.specs.Reader.{IsRefused}
+use Rattle.roots.specs.declared.root.Root.{Root}
 use Rattle.shelf.specs.Prefix.{beginning}
-use Rattle.shelf.specs.Shelf.{pages_of}
+use Rattle.shelf.specs.Shelf.{root_of, pages_of}
 use Rattle.shelf.specs.declared.fault.ShelfFault.TheVariants as ShelfFault
-use Rattle.shelf.proofs.Holding.{length-pages_of}
+use Rattle.shelf.proofs.Holding.{length-pages_of, inside_still}
 use Rattle.shelf.proofs.Places.{range_of}
 use Rattle.shelf.proofs.Ranging.{pages_from}
 use Rattle.shelf.proofs.Telling.{told_page, refused_page}
 use Rattle.shelf.proofs.shelf.Shelf.tell.Goals as goal
+
+pub tell_one-requires : goal.tell_one-requires
+tell_one-requires g c =
+    let inv = c.loop-i.invariant in
+    let shelf = c.args.self.now in
+    let high = c.count_with.ensures.bound in
+    let count : c.saturating_sub-i-end.result ≡ c.count_with.result - c.saturating_sub-start.result = c.saturating_sub-i-end.ensures in
+    let number : (root_of c.loop-i.self).pages ≡ (root_of shelf).pages = ap (λ (r : Root). r.pages) inv.root in
+    record {
+      number = omega (arith, high, count, number, c.loop-i-test.true);
+      inside = inside_still g.D.Device.disk c.args.device.now c.loop-i.device (root_of shelf) (root_of c.loop-i.self) inv.root inv.ran c.requires.inside;
+    }
 
 pub returns-in_err-tell_one-clause-refused : goal.returns-in_err-tell_one-clause-refused
 returns-in_err-tell_one-clause-refused g c entries shelves is =
     let inv = c.loop-i.invariant in
     let shelf = c.args.self.now in
     let prefix : List ℕ = c.args.prefix.now in
-    let pages : List (List Entry) = pages_of shelf in
-    let size = length-pages_of shelf in
+    let disk = g.D.Device.disk in
+    let pages : List (List Entry) = pages_of disk c.args.device.now shelf in
+    let size = length-pages_of disk c.args.device.now shelf in
     let low = c.count_up_to.ensures.bound in
     let high = c.count_with.ensures.bound in
     let start : c.saturating_sub-start.result ≡ c.count_up_to.result - 1 = c.saturating_sub-start.ensures in
@@ -33,7 +47,7 @@ returns-in_err-tell_one-clause-refused g c entries shelves is =
     let told : IsErrOf c.tell_one.result ShelfFault.Entry = search rules in
     let Refused : List Entry → Type 0 = λ es. IsRefused g.R.Reader.told g.R.Reader.refuses c.args.reader.now es in
     subst Refused all
-    (refused_page g.R.Reader.told g.met.R.Reader.told_then g.R.Reader.refuses c.args.reader.now c.loop-i.reader pages (pages_of c.loop-i.self) c.saturating_sub-start.result c.loop-i.i
+    (refused_page g.R.Reader.told g.met.R.Reader.told_then g.R.Reader.refuses c.args.reader.now c.loop-i.reader pages (pages_of disk c.loop-i.device c.loop-i.self) c.saturating_sub-start.result c.loop-i.i
     c.saturating_sub-i-end.result prefix (inv.pages entries shelves) (omega (arith, size, high, count, c.loop-i-test.true)) (omega (arith, c.loop-i-test.true)) (inv.told entries shelves)
     (c.tell_one.ensures.refused entries (inv.kept entries shelves) told))
 
@@ -44,7 +58,8 @@ pub loop-i-preserved : goal.loop-i-preserved
 loop-i-preserved g c =
     let inv = c.loop-i.invariant in
     let shelf = c.args.self.now in
-    let size = length-pages_of shelf in
+    let disk = g.D.Device.disk in
+    let size = length-pages_of disk c.args.device.now shelf in
     let high = c.count_with.ensures.bound in
     let count : c.saturating_sub-i-end.result ≡ c.count_with.result - c.saturating_sub-start.result = c.saturating_sub-i-end.ensures in
     record {
@@ -53,7 +68,7 @@ loop-i-preserved g c =
       kept = λ entries shelves. c.tell_one.ensures.kept entries (inv.kept entries shelves);
       pages = λ entries shelves. c.tell_one.ensures.pages entries (inv.kept entries shelves) ∙ inv.pages entries shelves;
       told = λ entries shelves.
-          told_page g.R.Reader.told g.met.R.Reader.told_then c.args.reader.now c.loop-i.reader c.tell_one.new.reader (pages_of shelf) (pages_of c.loop-i.self)
+          told_page g.R.Reader.told g.met.R.Reader.told_then c.args.reader.now c.loop-i.reader c.tell_one.new.reader (pages_of disk c.args.device.now shelf) (pages_of disk c.loop-i.device c.loop-i.self)
           c.saturating_sub-start.result c.loop-i.i c.args.prefix.now (inv.pages entries shelves) (omega (arith, size, high, count, c.loop-i-test.true)) (inv.told entries shelves)
           (c.in_ok-tell_one.ensures.told entries (inv.kept entries shelves));
     }
@@ -63,8 +78,9 @@ returns-clause-told g c entries shelves =
     let inv = c.loop-i.invariant in
     let shelf = c.args.self.now in
     let prefix : List ℕ = c.args.prefix.now in
-    let pages : List (List Entry) = pages_of shelf in
-    let size = length-pages_of shelf in
+    let disk = g.D.Device.disk in
+    let pages : List (List Entry) = pages_of disk c.args.device.now shelf in
+    let size = length-pages_of disk c.args.device.now shelf in
     let low = c.count_up_to.ensures.bound in
     let high = c.count_with.ensures.bound in
     let start : c.saturating_sub-start.result ≡ c.count_up_to.result - 1 = c.saturating_sub-start.ensures in

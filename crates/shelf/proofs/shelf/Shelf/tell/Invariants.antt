@@ -4,16 +4,18 @@ use Rattle.device.specs.Step.{Same}
 use Rattle.pages.specs.Page.{Entry}
 use Rattle.checkpoint.specs.Pages.{joined}
 use Rattle.shelf.specs.Prefix.{beginning}
-use Rattle.shelf.specs.Shelf.{device_of, root_of, pages_of, Shelves}
+use Rattle.shelf.specs.Shelf.{root_of, pages_of, Shelves}
 use Rattle.shelf.proofs.Ranging.{pages_from}
 use Rattle.shelf.proofs.shelf.Shelf.tell.Given as goal
 
 abbrev pub invariant-loop-i : goal.invariant-loop-i
-invariant-loop-i g l = record {
-  ran : Ran g.D.Device.disk (device_of l.fn.self) (device_of l.self) Same;
-  root : root_of l.self ≡ root_of l.fn.self;
-  kept : (entries : List Entry) → Shelves l.fn.self entries → Shelves l.self entries;
-  pages : (entries : List Entry) → Shelves l.fn.self entries → pages_of l.self ≡ pages_of l.fn.self;
-  told : (entries : List Entry) → Shelves l.fn.self entries
-      → g.R.Reader.told l.fn.reader l.reader (beginning l.prefix (joined (pages_from (pages_of l.fn.self) l.start l.i)));
-}
+invariant-loop-i g l =
+    let disk = g.D.Device.disk in
+    record {
+      ran : Ran disk l.fn.device l.device Same;
+      root : root_of l.self ≡ root_of l.fn.self;
+      kept : (entries : List Entry) → Shelves disk l.fn.device l.fn.self entries → Shelves disk l.device l.self entries;
+      pages : (entries : List Entry) → Shelves disk l.fn.device l.fn.self entries → pages_of disk l.device l.self ≡ pages_of disk l.fn.device l.fn.self;
+      told : (entries : List Entry) → Shelves disk l.fn.device l.fn.self entries
+          → g.R.Reader.told l.fn.reader l.reader (beginning l.prefix (joined (pages_from (pages_of disk l.fn.device l.fn.self) l.start l.i)));
+    }
