@@ -1,5 +1,6 @@
 -- Events are kept as they were.
-use Rattle.std.proofs.Common.{arith, ◌≡◌, ◌∙◌, sym, ap, subst, ◌+◌, ◌-◌, ◌<◌, ◌≤◌, ◌^◌, ℕ, List, [], ◌∷◌, ◌++◌, length, append_assoc, length-append}
+use Rattle.std.proofs.Common.{arith, ◌≡◌, ◌∙◌, sym, ap, subst, refl, ◌+◌, ◌-◌, ◌<◌, ◌≤◌, ◌^◌, ℕ, List, [], ◌∷◌, ◌++◌, length, append_assoc, length-append}
+use Rattle.std.proofs.lemmas.List.{append-nil}
 use Rattle.circular_buffer.specs.Buffer.{keep_last}
 use Rattle.window.specs.declared.event.Event.{Event}
 use Rattle.window.specs.Window.{event_at, AreNumberedFrom}
@@ -59,32 +60,55 @@ next_event window v done e rest all parts numbered places =
 pub record AreKept (start now : Core) (all left : List Told) : Type 0 where
   pub done : List Told
   pub parts : done ++ left ≡ all
-  pub shows : (v : View Beside) → CanKeep start v all → Shows now [] (with_events v done)
+  pub revision : now.revision ≡ start.revision + length done
+  pub shows : (base : List Object) (v : View Beside) → CanKeep start base v all → Shows now base (with_events v done)
+
+no_more : (v : View Beside) → v ≡ with_events v []
+no_more v =
+    let count : v.revision ≡ v.revision + 0 = omega arith in
+    let events : v.events ≡ v.events ++ [] = sym (append-nil v.events) in
+    λ i. record { objects = v.objects; revision = count i; events = events i }
+
+pub kept_none : (start : Core) (all : List Told) → AreKept start start all all
+kept_none start all = record {
+  done = [];
+  parts = refl;
+  revision = omega arith;
+  shows = λ base v can. subst (Shows start base) (no_more v) can.shows;
+}
+
+pub kept_all : (start now : Core) (all : List Told) → AreKept start now all [] → (base : List Object) (v : View Beside) → CanKeep start base v all
+    → Shows now base (with_events v all)
+kept_all start now all kept base v can =
+    let same : kept.done ≡ all = sym (append-nil kept.done) ∙ kept.parts in
+    subst (λ (es : List Told). Shows now base (with_events v es)) same (kept.shows base v can)
 
 -- there is room for the revision of the next
-pub next_revision : (start now : Core) (all left : List Told) (e : Told) (rest : List Told) (v : View Beside) → AreKept start now all left → left ≡ e ∷ rest
-    → CanKeep start v all → now.revision + 1 < 2 ^ 64
-next_revision start now all left e rest v kept step can =
+pub next_revision : (start now : Core) (all left : List Told) (e : Told) (rest : List Told) → AreKept start now all left → left ≡ e ∷ rest
+    → start.revision + length all < 2 ^ 64 → now.revision + 1 < 2 ^ 64
+next_revision start now all left e rest kept step room =
     omega (
       arith,
-      (kept.shows v can).revision,
+      kept.revision,
       ap length kept.parts,
       length-append kept.done left,
       ap length step,
-      can.room,
+      room,
     )
 
 pub one_more : (start now new : Core) (all left : List Told) (e : Told) (rest : List Told) → AreKept start now all left → left ≡ e ∷ rest → now.rules ≡ start.rules
+    → new.revision ≡ now.revision + 1
     → ((base : List Object) (v : View Beside) → Shows now base v → Shows new base (with_next now.rules.window_events v e)) → AreKept start new all rest
-one_more start now new all left e rest kept step same next =
+one_more start now new all left e rest kept step same number next =
     let done : List Told = kept.done in
     let parts : done ++ e ∷ rest ≡ all = ap (λ (es : List Told). done ++ es) (sym step) ∙ kept.parts in
     record {
       done = done ++ e ∷ [];
       parts = append_assoc done (e ∷ []) rest ∙ parts;
-      shows = λ v can.
-          subst (Shows new [])
+      revision = omega (arith, number, kept.revision, length-append done (e ∷ []));
+      shows = λ base v can.
+          subst (Shows new base)
           (ap (λ (n : ℕ). with_next n (with_events v done) e) (ap (λ r. r.window_events) same)
           ∙ next_event start.rules.window_events v done e rest all parts can.numbered can.places)
-          (next [] (with_events v done) (kept.shows v can));
+          (next base (with_events v done) (kept.shows base v can));
     }

@@ -1,20 +1,26 @@
 -- What is held of objects that entries keep.
-use Rattle.std.proofs.Common.{◌≡◌, ◌∙◌, sym, ap, subst, refl, true, ◌+◌, ◌<◌, ℕ, List, [], ◌∷◌, ◌++◌, map, drop, length, get_or, append_assoc}
+use Rattle.std.proofs.Common.{◌≡◌, ◌∙◌, sym, ap, subst, refl, Bool, true, ◌+◌, ◌<◌, ◌≤◌, ◌^◌, ℕ, List, [], ◌∷◌, ◌++◌, map, drop, length, get_or, append_assoc, Option, Some}
 use Rattle.std.proofs.lemmas.List.{drop_more}
 use Rattle.std.specs.FinMap.{is_sorted}
 use Rattle.std.specs.List.{AllByRecursion}
+use Rattle.names.specs.declared.resource.Resource.{Resource}
 use Rattle.names.specs.Key.{Key, key_cmp}
+use Rattle.objects.specs.Objects.{value_at, with_value}
+use Rattle.overlay.specs.Merged.{merged}
 use Rattle.documents.specs.Document.{Document}
 use Rattle.history.specs.declared.stored.Stored.{Stored}
 use Rattle.history.specs.View.{View}
 use Rattle.holdings.specs.Holdings.{State, Shows}
 use Rattle.expressions.specs.Specification.{plans_bytes, MayHavePlans}
 use Rattle.expressions.proofs.Listed.{one_stored_list}
-use Rattle.entries.specs.Holding.{IsStorableObject}
+use Rattle.entries.specs.Holding.{IsStorableObject, HasFewPlans}
+use Rattle.entries.specs.Laws.{bytes_beside}
 use Rattle.entries.specs.Reading.{IsStorableStored}
 use Rattle.apicore.specs.Beside.{Beside, spelled}
+use Rattle.snapshots.specs.LyingBelow.{puts_of, below_at, HasThoseBelow}
 use Rattle.snapshots.specs.Keeping.{held_plans, IsHeldObject}
-use Rattle.snapshots.specs.Restoring.{in_bytes, IsSpelled, IsHeldOf, AreHeldOf, with_object, with_objects}
+use Rattle.snapshots.specs.Restoring.{in_bytes, IsSpelled, IsHeldOf, AreHeldOf, HasTaken, with_objects}
+use Rattle.snapshots.proofs.LyingBelow.{puts_last, merged_last, found_last}
 use Rattle.snapshots.proofs.InBytes.{sorted_in_bytes}
 use Rattle.snapshots.proofs.Sorted.{sorted_front}
 
@@ -99,49 +105,63 @@ held_push xs done o kept all new sorted = record {
 
 -- objects that entries can hold are held as they may be
 all_held : (os : List Object) (kept : List Kept) → map (in_bytes held_plans) os ≡ kept → AllByRecursion IsSpelled os → AllByRecursion IsStorableStored kept
-    → AllByRecursion IsHeldObject os
-all_held [] kept are all can = tt
-all_held (o ∷ os) [] are all can = cc
-all_held (o ∷ os) (k ∷ ks) are all can =
+    → AllByRecursion (HasFewPlans bytes_beside) kept → AllByRecursion IsHeldObject os
+all_held [] kept are all can few = tt
+all_held (o ∷ os) [] are all can few = cc
+all_held (o ∷ os) (k ∷ ks) are all can few =
     let head : in_bytes held_plans o ≡ k = cc in
     let rest : map (in_bytes held_plans) os ≡ ks = cc in (
       record {
         storable = subst (λ (x : Kept). IsStorableObject x.0 x.1.document x.1.revision) (sym head) can.0;
         plans = all.0.plans;
+        few = subst (λ (x : Kept). length x.1.beside ≤ 2 ^ 30) (sym head) few.0.1;
         beside = all.0.beside;
       },
-      all_held os ks rest all.1 can.1,
+      all_held os ks rest all.1 can.1 few.1,
     )
 
-pub held_objects : (os : List Object) (kept : List Kept) → AreHeldOf os kept → AllByRecursion IsStorableStored kept → AllByRecursion IsHeldObject os
-held_objects os kept held can = all_held os kept held.are held.spelled can
+pub held_objects : (os : List Object) (kept : List Kept) → AreHeldOf os kept → AllByRecursion IsStorableStored kept → AllByRecursion (HasFewPlans bytes_beside) kept
+    → AllByRecursion IsHeldObject os
+held_objects os kept held can few = all_held os kept held.are held.spelled can few
 
 -- the next of those that are left
 pub at_index : (ks : List Kept) (i : ℕ) (k : Kept) → i < length ks → k ≡ get_or ks i k → drop i ks ≡ k ∷ drop (i + 1) ks
 at_index ks i k inside is = drop_more ks i k inside ∙ ap (λ (x : Kept). x ∷ drop (i + 1) ks) (sym is)
 
+all_front : {A : Type 0} (Q : A → Type 0) (xs : List A) (x : A) → AllByRecursion Q (xs ++ x ∷ []) → AllByRecursion Q xs
+all_front Q [] x all = tt
+all_front Q (y ∷ xs) x all = (all.0, all_front Q xs x all.1)
+
+all_last : {A : Type 0} (Q : A → Type 0) (xs : List A) (x : A) → AllByRecursion Q (xs ++ x ∷ []) → Q x
+all_last Q [] x all = all.0
+all_last Q (y ∷ xs) x all = all_last Q xs x all.1
+
 -- These are restored so far, in front of those that are left.
-pub record HoldsSome (start now : Core) (all left : List Kept) : Type 0 where
+pub record HoldsSome (lies : Resource → Bool) (start now : Core) (all left : List Kept) : Type 0 where
   pub done : List Kept
   pub parts : done ++ left ≡ all
   pub objects : List Object
   pub held : AreHeldOf objects done
-  pub shows : (first : View Beside) → Shows start [] first → first.objects ≡ [] → Shows now [] (with_objects first objects)
+  pub made : now.changes.made ≡ puts_of objects
+  pub shows : (base : List Object) (v : View Beside) → Shows start base v → HasThoseBelow lies objects base
+      → Shows now base (with_objects v (merged (puts_of objects) base))
 
-pub holds_none : (start : Core) (all : List Kept) → HoldsSome start start all all
-holds_none start all = record {
+pub holds_none : (lies : Resource → Bool) (start : Core) (all : List Kept) → start.changes.made ≡ [] → HoldsSome lies start start all all
+holds_none lies start all none = record {
   done = [];
   parts = refl;
   objects = [];
   held = record { are = refl; spelled = tt; ascends = refl };
-  shows = λ first shows none. subst (Shows start []) (λ i. record { objects = none i; revision = first.revision; events = first.events }) shows;
+  made = none;
+  shows = λ base v shows there.
+      let same : v.objects ≡ base = sym shows.objects.are ∙ ap (λ (cs : List (Key × Option (Stored Beside))). merged cs base) none in
+      subst (Shows start base) (λ i. record { objects = same i; revision = v.revision; events = v.events }) shows;
 }
 
-pub holds_more : (start now new : Core) (all left : List Kept) (kept : Kept) (rest : List Kept) (s : Stored Beside) → is_sorted key_cmp all ≡ true
-    → HoldsSome start now all left → left ≡ kept ∷ rest → IsHeldOf (kept.0, s) kept
-    → ((v : View Beside) → Shows now [] v → is_sorted key_cmp (v.objects ++ (kept.0, s) ∷ []) ≡ true → Shows new [] (with_object v (kept.0, s)))
-    → HoldsSome start new all rest
-holds_more start now new all left kept rest s ascend some step one shows =
+pub holds_more : (lies : Resource → Bool) (start now new : Core) (all left : List Kept) (kept : Kept) (rest : List Kept) (s : Stored Beside)
+    → is_sorted key_cmp all ≡ true → HoldsSome lies start now all left → left ≡ kept ∷ rest → IsHeldOf (kept.0, s) kept → HasTaken lies now new (kept.0, s)
+    → HoldsSome lies start new all rest
+holds_more lies start now new all left kept rest s ascend some step one taken =
     let o : Object = (kept.0, s) in
     let parts : some.done ++ kept ∷ rest ≡ all = ap (λ (ks : List Kept). some.done ++ ks) (sym step) ∙ some.parts in
     let sorted : is_sorted key_cmp (some.objects ++ o ∷ []) ≡ true =
@@ -152,13 +172,23 @@ holds_more start now new all left kept rest s ascend some step one shows =
       parts = append_assoc some.done (kept ∷ []) rest ∙ parts;
       objects = some.objects ++ o ∷ [];
       held = held_push some.objects some.done o kept some.held one sorted;
-      shows = λ first before none. shows (with_objects first some.objects) (some.shows first before none) sorted;
+      made = taken.made ∙ ap (with_value o.0 (Some o.1)) some.made ∙ sym (puts_last some.objects o sorted);
+      shows = λ base v before there.
+          let Under : Object → Type 0 = λ x. value_at x.0 base ≡ below_at lies x in
+          let so_far : Shows now base (with_objects v (merged (puts_of some.objects) base)) =
+          some.shows base v before (all_front Under some.objects o there)
+          in
+          let found : value_at o.0 (merged (puts_of some.objects) base) ≡ below_at lies o =
+          found_last some.objects o base sorted ∙ all_last Under some.objects o there
+          in
+          subst (λ (os : List Object). Shows new base (with_objects v os)) (sym (merged_last some.objects o base so_far.objects.ascends sorted))
+          (taken.shows base (with_objects v (merged (puts_of some.objects) base)) so_far found);
     }
 
 -- Where objects are held of all, one is held of the next.
-pub holds_next : (start now : Core) (all left : List Kept) (kept : Kept) (rest : List Kept) (os : List Object) → HoldsSome start now all left → left ≡ kept ∷ rest
-    → AreHeldOf os all → (s : Stored Beside) × IsHeldOf (kept.0, s) kept
-holds_next start now all left kept rest os some step are =
+pub holds_next : (lies : Resource → Bool) (start now : Core) (all left : List Kept) (kept : Kept) (rest : List Kept) (os : List Object)
+    → HoldsSome lies start now all left → left ≡ kept ∷ rest → AreHeldOf os all → (s : Stored Beside) × IsHeldOf (kept.0, s) kept
+holds_next lies start now all left kept rest os some step are =
     let found = held_at os some.done kept rest are.spelled (are.are ∙ sym some.parts ∙ ap (λ (ks : List Kept). some.done ++ ks) step) in
     let o : Object = found.0 in
     let same : o ≡ (kept.0, o.1) = λ i. (key_kept o kept found.1 i, o.1) in

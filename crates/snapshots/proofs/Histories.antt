@@ -33,7 +33,7 @@ all_follow rules v (w ∷ ws) follow = (follow.0.0, all_follow rules (after rule
 
 -- ---- plans
 
-only_policies : (r : Resource) (plans : List Judged) → plans_bytes r plans ≢ [] → r ≡ ValidatingAdmissionPolicy
+pub only_policies : (r : Resource) (plans : List Judged) → plans_bytes r plans ≢ [] → r ≡ ValidatingAdmissionPolicy
 only_policies ValidatingAdmissionPolicy plans some = refl
 only_policies ValidatingAdmissionPolicyBinding plans some = absurd (some refl)
 only_policies ConfigMap plans some = absurd (some refl)

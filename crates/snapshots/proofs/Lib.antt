@@ -1,8 +1,14 @@
 pub mod Sorted
+pub mod LyingBelow
 pub mod InBytes
 pub mod Held
+mod Taking
 pub mod Shown
-pub mod MadeAgain
-pub mod Events
 pub mod Histories
+mod Parts
+mod MadeAgain
+mod Chosen
+pub mod Alone
+mod LyingApart
+pub mod Events
 pub mod Kept

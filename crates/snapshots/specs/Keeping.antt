@@ -1,5 +1,5 @@
 -- What a checkpoint keeps of what is stored: the objects, the plans of their trees, and the last events.
-use Rattle.std.specs.Prelude.{◌≡◌, ◌≤◌, ◌-◌, ℕ, List, length, min, IsTrue}
+use Rattle.std.specs.Prelude.{◌≡◌, ◌≤◌, ◌-◌, ◌^◌, ℕ, List, length, min, IsTrue}
 use Rattle.std.specs.FinMap.{is_sorted}
 use Rattle.std.specs.List.{AllByRecursion}
 use Rattle.celtree.specs.Tree.{Expr}
@@ -45,10 +45,12 @@ held_plans o = plans_bytes o.0.resource o.1.beside.plans
 abbrev pub held_entries : seen.View Beside → List Entry
 held_entries held = entry.entries_of held_plans held
 
--- An object as it may be held: an entry can hold it, and beside it stands what its document spells, with such plans as it may have.
+-- An object as it may be held: an entry can hold it, and beside it stands what its document spells, with such plans as it may have, in no more than
+-- 65536 pieces of 16384 bytes.
 pub record IsHeldObject (o : Key × Stored Beside) : Type 0 where
   pub storable : IsStorableObject o.0 o.1.document o.1.revision
   pub plans : MayHavePlans o.0.resource o.1.document.json o.1.beside.plans
+  pub few : length (held_plans o) ≤ 2 ^ 30
   pub beside : o.1.beside ≡ spelled o.1.document.json o.1.beside.plans
 
 -- What the core may hold behind a checkpoint: the keys of the objects ascend, and the events are those of the last writes, whose revisions count up

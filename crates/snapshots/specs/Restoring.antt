@@ -1,9 +1,12 @@
 -- A store that is made again from what entries keep, part by part.
-use Rattle.std.specs.Prelude.{◌≡◌, ◌<◌, ◌≤◌, ◌^◌, ◌⊎◌, ℕ, ◌+◌, ◌-◌, List, [], ◌∷◌, ◌++◌, map, length, Result, IsTrue, IsErrOf}
+use Rattle.std.specs.Prelude.{◌≡◌, ◌≤◌, ◌⊎◌, ℕ, ◌+◌, ◌-◌, Bool, List, [], ◌++◌, map, length, Some, Result, IsTrue, IsErrOf}
 use Rattle.std.specs.FinMap.{is_sorted}
 use Rattle.std.specs.List.{AllByRecursion}
 use Rattle.names.specs.declared.format.Rules.{Rules}
+use Rattle.names.specs.declared.resource.Resource.{Resource}
 use Rattle.names.specs.Key.{Key, key_cmp}
+use Rattle.objects.specs.Objects.{value_at, with_value}
+use Rattle.overlay.specs.Merged.{merged}
 use Rattle.window.specs.declared.event.Event.{Event}
 use Rattle.window.specs.Window.{AreNumberedFrom}
 use Rattle.documents.specs.Document.{Document}
@@ -13,6 +16,7 @@ use Rattle.holdings.specs.Holdings.{State, Shows}
 use Rattle.expressions.specs.Specification.{MayHavePlans}
 use Rattle.pages.specs.Page.{Entry}
 use Rattle.apicore.specs.Beside.{Beside, spelled}
+use Rattle.snapshots.specs.LyingBelow.{puts_of, below_at, HasThoseBelow, MayLieBelow}
 use Rattle.snapshots.specs.Keeping.{held_plans, held_entries, IsHeld}
 use Rattle.snapshots.specs.declared.fault.SnapshotFault.{SnapshotFault}
 use Rattle.snapshots.specs.declared.fault.SnapshotFault.TheVariants as fault
@@ -46,13 +50,9 @@ pub record AreHeldOf (os : List (Key × Stored Beside)) (kept : List (Key × Sto
 
 -- ---- what is shown
 
--- no objects, and the revision before the events of a view that entries keep
-abbrev pub behind : View (List ℕ) → View Beside
-behind kept = record { objects = []; revision = kept.revision - length kept.events; events = [] }
-
--- the view with one object more, behind the others
-abbrev pub with_object : View Beside → Key × Stored Beside → View Beside
-with_object v o = record { objects = v.objects ++ o ∷ []; revision = v.revision; events = v.events }
+-- so many objects as lie below, and the revision before the events of a view that entries keep
+abbrev pub behind : List (Key × Stored Beside) → View (List ℕ) → View Beside
+behind base kept = record { objects = base; revision = kept.revision - length kept.events; events = [] }
 
 -- the view with these objects
 abbrev pub with_objects : View Beside → List (Key × Stored Beside) → View Beside
@@ -62,23 +62,32 @@ with_objects v os = record { objects = os; revision = v.revision; events = v.eve
 abbrev pub with_events : View Beside → List (Event Document) → View Beside
 with_events v events = record { objects = v.objects; revision = v.revision + length events; events = v.events ++ events }
 
--- What was shown without objects is shown with those that entries keep. Nothing lies below.
-pub record AreRestored (old new : State Beside) (kept : List (Key × Stored (List ℕ))) : Type 0 where
-  pub objects : List (Key × Stored Beside)
-  pub held : AreHeldOf objects kept
-  pub shows : (first : View Beside) → Shows old [] first → first.objects ≡ [] → Shows new [] (with_objects first objects)
-
 -- This view is shown, and the events may be kept behind its own: their revisions count up from the view's, and the window has places for them.
-pub record CanKeep (core : State Beside) (v : View Beside) (events : List (Event Document)) : Type 0 where
-  pub shows : Shows core [] v
+pub record CanKeep (core : State Beside) (base : List (Key × Stored Beside)) (v : View Beside) (events : List (Event Document)) : Type 0 where
+  pub shows : Shows core base v
   pub numbered : AreNumberedFrom v.revision events
   pub places : length v.events + length events ≤ core.rules.window_events
-  pub room : v.revision + length events < 2 ^ 64
 
--- A view is shown that the core may hold behind a checkpoint, and that has these entries and this revision.
-pub record IsRestored (rules : Rules) (all : List Entry) (number : ℕ) (core : State Beside) : Type 0 where
-  pub held : View Beside
-  pub shows : Shows core [] held
-  pub kept : IsHeld rules held
-  pub entries : held_entries held ≡ all
-  pub revision : held.revision ≡ number
+-- One object more is held, over what lies below: it has a change, and is shown where it was, if it lies below, or as one more.
+pub record HasTaken (lies : Resource → Bool) (old new : State Beside) (o : Key × Stored Beside) : Type 0 where
+  pub made : new.changes.made ≡ with_value o.0 (Some o.1) old.changes.made
+  pub shows : (base : List (Key × Stored Beside)) (v : View Beside) → Shows old base v → value_at o.0 v.objects ≡ below_at lies o
+      → Shows new base (with_objects v (with_value o.0 o.1 v.objects))
+
+-- Where none was held, those are that entries keep: they have the changes, and are shown over what lies below.
+pub record AreRestored (lies : Resource → Bool) (old new : State Beside) (kept : List (Key × Stored (List ℕ))) : Type 0 where
+  pub objects : List (Key × Stored Beside)
+  pub held : AreHeldOf objects kept
+  pub made : new.changes.made ≡ puts_of objects
+  pub shows : (base : List (Key × Stored Beside)) (v : View Beside) → Shows old base v → HasThoseBelow lies objects base
+      → Shows new base (with_objects v (merged (puts_of objects) base))
+
+-- A view may be held behind a checkpoint that has these entries and this revision, and over each list of so many objects that may lie below what is
+-- kept it is shown, with what those that are kept leave of it.
+pub record IsRestored (rules : Rules) (lies : Resource → Bool) (all : List Entry) (count number : ℕ) (core : State Beside) : Type 0 where
+  pub kept : View Beside
+  pub held : IsHeld rules kept
+  pub entries : held_entries kept ≡ all
+  pub revision : kept.revision ≡ number
+  pub shows : (base : List (Key × Stored Beside)) → MayLieBelow lies kept.objects count base
+      → Shows core base (with_objects kept (merged (puts_of kept.objects) base))

@@ -1,20 +1,21 @@
 //! The store of entries.
 
-ghost use Rattle.std.specs.Prelude.{◌≡◌, ◌≢◌, ◌⊎◌, ◌++◌, ◌∷◌, [], List, IsTrue, IfOk, OnOk, ◌↔◌, IsErrOf};
+ghost use Rattle.std.specs.Prelude.{◌≡◌, ◌+◌, ◌-◌, ◌^◌, ◌<◌, ◌∷◌, [], true, ℕ, Bool, List, length, IsTrue, IfOk, OnOk, ◌↔◌};
 ghost use Rattle.std.specs.FinMap.{is_sorted};
 ghost use Rattle.std.specs.Ordering.{is_lt};
 ghost use Rattle.names.specs.declared.format.Rules.{Rules as RulesData};
-ghost use Rattle.names.specs.Key.{Key as KeyData, key_cmp};
+ghost use Rattle.names.specs.Key.{Key as KeyData, key_bytes, key_cmp};
 ghost use Rattle.history.specs.declared.stored.Stored.{Stored as StoredData};
-ghost use Rattle.history.specs.View as seen;
-ghost use Rattle.holdings.specs.Holdings as holdings;
+ghost use Rattle.history.specs.View.{View};
+ghost use Rattle.holdings.specs.Holdings.{Shows};
+ghost use Rattle.holdings.specs.Known.{IsKnown};
+ghost use Rattle.stock.specs.Sieve.{chosen_of};
 ghost use Rattle.apicore.specs.Beside.{Beside as BesideData};
-ghost use Rattle.apicore.specs.Prepared.{Shows};
-ghost use Rattle.apicore.specs.Standing.{View};
-ghost use Rattle.snapshots.specs.Keeping.{entries_of, HasLastEvents, IsKeepable};
-ghost use Rattle.snapshots.specs.Restoring.{IsDamaged, IsHeldOf, AreHeldOf, AreRestored, CanKeep, IsRestored, behind, with_object, with_events};
-ghost use Rattle.snapshots.specs.declared.fault.SnapshotFault.TheVariants as SnapshotFault;
+ghost use Rattle.snapshots.specs.LyingBelow.{base_of, AreChosen};
+ghost use Rattle.snapshots.specs.Keeping.{held_entries, HasLastEvents, IsHeld};
+ghost use Rattle.snapshots.specs.Restoring.{IsDamaged, IsHeldOf, AreHeldOf, HasTaken, AreRestored, CanKeep, IsRestored, behind, with_events};
 
+use crate::below::Below;
 use crate::fault::SnapshotFault;
 use apicore::{Beside, Core};
 use documents::Document;
@@ -22,8 +23,8 @@ use entries::{Entry, KeptObject, KeptView, read_view};
 use expressions::stored_plans;
 use history::Stored;
 use holdings::Holdings;
-use names::Rules;
-use std::alloc::Global;
+use names::{Key, Rules};
+use std::alloc::{AllocError, Global};
 use window::Event;
 
 // Whether the key of an object comes behind that of another.
@@ -71,37 +72,66 @@ fn stored_of(alloc: Global, object: &KeptObject) -> Result<Stored<Beside>, Snaps
     })
 }
 
-// Holds an object behind those that are shown.
-fn restore(alloc: Global, core: &mut Core, object: &KeptObject) -> Result<(), SnapshotFault>
+// Holds what stands under a key, over what lies below: as it is, where it lies there, and else as one object more.
+fn hold<B: Below>(
+    alloc: Global,
+    core: &mut Core,
+    below: &B,
+    key: &Key,
+    stored: Stored<Beside>,
+) -> Result<(), AllocError>
     ensures rules { core.new.rules ≡ core.old.rules }
-    ensures held { OnOk result ((s : StoredData BesideData) × IsHeldOf (object.now.0, s) object.now
-        × ((v : seen.View BesideData) → holdings.Shows core.old [] v → IsTrue (is_sorted key_cmp (v.objects ++ (object.now.0, s) ∷ []))
-        → holdings.Shows core.new [] (with_object v (object.now.0, s)))) }
+    ensures taken { OnOk result (HasTaken (B.lies below.now) core.old core.new (key.now, stored)) }
+{
+    if below.lies(key.resource()) {
+        core.hold(alloc, key, Some(stored))
+    } else {
+        core.restore(alloc, key, stored)
+    }
+}
+
+// Holds an object as entries keep it.
+fn restore<B: Below>(
+    alloc: Global,
+    core: &mut Core,
+    below: &B,
+    object: &KeptObject,
+) -> Result<(), SnapshotFault>
+    ensures rules { core.new.rules ≡ core.old.rules }
+    ensures held { OnOk result ((s : StoredData BesideData) × IsHeldOf (object.now.0, s) object.now × HasTaken (B.lies below.now) core.old core.new (object.now.0, s)) }
     ensures damaged { IsDamaged result → (s : StoredData BesideData) → IsHeldOf (object.now.0, s) object.now → ⊥ }
 {
     let stored = stored_of(alloc, object)?;
-    core.restore(alloc, object.manifest.key(), stored)?;
+    hold(alloc, core, below, object.manifest.key(), stored)?;
     Ok(())
 }
 
-// Holds objects whose keys ascend, where none is shown.
-fn restore_all(alloc: Global, core: &mut Core, objects: &[KeptObject]) -> Result<(), SnapshotFault>
-    requires { IsTrue (is_sorted key_cmp objects.now) }
+// Holds objects whose keys ascend, where none is held.
+fn restore_all<B: Below>(
+    alloc: Global,
+    core: &mut Core,
+    below: &B,
+    objects: &[KeptObject],
+) -> Result<(), SnapshotFault>
+    requires none { core.old.changes.made ≡ [] }
+    requires ascend { IsTrue (is_sorted key_cmp objects.now) }
     ensures rules { core.new.rules ≡ core.old.rules }
-    ensures held { OnOk result (AreRestored core.old core.new objects.now) }
+    ensures held { OnOk result (AreRestored (B.lies below.now) core.old core.new objects.now) }
     ensures damaged { IsDamaged result → (os : List (KeyData × StoredData BesideData)) → AreHeldOf os objects.now → ⊥ }
 {
     for object in objects {
-        restore(alloc, core, object)?;
+        restore(alloc, core, below, object)?;
     }
     Ok(())
 }
 
-// Keeps events as they were, behind those of a view that is shown.
+// Keeps events as they were, behind those that are shown.
 fn keep_all(core: &mut Core, events: Vec<Event<Document>>)
-    requires { (v : seen.View BesideData) × CanKeep core.old v events.items }
+    requires { core.old.revision + length events.items < 2 ^ 64 }
     ensures rules { core.new.rules ≡ core.old.rules }
-    ensures shows { (v : seen.View BesideData) → CanKeep core.old v events.items → holdings.Shows core.new [] (with_events v events.items) }
+    ensures changes { core.new.changes ≡ core.old.changes }
+    ensures shows { (base : List (KeyData × StoredData BesideData)) (v : View BesideData) → CanKeep core.old base v events.items
+        → Shows core.new base (with_events v events.items) }
 {
     for event in events {
         core.keep(event);
@@ -118,10 +148,19 @@ fn has_last_events(rules: Rules, view: &KeptView) -> bool
     }
 }
 
-// The store without objects, at the revision before the first event of a view: its keys ascend, and it has the events of its last writes.
-fn core_behind(alloc: Global, rules: Rules, view: &KeptView) -> Result<Core, SnapshotFault>
+// Nothing is held yet, over so many objects that lie below, at the revision before the first event of a view: its keys ascend, and it has the events
+// of its last writes.
+fn core_behind(
+    alloc: Global,
+    rules: Rules,
+    view: &KeptView,
+    count: usize,
+) -> Result<Core, SnapshotFault>
     ensures rules { IfOk result (λ core. core.rules ≡ rules) }
-    ensures shows { IfOk result (λ core. holdings.Shows core [] (behind view.now)) }
+    ensures revision { IfOk result (λ core. core.revision ≡ view.now.revision - length view.now.events) }
+    ensures none { IfOk result (λ core. core.changes.made ≡ []) }
+    ensures shows { (base : List (KeyData × StoredData BesideData)) → IsTrue (is_sorted key_cmp base) → length base ≡ count
+        → IfOk result (λ core. Shows core base (behind base view.now)) }
     ensures ascends { OnOk result (IsTrue (is_sorted key_cmp view.now.objects)) }
     ensures last { OnOk result (HasLastEvents rules view.now) }
     ensures damaged { IsDamaged result → IsTrue (is_sorted key_cmp view.now.objects) → HasLastEvents rules view.now → ⊥ }
@@ -130,36 +169,45 @@ fn core_behind(alloc: Global, rules: Rules, view: &KeptView) -> Result<Core, Sna
         return Err(SnapshotFault::Entry);
     }
     let first = view.revision - view.events.len() as u64;
-    Ok(Holdings::over(alloc, rules, first, 0)?)
+    Ok(Holdings::over(alloc, rules, first, count)?)
 }
 
-/// The core that shows what these entries keep, at a revision.
+/// The core that shows what a checkpoint keeps, at a revision, over those of its objects that lie below, which are so many. It holds what these entries
+/// keep: all of it, or the part of it that is chosen, with each object that does not lie below. It knows each object that is chosen.
 ///
 /// # Errors
 ///
 /// `Entry` where no view that can be kept has these entries, `Plans` where else the bytes of a policy's plans are none of its own form, and
 /// `Memory` where there was none.
-pub fn restored(
+pub fn restored<B: Below>(
     alloc: Global,
     rules: Rules,
-    entries: &[Entry],
+    kept: &[Entry],
+    below: &B,
+    count: usize,
     revision: u64,
 ) -> Result<Core, SnapshotFault>
     ensures rules { IfOk result (λ core. core.rules ≡ rules) }
-    ensures restored { IfOk result (IsRestored rules entries.now revision) }
-    ensures found { (v : View) → IsKeepable rules v → entries_of v ≡ entries.now → v.revision ≡ revision
-        → IfOk result (λ core. (held : seen.View BesideData) → holdings.Shows core [] held → Shows held v) }
-    ensures damaged { IsErrOf result SnapshotFault.Entry ⊎ IsErrOf result SnapshotFault.Plans
-        → (v : View) → IsKeepable rules v → entries_of v ≡ entries.now → v.revision ≢ revision }
+
+    // Where a view may be kept: it is shown over what lies below of it, and memory knows what is chosen.
+    ensures shows { (held : View BesideData) (chosen : List ℕ → Bool) → IsHeld rules held → AreChosen (B.lies below.now) chosen held
+        → kept.now ≡ held_entries (chosen_of chosen held) → held.revision ≡ revision → length (base_of (B.lies below.now) held) ≡ count
+        → IfOk result (λ core. Shows core (base_of (B.lies below.now) held) held
+        × ((k : KeyData) → chosen (1 ∷ key_bytes k) ≡ true → IsKnown core (base_of (B.lies below.now) held) k)) }
+    ensures damaged { IsDamaged result → (held : View BesideData) (chosen : List ℕ → Bool) → IsHeld rules held → AreChosen (B.lies below.now) chosen held
+        → kept.now ≡ held_entries (chosen_of chosen held) → held.revision ≡ revision → length (base_of (B.lies below.now) held) ≡ count → ⊥ }
+
+    // And whatever the entries.
+    ensures restored { IfOk result (IsRestored rules (B.lies below.now) kept.now count revision) }
 {
-    let view = read_view(alloc, entries, revision)?;
-    let mut core = core_behind(alloc, rules, &view)?;
+    let view = read_view(alloc, kept, revision)?;
+    let mut core = core_behind(alloc, rules, &view, count)?;
     let KeptView {
         objects,
         events,
         ..
     } = view;
-    restore_all(alloc, &mut core, &objects)?;
     keep_all(&mut core, events);
+    restore_all(alloc, &mut core, below, &objects)?;
     Ok(core)
 }

@@ -1,6 +1,7 @@
 //! The entries of a store.
 
-ghost use Rattle.std.specs.Prelude.{◌≡◌, ◌≤◌, ◌^◌, ◌++◌, [], length, map, IfOk, OnOk};
+ghost use Rattle.std.specs.Prelude.{◌≡◌, ◌≤◌, ◌+◌, ◌^◌, ◌++◌, not, length, map, IfOk, OnOk};
+ghost use Rattle.std.specs.List.{filter};
 ghost use Rattle.checkpoint.specs.EntryList.{listed, entries_of as in_list};
 ghost use Rattle.history.specs.View as seen;
 ghost use Rattle.holdings.specs.Holdings as holdings;
@@ -9,13 +10,16 @@ ghost use Rattle.apicore.specs.Beside.{Beside as BesideData};
 ghost use Rattle.apicore.specs.Prepared.{ShowsOver};
 ghost use Rattle.apicore.specs.Standing.{View};
 ghost use Rattle.snapshots.specs.Keeping.{entries_of, held_plans, held_entries};
+ghost use Rattle.snapshots.specs.LyingBelow.{base_of, apart_of};
 
+use crate::below::Below;
 use apicore::{Beside, Core};
 use checkpoint::EntryList;
 use documents::Document;
 use entries::{Entry, event_entry, object_entry, plan_entries};
 use expressions::plans_bytes;
 use history::Stored;
+use names::Key;
 use overlay::Lent;
 use std::alloc::{AllocError, Global};
 use window::Events;
@@ -108,19 +112,97 @@ fn add_events(
     Ok(())
 }
 
-/// The entries of what the core shows, in their order.
+// The entries of objects, of their plans, and of the events that the core holds.
+fn pairs_of(
+    alloc: Global,
+    core: &Core,
+    objects: &[Lent<'_, Stored<Beside>>],
+) -> Result<Vec<(Vec<u8>, Vec<u8>)>, AllocError>
+    ensures { IfOk result (λ pairs. listed pairs.items
+        ≡ held_entries (record { objects = objects.now; revision = core.now.revision; events = core.now.events })) }
+{
+    let mut pairs = Vec::new(alloc);
+    add_objects(alloc, &mut pairs, objects)?;
+    add_all_plans(alloc, &mut pairs, objects)?;
+    add_events(alloc, &mut pairs, core.events())?;
+    Ok(pairs)
+}
+
+/// The entries of what the core shows over the objects that lie below, in their order.
 ///
 /// # Errors
 ///
 /// Where there was no memory.
-pub fn entries_in(alloc: Global, core: &Core) -> Result<EntryList, AllocError>
-    ensures held { (held : seen.View BesideData) → holdings.Shows core.now [] held → IfOk result (λ list. in_list list ≡ held_entries held) }
-    ensures shown { (v : View) → ShowsOver core.now [] v → IfOk result (λ list. in_list list ≡ entries_of v) }
+pub fn entries_in(
+    alloc: Global,
+    core: &Core,
+    below: &[(Key, Stored<Beside>)],
+) -> Result<EntryList, AllocError>
+    ensures held { (held : seen.View BesideData) → holdings.Shows core.now below.now held → IfOk result (λ list. in_list list ≡ held_entries held) }
+    ensures shown { (v : View) → ShowsOver core.now below.now v → IfOk result (λ list. in_list list ≡ entries_of v) }
 {
-    let objects = core.objects(alloc, &[])?;
+    let objects = core.objects(alloc, below)?;
+    let pairs = pairs_of(alloc, core, &objects)?;
+    Ok(EntryList::new(pairs))
+}
+
+/// Of what a checkpoint keeps, what does not lie below.
+#[derive(Drop)]
+pub(crate) struct KeptApart {
+    /// The entries of the objects that do not lie below, of their plans, and of the events, in their order.
+    pub(crate) entries: Vec<Entry>,
+    /// How many objects lie below.
+    pub(crate) count_below: usize,
+}
+
+// Those of the objects that do not lie below.
+fn apart<'a, B: Below>(
+    below: &B,
+    objects: Vec<Lent<'a, Stored<Beside>>>,
+) -> Vec<Lent<'a, Stored<Beside>>>
+    ensures apart { result.items ≡ filter (λ o. not (B.lies below.now o.0.resource)) objects.entry.items }
+    ensures others { length (filter (λ o. B.lies below.now o.0.resource) objects.entry.items) + length result.items ≡ length objects.entry.items }
+{
+    let mut apart = objects;
+    apart.retain(|object| !below.lies(object.key.resource()));
+    apart
+}
+
+// Keys, each with what stands under it, as entries.
+fn as_entries(alloc: Global, pairs: Vec<(Vec<u8>, Vec<u8>)>) -> Result<Vec<Entry>, AllocError>
+    ensures { IfOk result (λ entries. entries.items ≡ listed pairs.items) }
+{
     let mut entries = Vec::new(alloc);
-    add_objects(alloc, &mut entries, &objects)?;
-    add_all_plans(alloc, &mut entries, &objects)?;
-    add_events(alloc, &mut entries, core.events())?;
-    Ok(EntryList::new(entries))
+    for (key, cell) in pairs {
+        entries.push(Entry::new(key, cell))?;
+    }
+    Ok(entries)
+}
+
+/// Of what the core shows over these objects, what does not lie below once it is written: which objects do is told by their resource.
+///
+/// # Errors
+///
+/// Where there was no memory.
+pub(crate) fn kept_in<B: Below>(
+    alloc: Global,
+    core: &Core,
+    objects: &[(Key, Stored<Beside>)],
+    below: &B,
+) -> Result<KeptApart, AllocError>
+    ensures entries { (held : seen.View BesideData) → holdings.Shows core.now objects.now held
+        → IfOk result (λ kept. kept.entries.items ≡ held_entries (apart_of (B.lies below.now) held)) }
+    ensures count { (held : seen.View BesideData) → holdings.Shows core.now objects.now held
+        → IfOk result (λ kept. kept.count_below ≡ length (base_of (B.lies below.now) held)) }
+{
+    let all = core.objects(alloc, objects)?;
+    let count = all.len();
+    let kept = apart(below, all);
+    let count_below = count - kept.len();
+    let pairs = pairs_of(alloc, core, &kept)?;
+    let entries = as_entries(alloc, pairs)?;
+    Ok(KeptApart {
+        entries,
+        count_below,
+    })
 }

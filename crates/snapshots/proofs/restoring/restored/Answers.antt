@@ -1,115 +1,116 @@
-use Rattle.std.proofs.Common.{rules, arith, ◌≡◌, ◌∙◌, sym, ap, subst, true, refl, ◌⊎◌, inl, inr, ⊎_elim, ℕ, List, []}
+use Rattle.std.proofs.Common.{rules, arith, ◌≡◌, ◌∙◌, sym, ap, subst, true, ◌⊎◌, inl, inr, ⊎_elim, List}
 use Rattle.std.specs.FinMap.{is_sorted}
 use Rattle.std.specs.Prelude.{IsErrOf}
 use Rattle.names.specs.Key.{key_cmp}
-use Rattle.window.specs.declared.event.Event.{Event}
-use Rattle.documents.specs.Document.{Document}
-use Rattle.history.specs.View as seen
-use Rattle.holdings.specs.Holdings as holdings
-use Rattle.holdings.proofs.Showing.{shown_alone}
+use Rattle.overlay.specs.Changes.{Changes}
+use Rattle.overlay.specs.Merged.{merged}
+use Rattle.history.specs.declared.stored.Stored.{Stored}
+use Rattle.holdings.specs.Holdings.{Shows}
 use Rattle.entries.specs.declared.fault.EntryFault.{EntryFault}
+use Rattle.stock.specs.Sieve.{chosen_of}
 use Rattle.apicore.specs.Beside.{Beside}
-use Rattle.apicore.specs.Prepared.{Shows}
-use Rattle.apicore.specs.Standing.{with_plans}
 use Rattle.snapshots.specs.declared.fault.SnapshotFault.TheVariants as SnapshotFault
+use Rattle.snapshots.specs.LyingBelow.{puts_of}
 use Rattle.snapshots.specs.Faults.{of_entry_fault}
-use Rattle.snapshots.specs.Keeping.{tree_plans, HasLastEvents}
-use Rattle.snapshots.specs.Restoring.{IsDamaged, view_in_bytes, AreHeldOf, CanKeep, behind, with_objects, with_events}
-use Rattle.snapshots.proofs.Held.{Core, Kept}
-use Rattle.snapshots.proofs.InBytes.{entries_in_bytes, holdable_in_bytes}
-use Rattle.snapshots.proofs.Shown.{shown_held, shows_kept}
-use Rattle.snapshots.proofs.MadeAgain.{entry_damaged, last_in_bytes, made_again, can_keep, restored_of, held_restored, entries_restored}
+use Rattle.snapshots.specs.Keeping.{held_plans, HasLastEvents}
+use Rattle.snapshots.specs.Restoring.{IsDamaged, view_in_bytes, AreHeldOf, behind, with_events}
+use Rattle.snapshots.proofs.Chosen.{ShowsPart, shows_all, knows_chosen}
+use Rattle.snapshots.proofs.Held.{Core, Object, Kept}
+use Rattle.snapshots.proofs.InBytes.{entries_in_bytes}
+use Rattle.snapshots.proofs.MadeAgain.{Held, KeptView, entry_damaged, made_again, can_keep, has_room, shown_again, held_again, entries_again}
+use Rattle.snapshots.proofs.Parts.{part_held, wide, held_holdable, held_last, objects_held}
 use Rattle.snapshots.proofs.restoring.restored.Goals as goal
 
-abbrev KeptView : Type 0
-KeptView = seen.View (List ℕ)
-
-abbrev Held : Type 0
-Held = seen.View Beside
-
 pub returns-in_err-view-clause-damaged : goal.returns-in_err-view-clause-damaged
-returns-in_err-view-clause-damaged c is_damaged v keepable same revision =
+returns-in_err-view-clause-damaged g c is_damaged held chosen is all same revision counted =
+    let part : Held = chosen_of chosen held in
     let e : EntryFault = c.in_err-view.field-0.0 in
     let told : (of_entry_fault e ≡ SnapshotFault.Entry) ⊎ (of_entry_fault e ≡ SnapshotFault.Plans) =
     ⊎_elim (λ x. inl (search rules)) (λ x. inr (search rules)) is_damaged
     in
     let damaged : e ≡ EntryFault.Damaged = entry_damaged e told in
     let bad : IsErrOf c.read_view.result EntryFault.Damaged = search rules in
-    c.read_view.ensures.damaged bad c.args.rules (view_in_bytes tree_plans v) (holdable_in_bytes tree_plans c.args.rules v keepable.holdable) revision
-    (entries_in_bytes tree_plans v ∙ same)
+    c.read_view.ensures.damaged bad (wide part) (view_in_bytes held_plans part) (held_holdable c.args.rules part (part_held c.args.rules chosen held is)) revision
+    (entries_in_bytes held_plans part ∙ sym same)
 
 pub returns-in_err-core-clause-damaged : goal.returns-in_err-core-clause-damaged
-returns-in_err-core-clause-damaged c is_damaged v keepable same revision =
+returns-in_err-core-clause-damaged g c is_damaged held chosen is all same revision counted =
     let told : IsDamaged c.core_behind.result = search rules in
-    let holdable = holdable_in_bytes tree_plans c.args.rules v keepable.holdable in
-    let found = c.in_ok-view.ensures.found c.args.rules (view_in_bytes tree_plans v) holdable (entries_in_bytes tree_plans v ∙ same) revision in
+    let part : Held = chosen_of chosen held in
+    let may = part_held c.args.rules chosen held is in
+    let holdable = held_holdable c.args.rules part may in
+    let found = c.in_ok-view.ensures.found (wide part) (view_in_bytes held_plans part) holdable (entries_in_bytes held_plans part ∙ sym same) revision in
     c.core_behind.ensures.damaged told (subst (λ (u : KeptView). is_sorted key_cmp u.objects ≡ true) (sym found) holdable.ascends)
-    (subst (λ (u : KeptView). HasLastEvents c.args.rules u) (sym found) (last_in_bytes c.args.rules v keepable.last))
+    (subst (λ (u : KeptView). HasLastEvents c.args.rules u) (sym found) (held_last c.args.rules part may))
 
-pub restore_all-requires : goal.restore_all-requires
-restore_all-requires c =
+pub keep_all-requires : goal.keep_all-requires
+keep_all-requires g c =
+    has_room c.args.rules c.in_ok-core.core c.in_ok-view.view c.view.inside.events.items c.in_ok-core.ensures.revision c.in_ok-core.ensures.last
+    (omega (arith, c.in_ok-view.ensures.revision)) (ap (λ (u : KeptView). u.events) c.view.view_is)
+
+pub restore_all-requires-clause-none : goal.restore_all-requires-clause-none
+restore_all-requires-clause-none g c = ap (λ (changes : Changes (Stored Beside)). changes.made) c.keep_all.ensures.changes ∙ c.in_ok-core.ensures.none
+
+pub restore_all-requires-clause-ascend : goal.restore_all-requires-clause-ascend
+restore_all-requires-clause-ascend g c =
     subst (λ (ks : List Kept). is_sorted key_cmp ks ≡ true) (ap (λ (u : KeptView). u.objects) (sym c.view.view_is) ∙ sym c.deref.ensures.value)
     c.in_ok-core.ensures.ascends
 
 pub returns-in_err-restore_all-clause-damaged : goal.returns-in_err-restore_all-clause-damaged
-returns-in_err-restore_all-clause-damaged c is_damaged v keepable same revision =
+returns-in_err-restore_all-clause-damaged g c is_damaged held chosen is all same revision counted =
     let told : IsDamaged c.restore_all.result = search rules in
+    let part : Held = chosen_of chosen held in
+    let may = part_held c.args.rules chosen held is in
     let found =
-    c.in_ok-view.ensures.found c.args.rules (view_in_bytes tree_plans v) (holdable_in_bytes tree_plans c.args.rules v keepable.holdable)
-    (entries_in_bytes tree_plans v ∙ same) revision
+    c.in_ok-view.ensures.found (wide part) (view_in_bytes held_plans part) (held_holdable c.args.rules part may) (entries_in_bytes held_plans part ∙ sym same) revision
     in
-    let objects : (view_in_bytes tree_plans v).objects ≡ c.deref.result.now =
+    let objects : (view_in_bytes held_plans part).objects ≡ c.deref.result.now =
     ap (λ (u : KeptView). u.objects) (sym found ∙ sym c.view.view_is) ∙ sym c.deref.ensures.value
     in
-    c.restore_all.ensures.damaged told (with_plans v).objects
-    (subst (λ (ks : List Kept). AreHeldOf (with_plans v).objects ks) objects (shown_held c.args.rules v keepable))
-
-pub keep_all-requires : goal.keep_all-requires
-keep_all-requires c =
-    let kept : KeptView = c.in_ok-view.view in
-    let core : Core = c.restore_all.new.core in
-    let made = c.in_ok-restore_all.ensures.held in (
-      with_objects (behind kept) made.objects,
-      can_keep c.args.rules core kept made.objects c.view.inside.events.items (c.restore_all.ensures.rules ∙ c.in_ok-core.ensures.rules)
-          (made.shows (behind kept) c.in_ok-core.ensures.shows refl) c.in_ok-view.ensures.storable c.in_ok-core.ensures.last
-          (omega (arith, c.in_ok-view.ensures.revision)) (ap (λ (u : KeptView). u.events) c.view.view_is),
-    )
+    c.restore_all.ensures.damaged told part.objects (subst (λ (ks : List Kept). AreHeldOf part.objects ks) objects (objects_held c.args.rules part may))
 
 pub returns : goal.returns
-returns c =
+returns g c =
+    let lies = g.B.Below.lies c.args.below.now in
     let kept : KeptView = c.in_ok-view.view in
     let core : Core = c.restore_all.new.core in
     let made = c.in_ok-restore_all.ensures.held in
     let told : c.view.inside.events.items ≡ kept.events = ap (λ (u : KeptView). u.events) c.view.view_is in
-    let objects : c.deref.result.now ≡ kept.objects = c.deref.ensures.value ∙ ap (λ (u : KeptView). u.objects) c.view.view_is in
-    let first : Held = with_objects (behind kept) made.objects in
-    let can : CanKeep core first c.view.inside.events.items =
-    can_keep c.args.rules core kept made.objects c.view.inside.events.items (c.restore_all.ensures.rules ∙ c.in_ok-core.ensures.rules)
-    (made.shows (behind kept) c.in_ok-core.ensures.shows refl) c.in_ok-view.ensures.storable c.in_ok-core.ensures.last
-    (omega (arith, c.in_ok-view.ensures.revision)) told
+    let are : AreHeldOf made.objects kept.objects =
+    subst (λ (ks : List Kept). AreHeldOf made.objects ks) (c.deref.ensures.value ∙ ap (λ (u : KeptView). u.objects) c.view.view_is) made.held
     in
-    let held : Held = made_again kept made.objects in
-    let shows : holdings.Shows c.keep_all.new.core [] held =
-    subst (λ (es : List (Event Document)). holdings.Shows c.keep_all.new.core [] (with_events first es)) told (c.keep_all.ensures.shows first can)
-    in
-    let is =
-    restored_of c.args.rules kept made.objects c.in_ok-core.ensures.last (subst (λ (ks : List Kept). AreHeldOf made.objects ks) objects made.held)
+    let part : ShowsPart lies core kept made.objects c.args.count = record {
+      are = are;
+      made = made.made;
+      shows = λ base may.
+          let left : List Object = merged (puts_of made.objects) base in
+          let first : Shows c.in_ok-core.core base (behind base kept) = c.in_ok-core.ensures.shows base may.ascend may.counted in
+          let told_there : Shows c.keep_all.new.core base (with_events (behind base kept) c.view.inside.events.items) =
+          c.keep_all.ensures.shows base (behind base kept)
+          (can_keep c.args.rules c.in_ok-core.core base kept c.view.inside.events.items c.in_ok-core.ensures.rules first c.in_ok-view.ensures.storable
+          c.in_ok-core.ensures.last told)
+          in
+          subst (λ (v : Held). Shows core base v) (shown_again c.args.rules kept base left c.view.inside.events.items c.in_ok-core.ensures.last told)
+          (made.shows base (with_events (behind base kept) c.view.inside.events.items) told_there may.there);
+    }
     in
     record {
-      rules = c.keep_all.ensures.rules ∙ c.restore_all.ensures.rules ∙ c.in_ok-core.ensures.rules;
-      restored = record {
-        held = held;
-        shows = shows;
-        kept = held_restored c.args.rules held kept is c.in_ok-view.ensures.storable c.in_ok-core.ensures.last;
-        entries = entries_restored held kept is ∙ c.in_ok-view.ensures.entries;
-        revision = is.revision ∙ c.in_ok-view.ensures.revision;
-      };
-      found = λ v keepable same revision also shown.
-          let found =
-          c.in_ok-view.ensures.found c.args.rules (view_in_bytes tree_plans v) (holdable_in_bytes tree_plans c.args.rules v keepable.holdable)
-          (entries_in_bytes tree_plans v ∙ same) revision
-          in
-          subst (λ (h : Held). Shows h v) (shown_alone shows shown)
-          (shows_kept c.args.rules v held kept keepable found is.objects is.revision is.events);
+      rules = c.restore_all.ensures.rules ∙ c.keep_all.ensures.rules ∙ c.in_ok-core.ensures.rules;
+      shows = λ held chosen is all same revision counted.
+          let w : Held = chosen_of chosen held in
+          let may = part_held c.args.rules chosen held is in
+          let found : kept ≡ view_in_bytes held_plans w =
+          c.in_ok-view.ensures.found (wide w) (view_in_bytes held_plans w) (held_holdable c.args.rules w may) (entries_in_bytes held_plans w ∙ sym same) revision
+          in (
+            shows_all c.args.rules lies core kept made.objects c.args.count part held chosen is found all counted,
+            knows_chosen c.args.rules lies core kept made.objects c.args.count part held chosen is found,
+          );
       damaged = search rules;
+      restored = record {
+        kept = made_again kept made.objects;
+        held = held_again c.args.rules kept made.objects are c.in_ok-view.ensures.storable c.in_ok-core.ensures.last;
+        entries = entries_again kept made.objects are ∙ c.in_ok-view.ensures.entries;
+        revision = c.in_ok-view.ensures.revision;
+        shows = part.shows;
+      };
     }
