@@ -1,0 +1,119 @@
+-- The objects that a checkpoint keeps lie in its pages.
+use Rattle.std.specs.Prelude.{◌≡◌, ◌≤◌, ◌+◌, ℕ, true, not, List, [], ◌∷◌, length, map, IsTrue}
+use Rattle.std.proofs.Common.{arith, refl, ap, ◌∙◌}
+use Rattle.std.specs.FinMap.{is_sorted}
+use Rattle.std.specs.List.{AllByRecursion}
+use Rattle.serde_json.specs.Data.{Data}
+use Rattle.jsondoc.specs.Document.{text}
+use Rattle.device.specs.Disk.{Disk}
+use Rattle.names.specs.declared.format.Rules.{Rules}
+use Rattle.names.specs.declared.resource.Resource.{Resource}
+use Rattle.names.specs.declared.resource.Resource.TheVariants.{ConfigMap, Node, Pod, Service, Deployment, ValidatingAdmissionPolicy, ValidatingAdmissionPolicyBinding}
+use Rattle.names.specs.Key.{Key}
+use Rattle.window.specs.declared.event.Event.{Event}
+use Rattle.documents.specs.Document.{Document}
+use Rattle.history.specs.declared.stored.Stored.{Stored}
+use Rattle.history.specs.View as seen
+use Rattle.plancode.specs.Plans.{Judged}
+use Rattle.expressions.specs.Specification.{MayHavePlans}
+use Rattle.pages.specs.Page.{bytes_cmp}
+use Rattle.entries.specs.Holding.{IsStorableEvent, CanHoldObject, CanHoldEvent, HasFewPlans, IsHoldable}
+use Rattle.entries.proofs.Ascending as ascending
+use Rattle.shelf.specs.declared.shelf.Shelf.{Shelf}
+use Rattle.shelf.specs.Shelf.{Shelves}
+use Rattle.stock.specs.Stock.{plain, HoldObjects}
+use Rattle.stock.proofs.Views.{view_holds}
+use Rattle.base.proofs.Lying.{lies_of}
+use Rattle.snapshots.specs.Keeping.{held_plans, held_entries, IsHeldObject, IsHeld}
+use Rattle.snapshots.proofs.Histories.{only_policies}
+use Rattle.apicore.specs.Beside.{Beside, spelled}
+use Rattle.paged.specs.declared.bare.Bare.{Bare}
+use Rattle.paged.specs.Lying.{is_rule, made_bare, held_bare, base_of, LiesBelow}
+
+abbrev Object : Type 0
+Object = Key × Stored Beside
+
+abbrev Told : Type 0
+Told = Event Document
+
+-- ---- the entries of a view that may be held hold its objects: each text is within some limit
+
+abbrev stored_texts : List Object → ℕ
+stored_texts [] = 0
+stored_texts (o ∷ os) = length (text o.1.document.json) + stored_texts os
+
+abbrev told_texts : List Told → ℕ
+told_texts [] = 0
+told_texts (e ∷ es) = length (text e.document.json) + told_texts es
+
+-- numbers by which all its texts may be held
+abbrev wide : seen.View Beside → Rules
+wide held = record {
+  window_events = 0;
+  text_limit_bytes = stored_texts held.objects + told_texts held.events;
+  body_limit_bytes = 0;
+  object_limit = 0;
+  greatest_revision = 0;
+}
+
+can_objects : (rules : Rules) (os : List Object) → AllByRecursion IsHeldObject os → stored_texts os ≤ rules.text_limit_bytes → AllByRecursion (CanHoldObject rules) os
+can_objects rules [] all short = tt
+can_objects rules (o ∷ os) all short = ((all.0.storable, omega (arith, short)), can_objects rules os all.1 (omega (arith, short)))
+
+can_events : (rules : Rules) (es : List Told) → AllByRecursion IsStorableEvent es → told_texts es ≤ rules.text_limit_bytes → AllByRecursion (CanHoldEvent rules) es
+can_events rules [] all short = tt
+can_events rules (e ∷ es) all short = ((all.0, omega (arith, short)), can_events rules es all.1 (omega (arith, short)))
+
+few_plans : (os : List Object) → AllByRecursion IsHeldObject os → AllByRecursion (HasFewPlans held_plans) os
+few_plans [] all = tt
+few_plans (o ∷ os) all = ((only_policies o.0.resource o.1.beside.plans, all.0.few), few_plans os all.1)
+
+holdable : (rules : Rules) (held : seen.View Beside) → IsHeld rules held → IsHoldable held_plans (wide held) held
+holdable rules held is = record {
+  objects = can_objects (wide held) held.objects is.objects (omega arith);
+  few = few_plans held.objects is.objects;
+  ascends = is.ascends;
+  events = can_events (wide held) held.events is.events (omega arith);
+  numbered = is.numbered;
+}
+
+entries_hold : (rules : Rules) (held : seen.View Beside) → IsHeld rules held → HoldObjects (held_entries held) (map plain held.objects)
+entries_hold rules held is = view_holds held_plans (wide held) held (holdable rules held is)
+
+-- and ascend
+pub entries_ascend : (rules : Rules) (held : seen.View Beside) → IsHeld rules held → IsTrue (is_sorted bytes_cmp (held_entries held))
+entries_ascend rules held is = ascending.entries_ascend held_plans (wide held) held (holdable rules held is)
+
+-- ---- beside each that lies below stands what its document spells, and no plans
+
+no_plans : (r : Resource) (d : Data) (plans : List Judged) → not (is_rule r) ≡ true → MayHavePlans r d plans → plans ≡ []
+no_plans ConfigMap d plans lies may = may
+no_plans Node d plans lies may = may
+no_plans Pod d plans lies may = may
+no_plans Service d plans lies may = may
+no_plans Deployment d plans lies may = may
+no_plans ValidatingAdmissionPolicyBinding d plans lies may = may
+no_plans ValidatingAdmissionPolicy d plans lies may = cc
+
+are_made : (bare : Bare) (os : List Object) → AllByRecursion IsHeldObject os
+    → AllByRecursion (λ o. not (held_bare bare o.0.resource) ≡ true → o.1.beside ≡ made_bare bare o.1.document) os
+are_made bare [] all = tt
+are_made bare (o ∷ os) all = (
+  λ lies. all.0.beside ∙ ap (spelled o.1.document.json) (no_plans o.0.resource o.1.document.json o.1.beside.plans lies all.0.plans),
+  are_made bare os all.1,
+)
+
+-- Where the pages of a shelf hold the entries of a view that may be held, its objects lie there which are not held in memory.
+pub lying : {D : Type 0} (disk : Disk D) (device : D) (shelf : Shelf) (rules : Rules) (held : seen.View Beside) → IsHeld rules held
+    → Shelves disk device shelf (held_entries held) → LiesBelow disk device shelf (base_of held)
+lying disk device shelf rules held is shelves = λ bare.
+    lies_of made_bare held_bare disk device shelf bare held.objects
+    (record { entries = held_entries held; shelves = shelves; hold = entries_hold rules held is }) (are_made bare held.objects is.objects)
+
+-- Where the pages of a shelf hold no entries, nothing lies there.
+pub none_lying : {D : Type 0} (disk : Disk D) (device : D) (shelf : Shelf) → Shelves disk device shelf [] → LiesBelow disk device shelf []
+none_lying disk device shelf shelves = λ bare. record {
+  all = [];
+  stocks = record { entries = []; shelves = shelves; hold = record { rest = []; are = refl; other = tt; storable = tt; ascend = refl } };
+  are = refl;
+}

@@ -1,0 +1,90 @@
+use Rattle.std.proofs.Common.{rules, arith, ◌≡◌, ◌∙◌, sym, ap, subst, ⊎_elim, inl, inr, List, [], length, ℕ, Err}
+use Rattle.std.proofs.lemmas.List.{length-map}
+use Rattle.stock.specs.declared.sieve.Sieve.{Sieve}
+use Rattle.checkpoint.specs.Pages.{pages_of_root, HoldsEntries, IsIndex}
+use Rattle.checkpoint.specs.Index.{keys_of}
+use Rattle.snapshots.specs.Keeping.{held_entries}
+use Rattle.paged.specs.declared.chosen.Chosen.{Chosen}
+use Rattle.paged.specs.Chosen.{is_chosen}
+use Rattle.paged.proofs.Choosing.{chooses_rules}
+use Rattle.paged.proofs.Lying.{lying, none_lying}
+use Rattle.paged.proofs.Pages.{IsBad, sieved, pages_hold, count_keys, index_of_none, holds_none, scan_bad, snapshot_bad}
+use Rattle.paged.proofs.state.Paged.read.Goals as goal
+
+pub returns-in_err-first_keys-clause-damaged : goal.returns-in_err-first_keys-clause-damaged
+returns-in_err-first_keys-clause-damaged g c keeps told held is holds revision =
+    let content = g.D.Device.disk.content c.args.device.now in
+    ⊎_elim
+    (λ bad. c.scan.ensures.page keeps (c.in_err-first_keys.was ∙ ap Err bad) (pages_hold c.args.rules held c.args.root.now content is holds))
+    (λ bad. let refused = c.scan.ensures.refused keeps (c.in_err-first_keys.was ∙ ap Err bad) in refused.refused)
+    (scan_bad c.from_residual-in_err-first_keys.result c.in_err-first_keys.field-0.0 c.from_residual-in_err-first_keys.ensures.1 told)
+
+pub returns-in_err-core-clause-damaged : goal.returns-in_err-core-clause-damaged
+returns-in_err-core-clause-damaged g c keeps told held is holds revision =
+    let content = g.D.Device.disk.content c.args.device.now in
+    let chosen : Chosen = c.in_ok-chosen.chosen in
+    let made = c.new-sieve.ensures in
+    let read =
+    sieved c.args.rules held c.args.root.now content chosen c.new-sieve.result c.scan.new.reader made.choice made.kept made.objects c.requires.small holds
+    (c.in_ok-first_keys.ensures.told keeps)
+    in
+    let kept = c.kept.ensures ∙ read.0 in
+    let objects = c.objects.ensures ∙ read.1 in
+    let all = chooses_rules chosen in
+    ⊎_elim
+    (λ bad. c.core_of.ensures.damaged (inl (c.in_err-core.was ∙ ap Err bad)) held (is_chosen chosen) is all kept objects (sym revision))
+    (λ bad. c.core_of.ensures.damaged (inr (c.in_err-core.was ∙ ap Err bad)) held (is_chosen chosen) is all kept objects (sym revision))
+    (snapshot_bad c.from_residual-in_err-core.result c.in_err-core.field-0.0 c.from_residual-in_err-core.ensures.1 told)
+
+pub returns-in_err-shelf-clause-damaged : goal.returns-in_err-shelf-clause-damaged
+returns-in_err-shelf-clause-damaged g c keeps told held is holds revision =
+    let content = g.D.Device.disk.content c.args.device.now in
+    let bad : IsBad c.shelf_of.result = ⊎_elim (λ x. inl (search rules)) (⊎_elim (λ x. inr (inl (search rules))) (λ x. inr (inr (search rules)))) told in
+    c.shelf_of.ensures.damaged bad
+    (sym (length-map c.in_ok-first_keys.first_keys.items (λ key. key.items))
+    ∙ count_keys (keys_of c.in_ok-first_keys.first_keys.items) c.args.root.now content (c.in_ok-first_keys.ensures.index keeps))
+
+pub returns-clause-held : goal.returns-clause-held
+returns-clause-held g c keeps held is holds revision =
+    let disk = g.D.Device.disk in
+    let content = disk.content c.args.device.now in
+    let root = c.args.root.now in
+    let chosen : Chosen = c.in_ok-chosen.chosen in
+    let made = c.new-sieve.ensures in
+    let read =
+    sieved c.args.rules held root content chosen c.new-sieve.result c.scan.new.reader made.choice made.kept made.objects c.requires.small holds
+    (c.in_ok-first_keys.ensures.told keeps)
+    in
+    let shown =
+    c.in_ok-core.ensures.shows held (is_chosen chosen) is (chooses_rules chosen) (c.kept.ensures ∙ read.0) (c.objects.ensures ∙ read.1) (sym revision)
+    in
+    let same = sym (c.scan.ensures.ran.seen keeps) in
+    let keys = keys_of c.in_ok-first_keys.first_keys.items in
+    let Index : List ℕ → Type 0 = λ x. IsIndex keys (pages_of_root root x) in
+    let Holds : List ℕ → Type 0 = λ x. HoldsEntries x root (held_entries held) in
+    let shelves =
+    c.in_ok-shelf.ensures.shelves (held_entries held) (subst Index same (c.in_ok-first_keys.ensures.index keeps)) (λ some. c.scan.ensures.ran.kept keeps)
+    (subst Holds same holds)
+    in (
+      lying disk c.scan.new.device c.in_ok-shelf.shelf c.args.rules held is shelves,
+      shown.0,
+      λ k has. shown.1 k (c.in_ok-chosen.ensures k has),
+    )
+
+pub returns-clause-no_pages : goal.returns-clause-no_pages
+returns-clause-no_pages g c none =
+    let disk = g.D.Device.disk in
+    let content = disk.content c.scan.new.device in
+    let root = c.args.root.now in
+    let untold = c.scan.ensures.no_pages none in
+    let made = c.new-sieve.ensures in
+    let keys = keys_of c.in_ok-first_keys.first_keys.items in
+    let index =
+    index_of_none keys root content none
+    (length-map c.in_ok-first_keys.first_keys.items (λ key. key.items) ∙ c.in_ok-shelf.ensures.counted)
+    in
+    let shelves = c.in_ok-shelf.ensures.shelves [] index (λ some. absurd (omega (arith, some, none))) (holds_none root content none) in (
+      none_lying disk c.scan.new.device c.in_ok-shelf.shelf shelves,
+      c.in_ok-core.ensures.none (c.kept.ensures ∙ ap (λ (s : Sieve Chosen). s.kept.items) untold.2 ∙ made.kept)
+          (c.objects.ensures ∙ ap (λ (s : Sieve Chosen). s.objects) untold.2 ∙ made.objects),
+    )

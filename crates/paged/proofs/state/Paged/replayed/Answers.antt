@@ -1,0 +1,9 @@
+use Rattle.std.proofs.Common.{rules, ◌∙◌, ap, sym, ⊎_elim, inl, inr, Err}
+use Rattle.apicore.specs.declared.fault.RecoveryFault.TheVariants as RecoveryFault
+use Rattle.paged.proofs.state.Paged.replayed.Goals as goal
+
+pub returns-in_err-core-clause-damaged : goal.returns-in_err-core-clause-damaged
+returns-in_err-core-clause-damaged c base held shows known told writes written =
+    ⊎_elim (λ is. c.replayed.ensures.damaged base held shows known (inl (search rules)) writes written)
+    (λ is. c.replayed.ensures.damaged base held shows known (inr (search rules)) writes written)
+    told

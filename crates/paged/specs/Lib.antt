@@ -1,0 +1,4 @@
+pub mod Lying
+pub mod Paged
+pub mod Faults
+pub mod Chosen

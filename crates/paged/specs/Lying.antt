@@ -1,0 +1,33 @@
+-- What lies in the pages of a store's shelf.
+use Rattle.std.specs.Prelude.{Bool, not, List, []}
+use Rattle.device.specs.Disk.{Disk}
+use Rattle.names.specs.declared.resource.Resource.{Resource}
+use Rattle.names.specs.Key.{Key}
+use Rattle.documents.specs.Document.{Document}
+use Rattle.history.specs.declared.stored.Stored.{Stored}
+use Rattle.history.specs.View as seen
+use Rattle.matching.specs.Matching.{is_guarded}
+use Rattle.shelf.specs.declared.shelf.Shelf.{Shelf}
+use Rattle.base.specs.Base.{Lies}
+use Rattle.snapshots.specs.LyingBelow as snapshots
+use Rattle.apicore.specs.Beside.{Beside, spelled}
+use Rattle.paged.specs.declared.bare.Bare.{Bare}
+
+-- policies and bindings are held in memory
+abbrev pub is_rule : Resource → Bool
+is_rule r = not (is_guarded r)
+
+-- beside a document that lies in a page stands what it spells, and no plans
+abbrev pub made_bare : Bare → Document → Beside
+made_bare bare d = spelled d.json []
+
+abbrev pub held_bare : Bare → Resource → Bool
+held_bare bare r = is_rule r
+
+-- the objects of a view that lie in pages
+abbrev pub base_of : seen.View Beside → List (Key × Stored Beside)
+base_of held = snapshots.base_of (λ r. not (is_rule r)) held
+
+-- These objects lie in the pages of a shelf, with what their documents spell.
+abbrev pub LiesBelow : {D : Type 0} → (disk : Disk D) → D → Shelf → List (Key × Stored Beside) → Type 0
+LiesBelow disk device shelf base = (bare : Bare) → Lies made_bare held_bare disk device shelf bare base

@@ -1,0 +1,38 @@
+//! What is held beside a document that lies in a page.
+
+ghost use Rattle.std.specs.Prelude.{◌≡◌, not};
+ghost use Rattle.paged.specs.Lying.{made_bare, held_bare};
+
+use apicore::Beside;
+use base::FromDocument;
+use documents::Document;
+use matching::is_guarded;
+use names::Resource;
+use snapshots::Below;
+use std::alloc::{AllocError, Global};
+
+/// Beside a document that lies in a page stands what it spells, and no plans. Policies and bindings do not lie in pages: they are held in memory.
+#[derive(Drop)]
+pub struct Bare;
+
+impl FromDocument<Beside> for Bare {
+    ghost made = { made_bare };
+
+    ghost held = { held_bare };
+
+    fn make(&self, alloc: Global, document: &Document) -> Result<Beside, AllocError> {
+        Beside::of(alloc, document.json(), Vec::new(alloc))
+    }
+
+    fn is_held(&self, resource: Resource) -> bool {
+        !is_guarded(resource)
+    }
+}
+
+impl Below for Bare {
+    ghost lies = { λ bare resource. not (held_bare bare resource) };
+
+    fn lies(&self, resource: Resource) -> bool {
+        is_guarded(resource)
+    }
+}

@@ -1,0 +1,90 @@
+//! What of a checkpoint is held in memory from an opening on.
+
+ghost use Rattle.std.specs.Prelude.{◌≡◌, ◌∷◌, true, Contains, IfOk};
+ghost use Rattle.names.specs.Key.{Key as KeyData, key_bytes};
+ghost use Rattle.paged.specs.Chosen.{is_rule_number, is_rule_key, rules_among, is_chosen};
+
+use entries::Entry;
+use matching::is_guarded;
+use names::{Key, ResourceTable};
+use std::alloc::{AllocError, Global};
+use std::collections::BTreeSet;
+use stock::Choice;
+
+// The first byte of the key of an object's entry.
+const OBJECT: u8 = 1;
+
+// Whether the number is that of policies or of bindings.
+fn is_rule_number(number: u8) -> bool
+    ensures { result ≡ is_rule_number number }
+{
+    match ResourceTable::numbered(number) {
+        Some(resource) => !is_guarded(resource),
+        None => false,
+    }
+}
+
+// Whether the key is that of the entry of a policy or a binding.
+fn is_rule_key(key: &[u8]) -> bool
+    ensures { result ≡ is_rule_key key.now }
+{
+    let Some((mark, rest)) = key.split_first() else {
+        return false;
+    };
+    match rest.first() {
+        Some(number) => *mark == OBJECT && is_rule_number(*number),
+        None => false,
+    }
+}
+
+/// How many of the entries are those of policies and bindings.
+pub(crate) fn rules_among(entries: &[Entry]) -> usize
+    ensures { result ≡ rules_among entries.now }
+{
+    let mut count = 0;
+    for entry in entries {
+        if is_rule_key(entry.key()) {
+            count += 1;
+        }
+    }
+    count
+}
+
+// The key of an object's entry.
+fn entry_key(alloc: Global, key: &Key) -> Result<Vec<u8>, AllocError>
+    ensures { IfOk result (λ bytes. bytes.items ≡ 1 ∷ key_bytes key.now) }
+{
+    let mut bytes = Vec::new(alloc);
+    bytes.push(OBJECT)?;
+    bytes.extend_from_slice(&key.bytes(alloc)?)?;
+    Ok(bytes)
+}
+
+/// The policies and the bindings are held, and the objects under some keys, each of which is looked up in the order of their bytes.
+#[derive(Drop)]
+pub(crate) struct Chosen {
+    keys: BTreeSet<Vec<u8>>,
+}
+
+impl Chosen {
+    /// What stands under these keys, and the policies and the bindings.
+    pub(crate) fn of(alloc: Global, keys: &[Key]) -> Result<Chosen, AllocError>
+        ensures { IfOk result (λ chosen. (k : KeyData) → Contains keys.now k → is_chosen chosen (1 ∷ key_bytes k) ≡ true) }
+    {
+        let mut of_entries = BTreeSet::new(alloc);
+        for key in keys {
+            of_entries.insert(entry_key(alloc, key)?)?;
+        }
+        Ok(Chosen { keys: of_entries })
+    }
+}
+
+impl Choice for Chosen {
+    ghost use Rattle.paged.specs.Chosen.{is_chosen};
+
+    ghost chosen = { is_chosen };
+
+    fn holds(&self, key: &[u8]) -> bool {
+        is_rule_key(key) || self.keys.contains(key)
+    }
+}

@@ -1,0 +1,21 @@
+//! The objects of a store: those of its last checkpoint lie in pages, and what was put or removed since, policies and bindings are held in memory.
+//!
+//! ```text
+//! let paged = Paged::read(alloc, &mut device, rules, &root, &written_keys(alloc, &payloads)?)?.replayed(alloc, &payloads)?;
+//! let prepared = paged.prepare(alloc, &mut device, &request)?;
+//! paged.take(prepared.write);
+//! ```
+#![tactic(auto)]
+
+mod bare;
+mod chosen;
+mod compacting;
+mod fault;
+mod preparing;
+mod reading;
+mod state;
+
+pub use bare::Bare;
+pub use compacting::Next;
+pub use fault::ReadFault;
+pub use state::Paged;

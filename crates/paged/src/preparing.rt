@@ -1,0 +1,74 @@
+//! The step of a request, over the objects in pages.
+
+ghost use Rattle.std.specs.Prelude.{◌≡◌, ◌≤◌, ◌*◌, ◌⊎◌, List, length, IfOk, IsErrOf};
+ghost use Rattle.device.specs.Disk.{HasFailed};
+ghost use Rattle.device.specs.Step.{Same};
+ghost use Rattle.device.specs.Run.{Ran};
+ghost use Rattle.celtree.specs.Tree.{Expr};
+ghost use Rattle.names.specs.Key.{Key as KeyData};
+ghost use Rattle.objects.specs.declared.fault.LookupFault.TheVariants as LookupFault;
+ghost use Rattle.requests.specs.Request.{RequestHasForm};
+ghost use Rattle.requests.specs.RequestOf.{request_of};
+ghost use Rattle.history.specs.declared.stored.Stored.{Stored as StoredData};
+ghost use Rattle.history.specs.View as seen;
+ghost use Rattle.history.specs.View.{after_all};
+ghost use Rattle.holdings.specs.Holdings.{Shows, ShowsSame};
+ghost use Rattle.holdings.specs.Prepared.{AreNext, HasRoomFor, writes_of};
+ghost use Rattle.roots.specs.Root.{log_start};
+ghost use Rattle.expressions.specs.Specification.{Specification};
+ghost use Rattle.apicore.specs.Beside.{Beside as BesideData};
+ghost use Rattle.apicore.specs.Prepared.{IsPrepared, IsReadOf};
+ghost use Rattle.paged.specs.Paged.{Below, root_of};
+
+use crate::bare::Bare;
+use crate::state::Paged;
+use apicore::{Beside, Prepared, prepare};
+use base::Base;
+use device::Device;
+use holdings::PreparedWrite;
+use objects::LookupFault;
+use requests::Request;
+use std::alloc::Global;
+
+impl Paged {
+    /// Prepares the step of a request: takes all its memory, and leaves what is seen as it was, also where there is none. Of the pages it reads the one
+    /// that may have the request's key, those of what is listed, and those of the parameters that a verdict asks for.
+    ///
+    /// # Errors
+    ///
+    /// `Device` only where the device failed in this call; `Damaged` only where no objects lie in the pages; `Memory`.
+    pub fn prepare<D: Device>(
+        &mut self,
+        alloc: Global,
+        device: &mut D,
+        request: &Request,
+    ) -> Result<Prepared, LookupFault>
+        requires inside { D.disk.keeps device.old → 512 * log_start (root_of self.old) ≤ length (D.disk.content device.old) }
+        ensures rules { self.new.core.rules ≡ self.old.core.rules }
+        ensures revision { self.new.core.revision ≡ self.old.core.revision }
+        ensures root { root_of self.new ≡ root_of self.old }
+        ensures shows { ShowsSame self.old.core self.new.core }
+        ensures below { (base : List (KeyData × StoredData BesideData)) → Below D.disk device.old self.old base → Below D.disk device.new self.new base }
+        ensures step { IfOk result (IsPrepared (Below D.disk device.old self.old) self.old.core (request_of request.now)) }
+        ensures ready { IfOk result (λ p. HasRoomFor self.new.core p.write) }
+        ensures form { RequestHasForm (request_of request.now) }
+        ensures ran { Ran D.disk device.old device.new Same }
+        ensures device { IsErrOf result LookupFault.Device → HasFailed D.disk device.old device.new }
+        ensures read { IsErrOf result LookupFault.Device ⊎ IsErrOf result LookupFault.Damaged → (s : Specification Expr) × IsReadOf (request_of request.now) s }
+        ensures damaged { IsErrOf result LookupFault.Damaged → (base : List (KeyData × StoredData BesideData)) → Below D.disk device.old self.old base → ⊥ }
+    {
+        let mut base = Base::new(device, &mut self.shelf, Bare);
+        prepare(&mut self.core, alloc, &mut base, request)
+    }
+
+    /// Takes a prepared write, if there is one. This takes no memory, and looks nothing up.
+    pub fn take(&mut self, write: Option<PreparedWrite<Beside>>)
+        requires { HasRoomFor self.old.core write }
+        ensures rules { self.new.core.rules ≡ self.old.core.rules }
+        ensures shelf { self.new.shelf ≡ self.old.shelf }
+        ensures shows { (base : List (KeyData × StoredData BesideData)) (v : seen.View BesideData) → Shows self.old.core base v → AreNext v write
+            → Shows self.new.core base (after_all self.old.core.rules v (writes_of write)) }
+    {
+        self.core.take(write);
+    }
+}
