@@ -16,6 +16,7 @@ use Rattle.apicore.specs.Prepared.{IsReadOf}
 use Rattle.apicore.specs.Step.{Asked, writes, reply, accepted, replies}
 use Rattle.history.specs.Reply.{Reply, status}
 use Rattle.history.specs.View.{view, after_all}
+use Rattle.durable.specs.declared.fault.Damage.{Damage}
 use Rattle.durable.specs.declared.store.Store.{Store}
 use Rattle.durable.specs.Settled.{added, device_of, serves, ServesAt, IsSettledAt, IsLeftAt, LeavesSome, HasAnsweredAt, HasServedAs, HasServed, HasStopped}
 use Rattle.durable.proofs.Running.{found_first}
@@ -24,7 +25,7 @@ use Rattle.httpmsg.specs.Stream.{Message}
 use Rattle.routes.specs.Allow.{allow_of}
 use Rattle.routes.specs.Asked.{asked}
 use Rattle.api.specs.declared.fault.ServeFault.{ServeFault}
-use Rattle.api.specs.declared.fault.ServeFault.TheVariants.{Device, Failed}
+use Rattle.api.specs.declared.fault.ServeFault.TheVariants.{Device, Damaged, Failed}
 use Rattle.api.specs.ReplyBytes.{reply_bytes, closing_bytes}
 use Rattle.api.specs.AnswerBytes.{answers_bytes, CanAnswerAll}
 use Rattle.objects.specs.Failing.{HasGrown}
@@ -292,12 +293,13 @@ module _ {O D : Type 0} {g : Ghosts D} (rules : Rules) (took : O → O → List 
   -- how it stops the group
   pub front_stops : (n : ℕ) (requests : List Request) (fault : ServeFault) → requests ≡ map asked (take n ms) → 1 ≤ length ms → length ms ≤ group_limit
       → ShowsAt rules old v → (fault ≡ Device → (given : List Reply) × HasStopped old new requests given)
-      → (fault ≡ Device → (serves old ≡ true) × (serves new ≡ false)) → (fault ≡ Failed → (serves old ≡ false) × (new ≡ old))
-      → (fault ≡ Device) ⊎ (fault ≡ Failed) → Stops rules took failures o p old new v ms fault
-  front_stops n requests fault are some few shows stopped stops failed (inl now) =
+      → (fault ≡ Device → (serves old ≡ true) × (serves new ≡ false)) → ((d : Damage) → fault ≡ Damaged d → ⊥) → (fault ≡ Failed → (serves old ≡ false) × (new ≡ old))
+      → (fault ≡ Device) ⊎ (fault ≡ Failed) ⊎ ((d : Damage) × (fault ≡ Damaged d)) → Stops rules took failures o p old new v ms fault
+  front_stops n requests fault are some few shows stopped stops damaged failed (inl now) =
       let At : List Request → Type 0 = λ rs. HasStopped old new rs (stopped now).0 in
       let working : serves old ≡ true = (stops now).0 in
       subst (Stops rules took failures o p old new v ms) (sym now)
       (front_fails n (stopped now).0 few working (stops now).1 (shows working) (subst At are (stopped now).1))
-  front_stops n requests fault are some few shows stopped stops failed (inr before) =
+  front_stops n requests fault are some few shows stopped stops damaged failed (inr (inl before)) =
       subst (Stops rules took failures o p old new v ms) (sym before) (front_failed some (failed before).0 (failed before).1)
+  front_stops n requests fault are some few shows stopped stops damaged failed (inr (inr found)) = absurd (damaged found.0 found.1)

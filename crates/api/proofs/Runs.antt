@@ -397,7 +397,7 @@ causes_err i j k o p q d e f s t u fault input output device same all = record {
   read = λ is. grown_after i j k input (all.read (retyped fault Read is));
   write = λ is. grown_after o p q output (all.write (retyped fault Write is));
   device = λ is. grown_after d e f device (all.device (retyped fault Device is));
-  never_damaged = λ damage is. all.never_damaged damage (retyped fault (Damaged damage) is);
+  damaged = λ damage is. let found = all.damaged damage (retyped fault (Damaged damage) is) in (sym same ∙ found.0, found.1);
   failed = λ is. sym same ∙ all.failed (retyped fault Failed is);
   goes_on = tt;
 }

@@ -133,7 +133,7 @@ module _ {O D : Type 0} {g : Ghosts D} (rules : Rules) (took : O → O → List 
 
 -- ---- why answering ends early
 
--- how answering messages stops: only by the output or by the device, now or before
+-- how answering messages stops: only by the output or by the device, now or before; a store that shows a view finds no damage
 abbrev pub Stops : {O D : Type 0} {g : Ghosts D} → Rules → (O → O → List ℕ → Type 0) → (O → ℕ) → O → O → Store D g → Store D g
     → View → List Message → ServeFault → Type 0
 Stops rules took failures o p old new v ms ServeFaults.Read = ⊥
@@ -143,13 +143,14 @@ Stops rules took failures o p old new v ms ServeFaults.Memory = ⊥
 Stops rules took failures o p old new v ms (ServeFaults.Damaged damage) = ⊥
 Stops rules took failures o p old new v ms ServeFaults.Failed = MeetsFailure rules took o p old new failures v ms
 
--- The output's and the device's fault are answered only where theirs grew, and `Failed` only where the store had stopped.
+-- The output's and the device's fault are answered only where theirs grew, `Damaged` only where the store stopped, and `Failed` only where it had
+-- stopped before.
 pub record HasCauses {T : Type 0} (output_old output_new device_old device_new : ℕ) (serves_old serves_new : Bool) (result : Result T ServeFault) : Type 0 where
   pub output_later : output_old ≤ output_new
   pub device_later : device_old ≤ device_new
   pub write : IsErrOf result ServeFaults.Write → HasGrown output_old output_new
   pub device : IsErrOf result ServeFaults.Device → HasGrown device_old device_new
   pub never_read : result ≢ Err ServeFaults.Read
-  pub never_damaged : (damage : Damage) → result ≢ Err (ServeFaults.Damaged damage)
+  pub damaged : (damage : Damage) → IsErrOf result (ServeFaults.Damaged damage) → (serves_old ≡ true) × (serves_new ≡ false)
   pub failed : IsErrOf result ServeFaults.Failed → serves_old ≡ false
   pub goes_on : OnOk result (serves_new ≡ serves_old)

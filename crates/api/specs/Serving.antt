@@ -1,5 +1,5 @@
 -- What serving a connection leaves: the bytes read and written, and the store.
-use Rattle.std.specs.Prelude.{◌≡◌, ◌≢◌, ℕ, ◌≤◌, ◌⊎◌, List, [], ◌++◌, length, Bool, false, None, Result, Err, IsErrOf, OnOk}
+use Rattle.std.specs.Prelude.{◌≡◌, ℕ, ◌≤◌, ◌⊎◌, List, [], ◌++◌, length, Bool, true, false, None, Result, IsErrOf, OnOk}
 use Rattle.std.specs.List.{AllByRecursion}
 use Rattle.device.specs.declared.device.Device.{Ghosts}
 use Rattle.requests.specs.declared.refusal.Refusal.TheVariants.{OutOfMemory, StorageFailed}
@@ -97,7 +97,7 @@ module _ {D : Type 0} {g : Ghosts D} (rules : Rules) (old new : Store D g) (v : 
     pub text : written ≡ all_bytes rules v answered ++ closing_bytes false OutOfMemory
     pub store : HasApplied rules old new v answered
 
--- how serving stops
+-- how serving stops: a store that shows a view finds no damage
 abbrev pub HasStopped : {D : Type 0} {g : Ghosts D} → Rules → Store D g → Store D g → View → (output_old output_new : ℕ) → ServeFault → List ℕ → List ℕ → Type 0
 HasStopped rules old new v m n ServeFaults.Read read written = HasReadSome rules old new v read written
 HasStopped rules old new v m n ServeFaults.Write read written = HasWrittenSome rules old new v read written
@@ -115,7 +115,7 @@ pub record Exchanged {I O : Type 0} (gave : I → I → List ℕ → Type 0) (to
   pub took_them : took output_old output_new written
   pub holds : Holds read written
 
--- Each fault of a connection is answered only where what it names failed.
+-- Each fault of a connection is answered only where what it names failed, and `Damaged` only where the store stopped.
 pub record HasAllCauses {T : Type 0} (input_old input_new output_old output_new device_old device_new : ℕ) (serves_old serves_new : Bool) (result : Result T ServeFault) : Type 0 where
   pub input_later : input_old ≤ input_new
   pub output_later : output_old ≤ output_new
@@ -123,6 +123,6 @@ pub record HasAllCauses {T : Type 0} (input_old input_new output_old output_new 
   pub read : IsErrOf result ServeFaults.Read → HasGrown input_old input_new
   pub write : IsErrOf result ServeFaults.Write → HasGrown output_old output_new
   pub device : IsErrOf result ServeFaults.Device → HasGrown device_old device_new
-  pub never_damaged : (damage : Damage) → result ≢ Err (ServeFaults.Damaged damage)
+  pub damaged : (damage : Damage) → IsErrOf result (ServeFaults.Damaged damage) → (serves_old ≡ true) × (serves_new ≡ false)
   pub failed : IsErrOf result ServeFaults.Failed → serves_old ≡ false
   pub goes_on : OnOk result (serves_new ≡ serves_old)

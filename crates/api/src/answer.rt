@@ -8,6 +8,7 @@ ghost use Rattle.records.specs.Payload.{group_limit};
 ghost use Rattle.apicore.specs.Standing.{View};
 ghost use Rattle.history.specs.Reply.{Reply as ReplyData};
 ghost use Rattle.device.specs.Disk.{HasFailed};
+ghost use Rattle.durable.specs.declared.fault.Damage.{Damage};
 ghost use Rattle.durable.specs.Settled.{device_of, serves, ServesAt, HasServed, HasStopped};
 ghost use Rattle.routes.specs.Asked.{asked};
 ghost use Rattle.routes.specs.Allow.{allow_of};
@@ -103,8 +104,10 @@ fn replies_to<D: Device>(
     ensures goes_on { OnOk result (serves store.new ≡ serves store.old) }
     ensures stopped { IsErrOf result ServeFault.Device → (given : List ReplyData) × HasStopped store.old store.new (map request_of requests.now) given }
     ensures stops { IsErrOf result ServeFault.Device → (serves store.old ≡ true) × (serves store.new ≡ false) }
+    ensures damaged { (damage : Damage) → IsErrOf result (ServeFault.Damaged damage) → (rules : Rules) (v : View) → ServesAt rules store.old v → ⊥ }
+    ensures damaged_stops { (damage : Damage) → IsErrOf result (ServeFault.Damaged damage) → (serves store.old ≡ true) × (serves store.new ≡ false) }
     ensures failed { IsErrOf result ServeFault.Failed → (serves store.old ≡ false) × (store.new ≡ store.old) }
-    ensures refusal { IfErr result (λ fault. (fault ≡ ServeFault.Device) ⊎ (fault ≡ ServeFault.Failed)) }
+    ensures refusal { IfErr result (λ fault. (fault ≡ ServeFault.Device) ⊎ (fault ≡ ServeFault.Failed) ⊎ ((damage : Damage) × (fault ≡ ServeFault.Damaged damage))) }
     ensures cause { IsErrOf result ServeFault.Device → HasFailed D.disk (device_of store.old) (device_of store.new) }
     ensures count { D.disk.failures (device_of store.old) ≤ D.disk.failures (device_of store.new) }
 {
@@ -114,10 +117,9 @@ fn replies_to<D: Device>(
         // To the request behind those that were answered.
         Some(Fault::Memory) => Ok(replies),
         Some(Fault::Device) => Err(ServeFault::Device),
+        Some(Fault::Damaged(damage)) => Err(ServeFault::Damaged(damage)),
         Some(Fault::Failed) => Err(ServeFault::Failed),
-        Some(Fault::Damaged(_) | Fault::Exhausted) => {
-            unreachable!("requests find no damage and begin no generation")
-        }
+        Some(Fault::Exhausted) => unreachable!("requests begin no generation"),
     }
 }
 

@@ -1,6 +1,6 @@
 //! A connection, served.
 
-ghost use Rattle.std.specs.Prelude.{◌≡◌, ◌≢◌, ◌<◌, ◌⊎◌, [], length, false, None, IfOk, IsErrOf, MatchResult};
+ghost use Rattle.std.specs.Prelude.{◌≡◌, ◌≢◌, ◌<◌, ◌⊎◌, [], length, true, false, None, IfOk, IsErrOf, MatchResult};
 ghost use Rattle.names.specs.declared.format.Rules.{Rules};
 ghost use Rattle.apicore.specs.Standing.{View};
 ghost use Rattle.durable.specs.Settled.{device_of, serves};
@@ -67,9 +67,9 @@ fn serve_pieces<I: Input, O: Output, D: Device>(
 /// # Errors
 ///
 /// `Read` and `Write` where the input or the output failed: the store holds all that was applied. `Device` where the store's
-/// device failed, and `Failed` where it had failed before. `Memory` where it was refused before the first read, and then nothing
-/// changed, or to further bytes of the input. To a single message it is no fault: that message is refused, and the connection
-/// goes on.
+/// device failed, and `Failed` where it had failed before. `Damaged` where what was read of the store's device is damaged, and never of a
+/// store that shows a view. `Memory` where it was refused before the first read, and then nothing changed, or to further bytes of the
+/// input. To a single message it is no fault: that message is refused, and the connection goes on.
 pub fn serve<I: Input, O: Output, D: Device>(
     alloc: Global,
     input: &mut I,
@@ -93,7 +93,10 @@ pub fn serve<I: Input, O: Output, D: Device>(
         → ((input.new ≡ input.old) × (output.new ≡ output.old) × (store.new ≡ store.old))
         ⊎ Exchanged I.gave O.took input.old input.new output.old output.new (HasLackedMemory rules store.old store.new v) }
 
-    ensures never_damaged { (damage : DamageData) → result ≢ Err (ServeFault.Damaged damage) }
+    // Of no store that shows a view, and the store has stopped then.
+    ensures never_damaged { (rules : Rules) (v : View) → ShowsAt rules store.old v → (damage : DamageData) → result ≢ Err (ServeFault.Damaged damage) }
+    ensures damaged { (damage : DamageData) → IsErrOf result (ServeFault.Damaged damage) → (serves store.old ≡ true) × (serves store.new ≡ false) }
+
     ensures failed { IsErrOf result ServeFault.Failed → serves store.old ≡ false }
     ensures read_cause { IsErrOf result ServeFault.Read → HasGrown (I.failures input.old) (I.failures input.new) }
     ensures write_cause { IsErrOf result ServeFault.Write → HasGrown (O.failures output.old) (O.failures output.new) }

@@ -23,16 +23,19 @@ use Rattle.records.specs.Gathered.{Gathers, count_of}
 use Rattle.records.specs.declared.group.Group.{Group}
 use Rattle.apicore.specs.Beside.{Beside}
 use Rattle.apicore.specs.declared.prepared.Prepared.{Prepared}
-use Rattle.apicore.specs.Standing.{Write, History, View, IsView, MayFollow, AllMayFollow, write_with_plans, recorded}
+use Rattle.apicore.specs.Standing.{Write, History, View, IsView, MayFollow, AllMayFollow, with_plans, write_with_plans, recorded}
 use Rattle.apicore.specs.Step.{Asked, writes}
 use Rattle.apicore.specs.Prepared.{ShowsOver, IsReadOf, IsPrepared, plans_held}
 use Rattle.apicore.proofs.Following.{IsKeyOf, key_of_written, AllMayFollow-writes}
 use Rattle.apicore.proofs.Staying.{trees_stay, histories_show}
+use Rattle.snapshots.proofs.Shown.{held_as_it_is}
+use Rattle.paged.specs.Lying.{base_of}
+use Rattle.paged.proofs.Staying.{below_free}
 use Rattle.durable.specs.declared.store.Store.{Store}
 use Rattle.durable.specs.Ready.{HoldsHistory}
 use Rattle.durable.specs.Gathered.{in_record, prepared_in_record, CanBeAppended, HasStepped, StaysAs}
 use Rattle.durable.specs.Stands.{StandsFor}
-use Rattle.durable.specs.Settled.{ServesAt, IsSettledAt, IsShown, revision_of, device_of, serves, kept_rules}
+use Rattle.durable.specs.Settled.{ServesAt, IsSettledAt, IsShown, Holds, LiesUnder, LiesStill, revision_of, device_of, serves, kept_rules}
 use Rattle.durable.proofs.Showing.{shown_still, revision_shown, step_at, shown_then}
 
 -- ---- results
@@ -59,20 +62,43 @@ on_err (Err e) holds = holds
 pub view-after : (rules : Rules) (h : History) (ws : List Write) → after_all rules (view rules h) ws ≡ view rules (h ++ ws)
 view-after rules h ws = sym (after_all-append rules empty h ws)
 
--- a store shows what another one with its core shows
-pub shown_by : {D : Type 0} {g : Ghosts D} (old new : Store D g) (v : View) → new.core ≡ old.core → IsShown old v → IsShown new v
-shown_by old new v same is = let Shown : State Beside → Type 0 = λ core. ShowsOver core [] v in subst Shown (sym same) is
+-- a store shows what another one with its core shows, if what lay below lies there still
+pub shown_by : {D : Type 0} {g : Ghosts D} (old new : Store D g) (v : View) → new.paged.core ≡ old.paged.core → LiesStill old new → IsShown old v → IsShown new v
+shown_by old new v same still is =
+    let Shown : State Beside → Type 0 = λ core. ShowsOver core is.base v in
+    record { base = is.base; below = still is.base is.below; shows = subst Shown (sym same) is.shows }
+
+-- it holds the view, with the plans of its trees
+pub holds_shown : {D : Type 0} {g : Ghosts D} (store : Store D g) (v : View) → IsShown store v → Holds store (with_plans v)
+holds_shown store v is =
+    let Shown : seen.View Beside → Type 0 = λ held. holdings.Shows store.paged.core is.base held in
+    record { base = is.base; below = is.below; shows = subst Shown (sym (held_as_it_is is.shows.held) ∙ is.shows.plans) is.shows.shows }
+
+-- and shows it, where that lies in its pages of it which does not stay in memory
+pub shown_anew : {D : Type 0} {g : Ghosts D} (store : Store D g) (v : View) → LiesUnder store (base_of (with_plans v))
+    → holdings.Shows store.paged.core (base_of (with_plans v)) (with_plans v) → IsShown store v
+shown_anew {D} {g} store v below shows = record {
+  base = base_of (with_plans v);
+  below = below;
+  shows = record {
+    held = with_plans v;
+    shows = shows;
+    plans = held_as_it_is (with_plans v);
+    free = below_free g.disk store.paged (base_of (with_plans v)) (device_of store) below;
+  };
+}
 
 -- and has the revision of what it shows
 pub revision_is : {D : Type 0} {g : Ghosts D} (store : Store D g) (v : View) → IsShown store v → revision_of store ≡ v.revision
-revision_is store v is = revision_shown [] store.core v is
+revision_is store v is = revision_shown is.base store.paged.core v is.shows
 
 -- A store that serves, with the core of one that served this, serves this.
-pub serving_by : {D : Type 0} {g : Ghosts D} (old new : Store D g) → new.core ≡ old.core → serves new ≡ true → (rules : Rules) (v : View) → ServesAt rules old v → ServesAt rules new v
-serving_by old new same working rules v serving = record {
+pub serving_by : {D : Type 0} {g : Ghosts D} (old new : Store D g) → new.paged.core ≡ old.paged.core → LiesStill old new → serves new ≡ true
+    → (rules : Rules) (v : View) → ServesAt rules old v → ServesAt rules new v
+serving_by old new same still working rules v serving = record {
   working = working;
   rules_are = ap (λ (core : State Beside). core.rules) same ∙ serving.rules_are;
-  shows = shown_by old new v same serving.shows;
+  shows = shown_by old new v same still serving.shows;
   seen = serving.seen;
 }
 
@@ -81,13 +107,13 @@ pub held : {D : Type 0} {g : Ghosts D} (rules : Rules) (store : Store D g) (h : 
 held rules store h settled = record { keeps = settled.keeps; read = settled.read; left = settled.left }
 
 -- A store that shows what it showed is settled at the history that its device holds.
-pub settled_by : {D : Type 0} {g : Ghosts D} (rules : Rules) (old new : Store D g) (h : History) → IsSettledAt rules old h → new.core ≡ old.core → serves new ≡ true
-    → Stands g.disk (device_of old) (device_of new) (λ c. StandsFor rules c h) (λ c. StandsFor rules c h) → IsSettledAt rules new h
-settled_by rules old new h settled same working stands = record {
+pub settled_by : {D : Type 0} {g : Ghosts D} (rules : Rules) (old new : Store D g) (h : History) → IsSettledAt rules old h → new.paged.core ≡ old.paged.core → LiesStill old new
+    → serves new ≡ true → Stands g.disk (device_of old) (device_of new) (λ c. StandsFor rules c h) (λ c. StandsFor rules c h) → IsSettledAt rules new h
+settled_by rules old new h settled same still working stands = record {
   working = working;
   rules_are = ap (λ (core : State Beside). core.rules) same ∙ settled.rules_are;
   keeps = stands.kept;
-  shows = shown_by old new (view rules h) same settled.shows;
+  shows = shown_by old new (view rules h) same still settled.shows;
   read = stands.seen;
   left = stands.crash;
 }
@@ -172,41 +198,49 @@ appendable_of rules small v a asked are form read = record { follow = follow; st
 -- ---- a step of a request, whose writes are gathered
 
 -- A store that shows what it showed serves what it served.
-serving_still : {D : Type 0} {g : Ghosts D} (old new : Store D g) → serves new ≡ serves old → kept_rules new ≡ kept_rules old → ShowsSame old.core new.core
-    → (rules : Rules) (v : View) → ServesAt rules old v → ServesAt rules new v
-serving_still old new working kept same rules v serving = record {
-  working = working ∙ serving.working;
-  rules_are = kept ∙ serving.rules_are;
-  shows = shown_still [] old.core new.core v same serving.shows;
-  seen = serving.seen;
-}
+serving_still : {D : Type 0} {g : Ghosts D} (old new : Store D g) → serves new ≡ serves old → kept_rules new ≡ kept_rules old → ShowsSame old.paged.core new.paged.core
+    → LiesStill old new → (rules : Rules) (v : View) → ServesAt rules old v → ServesAt rules new v
+serving_still old new working kept same still rules v serving =
+    let is = serving.shows in
+    record {
+      working = working ∙ serving.working;
+      rules_are = kept ∙ serving.rules_are;
+      shows = record { base = is.base; below = still is.base is.below; shows = shown_still is.base old.paged.core new.paged.core v same is.shows };
+      seen = serving.seen;
+    }
 
 -- memory was refused to the step
-pub not_stepped : {D : Type 0} {g : Ghosts D} (old new : Store D g) (before now : Group) → serves new ≡ serves old → kept_rules new ≡ kept_rules old → ShowsSame old.core new.core
-    → ((ws : List (plain.Write (List ℕ))) → Gathers before ws → Gathers now ws) → count_of now ≡ count_of before → StaysAs old new before now
-not_stepped old new before now working kept same gathered counted =
-    record { serving = serving_still old new working kept same; gathered = gathered; counted = counted }
+pub not_stepped : {D : Type 0} {g : Ghosts D} (old new : Store D g) (before now : Group) → serves new ≡ serves old → kept_rules new ≡ kept_rules old → ShowsSame old.paged.core new.paged.core
+    → LiesStill old new → ((ws : List (plain.Write (List ℕ))) → Gathers before ws → Gathers now ws) → count_of now ≡ count_of before → StaysAs old new before now
+not_stepped old new before now working kept same still gathered counted =
+    record { serving = serving_still old new working kept same still; gathered = gathered; counted = counted }
 
 -- the step that was prepared is taken
-pub stepped : {D : Type 0} {g : Ghosts D} (old new : Store D g) (before now : Group) (r : Request) (p : Prepared) (holds : List (Key × Stored Beside) → Type 0) → holds []
-    → IsPrepared holds old.core r p → RequestHasForm r → serves new ≡ serves old → kept_rules new ≡ kept_rules old
-    → ((base : List (Key × Stored Beside)) (held : seen.View Beside) → holdings.Shows old.core base held → AreNext held p.write
-    → holdings.Shows new.core base (after_all (kept_rules old) held (writes_of p.write)))
+pub stepped : {D : Type 0} {g : Ghosts D} (old new : Store D g) (before now : Group) (r : Request) (p : Prepared)
+    → IsPrepared (LiesUnder old) old.paged.core r p → RequestHasForm r → serves new ≡ serves old → kept_rules new ≡ kept_rules old → LiesStill old new
+    → ((base : List (Key × Stored Beside)) (held : seen.View Beside) → holdings.Shows old.paged.core base held → AreNext held p.write
+    → holdings.Shows new.paged.core base (after_all (kept_rules old) held (writes_of p.write)))
     → ((ws : List (plain.Write (List ℕ))) → Gathers before ws → Gathers now (ws ++ prepared_in_record p.write)) → HasStepped old new before now r p.reply
-stepped old new before now r p holds below is form working kept taken gathered =
+stepped old new before now r p is form working kept still taken gathered =
     let a : Asked = record { request = r; specification = is.specification } in
     record {
       specification = is.specification;
       read = is.read;
       shown = λ rules v serving.
-          let step = step_at [] holds below old.core rules r p is serving.rules_are v serving.shows serving.seen in
+          let base = serving.shows.base in
+          let shown = serving.shows.shows in
+          let step = step_at base (LiesUnder old) serving.shows.below old.paged.core rules r p is serving.rules_are v shown serving.seen in
           let small = small_at rules old serving.rules_are in
           record {
             reply = step.reply;
             serving = record {
               working = working ∙ serving.working;
               rules_are = kept ∙ serving.rules_are;
-              shows = shown_then [] old.core new.core rules v a p serving.rules_are serving.shows step (taken []);
+              shows = record {
+                base = base;
+                below = still base serving.shows.below;
+                shows = shown_then base old.paged.core new.paged.core rules v a p serving.rules_are shown step (taken base);
+              };
               seen = seen_after rules small v a serving.seen form is.read;
             };
             appendable = appendable_of rules small v a p.write step.writes form is.read;

@@ -1,6 +1,8 @@
 -- What the writing of the next generation leaves of a history.
 use Rattle.std.proofs.Common.{arith, ◌≡◌, ◌∙◌, refl, sym, ap, subst, ◌+◌, ◌*◌, ◌⊎◌, inl, inr, ⊎_elim, ℕ, List, [], false, map, take, IsTrue}
 use Rattle.std.specs.FinMap.{is_sorted}
+use Rattle.std.proofs.Math.Logic.{∥∥₁_elim, ∥∥₁_prop}
+use Rattle.std.proofs.lemmas.Grind.{merely}
 use Rattle.device.specs.Disk.{Disk}
 use Rattle.device.specs.Step.{Same}
 use Rattle.device.specs.Run.{Ran, Stands}
@@ -17,12 +19,14 @@ use Rattle.gatelog.proofs.Logs.{inside, HoldsLog-stays}
 use Rattle.roots.specs.declared.root.Root.{Root}
 use Rattle.roots.specs.Root.{log_start, HoldsRoot}
 use Rattle.roots.specs.Install.{IsBefore, IsInUse}
+use Rattle.checkpoint.specs.Pages.{HoldsEntries}
 use Rattle.checkpoint.specs.Writing.{IsSource, IsWritten, IsBeforeOrWritten}
 use Rattle.roots.proofs.Chain.{stands_moments}
 use Rattle.names.specs.declared.format.Rules.{Rules}
 use Rattle.history.specs.View.{view}
-use Rattle.apicore.specs.Standing.{History, IsHistory}
-use Rattle.snapshots.specs.Keeping.{entries_of}
+use Rattle.apicore.specs.Standing.{History, IsHistory, View, with_plans}
+use Rattle.snapshots.specs.Keeping.{entries_of, held_entries}
+use Rattle.snapshots.proofs.Shown.{held_as_it_is, entries_shown}
 use Rattle.durable.specs.declared.fault.Damage.{Damage}
 use Rattle.durable.specs.declared.fault.Fault.TheVariants as fault
 use Rattle.durable.specs.Faults.{of_write_fault}
@@ -103,6 +107,23 @@ ready_in_use {D} disk device root log last is ready =
       durable = ready.settled.durable;
     })
 
+-- a root that is lent is the store's
+pub ready_at : {D : Type 0} (disk : Disk D) (device : D) (root lent : Root) (log : Log) → lent ≡ root → ∥ IsReady disk device root log ∥₁ → ∥ IsReady disk device lent log ∥₁
+ready_at disk device root lent log same ready = let Ready : Root → Type 0 = λ r. ∥ IsReady disk device r log ∥₁ in subst Ready (sym same) ready
+
+pub in_use_at : {D : Type 0} (disk : Disk D) (device : D) (root lent : Root) (log : Log) (last : ℕ) → lent ≡ root → last ≡ log.last → IsInUse disk device root log.last
+    → IsInUse disk device lent last
+in_use_at disk device root lent log last same end used =
+    let Used : Root → ℕ → Type 0 = λ r n. IsInUse disk device r n in
+    subst (λ r. Used r last) (sym same) (subst (Used root) (sym end) used)
+
+-- the entries that are written are those that are held of a view
+pub entries_written : (v : View) (content : List ℕ) (root : Root) (all : List Entry) → all ≡ entries_of v → HoldsEntries content root all
+    → HoldsEntries content root (held_entries (with_plans v))
+entries_written v content root all is holds =
+    let Holds : List Entry → Type 0 = λ es. HoldsEntries content root es in
+    subst Holds (is ∙ sym (entries_shown (with_plans v) v (held_as_it_is (with_plans v)))) holds
+
 -- entries in memory are a source, whatever the device holds
 pub list_source : (current : Root) (last : ℕ) (content : List ℕ) (list : EntryList) → IsTrue (is_sorted bytes_cmp (in_list list))
     → IsSource (λ (source : EntryList) (_ : List ℕ) (entries : List Entry). in_list source ≡ entries) (λ (_ : EntryList) (_ : ℕ). ⊥) current last content list (in_list list)
@@ -127,6 +148,12 @@ ready_same disk old new root log keeps run ready =
             ap (take (512 * log.last + 512)) was.2 ∙ ready.settled.durable was.0 was.1 ∙ ap (take (512 * log.last + 512)) (sym same);
       };
     }
+
+pub still_ready : {D : Type 0} (disk : Disk D) (old new : D) (root : Root) (log : Log) → Ran disk old new Same → (disk.keeps old → ∥ IsReady disk old root log ∥₁)
+    → disk.keeps new → ∥ IsReady disk new root log ∥₁
+still_ready disk old new root log run ready keeps =
+    let kept = run.had_kept keeps in
+    ∥∥₁_elim (ready kept) ∥∥₁_prop (λ r. merely (ready_same disk old new root log kept run r))
 
 -- a store that begins a generation is ready
 pub ready_anew : {D : Type 0} (disk : Disk D) (device : D) (root : Root) (log : Log) → log.start ≡ log_start root → log.last ≡ log_start root → log.failed ≡ false

@@ -1,5 +1,5 @@
 -- Whole lives: what an episode leaves, and one episode more.
-use Rattle.std.proofs.Common.{suc, arith, ◌≡◌, ◌∙◌, sym, ap, subst, refl, ◌+◌, ◌*◌, ◌++◌, ⊎_elim, inl, inr, ℕ, List, [], ◌∷◌, length, map, take, false, Option, Some, None, Result, Ok, Err, OnOk, IsErrOf, IfSome, ◌⊎◌, true≢false}
+use Rattle.std.proofs.Common.{suc, arith, ◌≡◌, ◌∙◌, sym, ap, subst, refl, ◌+◌, ◌*◌, ◌++◌, inl, inr, ℕ, List, [], ◌∷◌, length, map, take, false, Option, Some, None, Result, Ok, Err, OnOk, IsErrOf, IfSome, ◌⊎◌, true≢false}
 use Rattle.std.proofs.lemmas.List.{append-nil, append_assoc, take_all, length-map}
 use Rattle.std.specs.List.{AllByRecursion}
 use Rattle.device.specs.declared.device.Device.{Ghosts}
@@ -21,6 +21,7 @@ use Rattle.durable.specs.declared.fault.Fault.TheVariants as Faults
 use Rattle.durable.specs.declared.lives.Episode.{Episode}
 use Rattle.durable.specs.declared.lives.Found.{Found}
 use Rattle.durable.specs.declared.store.Store.{Store}
+use Rattle.durable.specs.Faults.{MayBeMet}
 use Rattle.durable.specs.Lives.{requests_of, IsEpisode, EpisodeLeaves, LivesFrom}
 use Rattle.durable.specs.Ready.{HoldsHistory}
 use Rattle.durable.specs.Settled.{added, device_of, serves, IsFound, IsSettledAt, IsLeftAt, HasServed, HasStopped}
@@ -82,6 +83,12 @@ length-replies rules v (a ∷ rest) = ap suc (length-replies rules (after_all ru
 admitted_first : (rules : Rules) (v : View) (ws us : List Write) → AreAdmitted rules v (ws ++ us) → AreAdmitted rules v ws
 admitted_first rules v [] us all = tt
 admitted_first rules v (w ∷ ws) us all = (all.0, admitted_first rules (after rules v w) ws us all.1)
+
+-- a fault that is neither want of memory nor damage is the device's
+device_only : (x : Fault) → (Some x ≡ Some Faults.Memory → ⊥) → ((d : Damage) → Some x ≡ Some (Faults.Damaged d) → ⊥) → MayBeMet x → x ≡ Faults.Device
+device_only x not_memory not_damaged (inl is) = is
+device_only x not_memory not_damaged (inr (inl is)) = absurd (not_memory (ap Some is))
+device_only x not_memory not_damaged (inr (inr found)) = absurd (not_damaged found.0 (ap Some found.1))
 
 -- A store that was settled at the history, then run, and then perhaps compacted.
 module _ {D : Type 0} {g : Ghosts D} (rules : Rules) (old mid new : Store D g) (h : History) (e : Episode) (f : Found) (settled : IsSettledAt rules old h)
@@ -145,28 +152,25 @@ module _ {D : Type 0} {g : Ghosts D} (rules : Rules) (old mid new : Store D g) (
         }
 
     -- whatever ended the run, but want of memory
-    pub episode_leaves : (fault : Option Fault) → (fault ≡ Some Faults.Memory → ⊥) → IfSome fault (λ x. (x ≡ Faults.Device) ⊎ (x ≡ Faults.Memory))
+    pub episode_leaves : (fault : Option Fault) → (fault ≡ Some Faults.Memory → ⊥) → ((d : Damage) → fault ≡ Some (Faults.Damaged d) → ⊥) → IfSome fault MayBeMet
         → (fault ≡ None → HasServed old mid (requests_of e) f.replies.items)
         → (fault ≡ Some Faults.Device → HasStopped old mid (requests_of e) f.replies.items) → EpisodeLeaves rules h e f c
-    episode_leaves None not_memory only all device = served_leaves (all refl)
-    episode_leaves (Some x) not_memory only all device = ⊎_elim (λ is. stopped_leaves (device (ap Some is))) (λ is. absurd (not_memory (ap Some is))) only
+    episode_leaves None not_memory not_damaged only all device = served_leaves (all refl)
+    episode_leaves (Some x) not_memory not_damaged only all device = stopped_leaves (device (ap Some (device_only x not_memory not_damaged only)))
 
   -- where memory is refused to the compaction, the device still stands for the history and some writes
-  pub episode_stands : (fault : Option Fault) → (fault ≡ Some Faults.Memory → ⊥) → IfSome fault (λ x. (x ≡ Faults.Device) ⊎ (x ≡ Faults.Memory))
+  pub episode_stands : (fault : Option Fault) → (fault ≡ Some Faults.Memory → ⊥) → ((d : Damage) → fault ≡ Some (Faults.Damaged d) → ⊥) → IfSome fault MayBeMet
       → (fault ≡ None → HasServed old mid (requests_of e) f.replies.items)
       → (fault ≡ Some Faults.Device → HasStopped old mid (requests_of e) f.replies.items)
       → (lasting : List Write) × StandsFor rules (g.disk.content (device_of new)) (h ++ lasting)
-  episode_stands None not_memory only all device =
+  episode_stands None not_memory not_damaged only all device =
       let served = all refl in
       (added rules h served.asked, (holds (h ++ added rules h served.asked) (served.settled rules h settled).settled).read)
-  episode_stands (Some x) not_memory only all device =
-      let Stands : Type 0 = (lasting : List Write) × StandsFor rules (g.disk.content (device_of new)) (h ++ lasting) in
-      let stopped : x ≡ Faults.Device → Stands = λ is.
-      let has = device (ap Some is) in
+  episode_stands (Some x) not_memory not_damaged only all device =
+      let has = device (ap Some (device_only x not_memory not_damaged only)) in
       let ended = (has.stopped rules h settled).left in
       let For : Store D g → Type 0 = λ s. StandsFor rules (g.disk.content (device_of s)) (h ++ (added rules h has.asked ++ ended.read.more)) in
-      (added rules h has.asked ++ ended.read.more, subst For (sym (stays ended.stopped)) ended.read.stands) in
-      ⊎_elim stopped (λ is. absurd (not_memory (ap Some is))) only
+      (added rules h has.asked ++ ended.read.more, subst For (sym (stays ended.stopped)) ended.read.stands)
 
 -- ---- episodes, up to where they lead
 

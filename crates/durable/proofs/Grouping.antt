@@ -1,11 +1,13 @@
 -- The writes of a group of requests: gathered one request after the other, and appended together.
-use Rattle.std.proofs.Common.{arith, ◌≡◌, ◌∙◌, sym, ap, subst, map, ◌≤◌, ◌<◌, ◌+◌, ◌++◌, ℕ, List, [], ◌∷◌, length, take, drop, refl, true, false, Option, Some, None, Result, Ok, Err, OnOk, OnErr, ◌⊎◌, inl, inr}
+use Rattle.std.proofs.Common.{arith, ◌≡◌, ◌∙◌, sym, ap, subst, map, ◌≤◌, ◌<◌, ◌+◌, ◌++◌, ℕ, List, [], ◌∷◌, length, take, drop, refl, Bool, true, false, true≢false, Option, Some, None, Result, Ok, Err, IsErrOf, ◌⊎◌, inl, inr}
 use Rattle.std.proofs.lemmas.List.{append-nil, append_assoc, length-append, length-take-le, map-append, take_all, take-append-drop}
 use Rattle.std.specs.List.{AllByRecursion}
 use Rattle.std.specs.Result.{result_err}
 use Rattle.device.specs.declared.device.Device.{Ghosts}
-use Rattle.device.specs.Disk.{Disk, LeavesOnly}
-use Rattle.device.specs.Run.{Stands}
+use Rattle.device.specs.Disk.{Disk}
+use Rattle.device.specs.Run.{Ran, Stands}
+use Rattle.device.specs.Step.{Same}
+use Rattle.device.proofs.Moments.{followed_by}
 use Rattle.device.proofs.Runs.{stands_now}
 use Rattle.names.specs.declared.format.Rules.{Rules}
 use Rattle.requests.specs.Request.{Request}
@@ -15,18 +17,25 @@ use Rattle.history.specs.View.{view, after_all}
 use Rattle.records.specs.Gathered.{Gathers, count_of}
 use Rattle.records.specs.Payload.{IsStorable, group_limit}
 use Rattle.records.specs.declared.group.Group.{Group}
+use Rattle.celtree.specs.Tree.{Expr}
+use Rattle.expressions.specs.Specification.{Specification}
+use Rattle.apicore.specs.Prepared.{IsReadOf}
 use Rattle.apicore.specs.Standing.{Write, History, View, write_with_plans, recorded}
 use Rattle.apicore.specs.Step.{Asked, writes, accepted, replies}
 use Rattle.apicore.proofs.Admitting.{written_admitted, accepted_admitted}
 use Rattle.apicore.proofs.Following.{AllMayFollow-append}
+use Rattle.durable.specs.declared.fault.Damage.{Damage}
 use Rattle.durable.specs.declared.fault.Fault.{Fault}
 use Rattle.durable.specs.declared.fault.Fault.TheVariants as Faults
 use Rattle.durable.specs.declared.store.Store.{Store}
+use Rattle.durable.specs.Faults.{MayBeMet}
 use Rattle.durable.specs.Ready.{HoldsHistory}
 use Rattle.durable.specs.Recorded.{IsGroup}
-use Rattle.durable.specs.Gathered.{in_record, CanBeAppended, HasStepped, StaysAs, HasGathered, HasGatheredMore, HasAnswered}
-use Rattle.durable.specs.Settled.{added, AreAsked, IsFound, ServesAt, IsSettledAt, IsLeftAt, LeavesSome, HasReplied, HasFailedAt, HasServed, HasStopped, device_of, serves}
-use Rattle.durable.proofs.Findings.{found_none, leaves-idle}
+use Rattle.durable.specs.Gathered.{in_record, CanBeAppended, HasStepped, StaysAs, HasGathered, HasGatheredMore, HasServedMore, HasStoppedIn, HasAnswered}
+use Rattle.paged.specs.declared.state.Paged.{Paged}
+use Rattle.durable.specs.Settled.{LiesStill, added, AreAsked, IsFound, ServesAt, IsSettledAt, IsLeftAt, LeavesSome, HasReplied, HasFailedAt, HasServed, HasStopped, device_of, serves}
+use Rattle.durable.proofs.Findings.{found_none}
+use Rattle.durable.proofs.Unwritten.{held_after, moments_read, left_read}
 use Rattle.durable.proofs.Answering.{held, serving_by, settled_from, settled_serves, settled_after}
 use Rattle.durable.proofs.Running.{accepted-append, replies-append, view_then, first_of}
 use Rattle.durable.proofs.Runs.{asked_then, run_none, run_then, run_stopped}
@@ -107,17 +116,29 @@ module _ {D : Type 0} {g : Ghosts D} (old mid new : Store D g) (before now : Gro
         };
   }
 
--- a store that serves what it served, over the same device, is settled as it was
-pub settled_still : {D : Type 0} {g : Ghosts D} (old new : Store D g) → device_of new ≡ device_of old → ((rules : Rules) (v : View) → ServesAt rules old v → ServesAt rules new v)
-    → ((c : List ℕ) → g.disk.keeps (device_of old) → g.disk.since (device_of old) (g.disk.moment (device_of old)) c → g.disk.left (device_of old) c)
+-- a store that serves what it served, and whose device was read at most, is settled as it was
+pub settled_still : {D : Type 0} {g : Ghosts D} (old new : Store D g) → Ran g.disk (device_of old) (device_of new) Same
+    → ((rules : Rules) (v : View) → ServesAt rules old v → ServesAt rules new v)
     → (rules : Rules) (h : History) → IsSettledAt rules old h → IsSettledAt rules new h × LeavesSome rules old new h []
-settled_still {D} {g} old new same serves only_now rules h settled =
-    let serving = serves rules (view rules h) (settled_serves rules old h settled) in
-    let Held : D → Type 0 = λ d. HoldsHistory rules g.disk d h in
-    let Leaves : D → Type 0 = λ d. LeavesOnly g.disk (device_of old) d (IsFound rules h [] []) in (
-      settled_from rules new h serving.working serving.rules_are serving.shows (subst Held (sym same) (held rules old h settled)),
-      subst Leaves (sym same) (leaves-idle rules old h [] (λ c since. only_now c settled.keeps since) settled),
+settled_still {D} {g} old new run serves rules h settled =
+    let serving = serves rules (view rules h) (settled_serves rules old h settled) in (
+      settled_from rules new h serving.working serving.rules_are serving.shows
+          (held_after g.disk rules h (device_of old) (device_of new) run (held rules old h settled)),
+      moments_read rules old new h [] run settled,
     )
+
+-- a device that failed while a request was read has the history, and none of its writes
+pub failed_reading : {D : Type 0} {g : Ghosts D} (old new : Store D g) (r : Request) → Ran g.disk (device_of old) (device_of new) Same
+    → (s : Specification Expr) → IsReadOf r s → serves new ≡ false → HasFailedAt old new r
+failed_reading old new r run s read stopped = record {
+  specification = s;
+  read = read;
+  untouched = λ rules v serving none. run;
+  left = λ rules h settled.
+      let ws : List Write = writes rules (view rules h) (record { request = r; specification = s }) in
+      (left_read rules old new h ws run settled stopped, moments_read rules old new h ws run settled);
+  admitted = λ rules v. written_admitted rules v r s;
+}
 
 -- ---- behind other replies
 
@@ -150,6 +171,34 @@ module _ {D : Type 0} {g : Ghosts D} (old mid new : Store D g) (was is : Group) 
     within = so_far.within;
     gathered = gathered_still old mid new was is (take (length so_far.more) all) so_far.more so_far.gathered stays;
   }
+
+  -- the device failed while the next request was read, and nothing is written
+  pub more_stopped : (r : Request) (i : ℕ) → length now ≡ length before + i → i < length all → length all ≤ group_limit → take (i + 1) all ≡ take i all ++ r ∷ []
+      → (s : Specification Expr) → IsReadOf r s → Ran g.disk (device_of old) (device_of new) Same → serves new ≡ false → HasStoppedIn old new all
+  more_stopped r i count inside few next s read run stops =
+      let a : Asked = record { request = r; specification = s } in
+      let failing : List Asked = so_far.gathered.asked ++ a ∷ [] in
+      let index : length so_far.more ≡ i = omega (arith, count, ap length so_far.pushed, length-append before so_far.more) in
+      let many : length failing ≡ i + 1 = omega (arith, index, so_far.gathered.one_each, length-append so_far.gathered.asked (a ∷ [])) in
+      let front : take (length so_far.more) all ++ r ∷ [] ≡ take (0 + length failing) all =
+      ap (λ (n : ℕ). take n all ++ r ∷ []) index ∙ sym next ∙ ap (λ (n : ℕ). take n all) (let same : i + 1 ≡ 0 + length failing = omega (arith, many) in same)
+      in
+      let Are : List Request → Type 0 = λ rs. AreAsked rs failing in
+      record {
+        stopped = record {
+          asked = [];
+          failing = failing;
+          some = omega (arith, many);
+          few = omega (arith, many, inside, few);
+          are = subst Are front
+              (asked_then (take (length so_far.more) all) (r ∷ []) so_far.gathered.asked (a ∷ []) so_far.gathered.are (record { are = refl; read = (read, tt) }));
+          shown = λ rules v serving. (refl, (λ none. run), accepted_admitted rules v failing);
+          stopped = λ rules h settled.
+              let ws : List Write = added rules h failing in
+              record { left = left_read rules old new h ws run settled stops; moments = moments_read rules old new h ws run settled };
+        };
+        within = omega (arith, many, inside);
+      }
 
 -- ---- what is gathered is appended
 
@@ -186,22 +235,28 @@ is_group rules v group ws has can some few = record {
   storable = can.storable;
 }
 
-module _ {D : Type 0} {g : Ghosts D} (old mid new : Store D g) (group : Group) (same : device_of mid ≡ device_of old) (core : new.core ≡ mid.core)
-    (stands : (rules : Rules) (h : History) (ws : List Write) → HoldsHistory rules g.disk (device_of mid) h → Gathers group (in_record ws)
+module _ {D : Type 0} {g : Ghosts D} (old mid new : Store D g) (group : Group) (run : Ran g.disk (device_of old) (device_of mid) Same) (same : new.paged ≡ mid.paged)
+    (still : LiesStill mid new) (stands : (rules : Rules) (h : History) (ws : List Write) → HoldsHistory rules g.disk (device_of mid) h → Gathers group (in_record ws)
     → CanBeAppended rules (view rules h) ws → Stands g.disk (device_of mid) (device_of new) (IsFound rules h [] ws) (IsFound rules h [] ws)) where
-  -- the device is as the store had it, so it holds what the store was settled at
+  -- the device was read at most, so it holds what the store was settled at
   pub still_held : (rules : Rules) (h : History) → IsSettledAt rules old h → HoldsHistory rules g.disk (device_of mid) h
-  still_held rules h settled = let Held : D → Type 0 = λ d. HoldsHistory rules g.disk d h in subst Held (sym same) (held rules old h settled)
+  still_held rules h settled = held_after g.disk rules h (device_of old) (device_of mid) run (held rules old h settled)
+
+  -- and where nothing was gathered, it was read at most then
+  pub read_still : new ≡ mid → Ran g.disk (device_of old) (device_of new) Same
+  read_still is =
+      let To : Store D g → Type 0 = λ x. Ran g.disk (device_of old) (device_of x) Same in
+      subst To (sym is) run
 
   -- a store that goes on serves what it served
   pub serving_then : serves new ≡ true → (rules : Rules) (v : View) → ServesAt rules mid v → ServesAt rules new v
-  serving_then working rules v serving = serving_by mid new core working rules v serving
+  serving_then working rules v serving = serving_by mid new (ap (λ (p : Paged). p.core) same) still working rules v serving
 
   module _ (rules : Rules) (h : History) (ws : List Write) (settled : IsSettledAt rules old h) (has : Gathers group (in_record ws)) (can : CanBeAppended rules (view rules h) ws) where
     pub appended_moments : LeavesSome rules old new h ws
     appended_moments =
-        let Leaves : D → Type 0 = λ d. LeavesOnly g.disk d (device_of new) (IsFound rules h [] ws) in
-        subst Leaves same (stands rules h ws (still_held rules h settled) has can).moments
+        followed_by g.disk (device_of old) (device_of mid) (device_of new) (IsFound rules h [] ws) (IsFound rules h [] ws) (IsFound rules h [] ws)
+        (moments_read rules old mid h ws run settled) (stands rules h ws (still_held rules h settled) has can).moments (λ c found. found) (λ c found. found)
 
     pub appended_settled : serves new ≡ true → HoldsHistory rules g.disk (device_of new) (h ++ ws) → ServesAt rules mid (after_all rules (view rules h) ws)
         → IsSettledAt rules new (h ++ ws)
@@ -229,7 +284,7 @@ module _ {D : Type 0} {g : Ghosts D} (old mid new : Store D g) (group : Group) (
             record {
               reply = at.reply;
               serving = serving_then working rules (after_all rules v (writes rules v a)) at.serving;
-              untouched = λ none. ap (λ (x : Store D g). device_of x) (nothing (nothing_counted group (writes rules v a) (at.gathered [] empty) none)) ∙ same;
+              untouched = λ none. read_still (nothing (nothing_counted group (writes rules v a) (at.gathered [] empty) none));
               admitted = written_admitted rules v r step.specification;
             };
         settled = λ rules h settled.
@@ -274,7 +329,7 @@ module _ {D : Type 0} {g : Ghosts D} (old mid new : Store D g) (group : Group) (
         record {
           serving = serving_then working rules (after_all rules v (accepted rules v gathered.asked)) at.serving;
           answered = at.answered;
-          untouched = λ none. ap (λ (x : Store D g). device_of x) (nothing (nothing_counted group (accepted rules v gathered.asked) at.gathered none)) ∙ same;
+          untouched = λ none. read_still (nothing (nothing_counted group (accepted rules v gathered.asked) at.gathered none));
           admitted = accepted_admitted rules v gathered.asked;
         };
     settled = λ rules h settled.
@@ -287,14 +342,14 @@ module _ {D : Type 0} {g : Ghosts D} (old mid new : Store D g) (group : Group) (
   }
 
   -- or the device failed, and none of it is answered
-  pub stopped : (rs all : List Request) (given : List Reply) (gathered : HasGathered old mid group rs given) → 1 ≤ count_of group → length given ≤ group_limit
-      → take (length gathered.asked) all ≡ rs → serves new ≡ false → (failed : HasStopped old new all []) × (length failed.failing ≡ length given)
-  stopped rs all given gathered some few first stops = (
-    record {
+  pub stopped : (rs all : List Request) (given : List Reply) (gathered : HasGathered old mid group rs given) → 1 ≤ count_of group → length given ≤ length all
+      → length all ≤ group_limit → take (length gathered.asked) all ≡ rs → serves new ≡ false → HasStoppedIn old new all
+  stopped rs all given gathered some within few first stops = record {
+    stopped = record {
       asked = [];
       failing = gathered.asked;
       some = omega (arith, some, gathered.few, gathered.one_each);
-      few = omega (arith, few, gathered.one_each);
+      few = omega (arith, within, few, gathered.one_each);
       are =
           let Are : List Request → Type 0 = λ xs. AreAsked xs gathered.asked in
           let First : ℕ → Type 0 = λ n. AreAsked (take n all) gathered.asked in
@@ -313,68 +368,63 @@ module _ {D : Type 0} {g : Ghosts D} (old mid new : Store D g) (group : Group) (
             left = appended_left rules h ws settled at.gathered at.appendable stops;
             moments = appended_moments rules h ws settled at.gathered at.appendable;
           };
-    },
-    sym gathered.one_each,
-  )
+    };
+    within = omega (arith, within, gathered.one_each);
+  }
 
 -- ---- what a group is answered
 
-pub none_is_no_device : (stop : Option Fault) → stop ≡ None → stop ≡ Some Faults.Device → ⊥
-none_is_no_device stop none device = let never : ◌≡◌ {A = Option Fault} None (Some Faults.Device) = sym none ∙ device in cc
+-- a fault that a result is
+pub fault_is : {T : Type 0} (r : Result T Fault) (fault : Fault) → result_err r ≡ Some fault → IsErrOf r fault
+fault_is (Ok x) fault is = cc
+fault_is (Err e) fault is = let same : e ≡ fault = cc in ap Err same
 
--- what holds on success, where there is no fault
-pub where_none : {T E : Type 0} (r : Result T E) (P : Type 0) → OnOk r P → result_err r ≡ None → P
-where_none (Ok x) P holds none = holds
-where_none (Err e) P holds none = cc
+-- a store that serves on met no fault but want of memory
+pub only_memory : (fault : Fault) (working : Bool) → working ≡ true → MayBeMet fault → (fault ≡ Faults.Device → working ≡ false)
+    → ((d : Damage) → fault ≡ Faults.Damaged d → working ≡ false) → fault ≡ Faults.Memory
+only_memory fault working serves (inl device) stops damaged = absurd (true≢false (sym serves ∙ stops device))
+only_memory fault working serves (inr (inl memory)) stops damaged = memory
+only_memory fault working serves (inr (inr found)) stops damaged = absurd (true≢false (sym serves ∙ damaged found.0 found.1))
 
--- a fault that is always memory is never the device's
-pub never_device : {T : Type 0} (r : Result T Fault) (stop : Option Fault) → stop ≡ result_err r → OnErr r (r ≡ Err Faults.Memory) → stop ≡ Some Faults.Device → ⊥
-never_device (Ok x) stop is memory device = let never : ◌≡◌ {A = Option Fault} None (Some Faults.Device) = sym is ∙ device in cc
-never_device (Err e) stop is memory device =
-    let one : e ≡ Faults.Memory = cc in
-    let other : e ≡ Faults.Device = let both : ◌≡◌ {A = Option Fault} (Some e) (Some Faults.Device) = sym is ∙ device in cc in
-    let never : Faults.Memory ≡ Faults.Device = sym one ∙ other in cc
+-- a fault of one result, seen from another
+pub retyped : {T S : Type 0} (fault other : Fault) → IsErrOf {T = S} (Err fault) other → IsErrOf {T = T} (Err fault) other
+retyped fault other is = let same : fault ≡ other = cc in ap Err same
 
 -- memory was refused before its first request
-pub answered_nothing : {D : Type 0} {g : Ghosts D} (store : Store D g) (rs : List Request) (before : List Reply)
+pub served_nothing : {D : Type 0} {g : Ghosts D} (store : Store D g) (rs : List Request) (before : List Reply)
     → ((c : List ℕ) → g.disk.keeps (device_of store) → g.disk.since (device_of store) (g.disk.moment (device_of store)) c → g.disk.left (device_of store) c)
-    → HasAnswered store store rs before before (Some Faults.Memory)
-answered_nothing store rs before only_now = record {
-  more = [];
-  pushed = sym (append-nil before);
-  within = omega arith;
-  all = λ none. cc;
-  served = λ not_device. run_none store only_now;
-  stopped = λ device. cc;
-}
+    → HasServedMore store store rs before before
+served_nothing store rs before only_now =
+    record { more = []; pushed = sym (append-nil before); within = omega arith; served = run_none store only_now }
 
-not_device : (fault : Fault) → fault ≡ Faults.Device → (◌≡◌ {A = Option Fault} (Some fault) None) ⊎ (◌≡◌ {A = Option Fault} (Some fault) (Some Faults.Memory)) → ⊥
-not_device fault is (inl none) = cc
-not_device fault is (inr memory) = let other : fault ≡ Faults.Memory = cc in let never : Faults.Device ≡ Faults.Memory = sym is ∙ other in cc
+-- what it gathered is on the device
+pub served_more : {D : Type 0} {g : Ghosts D} (old mid new : Store D g) (rs : List Request) (before now : List Reply) (group : Group)
+    → (gathered : HasGatheredMore old mid group rs before now) → HasServed old new (take (length gathered.more) rs) gathered.more → HasServedMore old new rs before now
+served_more old mid new rs before now group gathered served =
+    record { more = gathered.more; pushed = gathered.pushed; within = gathered.within; served = served }
 
-module _ {D : Type 0} {g : Ghosts D} (old mid new : Store D g) (rs : List Request) (before now : List Reply) (group : Group)
-    (gathered : HasGatheredMore old mid group rs before now) where
+module _ {D : Type 0} {g : Ghosts D} (old new : Store D g) (rs : List Request) (before : List Reply) (stop : Option Fault) where
   -- its replies are given
-  pub answered_group : (stop : Option Fault) → (stop ≡ None → length now ≡ length before + length rs) → (stop ≡ Some Faults.Device → ⊥)
-      → HasServed old new (take (length gathered.more) rs) gathered.more → HasAnswered old new rs before now stop
-  answered_group stop all not_device served = record {
-    more = gathered.more;
-    pushed = gathered.pushed;
-    within = gathered.within;
-    all = λ none. omega (arith, all none, ap length gathered.pushed, length-append before gathered.more);
-    served = λ is. served;
+  pub answered_group : (now : List Reply) → HasServedMore old new rs before now → (stop ≡ None → length now ≡ length before + length rs) → (stop ≡ Some Faults.Device → ⊥)
+      → HasAnswered old new rs before now stop
+  answered_group now served all not_device = record {
+    more = served.more;
+    pushed = served.pushed;
+    within = served.within;
+    all = λ none. omega (arith, all none, ap length served.pushed, length-append before served.more);
+    served = λ is. served.served;
     stopped = λ device. absurd (not_device device);
   }
 
-  -- or the device failed
-  pub failed_group : (fault : Fault) → fault ≡ Faults.Device → (failed : HasStopped old new rs []) → length failed.failing ≤ length rs → HasAnswered old new rs before before (Some fault)
-  failed_group fault is failed within = record {
+  -- or none is, where the store has stopped
+  pub stopped_group : ((stop ≡ None) ⊎ (stop ≡ Some Faults.Memory) → ⊥) → (stop ≡ Some Faults.Device → HasStoppedIn old new rs) → HasAnswered old new rs before before stop
+  stopped_group stops failed = record {
     more = [];
     pushed = sym (append-nil before);
     within = omega arith;
-    all = λ none. cc;
-    served = λ other. absurd (not_device fault is other);
-    stopped = λ device. (failed, omega (arith, within));
+    all = λ none. absurd (stops (inl none));
+    served = λ is. absurd (stops is);
+    stopped = λ device. let at = failed device in (at.stopped, omega (arith, at.within));
   }
 
 -- ---- one group after another

@@ -14,13 +14,14 @@ use Rattle.history.specs.History as plain
 use Rattle.history.specs.History.{put, delete}
 use Rattle.history.specs.View as seen
 use Rattle.history.specs.View.{view, after, after_all, empty}
+use Rattle.history.specs.declared.stored.Stored.{Stored}
 use Rattle.history.proofs.Mapping.{all_mapped, all_follow_mapped}
 use Rattle.history.specs.Mapped.{mapped}
 use Rattle.history.proofs.ViewLemmas.{after_all-append}
 use Rattle.holdings.specs.Holdings as holdings
 use Rattle.holdings.specs.Holdings.{State}
 use Rattle.apicore.specs.Beside.{Beside}
-use Rattle.apicore.specs.Prepared.{Shows, ShowsOver, plans_held}
+use Rattle.apicore.specs.Prepared.{Shows, ShowsOver, HasNoRules, plans_held}
 use Rattle.apicore.specs.Standing.{Write, History, View, PutsTrees, HasTrees, AllMayFollow, IsHistory, plans_beside, with_plans, write_with_plans}
 use Rattle.records.specs.Payload.{writes_in}
 use Rattle.apicore.specs.Written as written
@@ -41,7 +42,6 @@ use Rattle.names.specs.declared.format.Format.TheVariants.{First}
 use Rattle.names.specs.Format.{rules_of}
 use Rattle.durable.specs.Rules.{first_rules, AreOfFormat}
 use Rattle.durable.specs.Stands.{HoldsBase, StandsFor}
-use Rattle.durable.proofs.Showing.{no_rules}
 
 -- ---- with plans for trees
 
@@ -210,16 +210,17 @@ module _ (rules : Rules) (content : List ℕ) (h : History) (stands : StandsFor 
           subst Of (sym shown) (written_here payloads last log)
 
       -- and the store that took them shows the history
-      pub opened_shows : (core : State Beside) → HasReplayed rules held core payloads → ShowsOver core [] (view rules h)
-      opened_shows core replayed = record {
+      pub opened_shows : (below : List (Key × Stored Beside)) → HasNoRules below → (core : State Beside) → HasReplayed rules below held core payloads
+          → ShowsOver core below (view rules h)
+      opened_shows below free core replayed = record {
         held = replayed.now;
         shows = replayed.shows;
         plans = shows_here payloads last (mapped plans_held held) (mapped plans_held replayed.now) shown log (replayed.writes, replayed.written, replayed.left);
-        free = no_rules;
+        free = free;
       }
 
 -- what a store holds that took writes over what it held of a checkpoint
-pub replayed_holds : (rules : Rules) (held : seen.View Beside) (core : State Beside) (payloads : List (List ℕ)) → IsHeld rules held → HasReplayed rules held core payloads
+pub replayed_holds : (rules : Rules) (held : seen.View Beside) (core : State Beside) (payloads : List (List ℕ)) → IsHeld rules held → HasReplayed rules [] held core payloads
     → (now : seen.View Beside) × holdings.Shows core [] now × IsReplayed rules now
 replayed_holds rules held core payloads is replayed =
     let Held : seen.View Beside → Type 0 = λ v. IsHeld rules v in (

@@ -16,6 +16,7 @@ use Rattle.durable.specs.declared.store.Store.{Store}
 use Rattle.durable.specs.Stands.{StandsFor}
 use Rattle.durable.specs.Settled.{added, ServesAt, IsFound, IsSettledAt, IsLeftAt, LeavesSome, HasAnsweredAt, HasServedAs, HasStoppedAs, device_of}
 use Rattle.durable.proofs.Findings.{leaves-idle}
+use Rattle.durable.proofs.Unwritten.{idle, read_then}
 
 -- ---- what is found, for longer lists of writes
 
@@ -163,17 +164,22 @@ none_in_none rules v rs qs none =
     let us : List Write = accepted rules v rs in
     no_parts us (accepted rules (after_all rules v us) qs) (sym (accepted-append rules v rs qs) ∙ none)
 
-pub answered_none : {D : Type 0} {g : Ghosts D} (rules : Rules) (store : Store D g) (v : View) → ServesAt rules store v → HasAnsweredAt rules store store v [] []
-answered_none rules store v serving = record { serving = serving; answered = refl; untouched = λ none. refl; admitted = tt }
+pub answered_none : {D : Type 0} {g : Ghosts D} (rules : Rules) (store : Store D g) (v : View)
+    → ((c : List ℕ) → g.disk.keeps (device_of store) → g.disk.since (device_of store) (g.disk.moment (device_of store)) c → g.disk.left (device_of store) c)
+    → ServesAt rules store v → HasAnsweredAt rules store store v [] []
+answered_none {D} {g} rules store v only_now serving =
+    record { serving = serving; answered = refl; untouched = λ none. idle g.disk (device_of store) only_now; admitted = tt }
 
 -- requests more
 pub answered_then : {D : Type 0} {g : Ghosts D} (rules : Rules) (old mid new : Store D g) (v : View) (done more : List Asked) (given answers : List Reply)
     → HasAnsweredAt rules old mid v done given → HasAnsweredAt rules mid new (after_all rules v (accepted rules v done)) more answers
     → HasAnsweredAt rules old new v (done ++ more) (given ++ answers)
-answered_then rules old mid new v done more given answers so_far next = record {
+answered_then {D} {g} rules old mid new v done more given answers so_far next = record {
   serving = subst (ServesAt rules new) (sym (view_then rules v done more)) next.serving;
   answered = (λ i. so_far.answered i ++ next.answered i) ∙ sym (replies-append rules v done more);
-  untouched = λ none. let parts = none_in_none rules v done more none in next.untouched parts.1 ∙ so_far.untouched parts.0;
+  untouched = λ none.
+      let parts = none_in_none rules v done more none in
+      read_then g.disk (device_of old) (device_of mid) (device_of new) (so_far.untouched parts.0) (next.untouched parts.1);
   admitted = accepted_admitted rules v (done ++ more);
 }
 

@@ -11,6 +11,7 @@ use Rattle.apicore.specs.Prepared.{IsReadOf}
 use Rattle.apicore.proofs.Admitting.{accepted_admitted}
 use Rattle.durable.specs.declared.store.Store.{Store}
 use Rattle.durable.specs.Settled.{added, AreAsked, HasStoppedAs, HasServed, HasStopped, device_of}
+use Rattle.durable.proofs.Unwritten.{read_then}
 use Rattle.durable.proofs.Running.{served_none, served_then, stopped_then, replies-append, answered_none, answered_then, none_in_none, first_of}
 
 abbrev Read : Asked → Type 0
@@ -34,7 +35,7 @@ pub run_none : {D : Type 0} {g : Ghosts D} (store : Store D g)
 run_none store only_now = record {
   asked = [];
   are = record { are = refl; read = tt };
-  shown = λ rules v serving. answered_none rules store v serving;
+  shown = λ rules v serving. answered_none rules store v only_now serving;
   settled = λ rules h settled. served_none rules store h (λ c since. only_now c settled.keeps since) settled;
 }
 
@@ -79,7 +80,7 @@ module _ {D : Type 0} {g : Ghosts D} (old mid new : Store D g) (done : List Requ
               (λ i. before.answered i ++ further.0 i) ∙ sym (replies-append rules v so_far.asked next.asked),
               (λ none.
                   let parts = none_in_none rules v so_far.asked (next.asked ++ next.failing) (subst All (append_assoc so_far.asked next.asked next.failing) none) in
-                  further.1 parts.1 ∙ before.untouched parts.0),
+                  read_then g.disk (device_of old) (device_of mid) (device_of new) (before.untouched parts.0) (further.1 parts.1)),
               accepted_admitted rules v ((so_far.asked ++ next.asked) ++ next.failing),
             );
         stopped = λ rules h settled.

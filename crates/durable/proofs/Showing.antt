@@ -14,13 +14,9 @@ use Rattle.holdings.specs.Holdings.{State, ShowsSame}
 use Rattle.holdings.specs.Prepared.{writes_of, AreNext}
 use Rattle.apicore.specs.Beside.{Beside}
 use Rattle.apicore.specs.declared.prepared.Prepared.{Prepared}
-use Rattle.apicore.specs.Prepared.{Shows, HasNoRules, ShowsOver, IsStepOf, IsPrepared, plans_held}
+use Rattle.apicore.specs.Prepared.{Shows, ShowsOver, IsStepOf, IsPrepared, plans_held}
 use Rattle.apicore.specs.Standing.{Write, View, IsView, plans_beside, with_plans, write_with_plans}
 use Rattle.apicore.specs.Step.{Asked, writes}
-
--- where nothing lies below, no policy does and no binding
-pub no_rules : HasNoRules []
-no_rules = record { policies = λ key is none. refl; bindings = λ key is none. refl }
 
 -- what is shown after writes that are held with the plans of these
 shown_after : (rules : Rules) (held : seen.View Beside) (v : View) (ws : List (plain.Write Beside)) (us : List Write) → Shows held v

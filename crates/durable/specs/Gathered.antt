@@ -1,5 +1,5 @@
 -- A store that has taken the writes of a group of requests, before they are on its device.
-use Rattle.std.specs.Prelude.{◌≡◌, ◌≤◌, ◌+◌, ◌⊎◌, ℕ, List, ◌++◌, length, map, take, Option, Some, None}
+use Rattle.std.specs.Prelude.{◌≡◌, ◌≤◌, ◌+◌, ◌⊎◌, ℕ, List, [], ◌++◌, length, map, take, Option, Some, None}
 use Rattle.std.specs.List.{AllByRecursion}
 use Rattle.device.specs.declared.device.Device.{Ghosts}
 use Rattle.names.specs.declared.format.Rules.{Rules}
@@ -75,12 +75,24 @@ pub record HasGathered {D : Type 0} {g : Ghosts D} (old new : Store D g) (group 
   pub few : count_of group ≤ length given
   pub shown : (rules : Rules) (v : View) → ServesAt rules old v → HasGatheredAt rules new group v asked given
 
--- The first requests of a group, up to one to which memory was refused, are answered behind other replies.
+-- The first requests of a group, up to one to which memory was refused, are answered behind other replies, and nothing of it is on the device yet.
 pub record HasGatheredMore {D : Type 0} {g : Ghosts D} (old new : Store D g) (group : Group) (requests : List Request) (before now : List Reply) : Type 0 where
   pub more : List Reply
   pub pushed : now ≡ before ++ more
   pub within : length more ≤ length requests
   pub gathered : HasGathered old new group (take (length more) requests) more
+
+-- The first requests of a group, up to one to which memory was refused, are answered behind other replies, and what they write is on the device.
+pub record HasServedMore {D : Type 0} {g : Ghosts D} (old new : Store D g) (requests : List Request) (before now : List Reply) : Type 0 where
+  pub more : List Reply
+  pub pushed : now ≡ before ++ more
+  pub within : length more ≤ length requests
+  pub served : HasServed old new (take (length more) requests) more
+
+-- The device failed in a group, of which nothing is answered.
+pub record HasStoppedIn {D : Type 0} {g : Ghosts D} (old new : Store D g) (requests : List Request) : Type 0 where
+  pub stopped : HasStopped old new requests []
+  pub within : length stopped.failing ≤ length requests
 
 -- A group is answered behind other replies, up to a fault.
 pub record HasAnswered {D : Type 0} {g : Ghosts D} (old new : Store D g) (requests : List Request) (before now : List Reply) (stop : Option Fault) : Type 0 where

@@ -3,21 +3,25 @@ use Rattle.std.specs.Prelude.{◌≡◌, ◌≤◌, ◌+◌, ℕ, List, [], ◌+
 use Rattle.std.specs.List.{AllByRecursion}
 use Rattle.device.specs.declared.device.Device.{Ghosts}
 use Rattle.device.specs.Disk.{LeavesOnly}
+use Rattle.device.specs.Run.{Ran}
+use Rattle.device.specs.Step.{Same}
 use Rattle.gatelog.specs.declared.gate_log.Log.{Log}
 use Rattle.roots.specs.declared.root.Root.{Root}
 use Rattle.names.specs.declared.format.Rules.{Rules}
+use Rattle.names.specs.Key.{Key}
 use Rattle.requests.specs.Request.{Request}
 use Rattle.history.specs.Reply.{Reply}
 use Rattle.records.specs.Payload.{group_limit}
 use Rattle.history.specs.View as seen
 use Rattle.history.specs.View.{view, after_all}
-use Rattle.holdings.specs.Holdings as holdings
+use Rattle.history.specs.declared.stored.Stored.{Stored}
 use Rattle.celtree.specs.Tree.{Expr}
 use Rattle.expressions.specs.Specification.{Specification}
 use Rattle.apicore.specs.Beside.{Beside}
 use Rattle.apicore.specs.Standing.{Write, History, View, IsView, AreAdmitted}
 use Rattle.apicore.specs.Step.{Asked, writes, reply, accepted, replies}
-use Rattle.apicore.specs.Prepared.{ShowsOver, IsReadOf}
+use Rattle.apicore.specs.Prepared.{IsReadOf}
+use Rattle.paged.specs.Paged as paged
 use Rattle.durable.specs.declared.store.Store.{Store}
 use Rattle.durable.specs.Stands.{StandsFor}
 
@@ -42,29 +46,37 @@ module _ {D : Type 0} {g : Ghosts D} where
   abbrev pub device_of : Store D g → D
   device_of store = store.device
 
-  -- whether a store serves: it does until its device fails
+  -- whether a store serves: it does until its device fails, or damage is found
   abbrev pub serves : Store D g → Bool
   serves store = store.serves
 
   -- the numbers that a store keeps to
   abbrev pub kept_rules : Store D g → Rules
-  kept_rules store = store.core.rules
+  kept_rules store = store.paged.core.rules
+
+  -- these objects lie in its pages
+  abbrev pub LiesUnder : Store D g → List (Key × Stored Beside) → Type 0
+  LiesUnder store base = paged.Below g.disk (device_of store) store.paged base
+
+  -- what lies under one store lies under the other
+  abbrev pub LiesStill : (old new : Store D g) → Type 0
+  LiesStill old new = (base : List (Key × Stored Beside)) → LiesUnder old base → LiesUnder new base
 
   -- what a store holds of its objects, with their plans
   abbrev pub Holds : Store D g → seen.View Beside → Type 0
-  Holds store held = holdings.Shows store.core [] held
+  Holds store held = paged.Holds g.disk (device_of store) store.paged held
 
   -- it shows a view
   abbrev pub IsShown : Store D g → View → Type 0
-  IsShown store v = ShowsOver store.core [] v
+  IsShown store v = paged.IsShown g.disk (device_of store) store.paged v
 
   -- the revision that it shows
   abbrev pub revision_of : Store D g → ℕ
-  revision_of store = store.core.revision
+  revision_of store = store.paged.core.revision
 
   -- the root that counts on it
   abbrev pub root_of : Store D g → Root
-  root_of store = store.root
+  root_of store = paged.root_of store.paged
 
   -- the log behind the root's pages
   abbrev pub log_of : Store D g → Log
@@ -100,10 +112,11 @@ pub record IsLeftAt {D : Type 0} {g : Ghosts D} (rules : Rules) (store : Store D
 -- ---- one request
 
 -- A store that showed v has answered as the model does, serves, and shows what the request leaves. Its write was admitted just before it.
+-- Where there is none, the device was read at most.
 pub record HasReplyAt {D : Type 0} {g : Ghosts D} (rules : Rules) (old new : Store D g) (v : View) (a : Asked) (said : Reply) : Type 0 where
   pub reply : said ≡ reply rules v a
   pub serving : ServesAt rules new (after_all rules v (writes rules v a))
-  pub untouched : writes rules v a ≡ [] → device_of new ≡ device_of old
+  pub untouched : writes rules v a ≡ [] → Ran g.disk (device_of old) (device_of new) Same
   pub admitted : AreAdmitted rules v (writes rules v a)
 
 -- A store that was settled at the history is settled after the request.
@@ -125,7 +138,7 @@ pub record HasFailedAt {D : Type 0} {g : Ghosts D} (old new : Store D g) (r : Re
   pub specification : Specification Expr
   pub read : IsReadOf r specification
   pub untouched : (rules : Rules) (v : View) → ServesAt rules old v → writes rules v (record { request = r; specification = specification }) ≡ []
-      → device_of new ≡ device_of old
+      → Ran g.disk (device_of old) (device_of new) Same
   pub left : (rules : Rules) (h : History) → IsSettledAt rules old h
       → IsLeftAt rules new h [] (writes rules (view rules h) (record { request = r; specification = specification }))
       × LeavesSome rules old new h (writes rules (view rules h) (record { request = r; specification = specification }))
@@ -134,10 +147,11 @@ pub record HasFailedAt {D : Type 0} {g : Ghosts D} (old new : Store D g) (r : Re
 -- ---- requests, one after the other
 
 -- A store that showed v has answered as the model does, serves, and shows what the requests leave. Each write was admitted just before it.
+-- Where there is none, the device was read at most.
 pub record HasAnsweredAt {D : Type 0} {g : Ghosts D} (rules : Rules) (old new : Store D g) (v : View) (asked : List Asked) (given : List Reply) : Type 0 where
   pub serving : ServesAt rules new (after_all rules v (accepted rules v asked))
   pub answered : given ≡ replies rules v asked
-  pub untouched : accepted rules v asked ≡ [] → device_of new ≡ device_of old
+  pub untouched : accepted rules v asked ≡ [] → Ran g.disk (device_of old) (device_of new) Same
   pub admitted : AreAdmitted rules v (accepted rules v asked)
 
 -- A store that was settled at the history is settled after what was asked.
@@ -157,8 +171,8 @@ pub record HasStoppedAs {D : Type 0} {g : Ghosts D} (rules : Rules) (old new : S
   pub left : IsLeftAt rules new h (added rules h done) (added rules h all)
   pub moments : LeavesSome rules old new h (added rules h all)
 
--- A run from old has answered the first of these requests, and the device failed in the next, which stand in one record. Nothing was read
--- of those after them.
+-- A run from old has answered the first of these requests, and the device failed in the next, whose writes were to stand in one record. Nothing
+-- was read of those after them.
 pub record HasStopped {D : Type 0} {g : Ghosts D} (old new : Store D g) (requests : List Request) (given : List Reply) : Type 0 where
   pub asked : List Asked
   pub failing : List Asked
@@ -167,6 +181,6 @@ pub record HasStopped {D : Type 0} {g : Ghosts D} (old new : Store D g) (request
   pub are : AreAsked (take (length given + length failing) requests) (asked ++ failing)
   pub shown : (rules : Rules) (v : View) → ServesAt rules old v
       → (given ≡ replies rules v asked)
-      × (accepted rules v (asked ++ failing) ≡ [] → device_of new ≡ device_of old)
+      × (accepted rules v (asked ++ failing) ≡ [] → Ran g.disk (device_of old) (device_of new) Same)
       × AreAdmitted rules v (accepted rules v (asked ++ failing))
   pub stopped : (rules : Rules) (h : History) → IsSettledAt rules old h → HasStoppedAs rules old new h asked (asked ++ failing)

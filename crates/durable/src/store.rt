@@ -3,21 +3,21 @@ ghost use Rattle.checkpoint.specs.declared.writing.WriteFault.TheVariants as Wri
 ghost use Rattle.durable.specs.Rules.{AreOfFormat};
 ghost use Rattle.durable.specs.Opened.{IsReplayed};
 ghost use Rattle.durable.specs.Ready.{IsReady};
+ghost use Rattle.paged.specs.Paged.{root_of as paged_root};
 
 use crate::compacted::{Checked, Compacted};
 use crate::fault::{Damage, Fault};
 use crate::opening::synced_store;
-use crate::preparing::prepare_step;
 use crate::record::gather;
 use apicore::{Core, Prepared, has_own_plans};
-use checkpoint::{EntryList, WriteFault, write};
+use checkpoint::{WriteFault, Written, write};
 use device::{Device, MemDevice};
 use gatelog::{Body, Log};
 use history::Reply;
+use objects::LookupFault;
+use paged::{Next, Paged};
 use records::{GROUP_LIMIT, Group};
 use requests::Request;
-use roots::Root;
-use snapshots::entries_in;
 use std::alloc::Global;
 
 // Whether nothing was written where this is told.
@@ -31,14 +31,13 @@ fn changed_nothing(fault: WriteFault) -> bool
 #[derive(Drop)]
 pub struct Store<D: Device> {
     device: D,
-    core: Core,
-    root: Root,
+    paged: Paged,
     log: Log,
     serves: bool,
-    ghost limits: { core.rules.text_limit_bytes ≤ 2 ^ 24 },
+    ghost limits: { paged.core.rules.text_limit_bytes ≤ 2 ^ 24 },
     ghost in_data: { 8 ≤ log.start },
     ghost works: { serves ≡ true → log.failed ≡ false },
-    ghost ready: { serves ≡ true → D.disk.keeps device → ∥ IsReady D.disk device root log ∥₁ },
+    ghost ready: { serves ≡ true → D.disk.keeps device → ∥ IsReady D.disk device (paged_root paged) log ∥₁ },
 }
 
 impl<D: Device> Store<D> {
@@ -49,29 +48,39 @@ impl<D: Device> Store<D> {
     ghost use Rattle.device.specs.Step.{Same};
     ghost use Rattle.pages.specs.Page.{bytes_cmp};
     ghost use Rattle.checkpoint.specs.EntryList.{entries_of as in_list};
-    ghost use Rattle.snapshots.specs.Keeping.{entries_of};
+    ghost use Rattle.checkpoint.specs.Index.{keys_of};
+    ghost use Rattle.checkpoint.specs.Pages.{HoldsEntries, IsIndex, pages_of_root};
+    ghost use Rattle.snapshots.specs.Keeping.{entries_of, held_entries, IsHeld, IsKeepable};
     ghost use Rattle.gatelog.specs.Log.{HoldsLog};
     ghost use Rattle.gatelog.specs.Payload.{payload_of};
     ghost use Rattle.std.specs.Vec.{vec_capacity};
     ghost use Rattle.roots.specs.Root.{log_start, HoldsRoot};
     ghost use Rattle.names.specs.declared.format.Rules.{Rules};
+    ghost use Rattle.requests.specs.Request.{RequestHasForm};
     ghost use Rattle.requests.specs.RequestOf.{request_of};
     ghost use Rattle.history.specs.View as seen;
     ghost use Rattle.history.specs.View.{view};
+    ghost use Rattle.holdings.specs.Holdings.{Shows, ShowsSame};
+    ghost use Rattle.holdings.specs.Prepared.{HasRoomFor};
     ghost use Rattle.records.specs.Gathered.{Gathers, count_of};
     ghost use Rattle.records.specs.Payload.{group_limit};
+    ghost use Rattle.celtree.specs.Tree.{Expr};
+    ghost use Rattle.expressions.specs.Specification.{Specification};
     ghost use Rattle.apicore.specs.Beside.{Beside};
-    ghost use Rattle.apicore.specs.Standing.{Write, History, View, AllMayFollow};
+    ghost use Rattle.apicore.specs.Prepared.{IsReadOf, IsPrepared};
+    ghost use Rattle.apicore.specs.Standing.{Write, History, View, AllMayFollow, with_plans};
     ghost use Rattle.apicore.specs.Compiled.{HasOwnPlans};
+    ghost use Rattle.paged.specs.Lying.{base_of};
     ghost use Rattle.durable.specs.declared.fault.Damage.{Damage};
-    ghost use Rattle.durable.specs.declared.fault.Damage.TheVariants as Damage;
     ghost use Rattle.durable.specs.declared.fault.Fault.TheVariants as Fault;
+    ghost use Rattle.durable.specs.Faults.{MayBeMet};
     ghost use Rattle.durable.specs.Compacted.{IsToldOf, IsCheckOf};
     ghost use Rattle.durable.specs.Recorded.{payload, IsGroup};
-    ghost use Rattle.durable.specs.Gathered.{in_record, CanBeAppended, HasStepped, StaysAs, HasGatheredMore, HasAnswered};
+    ghost use Rattle.durable.specs.Gathered.{in_record, CanBeAppended, HasStepped, StaysAs, HasGatheredMore, HasServedMore, HasStoppedIn, HasAnswered};
     ghost use Rattle.durable.specs.Ready.{IsReadyAt, HoldsHistory};
     ghost use Rattle.durable.specs.Stands.{StandsFor};
-    ghost use Rattle.durable.specs.Settled.{device_of, root_of, log_of, serves, kept_rules, revision_of, Holds, ServesAt, IsFound, IsSettledAt, IsLeftAt, LeavesSome, HasReplied, HasFailedAt, HasServed, HasStopped};
+    ghost use Rattle.roots.specs.Install.{IsInUse};
+    ghost use Rattle.durable.specs.Settled.{device_of, root_of, log_of, serves, kept_rules, revision_of, LiesUnder, LiesStill, Holds, IsShown, ServesAt, IsFound, IsSettledAt, IsLeftAt, LeavesSome, HasReplied, HasFailedAt, HasServed, HasStopped};
 
     /// Opens the store on a device: syncs it, reads it, and writes nothing. With a refusal it gives the device back.
     ///
@@ -83,9 +92,10 @@ impl<D: Device> Store<D> {
             → IfOk result (λ store. IsSettledAt rules store h) }
         ensures serves { IfOk result (λ store. serves store ≡ true) }
 
-        // Whatever the device: it keeps to the numbers of a format, and shows what the writes that were read left, with their plans.
+        // Whatever the device: it keeps to the numbers of a format, and where the root that counts has no pages, it shows what the writes that were read
+        // left, with their plans.
         ensures rules { IfOk result (λ store. AreOfFormat (kept_rules store)) }
-        ensures replayed { IfOk result (λ store. (held : seen.View Beside) × Holds store held × IsReplayed (kept_rules store) held) }
+        ensures replayed { IfOk result (λ store. (root_of store).pages ≡ 0 → (held : seen.View Beside) × Holds store held × IsReplayed (kept_rules store) held) }
 
         // At every moment a crash leaves what it might have left before.
         ensures any_moment { D.disk.keeps device → IfOk result (λ store. LeavesOnly D.disk device (device_of store) (D.disk.left device)) }
@@ -104,8 +114,7 @@ impl<D: Device> Store<D> {
         match synced_store(alloc, &mut device) {
             Ok(opened) => Ok(Store {
                 device,
-                core: opened.core,
-                root: opened.root,
+                paged: opened.paged,
                 log: opened.log,
                 serves: true,
             }),
@@ -113,7 +122,7 @@ impl<D: Device> Store<D> {
         }
     }
 
-    /// Whether the store serves: it does until its device fails.
+    /// Whether the store serves: it does until its device fails, or damage is found.
     pub fn settled(&self) -> bool
         ensures { result ≡ serves self.now }
     {
@@ -125,7 +134,7 @@ impl<D: Device> Store<D> {
         ensures value { result ≡ revision_of self.now }
         ensures shown { (rules : Rules) (v : View) → ServesAt rules self.now v → result ≡ v.revision }
     {
-        self.core.revision()
+        self.paged.revision()
     }
 
     /// The device, to be opened again.
@@ -140,20 +149,26 @@ impl<D: Device> Store<D> {
     ///
     /// # Errors
     ///
-    /// `Device` only where the device failed in this call: the write may stand or not, and the store answers `Failed` from then
-    /// on. `Memory` changes nothing. `Failed` after a failure, with no call of the device.
+    /// `Device` only where the device failed in this call: the write may stand or not. `Damaged` where what was read of the device is damaged,
+    /// and never from a store that shows a view: nothing was written. From both on the store answers `Failed`. `Memory` changes nothing that is
+    /// shown or stored. `Failed` after a failure, with no call of the device.
     pub fn apply(&mut self, alloc: Global, request: &Request) -> Result<Reply, Fault>
         ensures ok { serves self.old ≡ true → IfOk result (HasReplied self.old self.new (request_of request.now)) }
         ensures device { IsErrOf result Fault.Device → HasFailedAt self.old self.new (request_of request.now) }
         ensures memory_serving { (rules : Rules) (v : View) → ServesAt rules self.old v → IsErrOf result Fault.Memory
-            → ServesAt rules self.new v × (device_of self.new ≡ device_of self.old) }
+            → ServesAt rules self.new v × Ran D.disk (device_of self.old) (device_of self.new) Same }
         ensures memory { (rules : Rules) (h : History) → IsSettledAt rules self.old h → IsErrOf result Fault.Memory
             → IsSettledAt rules self.new h × LeavesSome rules self.old self.new h [] }
 
-        ensures refusal { serves self.old ≡ true → OnErr result (IsErrOf result Fault.Device ⊎ IsErrOf result Fault.Memory) }
+        // Damage is found only where no view is shown, and nothing is written then.
+        ensures damaged { (damage : Damage) → IsErrOf result (Fault.Damaged damage) → (rules : Rules) (v : View) → ServesAt rules self.old v → ⊥ }
+        ensures damaged_ran { (damage : Damage) → IsErrOf result (Fault.Damaged damage) → Ran D.disk (device_of self.old) (device_of self.new) Same }
+
+        ensures refusal { serves self.old ≡ true → IfErr result MayBeMet }
         ensures failed { serves self.old ≡ false → IsErrOf result Fault.Failed × (self.new ≡ self.old) }
         ensures goes_on { OnOk result (serves self.new ≡ true) }
         ensures stops { IsErrOf result Fault.Device → serves self.new ≡ false }
+        ensures damaged_stops { (damage : Damage) → IsErrOf result (Fault.Damaged damage) → serves self.new ≡ false }
         ensures memory_goes_on { IsErrOf result Fault.Memory → serves self.new ≡ serves self.old }
         ensures cause { IsErrOf result Fault.Device → HasFailed D.disk (device_of self.old) (device_of self.new) }
         ensures count { D.disk.failures (device_of self.old) ≤ D.disk.failures (device_of self.new) }
@@ -167,20 +182,54 @@ impl<D: Device> Store<D> {
         Ok(reply)
     }
 
+    // Prepares the step of a request. Where the device fails, or what is read of it is damaged, the store serves no more.
+    fn prepare(&mut self, alloc: Global, request: &Request) -> Result<Prepared, Fault>
+        requires serves { serves self.old ≡ true }
+        ensures rules { kept_rules self.new ≡ kept_rules self.old }
+        ensures shows { ShowsSame self.old.paged.core self.new.paged.core }
+        ensures lies { LiesStill self.old self.new }
+        ensures step { IfOk result (IsPrepared (LiesUnder self.old) self.old.paged.core (request_of request.now)) }
+        ensures ready { IfOk result (λ p. HasRoomFor self.new.paged.core p.write) }
+        ensures form { RequestHasForm (request_of request.now) }
+        ensures device { Ran D.disk (device_of self.old) (device_of self.new) Same }
+        ensures read { IsErrOf result Fault.Device → (s : Specification Expr) × IsReadOf (request_of request.now) s }
+        ensures damaged { (damage : Damage) → IsErrOf result (Fault.Damaged damage) → (v : View) → IsShown self.old v → ⊥ }
+        ensures goes_on { OnOk result (serves self.new ≡ serves self.old) }
+        ensures memory_goes_on { IsErrOf result Fault.Memory → serves self.new ≡ serves self.old }
+        ensures stops { IsErrOf result Fault.Device → serves self.new ≡ false }
+        ensures damaged_stops { (damage : Damage) → IsErrOf result (Fault.Damaged damage) → serves self.new ≡ false }
+        ensures refusal { IfErr result MayBeMet }
+        ensures cause { IsErrOf result Fault.Device → HasFailed D.disk (device_of self.old) (device_of self.new) }
+    {
+        match self.paged.prepare(alloc, &mut self.device, request) {
+            Ok(prepared) => Ok(prepared),
+            Err(LookupFault::Memory) => Err(Fault::Memory),
+            Err(LookupFault::Device) => Err(self.stop_for(Fault::Device)),
+            Err(LookupFault::Damaged) => Err(self.stop_for(Fault::Damaged(Damage::Page))),
+        }
+    }
+
     // Takes the step of a request, behind those of its group, whose writes are gathered and not on the device yet.
     fn step(&mut self, alloc: Global, request: &Request, group: &mut Group) -> Result<Reply, Fault>
-        requires { count_of group.old < group_limit }
+        requires serves { serves self.old ≡ true }
+        requires few { count_of group.old < group_limit }
         ensures stepped { IfOk result (HasStepped self.old self.new group.old group.new (request_of request.now)) }
-        ensures stays { OnErr result (StaysAs self.old self.new group.old group.new) }
-        ensures device { device_of self.new ≡ device_of self.old }
-        ensures serves { serves self.new ≡ serves self.old }
-        ensures refusal { OnErr result (result ≡ Err Fault.Memory) }
+        ensures stays { IsErrOf result Fault.Memory → StaysAs self.old self.new group.old group.new }
+        ensures device { Ran D.disk (device_of self.old) (device_of self.new) Same }
+        ensures read { IsErrOf result Fault.Device → (s : Specification Expr) × IsReadOf (request_of request.now) s }
+        ensures damaged { (damage : Damage) → IsErrOf result (Fault.Damaged damage) → (rules : Rules) (v : View) → ServesAt rules self.old v → ⊥ }
+        ensures goes_on { OnOk result (serves self.new ≡ serves self.old) }
+        ensures memory_goes_on { IsErrOf result Fault.Memory → serves self.new ≡ serves self.old }
+        ensures stops { IsErrOf result Fault.Device → serves self.new ≡ false }
+        ensures damaged_stops { (damage : Damage) → IsErrOf result (Fault.Damaged damage) → serves self.new ≡ false }
+        ensures refusal { IfErr result MayBeMet }
+        ensures cause { IsErrOf result Fault.Device → HasFailed D.disk (device_of self.old) (device_of self.new) }
         ensures count { count_of group.new ≤ count_of group.old + 1 }
     {
-        let prepared = prepare_step(alloc, &mut self.core, request)?;
+        let prepared = self.prepare(alloc, request)?;
         gather(alloc, group, &prepared.write)?;
         let Prepared { reply, write } = prepared;
-        self.core.take(write);
+        self.paged.take(write);
         Ok(reply)
     }
 
@@ -188,7 +237,8 @@ impl<D: Device> Store<D> {
     fn append_group(&mut self, group: Group) -> Result<(), Fault>
         requires serves { serves self.old ≡ true }
         requires few { count_of group ≤ group_limit }
-        ensures core { self.new.core ≡ self.old.core }
+        ensures paged { self.new.paged ≡ self.old.paged }
+        ensures lies { LiesStill self.old self.new }
         ensures nothing { count_of group ≡ 0 → self.new ≡ self.old }
         ensures stands { (rules : Rules) (h : History) (ws : List Write) → HoldsHistory rules D.disk (device_of self.old) h → Gathers group (in_record ws)
             → CanBeAppended rules (view rules h) ws → Stands D.disk (device_of self.old) (device_of self.new) (IsFound rules h [] ws) (IsFound rules h [] ws) }
@@ -208,8 +258,8 @@ impl<D: Device> Store<D> {
     // Appends the record of a group of writes. After a failure the store serves no more.
     fn append(&mut self, body: Body) -> Result<(), Fault>
         requires { serves self.old ≡ true }
-        ensures core { self.new.core ≡ self.old.core }
-        ensures root { self.new.root ≡ self.old.root }
+        ensures paged { self.new.paged ≡ self.old.paged }
+        ensures lies { LiesStill self.old self.new }
         ensures stands { (rules : Rules) (h : History) (ws : List Write) → HoldsHistory rules D.disk (device_of self.old) h → AllMayFollow rules (view rules h) ws → IsGroup ws
             → payload_of body ≡ payload ws → Stands D.disk (device_of self.old) (device_of self.new) (IsFound rules h [] ws) (IsFound rules h [] ws) }
         ensures appended { (rules : Rules) (h : History) (ws : List Write) → HoldsHistory rules D.disk (device_of self.old) h → AllMayFollow rules (view rules h) ws → IsGroup ws
@@ -226,7 +276,7 @@ impl<D: Device> Store<D> {
         Ok(())
     }
 
-    // Takes the steps of a group's requests, up to one to which memory is refused.
+    // Takes the steps of a group's requests, up to one that meets a fault.
     fn gather_all(
         &mut self,
         alloc: Global,
@@ -234,15 +284,24 @@ impl<D: Device> Store<D> {
         group: &mut Group,
         replies: &mut Vec<Reply>,
     ) -> Result<(), Fault>
+        requires serves { serves self.old ≡ true }
         requires none { Gathers group.old [] }
         requires few { length requests.now ≤ group_limit }
         requires room { length replies.old.items + length requests.now ≤ vec_capacity replies.old }
-        ensures gathered { HasGatheredMore self.old self.new group.new (map request_of requests.now) replies.old.items replies.new.items }
+        ensures gathered { serves self.new ≡ true
+            → HasGatheredMore self.old self.new group.new (map request_of requests.now) replies.old.items replies.new.items }
+        ensures stopped { IsErrOf result Fault.Device → HasStoppedIn self.old self.new (map request_of requests.now) }
+        ensures damaged { (damage : Damage) → IsErrOf result (Fault.Damaged damage) → (rules : Rules) (v : View) → ServesAt rules self.old v → ⊥ }
+        ensures front { take (length replies.old.items) replies.new.items ≡ replies.old.items }
         ensures all { OnOk result (length replies.new.items ≡ length replies.old.items + length requests.now) }
         ensures room { vec_capacity replies.new ≡ vec_capacity replies.old }
-        ensures device { device_of self.new ≡ device_of self.old }
-        ensures serves { serves self.new ≡ serves self.old }
-        ensures refusal { OnErr result (result ≡ Err Fault.Memory) }
+        ensures device { Ran D.disk (device_of self.old) (device_of self.new) Same }
+        ensures goes_on { OnOk result (serves self.new ≡ true) }
+        ensures memory_goes_on { IsErrOf result Fault.Memory → serves self.new ≡ true }
+        ensures stops { IsErrOf result Fault.Device → serves self.new ≡ false }
+        ensures damaged_stops { (damage : Damage) → IsErrOf result (Fault.Damaged damage) → serves self.new ≡ false }
+        ensures refusal { IfErr result MayBeMet }
+        ensures cause { IsErrOf result Fault.Device → HasFailed D.disk (device_of self.old) (device_of self.new) }
     {
         for request in requests {
             match self.step(alloc, request, group) {
@@ -253,7 +312,45 @@ impl<D: Device> Store<D> {
         Ok(())
     }
 
-    // Answers the requests of a group, up to a fault. What the replies tell of is on the device; where that fails none is given.
+    // Takes the steps of a group's requests, up to one that meets a fault, and appends their writes while the store serves.
+    fn take_group(
+        &mut self,
+        alloc: Global,
+        requests: &[Request],
+        replies: &mut Vec<Reply>,
+    ) -> Option<Fault>
+        requires serves { serves self.old ≡ true }
+        requires few { length requests.now ≤ group_limit }
+        requires room { length replies.old.items + length requests.now ≤ vec_capacity replies.old }
+        ensures served { serves self.new ≡ true → HasServedMore self.old self.new (map request_of requests.now) replies.old.items replies.new.items }
+        ensures stopped { result ≡ Some Fault.Device → HasStoppedIn self.old self.new (map request_of requests.now) }
+        ensures damaged { (damage : Damage) → result ≡ Some (Fault.Damaged damage) → (rules : Rules) (v : View) → ServesAt rules self.old v → ⊥ }
+        ensures damaged_ran { (damage : Damage) → result ≡ Some (Fault.Damaged damage) → Ran D.disk (device_of self.old) (device_of self.new) Same }
+        ensures front { take (length replies.old.items) replies.new.items ≡ replies.old.items }
+        ensures all { result ≡ None → length replies.new.items ≡ length replies.old.items + length requests.now }
+        ensures room { vec_capacity replies.new ≡ vec_capacity replies.old }
+        ensures goes_on { (result ≡ None) ⊎ (result ≡ Some Fault.Memory) → serves self.new ≡ true }
+        ensures stops { result ≡ Some Fault.Device → serves self.new ≡ false }
+        ensures damaged_stops { (damage : Damage) → result ≡ Some (Fault.Damaged damage) → serves self.new ≡ false }
+        ensures refusal { IfSome result MayBeMet }
+        ensures cause { result ≡ Some Fault.Device → HasFailed D.disk (device_of self.old) (device_of self.new) }
+        ensures count { D.disk.failures (device_of self.old) ≤ D.disk.failures (device_of self.new) }
+    {
+        let mut group = match Group::new(alloc) {
+            Ok(group) => group,
+            Err(_) => return Some(Fault::Memory),
+        };
+        let gathered = self.gather_all(alloc, requests, &mut group, replies);
+        if !self.serves {
+            return gathered.err();
+        }
+        match self.append_group(group) {
+            Ok(()) => gathered.err(),
+            Err(fault) => Some(fault),
+        }
+    }
+
+    // Answers the requests of a group, up to a fault. What the replies tell of is on the device; where the store stops none is given.
     fn answer_group(
         &mut self,
         alloc: Global,
@@ -264,27 +361,24 @@ impl<D: Device> Store<D> {
         requires few { length requests.now ≤ group_limit }
         requires room { length replies.old.items + length requests.now ≤ vec_capacity replies.old }
         ensures answered { HasAnswered self.old self.new (map request_of requests.now) replies.old.items replies.new.items result }
+        ensures damaged { (damage : Damage) → result ≡ Some (Fault.Damaged damage) → (rules : Rules) (v : View) → ServesAt rules self.old v → ⊥ }
+        ensures damaged_ran { (damage : Damage) → result ≡ Some (Fault.Damaged damage) → Ran D.disk (device_of self.old) (device_of self.new) Same }
         ensures all { result ≡ None → length replies.new.items ≡ length replies.old.items + length requests.now }
         ensures room { vec_capacity replies.new ≡ vec_capacity replies.old }
-        ensures goes_on { result ≢ Some Fault.Device → serves self.new ≡ true }
+        ensures goes_on { (result ≡ None) ⊎ (result ≡ Some Fault.Memory) → serves self.new ≡ true }
         ensures stops { result ≡ Some Fault.Device → serves self.new ≡ false }
-        ensures refusal { IfSome result (λ fault. (fault ≡ Fault.Device) ⊎ (fault ≡ Fault.Memory)) }
+        ensures damaged_stops { (damage : Damage) → result ≡ Some (Fault.Damaged damage) → serves self.new ≡ false }
+        ensures refusal { IfSome result MayBeMet }
         ensures cause { result ≡ Some Fault.Device → HasFailed D.disk (device_of self.old) (device_of self.new) }
         ensures count { D.disk.failures (device_of self.old) ≤ D.disk.failures (device_of self.new) }
     {
         let before = replies.len();
-        let mut group = match Group::new(alloc) {
-            Ok(group) => group,
-            Err(_) => return Some(Fault::Memory),
-        };
-        let gathered = self.gather_all(alloc, requests, &mut group, replies);
-        match self.append_group(group) {
-            Ok(()) => gathered.err(),
-            Err(fault) => {
-                replies.truncate(before);
-                Some(fault)
-            }
+        let stop = self.take_group(alloc, requests, replies);
+        if self.serves {
+            return stop;
         }
+        replies.truncate(before);
+        stop
     }
 
     /// Answers requests in order, until a fault. The replies are those that were given before it.
@@ -303,10 +397,14 @@ impl<D: Device> Store<D> {
         ensures device { result.1 ≡ Some Fault.Device
             → HasStopped self.old self.new (map request_of requests.now) result.0.items }
 
-        ensures refusal { serves self.old ≡ true → IfSome result.1 (λ fault. (fault ≡ Fault.Device) ⊎ (fault ≡ Fault.Memory)) }
+        // Damage is found only where no view is shown.
+        ensures damaged { (damage : Damage) → result.1 ≡ Some (Fault.Damaged damage) → (rules : Rules) (v : View) → ServesAt rules self.old v → ⊥ }
+
+        ensures refusal { serves self.old ≡ true → IfSome result.1 MayBeMet }
         ensures failed { serves self.old ≡ false → (self.new ≡ self.old) × (result.0.items ≡ []) × (result.1 ≡ Some Fault.Failed) }
-        ensures goes_on { result.1 ≢ Some Fault.Device → serves self.new ≡ serves self.old }
+        ensures goes_on { (result.1 ≡ None) ⊎ (result.1 ≡ Some Fault.Memory) → serves self.new ≡ serves self.old }
         ensures stops { result.1 ≡ Some Fault.Device → serves self.new ≡ false }
+        ensures damaged_stops { (damage : Damage) → result.1 ≡ Some (Fault.Damaged damage) → serves self.new ≡ false }
         ensures cause { result.1 ≡ Some Fault.Device → HasFailed D.disk (device_of self.old) (device_of self.new) }
         ensures count { D.disk.failures (device_of self.old) ≤ D.disk.failures (device_of self.new) }
     {
@@ -333,11 +431,10 @@ impl<D: Device> Store<D> {
     /// # Errors
     ///
     /// `Memory`, and `Exhausted` only where the generation is 2^64 - 1: nothing changed. `Device` only where the device failed in this call: the
-    /// old generation counts or the new one, and the store answers `Failed` from then on. `Damaged` never from a store that shows the view
-    /// of a history. `Failed` after a failure, with no call of the device.
+    /// old generation counts or the new one, and the store answers `Failed` from then on. `Damaged` where what was read of the device is damaged,
+    /// never from a store that shows the view of a history, and it answers `Failed` from then on. `Failed` after a failure, with no call of the device.
     pub fn compact(&mut self, alloc: Global) -> Result<Compacted, Fault>
         ensures settled { (rules : Rules) (h : History) → IsSettledAt rules self.old h → OnOk result (IsSettledAt rules self.new h) }
-        ensures serving { (rules : Rules) (v : View) → ServesAt rules self.old v → OnOk result (ServesAt rules self.new v) }
 
         // The root that counts is the next one, and no record stands behind it.
         ensures counts { (rules : Rules) (h : History) → IsSettledAt rules self.old h
@@ -370,37 +467,74 @@ impl<D: Device> Store<D> {
         if !self.serves {
             return Err(Fault::Failed);
         }
-        let mut entries = entries_in(alloc, &self.core)?;
-        if !entries.ascends() {
-            return Err(self.stop_at(Damage::Entry));
-        }
-        self.write_next(alloc, &mut entries)
+        let next = self.next(alloc)?;
+        self.write_next(alloc, next)
     }
 
-    // Stops serving, for what was found damaged.
-    fn stop_at(&mut self, damage: Damage) -> Fault
-        ensures fault { result ≡ Fault.Damaged damage }
+    // Stops serving, for this fault.
+    fn stop_for(&mut self, fault: Fault) -> Fault
+        ensures fault { result ≡ fault }
+        ensures paged { self.new.paged ≡ self.old.paged }
         ensures device { device_of self.new ≡ device_of self.old }
         ensures stops { serves self.new ≡ false }
     {
         self.serves = false;
-        Fault::Damaged(damage)
+        fault
     }
 
-    // Writes ascending entries as the next generation. After a failure the store serves no more.
-    fn write_next(&mut self, alloc: Global, entries: &mut EntryList) -> Result<Compacted, Fault>
+    // What the next generation has. Where the device fails, or what is read of it is damaged, the store serves no more.
+    fn next(&mut self, alloc: Global) -> Result<Next, Fault>
         requires serves { serves self.old ≡ true }
-        requires ascending { IsTrue (is_sorted bytes_cmp (in_list entries.old)) }
-        ensures core { self.new.core ≡ self.old.core }
+        ensures entries { (v : View) → IsShown self.old v → IfOk result (λ n. in_list n.entries ≡ entries_of v) }
+        ensures ascending { IfOk result (λ n. IsTrue (is_sorted bytes_cmp (in_list n.entries))) }
+        ensures rules { IfOk result (λ n. n.core.rules ≡ kept_rules self.old) }
+        ensures held { (v : View) → IsShown self.old v → IsKeepable (kept_rules self.old) v
+            → IfOk result (λ n. Shows n.core (base_of (with_plans v)) (with_plans v)) }
+        ensures damaged { (damage : Damage) → IsErrOf result (Fault.Damaged damage) → (v : View) → IsShown self.old v → IsKeepable (kept_rules self.old) v → ⊥ }
+        ensures core { self.new.paged.core ≡ self.old.paged.core }
+        ensures root { root_of self.new ≡ root_of self.old }
+        ensures lies { LiesStill self.old self.new }
+        ensures device { Ran D.disk (device_of self.old) (device_of self.new) Same }
+        ensures goes_on { OnOk result (serves self.new ≡ true) }
+        ensures memory_goes_on { IsErrOf result Fault.Memory → serves self.new ≡ true }
+        ensures stops { IsErrOf result Fault.Device → serves self.new ≡ false }
+        ensures damaged_stops { (damage : Damage) → IsErrOf result (Fault.Damaged damage) → serves self.new ≡ false }
+        ensures refusal { IfErr result MayBeMet }
+        ensures cause { IsErrOf result Fault.Device → HasFailed D.disk (device_of self.old) (device_of self.new) }
+    {
+        let next = match self.paged.next(alloc, &mut self.device) {
+            Ok(next) => next,
+            Err(LookupFault::Memory) => return Err(Fault::Memory),
+            Err(LookupFault::Device) => return Err(self.stop_for(Fault::Device)),
+            Err(LookupFault::Damaged) => {
+                return Err(self.stop_for(Fault::Damaged(Damage::Entry)));
+            }
+        };
+        if !next.entries.ascends() {
+            return Err(self.stop_for(Fault::Damaged(Damage::Entry)));
+        }
+        Ok(next)
+    }
+
+    // Writes the next generation, whose entries ascend. After a failure the store serves no more.
+    fn write_next(&mut self, alloc: Global, next: Next) -> Result<Compacted, Fault>
+        requires serves { serves self.old ≡ true }
+        requires ascending { IsTrue (is_sorted bytes_cmp (in_list next.entries)) }
+        requires rules { next.core.rules ≡ kept_rules self.old }
+        ensures core { OnOk result (self.new.paged.core ≡ next.core) }
+        ensures lies { (rules : Rules) (v : View) → IsKeepable rules v → D.disk.keeps (device_of self.old)
+            → IsInUse D.disk (device_of self.old) (root_of self.old) (log_of self.old).last → in_list next.entries ≡ entries_of v
+            → OnOk result (LiesUnder self.new (base_of (with_plans v))) }
+        ensures paged { OnErr result (self.new.paged ≡ self.old.paged) }
         ensures stands { (rules : Rules) (h : History) → HoldsHistory rules D.disk (device_of self.old) h → revision_of self.old ≡ (view rules h).revision
-            → in_list entries.old ≡ entries_of (view rules h)
+            → in_list next.entries ≡ entries_of (view rules h)
             → Stands D.disk (device_of self.old) (device_of self.new) (λ c. StandsFor rules c h) (λ c. StandsFor rules c h) }
         ensures counts { (rules : Rules) (h : History) → HoldsHistory rules D.disk (device_of self.old) h → revision_of self.old ≡ (view rules h).revision
-            → in_list entries.old ≡ entries_of (view rules h)
+            → in_list next.entries ≡ entries_of (view rules h)
             → OnOk result (HoldsRoot (D.disk.content (device_of self.new)) (root_of self.new)
             × HoldsLog (log_start (root_of self.new)) [] (log_start (root_of self.new)) (D.disk.content (device_of self.new))) }
         ensures damaged { (rules : Rules) (h : History) (damage : Damage) → HoldsHistory rules D.disk (device_of self.old) h → revision_of self.old ≡ (view rules h).revision
-            → in_list entries.old ≡ entries_of (view rules h) → IsErrOf result (Fault.Damaged damage) → ⊥ }
+            → in_list next.entries ≡ entries_of (view rules h) → IsErrOf result (Fault.Damaged damage) → ⊥ }
         ensures next { OnOk result ((root_of self.new).generation ≡ (root_of self.old).generation + 1) }
         ensures empty { OnOk result (((log_of self.new).start ≡ log_start (root_of self.new)) × ((log_of self.new).last ≡ (log_of self.new).start)) }
         ensures told { IfOk result (IsToldOf (root_of self.new)) }
@@ -414,16 +548,17 @@ impl<D: Device> Store<D> {
         ensures count { D.disk.failures (device_of self.old) ≤ D.disk.failures (device_of self.new) }
     {
         self.serves = false;
-        let (last_gate, revision) = (self.log.last_gate(), self.core.revision());
+        let Next { mut entries, core } = next;
+        let (last_gate, revision) = (self.log.last_gate(), self.paged.revision());
         match write(
             alloc,
             &mut self.device,
-            &self.root,
+            self.paged.root(),
             last_gate,
             revision,
-            entries,
+            &mut entries,
         ) {
-            Ok(written) => Ok(self.start_over(written.root)),
+            Ok(written) => Ok(self.start_over(written, core)),
             Err(fault) => {
                 self.serves = changed_nothing(fault);
                 Err(Fault::from(fault))
@@ -431,20 +566,26 @@ impl<D: Device> Store<D> {
         }
     }
 
-    // Begins the generation of a root that counts, whose log is empty.
-    fn start_over(&mut self, root: Root) -> Compacted
-        requires in_data { 8 ≤ root.first }
-        requires room { log_start root < 2 ^ 54 }
-        requires in_use { D.disk.keeps (device_of self.old) → ∥ IsReadyAt D.disk (device_of self.old) root ∥₁ }
-        ensures core { self.new.core ≡ self.old.core }
+    // Begins the generation of a root that counts, whose log is empty, with what is held over its pages.
+    fn start_over(&mut self, written: Written, core: Core) -> Compacted
+        requires in_data { 8 ≤ written.root.first }
+        requires room { log_start written.root < 2 ^ 54 }
+        requires counted { length written.first_keys.items ≡ written.root.pages }
+        requires limits { core.rules.text_limit_bytes ≤ 2 ^ 24 }
+        requires in_use { D.disk.keeps (device_of self.old) → ∥ IsReadyAt D.disk (device_of self.old) written.root ∥₁ }
+        ensures core { self.new.paged.core ≡ core }
+        ensures lies { (rules : Rules) (held : seen.View Beside) → IsHeld rules held
+            → IsIndex (keys_of written.first_keys.items) (pages_of_root written.root (D.disk.content (device_of self.old))) → D.disk.keeps (device_of self.old)
+            → HoldsEntries (D.disk.content (device_of self.old)) written.root (held_entries held) → LiesUnder self.new (base_of held) }
         ensures device { device_of self.new ≡ device_of self.old }
-        ensures root { root_of self.new ≡ root }
-        ensures empty { ((log_of self.new).start ≡ log_start root) × ((log_of self.new).last ≡ log_start root) }
-        ensures told { IsToldOf root result }
+        ensures root { root_of self.new ≡ written.root }
+        ensures empty { ((log_of self.new).start ≡ log_start written.root) × ((log_of self.new).last ≡ log_start written.root) }
+        ensures told { IsToldOf written.root result }
         ensures serves { serves self.new ≡ true }
     {
+        let Written { root, first_keys } = written;
         self.log = Log::restart(&self.device, root.log_start());
-        self.root = root;
+        self.paged.start_over(&self.device, root, first_keys, core);
         self.serves = true;
         Compacted {
             generation: root.generation,
@@ -453,35 +594,44 @@ impl<D: Device> Store<D> {
         }
     }
 
-    /// Compares the plans of each policy with those of its expressions, which are read, typed and compiled again, and tells what the store has.
-    /// The device is not touched: opening has read all that counts on it.
+    /// Compares the plans of each policy with those of its expressions, which are read, typed and compiled again, reads each object that lies in the
+    /// pages, and tells what the store has. Nothing is written.
     ///
     /// # Errors
     ///
-    /// `Memory` changes nothing. `Damaged` where plans are not those of their expressions, and never from a store that shows the view of a
-    /// history; the store answers `Failed` from then on. `Failed` after a failure.
+    /// `Memory` changes nothing that is shown or stored. `Device` only where the device failed in this call. `Damaged` where plans are not those of
+    /// their expressions, or no objects lie in the pages, and never from a store that shows the view of a history. From both on the store answers
+    /// `Failed`. `Failed` after a failure, with no call of the device.
     pub fn check(&mut self, alloc: Global) -> Result<Checked, Fault>
         ensures told { (held : seen.View Beside) → Holds self.old held → IfOk result (IsCheckOf (root_of self.old) held) }
         ensures counted { (rules : Rules) (h : History) (settled : IsSettledAt rules self.old h)
             → IfOk result (λ c. c.generation ≡ settled.read.root.generation) }
         ensures plans { (held : seen.View Beside) → Holds self.old held → OnOk result (AllByRecursion HasOwnPlans held.objects) }
-        ensures unchanged { OnOk result (self.new ≡ self.old) }
-        ensures memory { IsErrOf result Fault.Memory → self.new ≡ self.old }
-        ensures device { device_of self.new ≡ device_of self.old }
-        ensures damaged { (damage : Damage) → IsErrOf result (Fault.Damaged damage) → (rules : Rules) (v : View) → ServesAt rules self.old v → ⊥ }
-        ensures refusal { serves self.old ≡ true → OnErr result (IsErrOf result Fault.Memory ⊎ IsErrOf result (Fault.Damaged Damage.Plan)) }
+
+        // What is shown stays, unless the store stops.
+        ensures serving { (rules : Rules) (v : View) → ServesAt rules self.old v → OnOk result (ServesAt rules self.new v) }
+        ensures memory { (rules : Rules) (v : View) → ServesAt rules self.old v → IsErrOf result Fault.Memory → ServesAt rules self.new v }
+        ensures settled { (rules : Rules) (h : History) → IsSettledAt rules self.old h → OnOk result (IsSettledAt rules self.new h) }
+
+        ensures device { Ran D.disk (device_of self.old) (device_of self.new) Same }
+        ensures damaged { (damage : Damage) → IsErrOf result (Fault.Damaged damage) → (rules : Rules) (v : View) → ServesAt rules self.old v → IsKeepable rules v → ⊥ }
+        ensures refusal { serves self.old ≡ true → IfErr result MayBeMet }
+        ensures stops { IsErrOf result Fault.Device → serves self.new ≡ false }
+        ensures damaged_stops { (damage : Damage) → IsErrOf result (Fault.Damaged damage) → serves self.new ≡ false }
+        ensures cause { IsErrOf result Fault.Device → HasFailed D.disk (device_of self.old) (device_of self.new) }
         ensures failed { serves self.old ≡ false → IsErrOf result Fault.Failed × (self.new ≡ self.old) }
     {
         if !self.serves {
             return Err(Fault::Failed);
         }
-        if !has_own_plans(alloc, &self.core)? {
-            return Err(self.stop_at(Damage::Plan));
+        self.next(alloc)?;
+        if !has_own_plans(alloc, self.paged.core())? {
+            return Err(self.stop_for(Fault::Damaged(Damage::Plan)));
         }
         Ok(Checked {
-            revision: self.core.revision(),
-            objects: self.core.object_count(),
-            generation: self.root.generation,
+            revision: self.paged.revision(),
+            objects: self.paged.core().object_count(),
+            generation: self.paged.root().generation,
         })
     }
 }
@@ -495,7 +645,7 @@ impl Store<MemDevice> {
     /// From the n-th device call from now on all fail; 0 asks for none.
     pub(crate) fn stop_on(&mut self, n: u64)
         ensures asked { memory (device_of self.new) ≡ record (memory (device_of self.old)) { script = record (device_of self.old).script { stop_in = n } } }
-        ensures core { self.new.core ≡ self.old.core }
+        ensures paged { self.new.paged ≡ self.old.paged }
         ensures settled { (rules : Rules) (h : History) → IsSettledAt rules self.old h → IsSettledAt rules self.new h }
     {
         self.device.stop_on(n);

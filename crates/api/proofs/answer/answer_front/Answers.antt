@@ -75,4 +75,5 @@ returns-clause-outcome g c rules v shows =
     (g.O.Output.failures c.args.output.now) (g.O.Output.failures c.write_storage_failed.new.output) c.write_storage_failed.ensures.writes c.write_storage_failed.ensures.cause)
     (length c.route_front-front.result.requests.items) (map request_of c.deref.result.now) c.in-Err.fault
     (ap (map request_of) c.deref.ensures.value ∙ c.route_front-front.ensures.requests) c.requires.some c.requires.few shows
-    (λ is. c.in-Err.ensures.stopped (ap Err is)) (λ is. c.in-Err.ensures.stops (ap Err is)) (λ is. c.in-Err.ensures.failed (ap Err is)) c.in-Err.ensures.refusal
+    (λ is. c.in-Err.ensures.stopped (ap Err is)) (λ is. c.in-Err.ensures.stops (ap Err is))
+    (λ damage is. c.in-Err.ensures.damaged damage (ap Err is) rules v (shows (c.in-Err.ensures.damaged_stops damage (ap Err is)).0)) (λ is. c.in-Err.ensures.failed (ap Err is)) c.in-Err.ensures.refusal

@@ -1,5 +1,5 @@
 use Rattle.std.proofs.Common.{inr, ⊎_elim}
-use Rattle.api.specs.declared.fault.ServeFault.TheVariants.{Read, Write, Device, Memory, Failed}
+use Rattle.api.specs.declared.fault.ServeFault.TheVariants.{Read, Write, Device, Memory, Damaged, Failed}
 use Rattle.api.proofs.Runs.{at_ok, at_error}
 use Rattle.api.proofs.connection.serve.Goals as goal
 
@@ -21,4 +21,5 @@ pub returns-clause-memory : goal.returns-clause-memory
 returns-clause-memory g c rules v shows is = inr (at_error c.serve_pieces.result _ _ Memory (c.serve_pieces.ensures.outcome rules v shows) is)
 
 pub returns-clause-never_damaged : goal.returns-clause-never_damaged
-returns-clause-never_damaged g c damage is = c.serve_pieces.ensures.causes.never_damaged damage is
+returns-clause-never_damaged g c rules v shows damage is =
+    (at_error c.serve_pieces.result _ _ (Damaged damage) (c.serve_pieces.ensures.outcome rules v shows) is).holds

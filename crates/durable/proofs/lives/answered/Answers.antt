@@ -21,7 +21,8 @@ returns-in_err-compact_where-clause-memory c rules h settled =
     on_err c.from_residual.result
     (episode_stands rules c.stop_on.new.self c.run-replies.new.self c.compact_where.new.store h c.args.episode.now
     (record { revision = c.revision-revision.result; replies = c.run-replies.result.0 }) opened (λ x. c.compact_where.ensures.held rules x) c.compact_where.ensures.stopped
-    c.run-replies.result.1 (λ is. true≢false (sym (c.is_memory.ensures.1 is) ∙ c.if-is_memory.false)) (c.run-replies.ensures.refusal opened.working)
+    c.run-replies.result.1 (λ is. true≢false (sym (c.is_memory.ensures.1 is) ∙ c.if-is_memory.false))
+    (λ damage is. c.run-replies.ensures.damaged damage is rules (view rules h) (settled_serves rules c.stop_on.new.self h opened)) (c.run-replies.ensures.refusal opened.working)
     (λ none. subst Served (ap (map request_of) c.deref.ensures.value) (c.run-replies.ensures.all none))
     (λ device. subst Stopped (ap (map request_of) c.deref.ensures.value) (c.run-replies.ensures.device device)))
 
@@ -34,6 +35,7 @@ returns-clause-lived c rules h settled content left =
     episode_leaves rules c.stop_on.new.self c.run-replies.new.self c.compact_where.new.store h c.args.episode.now
     (record { revision = c.revision-revision.result; replies = c.run-replies.result.0 }) opened (λ x. c.compact_where.ensures.held rules x) c.compact_where.ensures.stopped
     (c.revision-revision.ensures.shown rules (view rules h) (settled_serves rules c.stop_on.new.self h opened)) content left
-    c.run-replies.result.1 (λ is. true≢false (sym (c.is_memory.ensures.1 is) ∙ c.if-is_memory.false)) (c.run-replies.ensures.refusal opened.working)
+    c.run-replies.result.1 (λ is. true≢false (sym (c.is_memory.ensures.1 is) ∙ c.if-is_memory.false))
+    (λ damage is. c.run-replies.ensures.damaged damage is rules (view rules h) (settled_serves rules c.stop_on.new.self h opened)) (c.run-replies.ensures.refusal opened.working)
     (λ none. subst Served (ap (map request_of) c.deref.ensures.value) (c.run-replies.ensures.all none))
     (λ device. subst Stopped (ap (map request_of) c.deref.ensures.value) (c.run-replies.ensures.device device))

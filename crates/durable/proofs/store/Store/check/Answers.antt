@@ -1,17 +1,35 @@
-use Rattle.std.proofs.Common.{◌∙◌, ap, refl, []}
+use Rattle.std.proofs.Common.{◌≡◌, ◌∙◌, ap, sym, subst, refl}
 use Rattle.roots.specs.declared.root.Root.{Root}
+use Rattle.holdings.specs.Holdings.{State, Shows}
+use Rattle.apicore.specs.Beside.{Beside}
+use Rattle.apicore.specs.Prepared.{ShowsOver}
+use Rattle.paged.proofs.Owning.{below_own}
+use Rattle.durable.specs.Settled.{root_of}
 use Rattle.durable.proofs.Keeping.{root_is}
+use Rattle.durable.proofs.Renewing.{settled_between}
 use Rattle.durable.proofs.store.Store.check.Goals as goal
 
-pub returns-clause-told : goal.returns-clause-told
-returns-clause-told g c held holds = record {
-  revision = c.revision.ensures ∙ holds.revision;
-  objects = c.object_count.ensures [] held holds;
-  generation = refl;
-}
+pub returns-then-not-branch-clause-damaged : goal.returns-then-not-branch-clause-damaged
+returns-then-not-branch-clause-damaged g c damage told rules v serving keepable =
+    let same : c.core.result.now ≡ c.args.self.now.paged.core = c.core.ensures ∙ c.next.ensures.core in
+    let Over : State Beside → Type 0 = λ core. ShowsOver core serving.shows.base v in
+    c.in_ok-has_own_plans.ensures.no serving.shows.base v (subst Over (sym same) serving.shows.shows) serving.seen c.if-not-branch.true
 
 pub returns-clause-counted : goal.returns-clause-counted
 returns-clause-counted g c rules h settled =
     let store = c.args.self.now in
     ap (λ (r : Root). r.generation)
-    (root_is g.D.Device.disk store.device store.root store.log (store.ready settled.working settled.keeps) settled.read.root settled.read.counts)
+    (c.root.ensures ∙ c.next.ensures.root
+    ∙ root_is g.D.Device.disk store.device (root_of store) store.log (store.ready settled.working settled.keeps) settled.read.root settled.read.counts)
+
+pub returns-clause-plans : goal.returns-clause-plans
+returns-clause-plans g c held holds =
+    let store = c.args.self.now in
+    let same : c.core.result.now ≡ store.paged.core = c.core.ensures ∙ c.next.ensures.core in
+    let Over : State Beside → Type 0 = λ core. Shows core holds.base held in
+    c.in_ok-has_own_plans.ensures.yes holds.base held (subst Over (sym same) holds.shows) (below_own g.D.Device.disk store.device store.paged holds.base holds.below)
+    c.if-not-branch.false
+
+pub returns-clause-settled : goal.returns-clause-settled
+returns-clause-settled g c rules h settled =
+    settled_between c.args.self.now c.next.new.self c.next.new.self c.next.ensures.device c.next.ensures.core c.next.ensures.lies c.in_ok-next.ensures.goes_on rules h settled

@@ -1,5 +1,7 @@
-use Rattle.std.proofs.Common.{◌≡◌, ◌≤◌, ◌+◌, length, map}
+use Rattle.std.proofs.Common.{◌≡◌, ◌≤◌, ◌+◌, length, map, true}
 use Rattle.std.specs.Vec.{vec_capacity}
+use Rattle.device.specs.Run.{Ran}
+use Rattle.device.specs.Step.{Same}
 use Rattle.requests.specs.RequestOf.{request_of}
 use Rattle.records.specs.Gathered.{count_of}
 use Rattle.durable.specs.Gathered.{HasGatheredMore}
@@ -12,6 +14,6 @@ invariant-loop-request g l =
     HasGatheredMore l.fn.self l.self l.group (map request_of l.requests) l.fn.replies.items l.replies.items
     × (length l.replies.items ≡ length l.fn.replies.items + l.request-index)
     × (vec_capacity l.replies ≡ vec_capacity l.fn.replies)
-    × (device_of l.self ≡ device_of l.fn.self)
-    × (serves l.self ≡ serves l.fn.self)
+    × Ran g.D.Device.disk (device_of l.fn.self) (device_of l.self) Same
+    × (serves l.self ≡ true)
     × (count_of l.group ≤ l.request-index)

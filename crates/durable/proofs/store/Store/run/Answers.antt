@@ -5,7 +5,7 @@ use Rattle.requests.specs.RequestOf.{request_of}
 use Rattle.history.specs.Reply.{Reply}
 use Rattle.durable.specs.Settled.{HasServed}
 use Rattle.durable.proofs.Runs.{run_none}
-use Rattle.durable.proofs.Grouping.{in_parts, served_so_far, stopped_so_far, left_behind, still_inside, none_is_no_device}
+use Rattle.durable.proofs.Grouping.{in_parts, served_so_far, stopped_so_far, left_behind, still_inside}
 use Rattle.durable.proofs.store.Store.run.Goals as goal
 
 pub returns-in-Err-clause-memory : goal.returns-in-Err-clause-memory
@@ -51,7 +51,7 @@ loop-rest-preserved g c =
         length-map c.args.requests.now request_of,
       ),
       omega (arith, c.loop-rest.invariant.3, c.answer_group.ensures.room),
-      c.answer_group.ensures.goes_on (none_is_no_device c.answer_group.result c.in-None.is),
+      c.answer_group.ensures.goes_on (inl c.in-None.is),
       c.loop-rest.invariant.5,
       omega (arith, c.loop-rest.invariant.6, c.answer_group.ensures.count),
     )
@@ -81,3 +81,8 @@ returns-in-Some-clause-device g c is =
     (in_parts request_of c.loop-rest.rest.now c.split_at.result.0.now c.split_at.result.1.now c.min.result c.split_at.ensures.front c.split_at.ensures.back) in
     stopped_so_far c.args.self.now c.loop-rest.self c.answer_group.new.self all group later given c.answer_group.new.replies.items c.answer_group.result inside split c.loop-rest.invariant.0
     c.answer_group.ensures.answered (c.in-Some.is ∙ is)
+
+pub returns-in-Some-clause-damaged : goal.returns-in-Some-clause-damaged
+returns-in-Some-clause-damaged g c damage is rules v serving =
+    let so_far = c.loop-rest.invariant.0.shown rules v serving in
+    c.answer_group.ensures.damaged damage (c.in-Some.is ∙ is) rules _ so_far.serving

@@ -1,6 +1,10 @@
-use Rattle.std.proofs.Common.{arith, ◌∙◌}
+use Rattle.std.proofs.Common.{arith, ◌≤◌, ◌^◌, ◌≡◌, ◌∙◌, sym, subst}
 use Rattle.std.proofs.Math.Logic.{∥∥₁_elim, ∥∥₁_prop}
 use Rattle.std.proofs.lemmas.Grind.{merely}
+use Rattle.roots.specs.declared.root.Root.{Root}
+use Rattle.holdings.specs.Holdings.{State}
+use Rattle.apicore.specs.Beside.{Beside}
+use Rattle.durable.specs.Ready.{IsReady}
 use Rattle.durable.proofs.Compacting.{ready_anew}
 use Rattle.durable.proofs.store.Store.start_over.Goals as goal
 
@@ -8,10 +12,15 @@ pub invariant_of-self : goal.invariant_of-self
 invariant_of-self g c =
     let place = c.restart-self.ensures.place in
     let at = c.log_start.ensures.place in
+    let Limited : State Beside → Type 0 = λ core. core.rules.text_limit_bytes ≤ 2 ^ 24 in
+    let Ready : Root → Type 0 = λ root. ∥ IsReady g.D.Device.disk c.args.self.now.device root c.restart-self.result ∥₁ in
     record {
-      limits = c.args.self.now.limits;
+      limits = subst Limited (sym c.start_over.ensures.core) c.requires.limits;
       in_data = omega (arith, c.requires.in_data, place.0, at);
       works = λ _. c.restart-self.ensures.works;
-      ready = λ _ keeps. ∥∥₁_elim (c.requires.in_use keeps) ∥∥₁_prop
-          (λ ready. merely (ready_anew g.D.Device.disk c.args.self.now.device c.args.root c.restart-self.result (place.0 ∙ at) (place.1 ∙ at) c.restart-self.ensures.works ready));
+      ready = λ _ keeps. subst Ready (sym c.start_over.ensures.root) (∥∥₁_elim (c.requires.in_use keeps) ∥∥₁_prop
+          (λ ready. merely (ready_anew g.D.Device.disk c.args.self.now.device c.args.written.root c.restart-self.result (place.0 ∙ at) (place.1 ∙ at) c.restart-self.ensures.works ready)));
     }
+
+pub returns-clause-lies : goal.returns-clause-lies
+returns-clause-lies g c rules held is index keeps holds = c.start_over.ensures.below rules held is index (λ some. keeps) holds

@@ -1,31 +1,60 @@
-use Rattle.std.proofs.Common.{◌≡◌, ◌∙◌, refl, subst}
+use Rattle.std.proofs.Common.{arith, rules, ◌≡◌, ◌∙◌, refl, sym, ap, subst, IsErrOf, List}
+use Rattle.std.proofs.lemmas.Grind.{common_steps}
 use Rattle.names.specs.declared.format.Rules.{Rules}
+use Rattle.names.specs.Key.{Key}
 use Rattle.requests.specs.RequestOf.{request_of}
 use Rattle.history.specs.View.{after_all}
+use Rattle.history.specs.declared.stored.Stored.{Stored}
 use Rattle.holdings.specs.Holdings.{Shows}
 use Rattle.holdings.specs.Prepared.{writes_of}
-use Rattle.durable.proofs.Answering.{on_err, stepped, not_stepped}
+use Rattle.shelf.specs.declared.shelf.Shelf.{Shelf}
+use Rattle.shelf.specs.Shelf as shelf
+use Rattle.apicore.specs.Beside.{Beside}
+use Rattle.paged.specs.Lying.{LiesBelow}
+use Rattle.durable.specs.declared.fault.Fault.TheVariants as Faults
+use Rattle.durable.specs.Ready.{IsReady}
+use Rattle.durable.specs.Settled.{root_of, LiesStill}
+use Rattle.durable.proofs.Answering.{Small, stepped, not_stepped}
 use Rattle.durable.proofs.store.Store.step.Goals as goal
 
 pub returns-in_err-prepared-clause-stays : goal.returns-in_err-prepared-clause-stays
-returns-in_err-prepared-clause-stays g c =
-    on_err c.from_residual.result
-    (not_stepped c.args.self.now _ c.args.group.now c.args.group.now refl c.prepare_step.ensures.rules c.prepare_step.ensures.shows (λ ws has. has) refl)
+returns-in_err-prepared-clause-stays g c is =
+    let memory : IsErrOf c.prepare.result Faults.Memory = search rules in
+    not_stepped c.args.self.now c.prepare.new.self c.args.group.now c.args.group.now (c.prepare.ensures.memory_goes_on memory) c.prepare.ensures.rules c.prepare.ensures.shows
+    c.prepare.ensures.lies (λ ws has. has) refl
+
+pub returns-in_err-prepared-clause-damaged : goal.returns-in_err-prepared-clause-damaged
+returns-in_err-prepared-clause-damaged g c damage is rules v serving =
+    let told : IsErrOf c.prepare.result (Faults.Damaged damage) = grind (arith, common_steps) in
+    c.prepare.ensures.damaged damage told v serving.shows
 
 pub returns-in_err-gather-clause-stays : goal.returns-in_err-gather-clause-stays
-returns-in_err-gather-clause-stays g c =
-    on_err c.from_residual-in_err-gather.result
-    (not_stepped c.args.self.now _ c.args.group.now c.gather.new.group refl c.prepare_step.ensures.rules c.prepare_step.ensures.shows c.in_err-gather.ensures.same
-    c.in_err-gather.ensures.uncounted)
+returns-in_err-gather-clause-stays g c is =
+    not_stepped c.args.self.now c.prepare.new.self c.args.group.now c.gather.new.group c.in_ok-prepared.ensures.goes_on c.prepare.ensures.rules c.prepare.ensures.shows
+    c.prepare.ensures.lies c.in_err-gather.ensures.same c.in_err-gather.ensures.uncounted
+
+pub invariant_of-self : goal.invariant_of-self
+invariant_of-self g c =
+    let store = c.prepare.new.self in
+    record {
+      limits = subst Small (sym c.take.ensures.rules) store.limits;
+      in_data = store.in_data;
+      works = store.works;
+      ready = λ serves keeps.
+          let Ready : Shelf → Type 0 = λ s. ∥ IsReady g.D.Device.disk store.device (shelf.root_of s) store.log ∥₁ in
+          subst Ready (sym c.take.ensures.shelf) (store.ready serves keeps);
+    }
 
 pub returns-clause-stepped : goal.returns-clause-stepped
 returns-clause-stepped g c =
     let prepared = c.in_ok-prepared.prepared in
-    let core = c.args.self.now.core in
-    let rules_are : c.prepare_step.new.core.rules ≡ core.rules = c.prepare_step.ensures.rules in
-    stepped c.args.self.now _ c.args.group.now c.gather.new.group (request_of c.args.request.now) prepared _ refl c.in_ok-prepared.ensures.step c.prepare_step.ensures.form refl
-    (c.take.ensures.rules ∙ rules_are)
+    let core = c.args.self.now.paged.core in
+    let rules_are : c.prepare.new.self.paged.core.rules ≡ core.rules = c.prepare.ensures.rules in
+    let Lies : List (Key × Stored Beside) → Shelf → Type 0 = λ base s. LiesBelow g.D.Device.disk c.prepare.new.self.device s base in
+    stepped c.args.self.now _ c.args.group.now c.gather.new.group (request_of c.args.request.now) prepared c.in_ok-prepared.ensures.step c.prepare.ensures.form
+    c.in_ok-prepared.ensures.goes_on (c.take.ensures.rules ∙ rules_are)
+    (λ base below. subst (Lies base) (sym c.take.ensures.shelf) (c.prepare.ensures.lies base below))
     (λ base held shows next.
-    let Left : Rules → Type 0 = λ r. Shows c.take.new.self base (after_all r held (writes_of prepared.write)) in
-    subst Left rules_are (c.take.ensures.shows base held (c.prepare_step.ensures.shows base held shows) next))
+    let Left : Rules → Type 0 = λ r. Shows c.take.new.self.core base (after_all r held (writes_of prepared.write)) in
+    subst Left rules_are (c.take.ensures.shows base held (c.prepare.ensures.shows base held shows) next))
     c.in_ok-gather.ensures.gathered

@@ -1,4 +1,4 @@
-use Rattle.std.proofs.Common.{arith, ◌≡◌, ◌∙◌, ◌≤◌, refl, sym, ap, subst, ⊎_elim, List, [], Err}
+use Rattle.std.proofs.Common.{arith, ◌≡◌, ◌∙◌, ◌≤◌, ◌^◌, refl, sym, ap, subst, ⊎_elim, List, [], Err}
 use Rattle.std.proofs.Math.Logic.{∥∥₁_elim, ∥∥₁_prop}
 use Rattle.std.proofs.lemmas.Grind.{merely}
 use Rattle.device.specs.Run.{Stands}
@@ -8,33 +8,41 @@ use Rattle.gatelog.specs.Log.{HoldsLog}
 use Rattle.roots.specs.declared.root.Root.{Root}
 use Rattle.pages.specs.Page.{Entry}
 use Rattle.names.specs.declared.format.Rules.{Rules}
+use Rattle.snapshots.proofs.Alone.{kept_held}
 use Rattle.snapshots.proofs.Kept.{entries_fit}
 use Rattle.history.specs.View.{view}
+use Rattle.apicore.specs.Standing.{with_plans}
 use Rattle.durable.specs.Stands.{StandsFor}
 use Rattle.checkpoint.specs.EntryList.{entries_of as in_list}
 use Rattle.durable.specs.declared.fault.Fault.TheVariants as Fault
+use Rattle.durable.specs.Ready.{IsReady}
 use Rattle.durable.specs.Settled.{root_of}
+use Rattle.durable.proofs.Answering.{Small}
 use Rattle.durable.proofs.Keeping.{reaches}
-use Rattle.durable.proofs.Compacting.{ready_in_use, ready_same, list_source, generation_in_use, stands_either, stands_written, written_counts, damaged_or_long}
+use Rattle.durable.proofs.Compacting.{ready_at, in_use_at, entries_written, ready_in_use, ready_same, list_source, generation_in_use, stands_either, stands_written, written_counts, damaged_or_long}
 use Rattle.durable.proofs.Reading.{history_kept, of_first, kept_size}
 use Rattle.durable.proofs.store.Store.write_next.Goals as goal
 
 pub write-requires-clause-inside : goal.write-requires-clause-inside
 write-requires-clause-inside g c keeps =
     let store = c.args.self.now in
-    omega (arith, c.last_gate-last_gate.ensures, reaches g.D.Device.disk store.device store.root store.log (store.ready c.requires.serves keeps))
+    omega (arith, c.last_gate-last_gate.ensures, reaches g.D.Device.disk store.device (root_of store) store.log (store.ready c.requires.serves keeps))
+
+pub start_over-requires-clause-limits : goal.start_over-requires-clause-limits
+start_over-requires-clause-limits g c = subst Small (sym c.requires.rules) c.args.self.now.limits
 
 pub start_over-requires-clause-in_use : goal.start_over-requires-clause-in_use
 start_over-requires-clause-in_use g c keeps =
     let store = c.args.self.now in
     let disk = g.D.Device.disk in
+    let root = c.root.result.now in
     let last = c.last_gate-last_gate.result in
-    let entries = c.args.entries.now in
+    let entries = c.args.next.entries in
     let kept = c.write.ensures.had_kept keeps in
-    ∥∥₁_elim (store.ready c.requires.serves kept) ∥∥₁_prop
+    ∥∥₁_elim (ready_at disk store.device (root_of store) root store.log c.root.ensures (store.ready c.requires.serves kept)) ∥∥₁_prop
     (λ ready.
-    let used = ready_in_use disk store.device store.root store.log last c.last_gate-last_gate.ensures ready in
-    let source = list_source store.root last (disk.content store.device) entries c.requires.ascending in
+    let used = ready_in_use disk store.device root store.log last c.last_gate-last_gate.ensures ready in
+    let source = list_source root last (disk.content store.device) entries c.requires.ascending in
     let stands = c.in-Ok.ensures.written kept _ used source in
     let next = c.in-Ok.ensures.in_use kept _ used source in
     merely (record { counts = stands.seen.holds; closed = stands.seen.closed; durable = next.durable }))
@@ -52,23 +60,38 @@ invariant_of-self-in-Err g c =
           let fault = c.changed_nothing-self.ensures.0 serves in
           let run = ⊎_elim (λ memory. c.write.ensures.memory (c.in-Err.is ∙ ap Err memory)) (λ exhausted. c.write.ensures.exhausted (c.in-Err.is ∙ ap Err exhausted)) fault in
           ∥∥₁_elim (store.ready c.requires.serves kept) ∥∥₁_prop
-          (λ ready. merely (ready_same disk store.device c.write.new.device store.root store.log kept run ready));
+          (λ ready. merely (ready_same disk store.device c.write.new.device (root_of store) store.log kept run ready));
     }
+
+pub returns-in-Ok-clause-lies : goal.returns-in-Ok-clause-lies
+returns-in-Ok-clause-lies g c rules v keepable keeps used is =
+    let store = c.args.self.now in
+    let disk = g.D.Device.disk in
+    let root = c.root.result.now in
+    let last = c.last_gate-last_gate.result in
+    let list = c.args.next.entries in
+    let all : List Entry = in_list list in
+    let here = in_use_at disk store.device (root_of store) root store.log last c.root.ensures c.last_gate-last_gate.ensures used in
+    let source = list_source root last (disk.content store.device) list c.requires.ascending in
+    let stands = c.in-Ok.ensures.written keeps all here source in
+    c.start_over.ensures.lies rules (with_plans v) (kept_held rules v keepable) (c.in-Ok.ensures.index keeps all here source) (c.write.ensures.kept keeps)
+    (entries_written v (disk.content c.write.new.device) c.in-Ok.written.root all is stands.seen.there)
 
 pub returns-in-Ok-clause-stands : goal.returns-in-Ok-clause-stands
 returns-in-Ok-clause-stands g c rules h held revision entries =
     let store = c.args.self.now in
     let disk = g.D.Device.disk in
+    let root = c.root.result.now in
     let last = c.last_gate-last_gate.result in
-    let list = c.args.entries.now in
+    let list = c.args.next.entries in
     let all : List Entry = in_list list in
-    let ready = store.ready c.requires.serves held.keeps in
+    let ready = ready_at disk store.device (root_of store) root store.log c.root.ensures (store.ready c.requires.serves held.keeps) in
     let works = store.works c.requires.serves in
-    let used = generation_in_use disk store.device c.write.new.device rules h store.root store.log last c.revision-revision.result all ready works held c.last_gate-last_gate.ensures
+    let used = generation_in_use disk store.device c.write.new.device rules h root store.log last c.revision-revision.result all ready works held c.last_gate-last_gate.ensures
     (c.revision-revision.ensures ∙ revision) entries in
-    let stands = stands_written disk store.device c.write.new.device rules h store.root store.log last c.revision-revision.result all ready works held c.last_gate-last_gate.ensures
+    let stands = stands_written disk store.device c.write.new.device rules h root store.log last c.revision-revision.result all ready works held c.last_gate-last_gate.ensures
     (c.revision-revision.ensures ∙ revision) entries c.in-Ok.written.root c.in-Ok.ensures.revision
-    (c.in-Ok.ensures.written held.keeps all used (list_source store.root last (disk.content store.device) list c.requires.ascending)) in
+    (c.in-Ok.ensures.written held.keeps all used (list_source root last (disk.content store.device) list c.requires.ascending)) in
     let To : g.row.D.Denot → Type 0 = λ device. Stands {D = g.row.D.Denot} disk store.device device (λ x. StandsFor rules x h) (λ x. StandsFor rules x h) in
     subst To (sym c.start_over.ensures.device) stands
 
@@ -76,46 +99,50 @@ pub returns-in-Ok-clause-counts : goal.returns-in-Ok-clause-counts
 returns-in-Ok-clause-counts g c rules h held revision entries =
     let store = c.args.self.now in
     let disk = g.D.Device.disk in
+    let root = c.root.result.now in
     let last = c.last_gate-last_gate.result in
-    let list = c.args.entries.now in
+    let list = c.args.next.entries in
     let all : List Entry = in_list list in
-    let root = c.in-Ok.written.root in
-    let used = generation_in_use disk store.device c.write.new.device rules h store.root store.log last c.revision-revision.result all (store.ready c.requires.serves held.keeps)
+    let ready = ready_at disk store.device (root_of store) root store.log c.root.ensures (store.ready c.requires.serves held.keeps) in
+    let used = generation_in_use disk store.device c.write.new.device rules h root store.log last c.revision-revision.result all ready
     (store.works c.requires.serves) held c.last_gate-last_gate.ensures (c.revision-revision.ensures ∙ revision) entries in
-    let written = c.in-Ok.ensures.written held.keeps all used (list_source store.root last (disk.content store.device) list c.requires.ascending) in
+    let written = c.in-Ok.ensures.written held.keeps all used (list_source root last (disk.content store.device) list c.requires.ascending) in
     let Counts : g.row.D.Denot → Root → Type 0 = λ device r. HoldsRoot (disk.content device) r × HoldsLog (log_start r) [] (log_start r) (disk.content device) in
     subst (λ device. Counts device (root_of c.start_over.new.self)) (sym c.start_over.ensures.device)
-    (subst (Counts c.write.new.device) (sym c.start_over.ensures.root) (written_counts root all (disk.content c.write.new.device) written.seen))
+    (subst (Counts c.write.new.device) (sym c.start_over.ensures.root) (written_counts c.in-Ok.written.root all (disk.content c.write.new.device) written.seen))
 
-pub returns-in-Err-clause-stands : goal.returns-in-Err-clause-stands
-returns-in-Err-clause-stands g c rules h held revision entries =
+pub returns-clause-stands : goal.returns-clause-stands
+returns-clause-stands g c rules h held revision entries =
     let store = c.args.self.now in
     let disk = g.D.Device.disk in
+    let root = c.root.result.now in
     let last = c.last_gate-last_gate.result in
-    let list = c.args.entries.now in
+    let list = c.args.next.entries in
     let all : List Entry = in_list list in
-    let ready = store.ready c.requires.serves held.keeps in
+    let ready = ready_at disk store.device (root_of store) root store.log c.root.ensures (store.ready c.requires.serves held.keeps) in
     let works = store.works c.requires.serves in
-    let used = generation_in_use disk store.device c.write.new.device rules h store.root store.log last c.revision-revision.result all ready works held c.last_gate-last_gate.ensures
+    let used = generation_in_use disk store.device c.write.new.device rules h root store.log last c.revision-revision.result all ready works held c.last_gate-last_gate.ensures
     (c.revision-revision.ensures ∙ revision) entries in
-    stands_either disk store.device c.write.new.device rules h store.root store.log last c.revision-revision.result all ready works held c.last_gate-last_gate.ensures
+    stands_either disk store.device c.write.new.device rules h root store.log last c.revision-revision.result all ready works held c.last_gate-last_gate.ensures
     (c.revision-revision.ensures ∙ revision) entries
-    (c.write.ensures.any_moment held.keeps all used (list_source store.root last (disk.content store.device) list c.requires.ascending))
+    (c.write.ensures.any_moment held.keeps all used (list_source root last (disk.content store.device) list c.requires.ascending))
 
-pub returns-in-Err-clause-damaged : goal.returns-in-Err-clause-damaged
-returns-in-Err-clause-damaged g c rules h damage held revision entries told =
+pub returns-clause-damaged : goal.returns-clause-damaged
+returns-clause-damaged g c rules h damage held revision entries told =
     let store = c.args.self.now in
     let disk = g.D.Device.disk in
+    let root = c.root.result.now in
     let last = c.last_gate-last_gate.result in
-    let list = c.args.entries.now in
+    let list = c.args.next.entries in
     let all : List Entry = in_list list in
-    let used = generation_in_use disk store.device c.write.new.device rules h store.root store.log last c.revision-revision.result all (store.ready c.requires.serves held.keeps)
+    let ready = ready_at disk store.device (root_of store) root store.log c.root.ensures (store.ready c.requires.serves held.keeps) in
+    let used = generation_in_use disk store.device c.write.new.device rules h root store.log last c.revision-revision.result all ready
     (store.works c.requires.serves) held c.last_gate-last_gate.ensures (c.revision-revision.ensures ∙ revision) entries in
-    let source = list_source store.root last (disk.content store.device) list c.requires.ascending in
+    let source = list_source root last (disk.content store.device) list c.requires.ascending in
     let Fit : List Entry → Type 0 = λ es. AllFit es in
-    let Small : Rules → Type 0 = λ r. r.text_limit_bytes ≤ 16384 in
+    let Limit : Rules → Type 0 = λ r. r.text_limit_bytes ≤ 16384 in
     let fit : AllFit all =
-    subst Fit (sym entries) (entries_fit rules (view rules h) (of_first rules held.read.numbers Small kept_size) (history_kept rules h held.read.numbers held.read.history)) in
+    subst Fit (sym entries) (entries_fit rules (view rules h) (of_first rules held.read.numbers Limit kept_size) (history_kept rules h held.read.numbers held.read.history)) in
     let same : c.from.result ≡ Fault.Damaged damage = cc in
     ⊎_elim
     (λ is. c.write.ensures.damaged held.keeps all used source (c.in-Err.is ∙ ap Err is))
