@@ -1,8 +1,11 @@
 //! Lines on the shelf of a root's pages.
 
+ghost use Rattle.std.specs.Prelude.{IfSome};
+ghost use Rattle.diskcases.specs.Inside.{LiesInside};
+
 use crate::line::Line;
 use crate::scan_lines::{Listing, push_entries, read_pages, root_at};
-use crate::stock_lines::{Beginning, find_object, list_objects};
+use crate::stock_lines::{Beginning, find_object, list_all_objects, list_objects};
 use cases::Wrong;
 use device::MemDevice;
 use shelf::{Reading, Shelf, ShelfFault};
@@ -19,10 +22,19 @@ fn fault_text(fault: ShelfFault) -> &'static str {
 }
 
 // `get KEY`: what stands under the key, or `none`. `has KEY`: `yes` in place of what stands there.
-fn look(alloc: Global, shelf: &mut Shelf<MemDevice>, is_shown: bool, line: &mut Line<'_>) {
+fn look(
+    alloc: Global,
+    shelf: &mut Shelf,
+    device: &mut MemDevice,
+    is_shown: bool,
+    line: &mut Line<'_>,
+)
+    requires inside { LiesInside shelf.old device.old }
+    ensures inside { LiesInside shelf.new device.new }
+{
     let key = line.rest.as_bytes();
-    match shelf.bring(alloc, key) {
-        Ok(place) => match shelf.cell(place, key) {
+    match shelf.bring(alloc, device, key) {
+        Ok(place) => match shelf.cell(device, place, key) {
             Some(cell) if is_shown => line.say(cell),
             Some(_) => line.answer.word("yes"),
             None => line.answer.word("none"),
@@ -32,39 +44,53 @@ fn look(alloc: Global, shelf: &mut Shelf<MemDevice>, is_shown: bool, line: &mut 
 }
 
 // `list PREFIX`, `pass PREFIX`: the entries whose keys begin so; their pages stay in memory, or do not come there.
-fn tell(alloc: Global, shelf: &mut Shelf<MemDevice>, reading: Reading, line: &mut Line<'_>) {
+fn tell(
+    alloc: Global,
+    shelf: &mut Shelf,
+    device: &mut MemDevice,
+    reading: Reading,
+    line: &mut Line<'_>,
+)
+    requires inside { LiesInside shelf.old device.old }
+    ensures inside { LiesInside shelf.new device.new }
+{
     let mut listing = Listing {
         entries: Vec::new(alloc),
         refused: b"-",
     };
-    match shelf.tell(alloc, line.rest.as_bytes(), reading, &mut listing) {
+    match shelf.tell(alloc, device, line.rest.as_bytes(), reading, &mut listing) {
         Ok(()) => push_entries(line, &listing.entries),
         Err(fault) => line.answer.word(fault_text(fault)),
     }
 }
 
 // Answers a question.
-fn ask(alloc: Global, shelf: &mut Shelf<MemDevice>, line: &mut Line<'_>) {
+fn ask(alloc: Global, shelf: &mut Shelf, device: &mut MemDevice, line: &mut Line<'_>)
+    requires inside { LiesInside shelf.old device.old }
+    ensures inside { LiesInside shelf.new device.new }
+{
     match line.word() {
-        "get" => look(alloc, shelf, true, line),
-        "has" => look(alloc, shelf, false, line),
-        "list" => tell(alloc, shelf, Reading::Kept, line),
-        "pass" => tell(alloc, shelf, Reading::Passing, line),
-        "stock-find" => find_object(alloc, shelf, line),
-        "stock-list" => list_objects(alloc, shelf, line),
+        "get" => look(alloc, shelf, device, true, line),
+        "has" => look(alloc, shelf, device, false, line),
+        "list" => tell(alloc, shelf, device, Reading::Kept, line),
+        "pass" => tell(alloc, shelf, device, Reading::Passing, line),
+        "stock-find" => find_object(alloc, shelf, device, line),
+        "stock-list" => list_objects(alloc, shelf, device, line),
+        "stock-all" => list_all_objects(alloc, shelf, device, line),
         _ => line.refuse("no question of a shelf"),
     }
 }
 
-/// The shelf of so many pages from a sector on, which are read before, each once, and how many objects they have. An empty device stands in place of the one that
-/// the shelf takes.
+/// The shelf of so many pages from a sector on, which are read before, each once, and how many objects they have.
 pub fn shelf_at(
     alloc: Global,
     device: &mut MemDevice,
     first: u64,
     pages: u32,
     line: &mut Line<'_>,
-) -> Option<(Shelf<MemDevice>, u64)> {
+) -> Option<(Shelf, u64)>
+    ensures inside { IfSome result (λ found. LiesInside found.0 device.new) }
+{
     let root = root_at(device, first, pages, line)?;
     let all = Beginning {
         prefix: Vec::new(alloc),
@@ -74,11 +100,7 @@ pub fn shelf_at(
         line.refuse("the pages are not read");
         return None;
     };
-    let Ok(room) = MemDevice::new(alloc, 0) else {
-        line.fail(Wrong::Memory);
-        return None;
-    };
-    match Shelf::new(alloc, std::mem::replace(device, room), root, first_keys) {
+    match Shelf::new(alloc, device, root, first_keys) {
         Ok(shelf) => Some((shelf, sieve.objects())),
         Err(_) => {
             line.fail(Wrong::Memory);
@@ -95,7 +117,6 @@ pub fn shelf(alloc: Global, device: &mut MemDevice, line: &mut Line<'_>) {
     };
     for question in line.rest.split(" ; ") {
         line.rest = question;
-        ask(alloc, &mut shelf, line);
+        ask(alloc, &mut shelf, device, line);
     }
-    *device = shelf.into_device();
 }

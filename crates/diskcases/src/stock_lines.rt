@@ -1,12 +1,14 @@
 //! Questions on the objects in pages.
 
+ghost use Rattle.diskcases.specs.Inside.{LiesInside};
+
 use crate::line::Line;
 use crate::scan_lines::{read_pages, root_at};
 use device::MemDevice;
-use names::{Resource, ResourceTable};
+use names::Key;
 use shelf::{Reading, Shelf};
 use std::alloc::Global;
-use stock::{Choice, Sieve, StockFault, find, list};
+use stock::{Choice, Sieve, StockFault, Stocked, find, list, list_all};
 
 fn fault_text(fault: StockFault) -> &'static str {
     match fault {
@@ -16,25 +18,24 @@ fn fault_text(fault: StockFault) -> &'static str {
     }
 }
 
-// The resource of the core group whose plural the next word is.
-fn resource_of(line: &mut Line<'_>) -> Option<Resource> {
-    let resource = ResourceTable::with_plural("v1", line.word());
-    if resource.is_none() {
-        line.refuse("no resource");
-    }
-    resource
-}
-
 /// `stock-find PLURAL NAMESPACE NAME`: the text and the revision of what is stored under the key, or `none`.
-pub(crate) fn find_object(alloc: Global, shelf: &mut Shelf<MemDevice>, line: &mut Line<'_>) {
-    let Some(resource) = resource_of(line) else {
+pub(crate) fn find_object(
+    alloc: Global,
+    shelf: &mut Shelf,
+    device: &mut MemDevice,
+    line: &mut Line<'_>,
+)
+    requires inside { LiesInside shelf.old device.old }
+    ensures inside { LiesInside shelf.new device.new }
+{
+    let Some(resource) = line.resource() else {
         return;
     };
     let namespace = line.word();
     let Some(key) = line.key(alloc, resource, namespace, line.rest) else {
         return;
     };
-    match find(alloc, shelf, &key) {
+    match find(alloc, shelf, device, &key) {
         Ok(Some(stocked)) => {
             line.show_document(alloc, &stocked.document);
             line.show(&stocked.revision);
@@ -44,17 +45,9 @@ pub(crate) fn find_object(alloc: Global, shelf: &mut Shelf<MemDevice>, line: &mu
     }
 }
 
-/// `stock-list PLURAL`, `stock-list PLURAL NAMESPACE`: the keys of the objects of a resource, in all namespaces or in one, with the revision of each.
-pub(crate) fn list_objects(alloc: Global, shelf: &mut Shelf<MemDevice>, line: &mut Line<'_>) {
-    let Some(resource) = resource_of(line) else {
-        return;
-    };
-    let namespace = if line.rest.is_empty() {
-        None
-    } else {
-        Some(line.rest)
-    };
-    match list(alloc, shelf, resource, namespace, Reading::Passing) {
+// The keys of objects, with the revision of each.
+fn show_objects(listed: Result<Vec<(Key, Stocked)>, StockFault>, line: &mut Line<'_>) {
+    match listed {
         Ok(objects) => {
             for (key, stocked) in &objects {
                 line.show_key(key);
@@ -63,6 +56,42 @@ pub(crate) fn list_objects(alloc: Global, shelf: &mut Shelf<MemDevice>, line: &m
         }
         Err(fault) => line.answer.word(fault_text(fault)),
     }
+}
+
+/// `stock-list PLURAL`, `stock-list PLURAL NAMESPACE`: the keys of the objects of a resource, in all namespaces or in one, with the revision of each.
+pub(crate) fn list_objects(
+    alloc: Global,
+    shelf: &mut Shelf,
+    device: &mut MemDevice,
+    line: &mut Line<'_>,
+)
+    requires inside { LiesInside shelf.old device.old }
+    ensures inside { LiesInside shelf.new device.new }
+{
+    let Some(resource) = line.resource() else {
+        return;
+    };
+    let namespace = if line.rest.is_empty() {
+        None
+    } else {
+        Some(line.rest)
+    };
+    let listed = list(alloc, shelf, device, resource, namespace, Reading::Passing);
+    show_objects(listed, line);
+}
+
+/// `stock-all`: the keys of all objects, with the revision of each.
+pub(crate) fn list_all_objects(
+    alloc: Global,
+    shelf: &mut Shelf,
+    device: &mut MemDevice,
+    line: &mut Line<'_>,
+)
+    requires inside { LiesInside shelf.old device.old }
+    ensures inside { LiesInside shelf.new device.new }
+{
+    let listed = list_all(alloc, shelf, device);
+    show_objects(listed, line);
 }
 
 /// The objects whose entries' keys begin so.

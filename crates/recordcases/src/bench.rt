@@ -1,9 +1,9 @@
 //! The lines of a case, by their words.
 
 use crate::entry_lines::{pieces, reads_event, reads_object, reads_piece};
-use crate::holdings_lines::{held, held_over_pages};
+use crate::holdings_lines::{held, held_over_pages, lies};
 use crate::overlay_lines::over;
-use crate::record_lines::{answered, cuts, reads, replay, tell_fault};
+use crate::record_lines::{answered, cuts, keys, reads, replay, tell_fault};
 use crate::view_lines::reads_view;
 use cases::{Bench, Wrong};
 use diskcases::Line;
@@ -39,10 +39,12 @@ fn answer(alloc: Global, line: &mut Line<'_>) {
         "cuts" => cuts(alloc, line),
         "replay" => replay(alloc, line),
         "answered" => answered(alloc, line),
+        "keys" => keys(alloc, line),
         "told" => tell_fault(line),
         "over" => over(alloc, line),
         "held" => held(alloc, line),
         "held-over-pages" => held_over_pages(alloc, line),
+        "lies" => lies(alloc, line),
         "reads-object" => reads_object(alloc, line),
         "reads-event" => reads_event(alloc, line),
         "pieces" => pieces(alloc, line),

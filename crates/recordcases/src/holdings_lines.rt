@@ -4,10 +4,8 @@ ghost use Rattle.std.specs.Prelude.{◌<◌, ◌+◌, ◌^◌};
 
 use crate::entry_lines::change_word;
 use crate::in_memory::InMemory;
-use crate::paged::{Zero, paged};
-use base::Base;
+use crate::paged::{PagedObjects, Zero, paged};
 use cases::Wrong;
-use device::MemDevice;
 use diskcases::Line;
 use history::Stored;
 use holdings::{Found, Holdings, PreparedWrite, Source};
@@ -18,11 +16,11 @@ use std::alloc::{AllocError, Global};
 use std::fmt::Display;
 use window::{Change, Event};
 
-// Configmaps that lie below.
+// Objects that lie below.
 #[derive(Drop)]
 enum Below {
     Memory(InMemory),
-    Page(Base<MemDevice, Zero>),
+    Page(PagedObjects),
 }
 
 // What is held, and what lies below it.
@@ -32,21 +30,28 @@ struct Layers {
     below: Below,
 }
 
-// The configmap of this name.
-fn manifest(alloc: Global, name: &str, line: &mut Line<'_>) -> Option<Manifest> {
+// The resource and the name that a word says: `NAME` of a configmap, or `PLURAL/NAME`.
+fn object_of<'a>(word: &'a str, line: &mut Line<'_>) -> (Resource, &'a str) {
+    match word.split_once('/') {
+        Some((plural, name)) => (
+            line.resource_of(plural).unwrap_or(Resource::ConfigMap),
+            name,
+        ),
+        None => (Resource::ConfigMap, word),
+    }
+}
+
+// The object that a word says, in the namespace `default`.
+fn manifest(alloc: Global, word: &str, line: &mut Line<'_>) -> Option<Manifest> {
+    let (resource, name) = object_of(word, line);
+    let kind = resource.kind();
     let Ok(body) = format!(in alloc;
-        "{{\"apiVersion\":\"v1\",\"kind\":\"ConfigMap\",\"metadata\":{{\"name\":\"{name}\"}}}}"
+        "{{\"apiVersion\":\"v1\",\"kind\":\"{kind}\",\"metadata\":{{\"name\":\"{name}\"}}}}"
     ) else {
         line.fail(Wrong::Memory);
         return None;
     };
-    match Manifest::read(
-        alloc,
-        Resource::ConfigMap,
-        "default",
-        Some(name),
-        body.as_bytes(),
-    ) {
+    match Manifest::read(alloc, resource, "default", Some(name), body.as_bytes()) {
         Ok(manifest) => Some(manifest),
         Err(_) => {
             line.refuse("no name");
@@ -55,7 +60,7 @@ fn manifest(alloc: Global, name: &str, line: &mut Line<'_>) -> Option<Manifest> 
     }
 }
 
-// Puts a configmap, as of this revision.
+// Puts an object, as of this revision.
 fn put_below(
     alloc: Global,
     objects: &mut Objects<Stored<u64>>,
@@ -75,7 +80,7 @@ fn put_below(
     Ok(())
 }
 
-// Configmaps of the names that the rest has, of the revisions from 2 on.
+// The objects that the words of the rest say, of the revisions from 2 on.
 fn objects_of(alloc: Global, line: &mut Line<'_>) -> Objects<Stored<u64>> {
     let mut objects = Objects::new(alloc);
     let mut revision = 1_u64;
@@ -105,7 +110,7 @@ impl Layers {
     fn look(&mut self, alloc: Global, key: &Key, line: &mut Line<'_>) -> Option<Found> {
         let found = match &mut self.below {
             Below::Memory(below) => self.holdings.find(alloc, below, key),
-            Below::Page(below) => self.holdings.find(alloc, below, key),
+            Below::Page(below) => below.find(alloc, &self.holdings, key),
         };
         match found {
             Ok(found) => found,
@@ -120,7 +125,7 @@ impl Layers {
     fn list_below(&mut self, alloc: Global, line: &mut Line<'_>) -> Vec<(Key, Stored<u64>)> {
         let listed = match &mut self.below {
             Below::Memory(below) => below.list(alloc, Resource::ConfigMap, None),
-            Below::Page(below) => below.list(alloc, Resource::ConfigMap, None),
+            Below::Page(below) => below.list(alloc, Resource::ConfigMap),
         };
         match listed {
             Ok(listed) => listed,
@@ -208,9 +213,10 @@ impl Layers {
         line.answer.show(&self.holdings.revision());
     }
 
-    // The revision of the object of this name, or `none`.
+    // The revision of the object that the rest says, or `none`.
     fn find(&mut self, alloc: Global, line: &mut Line<'_>) {
-        let Some(key) = line.key(alloc, Resource::ConfigMap, "default", line.rest) else {
+        let (resource, name) = object_of(line.rest, line);
+        let Some(key) = line.key(alloc, resource, "default", name) else {
             return;
         };
         match self.look(alloc, &key, line) {
@@ -229,6 +235,21 @@ impl Layers {
                 }
             }
             Err(_) => line.fail(Wrong::Memory),
+        }
+    }
+
+    // All that lies below in pages.
+    fn all(&mut self, alloc: Global, line: &mut Line<'_>) {
+        let Below::Page(below) = &mut self.below else {
+            return line.refuse("nothing lies in pages");
+        };
+        match below.all(alloc) {
+            Ok(all) => {
+                for (key, stored) in &all {
+                    show_object(line, key, &stored.revision);
+                }
+            }
+            Err(fault) => keep_fault(fault, line),
         }
     }
 
@@ -254,6 +275,7 @@ impl Layers {
         match line.word() {
             "find" => self.find(alloc, line),
             "list" => self.list(alloc, line),
+            "all" => self.all(alloc, line),
             "changes" => self.show_changes(line),
             "events" => self.show_events(line),
             "count" => line.answer.show(&self.holdings.object_count()),
@@ -319,7 +341,20 @@ pub fn held(alloc: Global, line: &mut Line<'_>) {
 /// `held-over-pages LIMIT NAME .. | STEP ; ..`: the same over these objects in a page.
 pub fn held_over_pages(alloc: Global, line: &mut Line<'_>) {
     let (limit, objects) = lying_below(alloc, line);
-    if let Some((base, count)) = paged(alloc, objects.entries(), line) {
-        answer_over(alloc, limit, Below::Page(base), count as usize, line);
+    if let Some((paged, count)) = paged(alloc, objects.entries(), Zero { held: None }, line) {
+        answer_over(alloc, limit, Below::Page(paged), count as usize, line);
+    }
+}
+
+/// `lies PLURAL LIMIT NAME .. | STEP ; ..`: the same, where the objects of this resource are held in memory, so that none of those in the page lies below.
+pub fn lies(alloc: Global, line: &mut Line<'_>) {
+    let held = line.resource();
+    let (limit, objects) = lying_below(alloc, line);
+    let Some((mut paged, _)) = paged(alloc, objects.entries(), Zero { held }, line) else {
+        return;
+    };
+    match paged.all(alloc) {
+        Ok(all) => answer_over(alloc, limit, Below::Page(paged), all.len(), line),
+        Err(fault) => keep_fault(fault, line),
     }
 }

@@ -1,5 +1,7 @@
 //! Objects in a page, which lie below what is held.
 
+ghost use Rattle.diskcases.specs.Inside.{LiesInside};
+
 use base::{Base, FromDocument};
 use cases::Wrong;
 use device::{Device, MemDevice};
@@ -7,21 +9,75 @@ use diskcases::{Line, shelf_at};
 use documents::Document;
 use entries::object_entry;
 use history::Stored;
-use objects::Entry;
+use holdings::{Found, Holdings, Source};
+use names::{Key, Resource};
+use objects::{Entry, LookupFault};
 use pages::PageBuilder;
+use shelf::Shelf;
 use std::alloc::{AllocError, Global};
 
 const PAGE_SECTORS: u64 = 64;
 
-/// Beside each document stands 0.
-#[derive(Drop)]
-pub struct Zero;
+/// Beside each document stands 0; the objects of at most one resource are held in memory.
+#[derive(Clone, Copy)]
+pub struct Zero {
+    pub held: Option<Resource>,
+}
 
 impl FromDocument<u64> for Zero {
+    ghost use Rattle.recordcases.specs.Held.{is_held};
+
     ghost made = { λ _ _. 0 };
+
+    ghost held = { λ zero resource. is_held zero.held resource };
 
     fn make(&self, _alloc: Global, _document: &Document) -> Result<u64, AllocError> {
         Ok(0)
+    }
+
+    fn is_held(&self, resource: Resource) -> bool {
+        match self.held {
+            Some(held) => held.number() == resource.number(),
+            None => false,
+        }
+    }
+}
+
+/// Objects in a page of a device in memory.
+#[derive(Drop)]
+pub struct PagedObjects {
+    device: MemDevice,
+    shelf: Shelf,
+    zero: Zero,
+    ghost inside: { LiesInside shelf device },
+}
+
+impl PagedObjects {
+    /// What lies below, and is held over it, under a key.
+    pub fn find(
+        &mut self,
+        alloc: Global,
+        holdings: &Holdings<u64>,
+        key: &Key,
+    ) -> Result<Option<Found>, LookupFault> {
+        let mut base = Base::new(&mut self.device, &mut self.shelf, self.zero);
+        holdings.find(alloc, &mut base, key)
+    }
+
+    /// What lies below of a resource.
+    pub fn list(
+        &mut self,
+        alloc: Global,
+        resource: Resource,
+    ) -> Result<Vec<(Key, Stored<u64>)>, LookupFault> {
+        let mut base = Base::new(&mut self.device, &mut self.shelf, self.zero);
+        base.list(alloc, resource, None)
+    }
+
+    /// All that lies below.
+    pub fn all(&mut self, alloc: Global) -> Result<Vec<(Key, Stored<u64>)>, LookupFault> {
+        let mut base = Base::new(&mut self.device, &mut self.shelf, self.zero);
+        base.all(alloc)
     }
 }
 
@@ -70,13 +126,19 @@ fn write_page(
 pub fn paged(
     alloc: Global,
     objects: &[Entry<Stored<u64>>],
+    zero: Zero,
     line: &mut Line<'_>,
-) -> Option<(Base<MemDevice, Zero>, u64)> {
+) -> Option<(PagedObjects, u64)> {
     let Ok(mut device) = MemDevice::new(alloc, PAGE_SECTORS) else {
         line.fail(Wrong::Memory);
         return None;
     };
     let pages = write_page(alloc, &mut device, objects, line);
     let (shelf, count) = shelf_at(alloc, &mut device, 0, pages, line)?;
-    Some((Base::new(shelf, Zero), count))
+    let paged = PagedObjects {
+        device,
+        shelf,
+        zero,
+    };
+    Some((paged, count))
 }

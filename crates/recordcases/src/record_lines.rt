@@ -1,6 +1,6 @@
 //! Lines on the payloads of records, and on the stores that they spell.
 
-use apicore::{Core, RecoveryFault, prepare, replayed};
+use apicore::{Core, RecoveryFault, prepare, replayed, written_keys};
 use cases::Wrong;
 use diskcases::Line;
 use holdings::Nothing;
@@ -77,6 +77,19 @@ pub fn replay(alloc: Global, line: &mut Line<'_>) {
         Ok(core) => {
             line.show(&core.revision());
             line.show(&core.object_count());
+        }
+        Err(fault) => line.show(&fault),
+    }
+}
+
+/// `keys PAYLOAD ; ..`: the keys that the writes of the log write.
+pub fn keys(alloc: Global, line: &mut Line<'_>) {
+    let log = line.payloads(alloc);
+    match written_keys(alloc, &log) {
+        Ok(keys) => {
+            for key in &keys {
+                line.show_key(key);
+            }
         }
         Err(fault) => line.show(&fault),
     }

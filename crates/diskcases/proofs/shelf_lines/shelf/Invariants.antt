@@ -1,0 +1,5 @@
+use Rattle.diskcases.specs.Inside.{LiesInside}
+use Rattle.diskcases.proofs.shelf_lines.shelf.Given as goal
+
+abbrev pub invariant-loop-question : goal.invariant-loop-question
+invariant-loop-question l = LiesInside l.shelf l.device
