@@ -111,12 +111,6 @@ ready_in_use {D} disk device root log last is ready =
 pub ready_at : {D : Type 0} (disk : Disk D) (device : D) (root lent : Root) (log : Log) → lent ≡ root → ∥ IsReady disk device root log ∥₁ → ∥ IsReady disk device lent log ∥₁
 ready_at disk device root lent log same ready = let Ready : Root → Type 0 = λ r. ∥ IsReady disk device r log ∥₁ in subst Ready (sym same) ready
 
-pub in_use_at : {D : Type 0} (disk : Disk D) (device : D) (root lent : Root) (log : Log) (last : ℕ) → lent ≡ root → last ≡ log.last → IsInUse disk device root log.last
-    → IsInUse disk device lent last
-in_use_at disk device root lent log last same end used =
-    let Used : Root → ℕ → Type 0 = λ r n. IsInUse disk device r n in
-    subst (λ r. Used r last) (sym same) (subst (Used root) (sym end) used)
-
 -- the entries that are written are those that are held of a view
 pub entries_written : (v : View) (content : List ℕ) (root : Root) (all : List Entry) → all ≡ entries_of v → HoldsEntries content root all
     → HoldsEntries content root (held_entries (with_plans v))

@@ -88,6 +88,18 @@ module _ {D : Type 0} {g : Ghosts D} (old mid new : Store D g) (run : Ran g.disk
     settled_unchanged rules h was = (settled_still mid new after (serving_by mid new (ap (λ (p : Paged). p.core) same) (still_ran mid new same after) serving) rules h
         (settled_between working rules h was)).0
 
+  -- the next generation shows what the old one showed
+  pub serves_renewed : (rules : Rules) (v : View) → ServesAt rules old v → (next : State Beside) → next.rules ≡ kept_rules old
+      → Shows next (base_of (with_plans v)) (with_plans v) → LiesUnder new (base_of (with_plans v)) → new.paged.core ≡ next → serves new ≡ true → ServesAt rules new v
+  serves_renewed rules v serving next numbers shows lies is working =
+      let Held : State Beside → Type 0 = λ s. Shows s (base_of (with_plans v)) (with_plans v) in
+      record {
+        working = working;
+        rules_are = ap (λ (s : State Beside). s.rules) is ∙ numbers ∙ serving.rules_are;
+        shows = shown_anew new v lies (subst Held (sym is) shows);
+        seen = serving.seen;
+      }
+
   module _ (rules : Rules) (h : History) (settled : IsSettledAt rules old h) where
     -- what it shows can be kept
     pub keepable_here : IsKeepable (kept_rules old) (view rules h)
@@ -101,17 +113,17 @@ module _ {D : Type 0} {g : Ghosts D} (old mid new : Store D g) (run : Ran g.disk
         followed_by g.disk (device_of old) (device_of mid) (device_of new) (IsFound rules h [] []) (λ c. StandsFor rules c h) (IsFound rules h [] [])
         (moments_read rules old mid h [] run settled) stands.moments (λ c found. found) (λ c found. found_none rules h [] c found)
 
-    -- the next generation shows what the old one showed
+    -- and the next generation is settled at it
     pub settled_renewed : (next : State Beside) → next.rules ≡ kept_rules old → Shows next (base_of (with_plans (view rules h))) (with_plans (view rules h))
         → Stands g.disk (device_of mid) (device_of new) (λ c. StandsFor rules c h) (λ c. StandsFor rules c h)
         → LiesUnder new (base_of (with_plans (view rules h))) → new.paged.core ≡ next → serves new ≡ true → IsSettledAt rules new h
     settled_renewed next numbers shows stands lies is working =
-        let Held : State Beside → Type 0 = λ s. Shows s (base_of (with_plans (view rules h))) (with_plans (view rules h)) in
+        let serving = serves_renewed rules (view rules h) (settled_serves rules old h settled) next numbers shows lies is working in
         record {
           working = working;
-          rules_are = ap (λ (s : State Beside). s.rules) is ∙ numbers ∙ settled.rules_are;
+          rules_are = serving.rules_are;
           keeps = stands.kept;
-          shows = shown_anew new (view rules h) lies (subst Held (sym is) shows);
+          shows = serving.shows;
           read = stands.seen;
           left = stands.crash;
         }

@@ -79,7 +79,6 @@ impl<D: Device> Store<D> {
     ghost use Rattle.durable.specs.Gathered.{in_record, CanBeAppended, HasStepped, StaysAs, HasGatheredMore, HasServedMore, HasStoppedIn, HasAnswered};
     ghost use Rattle.durable.specs.Ready.{IsReadyAt, HoldsHistory};
     ghost use Rattle.durable.specs.Stands.{StandsFor};
-    ghost use Rattle.roots.specs.Install.{IsInUse};
     ghost use Rattle.durable.specs.Settled.{device_of, root_of, log_of, serves, kept_rules, revision_of, LiesUnder, LiesStill, Holds, IsShown, ServesAt, IsFound, IsSettledAt, IsLeftAt, LeavesSome, HasReplied, HasFailedAt, HasServed, HasStopped};
 
     /// Opens the store on a device: syncs it, reads it, and writes nothing. With a refusal it gives the device back.
@@ -205,7 +204,7 @@ impl<D: Device> Store<D> {
             Ok(prepared) => Ok(prepared),
             Err(LookupFault::Memory) => Err(Fault::Memory),
             Err(LookupFault::Device) => Err(self.stop_for(Fault::Device)),
-            Err(LookupFault::Damaged) => Err(self.stop_for(Fault::Damaged(Damage::Page))),
+            Err(LookupFault::Damaged) => Err(self.stop_for(Fault::Damaged(Damage::Entry))),
         }
     }
 
@@ -435,6 +434,8 @@ impl<D: Device> Store<D> {
     /// never from a store that shows the view of a history, and it answers `Failed` from then on. `Failed` after a failure, with no call of the device.
     pub fn compact(&mut self, alloc: Global) -> Result<Compacted, Fault>
         ensures settled { (rules : Rules) (h : History) → IsSettledAt rules self.old h → OnOk result (IsSettledAt rules self.new h) }
+        ensures serving { (rules : Rules) (v : View) → ServesAt rules self.old v → IsKeepable rules v → D.disk.keeps (device_of self.old)
+            → OnOk result (ServesAt rules self.new v) }
 
         // The root that counts is the next one, and no record stands behind it.
         ensures counts { (rules : Rules) (h : History) → IsSettledAt rules self.old h
@@ -522,8 +523,7 @@ impl<D: Device> Store<D> {
         requires ascending { IsTrue (is_sorted bytes_cmp (in_list next.entries)) }
         requires rules { next.core.rules ≡ kept_rules self.old }
         ensures core { OnOk result (self.new.paged.core ≡ next.core) }
-        ensures lies { (rules : Rules) (v : View) → IsKeepable rules v → D.disk.keeps (device_of self.old)
-            → IsInUse D.disk (device_of self.old) (root_of self.old) (log_of self.old).last → in_list next.entries ≡ entries_of v
+        ensures lies { (rules : Rules) (v : View) → IsKeepable rules v → D.disk.keeps (device_of self.old) → in_list next.entries ≡ entries_of v
             → OnOk result (LiesUnder self.new (base_of (with_plans v))) }
         ensures paged { OnErr result (self.new.paged ≡ self.old.paged) }
         ensures stands { (rules : Rules) (h : History) → HoldsHistory rules D.disk (device_of self.old) h → revision_of self.old ≡ (view rules h).revision

@@ -1,4 +1,4 @@
-use Rattle.std.proofs.Common.{◌≡◌, ◌∙◌, ap, sym, subst, refl}
+use Rattle.std.proofs.Common.{◌≡◌, ◌∙◌, sym, ap, subst}
 use Rattle.roots.specs.declared.root.Root.{Root}
 use Rattle.holdings.specs.Holdings.{State, Shows}
 use Rattle.apicore.specs.Beside.{Beside}
@@ -11,9 +11,9 @@ use Rattle.durable.proofs.store.Store.check.Goals as goal
 
 pub returns-then-not-branch-clause-damaged : goal.returns-then-not-branch-clause-damaged
 returns-then-not-branch-clause-damaged g c damage told rules v serving keepable =
-    let same : c.core.result.now ≡ c.args.self.now.paged.core = c.core.ensures ∙ c.next.ensures.core in
-    let Over : State Beside → Type 0 = λ core. ShowsOver core serving.shows.base v in
-    c.in_ok-has_own_plans.ensures.no serving.shows.base v (subst Over (sym same) serving.shows.shows) serving.seen c.if-not-branch.true
+    let shown = serving.shows in
+    let Over : State Beside → Type 0 = λ core. ShowsOver core shown.base v in
+    c.in_ok-has_own_plans.ensures.no shown.base v (subst Over (sym (c.core.ensures ∙ c.next.ensures.core)) shown.shows) serving.seen c.if-not-branch.true
 
 pub returns-clause-counted : goal.returns-clause-counted
 returns-clause-counted g c rules h settled =
@@ -25,10 +25,9 @@ returns-clause-counted g c rules h settled =
 pub returns-clause-plans : goal.returns-clause-plans
 returns-clause-plans g c held holds =
     let store = c.args.self.now in
-    let same : c.core.result.now ≡ store.paged.core = c.core.ensures ∙ c.next.ensures.core in
-    let Over : State Beside → Type 0 = λ core. Shows core holds.base held in
-    c.in_ok-has_own_plans.ensures.yes holds.base held (subst Over (sym same) holds.shows) (below_own g.D.Device.disk store.device store.paged holds.base holds.below)
-    c.if-not-branch.false
+    let Held : State Beside → Type 0 = λ core. Shows core holds.base held in
+    c.in_ok-has_own_plans.ensures.yes holds.base held (subst Held (sym (c.core.ensures ∙ c.next.ensures.core)) holds.shows)
+    (below_own g.D.Device.disk store.device store.paged holds.base holds.below) c.if-not-branch.false
 
 pub returns-clause-settled : goal.returns-clause-settled
 returns-clause-settled g c rules h settled =

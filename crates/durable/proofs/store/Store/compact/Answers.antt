@@ -1,16 +1,17 @@
-use Rattle.std.proofs.Common.{◌+◌, ◌≡◌, ◌∙◌, sym, ap, inl, inr, ⊎_elim, [], Err}
+use Rattle.std.proofs.Common.{◌+◌, ◌≡◌, ◌∙◌, sym, ap, subst, inl, inr, ⊎_elim, [], Err}
 use Rattle.roots.specs.declared.root.Root.{Root}
 use Rattle.checkpoint.specs.EntryList.{entries_of as in_list}
-use Rattle.snapshots.specs.Keeping.{entries_of}
+use Rattle.names.specs.declared.format.Rules.{Rules}
+use Rattle.snapshots.specs.Keeping.{entries_of, IsKeepable}
 use Rattle.history.specs.View.{view}
 use Rattle.apicore.proofs.Histories.{on_ok_to}
 use Rattle.durable.specs.declared.fault.Fault.TheVariants as Fault
 use Rattle.durable.specs.Settled.{root_of, revision_of}
 use Rattle.durable.proofs.Answering.{held}
 use Rattle.durable.proofs.Bases.{err_is}
-use Rattle.durable.proofs.Keeping.{root_is, in_use}
+use Rattle.durable.proofs.Keeping.{root_is}
 use Rattle.durable.proofs.Reading.{history_kept}
-use Rattle.durable.proofs.Renewing.{on_ok_three, at_either, never_exhausted, settled_between, revision_between, serves_unchanged, settled_unchanged, keepable_here, moments_renewed, settled_renewed, left_renewed}
+use Rattle.durable.proofs.Renewing.{on_ok_three, at_either, never_exhausted, settled_between, revision_between, serves_unchanged, settled_unchanged, keepable_here, moments_renewed, settled_renewed, serves_renewed, left_renewed}
 use Rattle.durable.proofs.Unwritten.{held_after, left_read, moments_read}
 use Rattle.durable.proofs.store.Store.compact.Goals as goal
 
@@ -61,14 +62,12 @@ returns-clause-settled g c rules h settled =
     let shown : in_list c.in_ok-next.next.entries ≡ entries_of (view rules h) = c.in_ok-next.ensures.entries (view rules h) settled.shows in
     let revision : revision_of mid ≡ (view rules h).revision = revision_between store mid mid run core still (view rules h) settled.shows in
     let holds = held_after g.D.Device.disk rules h store.device mid.device run (held rules store h settled) in
-    let working = c.in_ok-next.ensures.goes_on in
-    let used = in_use g.D.Device.disk mid.device (root_of mid) mid.log rules h (mid.ready working holds.keeps) (mid.works working) holds.read in
     on_ok_three _ _ _ _ c.write_next.result
     (λ lies is serves.
     settled_renewed store mid new run core still rules h settled c.in_ok-next.next.core c.in_ok-next.ensures.rules
     (c.in_ok-next.ensures.held (view rules h) settled.shows (keepable_here store mid mid run core still rules h settled))
     (c.write_next.ensures.stands rules h holds revision shown) lies is serves)
-    (c.write_next.ensures.lies rules (view rules h) (history_kept rules h settled.read.numbers settled.read.history) holds.keeps used shown) c.write_next.ensures.core
+    (c.write_next.ensures.lies rules (view rules h) (history_kept rules h settled.read.numbers settled.read.history) holds.keeps shown) c.write_next.ensures.core
     c.write_next.ensures.serves
 
 pub returns-clause-counts : goal.returns-clause-counts
@@ -150,3 +149,16 @@ returns-clause-damaged g c damage told rules h settled =
     let revision : revision_of mid ≡ (view rules h).revision = revision_between store mid mid run core still (view rules h) settled.shows in
     let holds = held_after g.D.Device.disk rules h store.device mid.device run (held rules store h settled) in
     c.write_next.ensures.damaged rules h damage holds revision shown told
+
+pub returns-clause-serving : goal.returns-clause-serving
+returns-clause-serving g c rules v serving keepable keeps =
+    let store = c.args.self.now in
+    let mid = c.next.new.self in
+    let new = c.write_next.new.self in
+    let run = c.next.ensures.device in
+    let Keeps : Rules → Type 0 = λ r. IsKeepable r v in
+    on_ok_three _ _ _ _ c.write_next.result
+    (λ lies is working.
+    serves_renewed store mid new run c.next.ensures.core c.next.ensures.lies rules v serving c.in_ok-next.next.core c.in_ok-next.ensures.rules
+    (c.in_ok-next.ensures.held v serving.shows (subst Keeps (sym serving.rules_are) keepable)) lies is working)
+    (c.write_next.ensures.lies rules v keepable (run.kept keeps) (c.in_ok-next.ensures.entries v serving.shows)) c.write_next.ensures.core c.write_next.ensures.serves

@@ -3,6 +3,7 @@ use Rattle.std.proofs.Math.Logic.{∥∥₁_elim, ∥∥₁_prop}
 use Rattle.std.proofs.lemmas.Grind.{merely}
 use Rattle.device.specs.Run.{Stands}
 use Rattle.checkpoint.specs.Filling.{AllFit}
+use Rattle.checkpoint.specs.Index.{keys_of}
 use Rattle.roots.specs.Root.{log_start, HoldsRoot}
 use Rattle.gatelog.specs.Log.{HoldsLog}
 use Rattle.roots.specs.declared.root.Root.{Root}
@@ -19,7 +20,8 @@ use Rattle.durable.specs.Ready.{IsReady}
 use Rattle.durable.specs.Settled.{root_of}
 use Rattle.durable.proofs.Answering.{Small}
 use Rattle.durable.proofs.Keeping.{reaches}
-use Rattle.durable.proofs.Compacting.{ready_at, in_use_at, entries_written, ready_in_use, ready_same, list_source, generation_in_use, stands_either, stands_written, written_counts, damaged_or_long}
+use Rattle.durable.proofs.Compacting.{ready_at, entries_written, ready_in_use, ready_same, list_source, generation_in_use, stands_either, stands_written, written_counts, damaged_or_long}
+use Rattle.durable.proofs.Single.{AreHeld, held_once}
 use Rattle.durable.proofs.Reading.{history_kept, of_first, kept_size}
 use Rattle.durable.proofs.store.Store.write_next.Goals as goal
 
@@ -64,18 +66,24 @@ invariant_of-self-in-Err g c =
     }
 
 pub returns-in-Ok-clause-lies : goal.returns-in-Ok-clause-lies
-returns-in-Ok-clause-lies g c rules v keepable keeps used is =
+returns-in-Ok-clause-lies g c rules v keepable keeps is =
     let store = c.args.self.now in
     let disk = g.D.Device.disk in
     let root = c.root.result.now in
     let last = c.last_gate-last_gate.result in
     let list = c.args.next.entries in
     let all : List Entry = in_list list in
-    let here = in_use_at disk store.device (root_of store) root store.log last c.root.ensures c.last_gate-last_gate.ensures used in
+    let next = c.in-Ok.written in
+    let content = disk.content c.write.new.device in
+    let written : AreHeld (keys_of next.first_keys.items) content next.root all =
+    ∥∥₁_elim (ready_at disk store.device (root_of store) root store.log c.root.ensures (store.ready c.requires.serves keeps))
+    (held_once (keys_of next.first_keys.items) content next.root all)
+    (λ ready.
+    let used = ready_in_use disk store.device root store.log last c.last_gate-last_gate.ensures ready in
     let source = list_source root last (disk.content store.device) list c.requires.ascending in
-    let stands = c.in-Ok.ensures.written keeps all here source in
-    c.start_over.ensures.lies rules (with_plans v) (kept_held rules v keepable) (c.in-Ok.ensures.index keeps all here source) (c.write.ensures.kept keeps)
-    (entries_written v (disk.content c.write.new.device) c.in-Ok.written.root all is stands.seen.there)
+    let stands = c.in-Ok.ensures.written keeps all used source in
+    (c.in-Ok.ensures.index keeps all used source, stands.seen.there)) in
+    c.start_over.ensures.lies rules (with_plans v) (kept_held rules v keepable) written.0 (c.write.ensures.kept keeps) (entries_written v content next.root all is written.1)
 
 pub returns-in-Ok-clause-stands : goal.returns-in-Ok-clause-stands
 returns-in-Ok-clause-stands g c rules h held revision entries =
