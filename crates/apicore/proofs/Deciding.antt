@@ -38,7 +38,7 @@ use Rattle.holdings.specs.declared.source.Found.{Found}
 use Rattle.plancode.specs.Plans.{Judged}
 use Rattle.policy.specs.declared.validation.Reason.{Reason}
 use Rattle.planlist.specs.Plans.{list_bytes}
-use Rattle.expressions.specs.Specification.{Specification, IsCompiled, AreShort, MayBeHeld, compiled, plans_in, plans_bytes}
+use Rattle.expressions.specs.Specification.{Specification, IsCompiled, AreShort, MayBeHeld, compiled, these, plans_in, plans_bytes}
 use Rattle.expressions.specs.Specification as stands
 use Rattle.verdict.specs.Admission.{verdict}
 use Rattle.verdict.specs.Verdict.{Verdict, admitted, denied}
@@ -299,7 +299,7 @@ module _ (holds : List (Key × Stored Beside) → Type 0) (core : State Beside) 
 
 -- ---- what stands in a document
 
-few_bytes : (r : Resource) (d : Data) (plans : List Judged) → length (list_bytes plans) ≤ 2 + 22 * length (text d) → length (plans_bytes r plans) ≤ 2 + 22 * length (text d)
+few_bytes : (r : Resource) (d : Data) (plans : List Judged) → length (list_bytes plans) ≤ 2 + 22 * length (text d) → length (plans_bytes r (these plans)) ≤ 2 + 22 * length (text d)
 few_bytes ValidatingAdmissionPolicy d plans few = few
 few_bytes ValidatingAdmissionPolicyBinding d plans few = omega arith
 few_bytes ConfigMap d plans few = omega arith
@@ -369,9 +369,9 @@ next_put held p k d b n stands is same there =
     subst (IsNextPut held) (sym is) next
 
 -- the put of a core's plans is that of its trees, with plans
-pub put_planned : (k : Key) (d : Document) (plans : List Judged) (trees : List Expr) (p : Prepared) → writes_of p.write ≡ put k d (spelled d.json plans) ∷ []
+pub put_planned : (k : Key) (d : Document) (plans : List Judged) (trees : List Expr) (p : Prepared) → writes_of p.write ≡ put k d (spelled d.json (these plans)) ∷ []
     → plans ≡ plans_in d.json trees → map (mapped_write plans_held) (writes_of p.write) ≡ write_with_plans (put k d trees) ∷ []
-put_planned k d plans trees p is same = ap (λ ws. map (mapped_write plans_held) ws) is ∙ (λ i. put k d (spelled d.json (same i)) ∷ [])
+put_planned k d plans trees p is same = ap (λ ws. map (mapped_write plans_held) ws) is ∙ (λ i. put k d (spelled d.json (these (same i))) ∷ [])
 
 -- ---- writes
 

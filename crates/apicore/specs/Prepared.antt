@@ -17,7 +17,7 @@ use Rattle.history.specs.View as seen
 use Rattle.holdings.specs.Holdings as holdings
 use Rattle.holdings.specs.Holdings.{State}
 use Rattle.holdings.specs.Prepared.{writes_of, AreNext}
-use Rattle.expressions.specs.Specification.{Specification, IsSpecification, sound, bad_spec, bad_expression, plans_in, plans_bytes, MayHavePlans}
+use Rattle.expressions.specs.Specification.{Specification, IsSpecification, sound, bad_spec, bad_expression, these, plans_in, plans_bytes, MayHavePlans}
 use Rattle.apicore.specs.Beside.{Beside}
 use Rattle.apicore.specs.Standing.{View, IsView, with_plans, write_with_plans}
 use Rattle.apicore.specs.Step.{Asked, reply, writes}
@@ -58,7 +58,7 @@ pub record IsOver (holds : List (Key × Stored Beside) → Type 0) (core : State
 
 abbrev pub AreHeld : Resource → Data → Specification Expr → Type 0
 AreHeld r d (sound trees) =
-    (length (text d) ≤ 2 ^ 24 → MayHavePlans r d (plans_in d trees)) × (length (plans_bytes r (plans_in d trees)) ≤ 2 + 22 * length (text d))
+    (length (text d) ≤ 2 ^ 24 → MayHavePlans r d (these (plans_in d trees))) × (length (plans_bytes r (these (plans_in d trees))) ≤ 2 + 22 * length (text d))
 AreHeld r d bad_spec = Unit {0}
 AreHeld r d (bad_expression t) = Unit {0}
 

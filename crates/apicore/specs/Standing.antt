@@ -17,7 +17,7 @@ use Rattle.history.specs.View as seen
 use Rattle.history.specs.View.{stored_at, exists, after, empty}
 use Rattle.matching.specs.Rules.{Attempt}
 use Rattle.matching.specs.declared.rules.Operation.TheVariants.{Create, Update, Delete}
-use Rattle.expressions.specs.Specification.{IsSpecification, sound, plans_in, plans_bytes, MayHavePlans}
+use Rattle.expressions.specs.Specification.{IsSpecification, sound, these, plans_in, plans_bytes, MayHavePlans}
 use Rattle.verdict.specs.Admission.{verdict}
 use Rattle.bindings.specs.Objects.{Object, Objects}
 use Rattle.verdict.specs.Verdict.{Verdict, admitted, denied}
@@ -37,8 +37,8 @@ View = seen.View (List Expr)
 pub record HasTrees (r : Resource) (d : Data) (trees : List Expr) : Type 0 where
   pub spelled : IsSpecification r d (sound trees)
   pub alone : (other : List Expr) → IsSpecification r d (sound other) → other ≡ trees
-  pub held : MayHavePlans r d (plans_in d trees)
-  pub short : length (plans_bytes r (plans_in d trees)) ≤ 2 + 22 * length (text d)
+  pub held : MayHavePlans r d (these (plans_in d trees))
+  pub short : length (plans_bytes r (these (plans_in d trees))) ≤ 2 + 22 * length (text d)
 
 abbrev pub PutsTrees : Write → Type 0
 PutsTrees (put k d trees) = HasTrees k.resource d.json trees

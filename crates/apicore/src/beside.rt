@@ -1,33 +1,35 @@
 //! What stands beside a document in the core.
 
 ghost use Rattle.std.specs.Prelude.{◌≡◌, IfOk};
+ghost use Rattle.expressions.specs.Specification.{plans_seen};
 ghost use Rattle.apicore.specs.Beside.{spelled, found_with};
 ghost use Rattle.bindings.specs.Seen.{held_by};
 
 use bindings::{Bound, Found};
 use documents::Document;
+use expressions::StoredPlans;
 use jsondoc::Doc;
-use plancode::Verified;
 use policy::Policy;
 use std::alloc::{AllocError, Global};
 use std::marker::Model;
 
-/// What a document spells as a policy and as a binding, and the plans of the policy's expressions, in order.
+/// What a document spells as a policy and as a binding, and the plans of the policy's expressions.
 #[derive(Drop)]
 pub struct Beside {
     policy: Option<Policy>,
-    plans: Vec<Verified>,
+    plans: StoredPlans,
     bound: Option<Bound>,
 }
 
 impl Model for Beside {
     ghost use Rattle.std.specs.Prelude.{option_map};
     ghost use Rattle.policy.specs.Spec.{policy_seen};
+    ghost use Rattle.expressions.specs.Specification.{plans_seen};
     ghost use Rattle.apicore.specs.Beside as spec;
 
     ghost Value = { spec.Beside };
 
-    ghost view = { λ b. record { policy = option_map policy_seen b.policy; plans = b.plans.items; binding = b.bound } };
+    ghost view = { λ b. record { policy = option_map policy_seen b.policy; plans = plans_seen b.plans; binding = b.bound } };
 }
 
 impl Beside {
@@ -36,8 +38,8 @@ impl Beside {
     /// # Errors
     ///
     /// Where no memory is left.
-    pub fn of(alloc: Global, document: &Doc, plans: Vec<Verified>) -> Result<Beside, AllocError>
-        ensures { IfOk result (λ b. b ≡ spelled document.now plans.items) }
+    pub fn of(alloc: Global, document: &Doc, plans: StoredPlans) -> Result<Beside, AllocError>
+        ensures { IfOk result (λ b. b ≡ spelled document.now (plans_seen plans)) }
     {
         let policy = Policy::of(alloc, document.value())?;
         let bound = Bound::of(alloc, document.value())?;
@@ -61,9 +63,9 @@ impl Beside {
         }
     }
 
-    /// The plans of the policy's expressions, in order.
-    pub fn plans(&self) -> &[Verified]
-        ensures { result.now ≡ self.now.plans }
+    /// The plans of the policy's expressions.
+    pub fn plans(&self) -> &StoredPlans
+        ensures { plans_seen result.now ≡ self.now.plans }
     {
         &self.plans
     }

@@ -4,7 +4,7 @@ ghost use Rattle.std.specs.Prelude.{◌≡◌, List, Some, false, IsTrue, IfOk};
 ghost use Rattle.std.specs.List.{AllByRecursion};
 ghost use Rattle.celtree.specs.Tree.{Expr};
 ghost use Rattle.names.specs.Key.{Key as KeyData};
-ghost use Rattle.expressions.specs.Specification.{plans_bytes};
+ghost use Rattle.expressions.specs.Specification.{plans_bytes, plans_seen};
 ghost use Rattle.history.specs.declared.stored.Stored.{Stored as StoredData};
 ghost use Rattle.history.specs.View.{View as Held};
 ghost use Rattle.holdings.specs.Holdings.{Shows};
@@ -15,22 +15,21 @@ ghost use Rattle.apicore.specs.Standing.{View, IsView, HasTrees};
 
 use crate::beside::Beside;
 use crate::prepared::Core;
-use expressions::{Specification, plans_bytes, specification_of};
+use expressions::{Specification, StoredPlans, plans_bytes, specification_of};
 use history::Stored;
 use names::{Key, Resource};
 use objects::Entry;
-use plancode::Verified;
 use std::alloc::{AllocError, Global};
 
 // Whether two lists of plans have the same bytes, as those of an object of a resource.
 fn have_same_bytes(
     alloc: Global,
     resource: Resource,
-    held: &[Verified],
-    own: &[Verified],
+    held: &StoredPlans,
+    own: &StoredPlans,
 ) -> Result<bool, AllocError>
-    ensures yes { IfOk result (λ same. IsTrue same → plans_bytes resource held.now ≡ plans_bytes resource own.now) }
-    ensures no { IfOk result (λ same. same ≡ false → plans_bytes resource held.now ≡ plans_bytes resource own.now → ⊥) }
+    ensures yes { IfOk result (λ same. IsTrue same → plans_bytes resource (plans_seen held.now) ≡ plans_bytes resource (plans_seen own.now)) }
+    ensures no { IfOk result (λ same. same ≡ false → plans_bytes resource (plans_seen held.now) ≡ plans_bytes resource (plans_seen own.now) → ⊥) }
 {
     match (
         plans_bytes(alloc, resource, held),
@@ -53,7 +52,7 @@ fn has_own(alloc: Global, key: &Key, stored: &Stored<Beside>) -> Result<bool, Al
             alloc,
             key.resource(),
             stored.beside.plans(),
-            &plans,
+            &StoredPlans::Plans(plans),
         ),
         Specification::BadSpec | Specification::BadExpression(_) => Ok(false),
     }

@@ -12,7 +12,7 @@ use std::fmt::{Display, Formatter};
 pub enum RecoveryFault {
     /// No writes that may follow have these payloads.
     Damaged,
-    /// The bytes of a policy's plans are those of no plans that it may have.
+    /// An object that is no policy has plans.
     Plans,
     /// There was no memory to take them.
     Memory,

@@ -8,6 +8,7 @@ ghost use Rattle.documents.specs.Document.{Document as DocumentData};
 ghost use Rattle.matching.specs.Rules.{attempt_seen};
 ghost use Rattle.matching.specs.declared.rules.Operation.TheVariants.{Create, Update, Delete};
 ghost use Rattle.objects.specs.Failing.{HasGrown};
+ghost use Rattle.objects.specs.declared.fault.Part.{Part};
 ghost use Rattle.objects.specs.declared.fault.LookupFault.TheVariants as LookupFault;
 ghost use Rattle.requests.specs.Codes.{document_in};
 ghost use Rattle.history.specs.declared.stored.Stored.{Stored as StoredData};
@@ -17,7 +18,7 @@ ghost use Rattle.history.specs.View.{View as Held, stored_at, exists};
 ghost use Rattle.holdings.specs.Holdings.{Shows, ShowsSame};
 ghost use Rattle.holdings.specs.Prepared.{writes_of, AreNext, HasRoomFor};
 ghost use Rattle.holdings.specs.Sources.{found_in};
-ghost use Rattle.expressions.specs.Specification.{plans_in};
+ghost use Rattle.expressions.specs.Specification.{these, plans_in};
 ghost use Rattle.verdict.specs.Admission.{verdict};
 ghost use Rattle.verdict.specs.Seen.{verdict_seen};
 ghost use Rattle.apicore.specs.Beside.{Beside as BesideData, spelled};
@@ -30,6 +31,7 @@ use crate::prepared::{Core, Prepared};
 use crate::refusing::denied;
 use crate::sight::Sight;
 use documents::Document;
+use expressions::StoredPlans;
 use history::Reply;
 use holdings::{Found, PreparedWrite, Source};
 use matching::{Attempt, Operation};
@@ -54,7 +56,7 @@ fn verdict_of<S: Source<Beside>>(
     ensures goes { S.goes_to source.old source.new }
     ensures counts { S.failures source.old ≤ S.failures source.new }
     ensures device { IsErrOf result LookupFault.Device → HasGrown (S.failures source.old) (S.failures source.new) }
-    ensures damaged { IsErrOf result LookupFault.Damaged → S.is_damaged source.new }
+    ensures damaged { (part : Part) → IsErrOf result (LookupFault.Damaged part) → (held : Held BesideData) (v : View) → IsOver (S.holds source.old) core.now held v → ⊥ }
 {
     let mut sight = Sight { core, source };
     admit(alloc, &mut sight, attempt)
@@ -82,7 +84,7 @@ fn admitted_put(
     ensures shows { ShowsSame core.old core.new }
     ensures reply { IfOk result
         (λ p. p.reply ≡ showing (if stands then 200 else 201) (map string_bytes warnings.items) (document_in manifest.now.body) (core.old.revision + 1)) }
-    ensures write { IfOk result (λ p. writes_of p.write ≡ put manifest.now.key (document_in manifest.now.body) (spelled (document_in manifest.now.body).json plans.items) ∷ []) }
+    ensures write { IfOk result (λ p. writes_of p.write ≡ put manifest.now.key (document_in manifest.now.body) (spelled (document_in manifest.now.body).json (these plans.items)) ∷ []) }
     ensures next { (held : Held BesideData) → core.old.revision ≡ held.revision → stands ≡ exists held manifest.now.key → IfOk result (λ p. AreNext held p.write) }
     ensures ready { IfOk result (λ p. HasRoomFor core.new p.write) }
 {
@@ -91,7 +93,7 @@ fn admitted_put(
     let revision = core.revision() + 1;
     let document = manifest.document();
     let reply = Reply::showing(alloc, put_code(stands), warnings, document, revision)?;
-    let beside = Beside::of(alloc, document.json(), plans)?;
+    let beside = Beside::of(alloc, document.json(), StoredPlans::Plans(plans))?;
     let put = core.prepare_put(alloc, manifest, beside, stands)?;
     Ok(Prepared {
         reply,
@@ -147,7 +149,7 @@ pub(crate) fn judged_put<'x, S: Source<Beside>>(
     ensures goes { S.goes_to source.old source.new }
     ensures counts { S.failures source.old ≤ S.failures source.new }
     ensures device { IsErrOf result LookupFault.Device → HasGrown (S.failures source.old) (S.failures source.new) }
-    ensures damaged { IsErrOf result LookupFault.Damaged → S.is_damaged source.new }
+    ensures damaged { (part : Part) → IsErrOf result (LookupFault.Damaged part) → (held : Held BesideData) (v : View) → IsOver (S.holds source.old) core.old held v → ⊥ }
 {
     let attempt = put_attempt(manifest, old_object);
     match verdict_of(core, alloc, source, &attempt)? {
@@ -217,7 +219,7 @@ pub(crate) fn judged_delete<'x, S: Source<Beside>>(
     ensures goes { S.goes_to source.old source.new }
     ensures counts { S.failures source.old ≤ S.failures source.new }
     ensures device { IsErrOf result LookupFault.Device → HasGrown (S.failures source.old) (S.failures source.new) }
-    ensures damaged { IsErrOf result LookupFault.Damaged → S.is_damaged source.new }
+    ensures damaged { (part : Part) → IsErrOf result (LookupFault.Damaged part) → (held : Held BesideData) (v : View) → IsOver (S.holds source.old) core.old held v → ⊥ }
 {
     let deletion = Attempt {
         operation: Operation::Delete,

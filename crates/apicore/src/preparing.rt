@@ -3,6 +3,7 @@ ghost use Rattle.std.specs.Prelude.{◌≡◌, ◌≤◌, ◌<◌, ◌⊎◌, Li
 ghost use Rattle.celtree.specs.Tree.{Expr};
 ghost use Rattle.names.specs.Key.{Key as KeyData, is_key};
 ghost use Rattle.objects.specs.Failing.{HasGrown};
+ghost use Rattle.objects.specs.declared.fault.Part.{Part};
 ghost use Rattle.objects.specs.declared.fault.LookupFault.TheVariants as LookupFault;
 ghost use Rattle.requests.specs.Codes.{document_in};
 ghost use Rattle.requests.specs.Manifest.{BodyHasForm};
@@ -60,10 +61,10 @@ pub fn prepare<S: Source<Beside>>(
     ensures goes { S.goes_to source.old source.new }
     ensures counts { S.failures source.old ≤ S.failures source.new }
     ensures device { IsErrOf result LookupFault.Device → HasGrown (S.failures source.old) (S.failures source.new) }
-    ensures damaged { IsErrOf result LookupFault.Damaged → S.is_damaged source.new }
+    ensures damaged { (part : Part) → IsErrOf result (LookupFault.Damaged part) → (held : Held BesideData) (v : View) → IsOver (S.holds source.old) core.old held v → ⊥ }
 
     // What stands in the request's document was read before the look that failed.
-    ensures read { IsErrOf result LookupFault.Device ⊎ IsErrOf result LookupFault.Damaged → (s : SpecificationOf Expr) × IsReadOf (request_of request.now) s }
+    ensures read { IsErrOf result LookupFault.Device ⊎ ((part : Part) × IsErrOf result (LookupFault.Damaged part)) → (s : SpecificationOf Expr) × IsReadOf (request_of request.now) s }
 {
     match request {
         Request::Get(key) => get(core, alloc, source, key),
@@ -103,8 +104,8 @@ fn prepare_create<S: Source<Beside>>(
     ensures goes { S.goes_to source.old source.new }
     ensures counts { S.failures source.old ≤ S.failures source.new }
     ensures device { IsErrOf result LookupFault.Device → HasGrown (S.failures source.old) (S.failures source.new) }
-    ensures damaged { IsErrOf result LookupFault.Damaged → S.is_damaged source.new }
-    ensures read { IsErrOf result LookupFault.Device ⊎ IsErrOf result LookupFault.Damaged → (s : SpecificationOf Expr) × IsReadOf (create manifest.now) s }
+    ensures damaged { (part : Part) → IsErrOf result (LookupFault.Damaged part) → (held : Held BesideData) (v : View) → IsOver (S.holds source.old) core.old held v → ⊥ }
+    ensures read { IsErrOf result LookupFault.Device ⊎ ((part : Part) × IsErrOf result (LookupFault.Damaged part)) → (s : SpecificationOf Expr) × IsReadOf (create manifest.now) s }
 {
     // The document, of which the form speaks.
     let _document = manifest.document();
@@ -134,7 +135,7 @@ fn create_free<S: Source<Beside>>(
     ensures goes { S.goes_to source.old source.new }
     ensures counts { S.failures source.old ≤ S.failures source.new }
     ensures device { IsErrOf result LookupFault.Device → HasGrown (S.failures source.old) (S.failures source.new) }
-    ensures damaged { IsErrOf result LookupFault.Damaged → S.is_damaged source.new }
+    ensures damaged { (part : Part) → IsErrOf result (LookupFault.Damaged part) → (held : Held BesideData) (v : View) → IsOver (S.holds source.old) core.old held v → ⊥ }
 {
     match specification {
         Specification::Sound(plans) => create_sound(core, alloc, source, manifest, plans),
@@ -162,7 +163,7 @@ fn create_sound<S: Source<Beside>>(
     ensures goes { S.goes_to source.old source.new }
     ensures counts { S.failures source.old ≤ S.failures source.new }
     ensures device { IsErrOf result LookupFault.Device → HasGrown (S.failures source.old) (S.failures source.new) }
-    ensures damaged { IsErrOf result LookupFault.Damaged → S.is_damaged source.new }
+    ensures damaged { (part : Part) → IsErrOf result (LookupFault.Damaged part) → (held : Held BesideData) (v : View) → IsOver (S.holds source.old) core.old held v → ⊥ }
 {
     match create_limit(core, manifest) {
         Some(refusal) => Ok(refused(alloc, refusal)?),
@@ -187,8 +188,8 @@ fn prepare_replace<S: Source<Beside>>(
     ensures goes { S.goes_to source.old source.new }
     ensures counts { S.failures source.old ≤ S.failures source.new }
     ensures device { IsErrOf result LookupFault.Device → HasGrown (S.failures source.old) (S.failures source.new) }
-    ensures damaged { IsErrOf result LookupFault.Damaged → S.is_damaged source.new }
-    ensures read { IsErrOf result LookupFault.Device ⊎ IsErrOf result LookupFault.Damaged → (s : SpecificationOf Expr) × IsReadOf (replace manifest.now) s }
+    ensures damaged { (part : Part) → IsErrOf result (LookupFault.Damaged part) → (held : Held BesideData) (v : View) → IsOver (S.holds source.old) core.old held v → ⊥ }
+    ensures read { IsErrOf result LookupFault.Device ⊎ ((part : Part) × IsErrOf result (LookupFault.Damaged part)) → (s : SpecificationOf Expr) × IsReadOf (replace manifest.now) s }
 {
     // The document, of which the form speaks.
     let _document = manifest.document();
@@ -220,7 +221,7 @@ fn replace_of<S: Source<Beside>>(
     ensures goes { S.goes_to source.old source.new }
     ensures counts { S.failures source.old ≤ S.failures source.new }
     ensures device { IsErrOf result LookupFault.Device → HasGrown (S.failures source.old) (S.failures source.new) }
-    ensures damaged { IsErrOf result LookupFault.Damaged → S.is_damaged source.new }
+    ensures damaged { (part : Part) → IsErrOf result (LookupFault.Damaged part) → (held : Held BesideData) (v : View) → IsOver (S.holds source.old) core.old held v → ⊥ }
 {
     if update_conflicts(alloc, manifest, found.revision)? {
         return Ok(refused(alloc, Refusal::VersionNotCurrent)?);
@@ -250,7 +251,7 @@ fn replace_as<S: Source<Beside>>(
     ensures goes { S.goes_to source.old source.new }
     ensures counts { S.failures source.old ≤ S.failures source.new }
     ensures device { IsErrOf result LookupFault.Device → HasGrown (S.failures source.old) (S.failures source.new) }
-    ensures damaged { IsErrOf result LookupFault.Damaged → S.is_damaged source.new }
+    ensures damaged { (part : Part) → IsErrOf result (LookupFault.Damaged part) → (held : Held BesideData) (v : View) → IsOver (S.holds source.old) core.old held v → ⊥ }
 {
     match specification {
         Specification::Sound(plans) => replace_sound(core, alloc, source, manifest, plans, found),
@@ -281,7 +282,7 @@ fn replace_sound<S: Source<Beside>>(
     ensures goes { S.goes_to source.old source.new }
     ensures counts { S.failures source.old ≤ S.failures source.new }
     ensures device { IsErrOf result LookupFault.Device → HasGrown (S.failures source.old) (S.failures source.new) }
-    ensures damaged { IsErrOf result LookupFault.Damaged → S.is_damaged source.new }
+    ensures damaged { (part : Part) → IsErrOf result (LookupFault.Damaged part) → (held : Held BesideData) (v : View) → IsOver (S.holds source.old) core.old held v → ⊥ }
 {
     match replace_limit(core, manifest) {
         Some(refusal) => Ok(refused(alloc, refusal)?),
@@ -312,7 +313,7 @@ fn replace_there<S: Source<Beside>>(
     ensures goes { S.goes_to source.old source.new }
     ensures counts { S.failures source.old ≤ S.failures source.new }
     ensures device { IsErrOf result LookupFault.Device → HasGrown (S.failures source.old) (S.failures source.new) }
-    ensures damaged { IsErrOf result LookupFault.Damaged → S.is_damaged source.new }
+    ensures damaged { (part : Part) → IsErrOf result (LookupFault.Damaged part) → (held : Held BesideData) (v : View) → IsOver (S.holds source.old) core.old held v → ⊥ }
 {
     let old = shown_document(alloc, &found.document, found.revision)?;
     let old_object = Some(old.value());
@@ -337,7 +338,7 @@ fn prepare_delete<S: Source<Beside>>(
     ensures goes { S.goes_to source.old source.new }
     ensures counts { S.failures source.old ≤ S.failures source.new }
     ensures device { IsErrOf result LookupFault.Device → HasGrown (S.failures source.old) (S.failures source.new) }
-    ensures damaged { IsErrOf result LookupFault.Damaged → S.is_damaged source.new }
+    ensures damaged { (part : Part) → IsErrOf result (LookupFault.Damaged part) → (held : Held BesideData) (v : View) → IsOver (S.holds source.old) core.old held v → ⊥ }
 {
     // A name of the key, which is well-formed.
     let _name = key.name();
@@ -366,7 +367,7 @@ fn delete_found<S: Source<Beside>>(
     ensures goes { S.goes_to source.old source.new }
     ensures counts { S.failures source.old ≤ S.failures source.new }
     ensures device { IsErrOf result LookupFault.Device → HasGrown (S.failures source.old) (S.failures source.new) }
-    ensures damaged { IsErrOf result LookupFault.Damaged → S.is_damaged source.new }
+    ensures damaged { (part : Part) → IsErrOf result (LookupFault.Damaged part) → (held : Held BesideData) (v : View) → IsOver (S.holds source.old) core.old held v → ⊥ }
 {
     if deletion_conflicts(alloc, version, found.revision)? {
         return Ok(refused(alloc, Refusal::VersionNotCurrent)?);
@@ -398,7 +399,7 @@ fn delete_there<S: Source<Beside>>(
     ensures goes { S.goes_to source.old source.new }
     ensures counts { S.failures source.old ≤ S.failures source.new }
     ensures device { IsErrOf result LookupFault.Device → HasGrown (S.failures source.old) (S.failures source.new) }
-    ensures damaged { IsErrOf result LookupFault.Damaged → S.is_damaged source.new }
+    ensures damaged { (part : Part) → IsErrOf result (LookupFault.Damaged part) → (held : Held BesideData) (v : View) → IsOver (S.holds source.old) core.old held v → ⊥ }
 {
     let old = shown_document(alloc, &found.document, found.revision)?;
     judged_delete(core, alloc, source, key, found, old.value())

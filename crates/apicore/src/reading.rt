@@ -9,6 +9,7 @@ ghost use Rattle.requests.specs.Request.{get, list};
 ghost use Rattle.requests.specs.Selector.{selector_seen};
 ghost use Rattle.requests.specs.declared.refusal.Refusal.TheVariants.{NotFound};
 ghost use Rattle.objects.specs.Failing.{HasGrown};
+ghost use Rattle.objects.specs.declared.fault.Part.{Part};
 ghost use Rattle.objects.specs.declared.fault.LookupFault.TheVariants as LookupFault;
 ghost use Rattle.history.specs.declared.stored.Stored.{Stored as StoredData};
 ghost use Rattle.history.specs.Listing.{listing, watch_conditions, watching};
@@ -54,7 +55,7 @@ fn shown<S: Source<Beside>>(
     ensures goes { S.goes_to source.old source.new }
     ensures counts { S.failures source.old ≤ S.failures source.new }
     ensures device { IsErrOf result LookupFault.Device → HasGrown (S.failures source.old) (S.failures source.new) }
-    ensures damaged { IsErrOf result LookupFault.Damaged → S.is_damaged source.new }
+    ensures damaged { (part : Part) → IsErrOf result (LookupFault.Damaged part) → S.is_damaged source.new }
 {
     let found = core.find(alloc, source, key)?;
     Ok(reply_of(alloc, found.as_ref())?)
@@ -73,7 +74,7 @@ pub(crate) fn get<S: Source<Beside>>(
     ensures goes { S.goes_to source.old source.new }
     ensures counts { S.failures source.old ≤ S.failures source.new }
     ensures device { IsErrOf result LookupFault.Device → HasGrown (S.failures source.old) (S.failures source.new) }
-    ensures damaged { IsErrOf result LookupFault.Damaged → S.is_damaged source.new }
+    ensures damaged { (part : Part) → IsErrOf result (LookupFault.Damaged part) → S.is_damaged source.new }
 {
     Ok(Prepared::replying(shown(core, alloc, source, key)?))
 }
@@ -92,7 +93,7 @@ fn listed<S: Source<Beside>>(
     ensures goes { S.goes_to source.old source.new }
     ensures counts { S.failures source.old ≤ S.failures source.new }
     ensures device { IsErrOf result LookupFault.Device → HasGrown (S.failures source.old) (S.failures source.new) }
-    ensures damaged { IsErrOf result LookupFault.Damaged → S.is_damaged source.new }
+    ensures damaged { (part : Part) → IsErrOf result (LookupFault.Damaged part) → S.is_damaged source.new }
 {
     let below = source.list(alloc, collection.resource, collection.namespace())?;
     Ok(core.listed(alloc, collection, selector, &below)?)
@@ -112,7 +113,7 @@ pub(crate) fn list<S: Source<Beside>>(
     ensures goes { S.goes_to source.old source.new }
     ensures counts { S.failures source.old ≤ S.failures source.new }
     ensures device { IsErrOf result LookupFault.Device → HasGrown (S.failures source.old) (S.failures source.new) }
-    ensures damaged { IsErrOf result LookupFault.Damaged → S.is_damaged source.new }
+    ensures damaged { (part : Part) → IsErrOf result (LookupFault.Damaged part) → S.is_damaged source.new }
 {
     let reply = listed(core, alloc, source, collection, selector)?;
     Ok(Prepared::replying(reply))

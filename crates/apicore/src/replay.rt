@@ -30,7 +30,7 @@ use std::alloc::Global;
 ///
 /// # Errors
 ///
-/// `Plans` where the plans of a policy are none that it may have, `Damaged` where else no writes that may follow have these payloads, and
+/// `Plans` where an object that is no policy has plans, `Damaged` where else no writes that may follow have these payloads, and
 /// `Memory` where there was none.
 pub fn replayed(alloc: Global, core: Core, payloads: &[Vec<u8>]) -> Result<Core, RecoveryFault>
     ensures rules { IfOk result (λ new. new.rules ≡ core.rules) }

@@ -4,6 +4,7 @@ ghost use Rattle.std.specs.Prelude.{◌≡◌, ◌≤◌, ◌*◌, List, not, fa
 ghost use Rattle.std.specs.List.{filter};
 ghost use Rattle.names.specs.Key.{Key as KeyData};
 ghost use Rattle.objects.specs.Failing.{HasGrown};
+ghost use Rattle.objects.specs.declared.fault.Part.{Part};
 ghost use Rattle.objects.specs.declared.fault.LookupFault.TheVariants as LookupFault;
 ghost use Rattle.history.specs.declared.stored.Stored.{Stored as StoredData};
 ghost use Rattle.roots.specs.Root.{log_start};
@@ -17,7 +18,7 @@ use device::Device;
 use history::Stored;
 use holdings::{Found, Source};
 use names::{Key, Resource};
-use objects::LookupFault;
+use objects::{LookupFault, Part};
 use shelf::{Reading, Shelf};
 use std::alloc::{AllocError, Global};
 use stock::{StockFault, Stocked, find, list, list_all};
@@ -68,7 +69,7 @@ impl<'a, D: Device, M: Drop> Base<'a, D, M> {
             StockFault::Device => LookupFault::Device,
             StockFault::Damaged => {
                 self.is_damaged = true;
-                LookupFault::Damaged
+                LookupFault::Damaged(Part::Entry)
             }
             StockFault::Memory => LookupFault::Memory,
         }
@@ -87,7 +88,7 @@ impl<'a, D: Device, M: Drop> Base<'a, D, M> {
         ensures goes { GoesTo self.old self.new }
         ensures counts { D.disk.failures self.old.device.now ≤ D.disk.failures self.new.device.now }
         ensures device { IsErrOf result LookupFault.Device → HasGrown (D.disk.failures self.old.device.now) (D.disk.failures self.new.device.now) }
-        ensures damaged { IsErrOf result LookupFault.Damaged → self.new.is_damaged ≡ true }
+        ensures damaged { (part : Part) → IsErrOf result (LookupFault.Damaged part) → self.new.is_damaged ≡ true }
     {
         match list_all(alloc, self.shelf, self.device) {
             Ok(objects) => {

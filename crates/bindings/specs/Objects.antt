@@ -15,6 +15,7 @@ use Rattle.policy.specs.Spec.{Policy, Binding}
 use Rattle.expressions.specs.Expressions.{sources}
 use Rattle.expressions.specs.Typed.{AreTyped}
 use Rattle.expressions.specs.Plans.{plans_of}
+use Rattle.expressions.specs.Specification.{Plans, these}
 use Rattle.bindings.specs.Parameters.{Shown}
 
 -- a stored document, the trees that its expressions spell if it is a policy, and the revision of its last write
@@ -37,7 +38,7 @@ shown_objects objects = map (λ o. (o.0, shown o.1.document o.1.revision)) objec
 pub record Held : Type 0 where
   pub document : Document
   pub policy : Option Policy
-  pub plans : List Judged
+  pub plans : Plans
   pub binding : Option Binding
   pub revision : ℕ
 
@@ -48,7 +49,7 @@ abbrev pub held : Object → Held
 held o = record {
   document = o.document;
   policy = policy_of o.document.json;
-  plans = plans_in o.document o.trees;
+  plans = these (plans_in o.document o.trees);
   binding = binding_of o.document.json;
   revision = o.revision;
 }

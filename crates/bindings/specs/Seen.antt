@@ -3,6 +3,7 @@ use Rattle.std.specs.Prelude.{◌∷◌, [], map, option_map, Some, None}
 use Rattle.serde_json.specs.Data.{Data}
 use Rattle.names.specs.Key.{Key}
 use Rattle.documents.specs.Document.{shown}
+use Rattle.expressions.specs.Specification.{plans_seen}
 use Rattle.bindings.specs.declared.lookup.Found as code_found
 use Rattle.bindings.specs.declared.lookup.Listed as code_listed
 use Rattle.bindings.specs.declared.parameters.Parameters as code_parameters
@@ -15,7 +16,7 @@ abbrev pub held_by : code_found.Found → Held
 held_by f = record {
   document = f.document.now;
   policy = option_map (λ p. policy_seen p.now) f.policy;
-  plans = f.plans.now.items;
+  plans = plans_seen f.plans.now;
   binding = option_map (λ b. b.now) f.bound;
   revision = f.revision;
 }

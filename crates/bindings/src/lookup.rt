@@ -10,14 +10,15 @@ ghost use Rattle.objects.specs.Failing.{HasGrown};
 ghost use Rattle.bindings.specs.Objects.{Objects, all_held, shown_objects};
 ghost use Rattle.bindings.specs.Parameters.{listed, wanted_of};
 ghost use Rattle.bindings.specs.Seen.{held_by, listed_seen};
+ghost use Rattle.objects.specs.declared.fault.Part.{Part};
 ghost use Rattle.objects.specs.declared.fault.LookupFault.TheVariants as LookupFault;
 
 use crate::bound::Bound;
 use documents::Document;
+use expressions::StoredPlans;
 use jsondoc::Doc;
 use names::{Key, Resource};
 use objects::LookupFault;
-use plancode::Verified;
 use policy::{Policy, Wanted};
 use std::alloc::Global;
 
@@ -28,8 +29,8 @@ pub struct Found<'a> {
     pub document: &'a Document,
     /// The policy that it spells, if it has the form of one.
     pub policy: Option<&'a Policy>,
-    /// If it is a policy, the plans of its expressions, in order.
-    pub plans: &'a Vec<Verified>,
+    /// If it is a policy, the plans of its expressions.
+    pub plans: &'a StoredPlans,
     /// The binding that it spells, if it has the form of one.
     pub bound: Option<&'a Bound>,
     /// The revision of its last write.
@@ -74,7 +75,7 @@ pub trait Lookup<'a> {
         ensures goes { goes_to self.old self.new }
         ensures counts { failures self.old ≤ failures self.new }
         ensures device { IsErrOf result LookupFault.Device → HasGrown (failures self.old) (failures self.new) }
-        ensures damaged { IsErrOf result LookupFault.Damaged → is_damaged self.new };
+        ensures damaged { (part : Part) → IsErrOf result (LookupFault.Damaged part) → is_damaged self.new };
 
     /// All bindings, in key order.
     ///
@@ -88,7 +89,7 @@ pub trait Lookup<'a> {
         ensures goes { goes_to self.old self.new }
         ensures counts { failures self.old ≤ failures self.new }
         ensures device { IsErrOf result LookupFault.Device → HasGrown (failures self.old) (failures self.new) }
-        ensures damaged { IsErrOf result LookupFault.Damaged → is_damaged self.new };
+        ensures damaged { (part : Part) → IsErrOf result (LookupFault.Damaged part) → is_damaged self.new };
 
     /// The objects of a resource in a namespace that are wanted, in key order, as they are shown.
     ///
@@ -108,7 +109,7 @@ pub trait Lookup<'a> {
         ensures goes { goes_to self.old self.new }
         ensures counts { failures self.old ≤ failures self.new }
         ensures device { IsErrOf result LookupFault.Device → HasGrown (failures self.old) (failures self.new) }
-        ensures damaged { IsErrOf result LookupFault.Damaged → is_damaged self.new };
+        ensures damaged { (part : Part) → IsErrOf result (LookupFault.Damaged part) → is_damaged self.new };
 
     /// The keys of what it shows ascend.
     ghost ascending: { (lookup : Self) (objects : Objects) → shows lookup objects → IsTrue (is_sorted key_cmp objects) };

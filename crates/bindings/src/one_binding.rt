@@ -4,6 +4,8 @@ ghost use Rattle.std.specs.Prelude.{◌≡◌, ◌≤◌, ◌++◌, List, map, o
 ghost use Rattle.serde_json.specs.View.{view};
 ghost use Rattle.celtree.specs.Tree.{Expr};
 ghost use Rattle.matching.specs.Rules.{attempt_seen};
+ghost use Rattle.plancode.specs.Plans.{Judged};
+ghost use Rattle.expressions.specs.Specification.{these, plans_seen};
 ghost use Rattle.policy.specs.Spec.{policy_seen, binding_seen, param_ref_seen};
 ghost use Rattle.evaluation.specs.Environment.{request_of, seen};
 ghost use Rattle.evaluation.specs.Denials.{first_denial, evaluate, failure};
@@ -14,14 +16,16 @@ ghost use Rattle.bindings.specs.Verdict.{on_not_found, on_parameters, on_conditi
 ghost use Rattle.bindings.specs.Turns.{asked};
 ghost use Rattle.bindings.specs.Seen.{parameters_seen};
 ghost use Rattle.objects.specs.Failing.{HasGrown};
+ghost use Rattle.objects.specs.declared.fault.Part.{Part};
 ghost use Rattle.objects.specs.declared.fault.LookupFault.TheVariants as LookupFault;
 
 use crate::lookup::Lookup;
 use crate::parameters::{Parameters, parameters_of};
 use evaluation::{Conditions, Denial, conditions, evaluate, failure, request_document};
+use expressions::StoredPlans;
 use jsondoc::Doc;
 use matching::{Attempt, matches};
-use objects::LookupFault;
+use objects::{LookupFault, Part};
 use plancode::Verified;
 use policy::{Binding, NotFound, Policy};
 use serde_json::Value as Json;
@@ -129,7 +133,7 @@ fn on_conditions<'a, L: Lookup<'a>>(
     ensures goes { L.goes_to lookup.old lookup.new }
     ensures counts { L.failures lookup.old ≤ L.failures lookup.new }
     ensures device { IsErrOf result LookupFault.Device → HasGrown (L.failures lookup.old) (L.failures lookup.new) }
-    ensures damaged { IsErrOf result LookupFault.Damaged → L.is_damaged lookup.new }
+    ensures damaged { (part : Part) → IsErrOf result (LookupFault.Damaged part) → L.is_damaged lookup.new }
 {
     match conditions {
         Conditions::Met => {
@@ -170,7 +174,7 @@ fn asked<'a, L: Lookup<'a>>(
     ensures goes { L.goes_to lookup.old lookup.new }
     ensures counts { L.failures lookup.old ≤ L.failures lookup.new }
     ensures device { IsErrOf result LookupFault.Device → HasGrown (L.failures lookup.old) (L.failures lookup.new) }
-    ensures damaged { IsErrOf result LookupFault.Damaged → L.is_damaged lookup.new }
+    ensures damaged { (part : Part) → IsErrOf result (LookupFault.Damaged part) → L.is_damaged lookup.new }
 {
     let found = conditions(alloc, policy, plans, attempt, request)?;
     on_conditions(
@@ -183,29 +187,33 @@ fn asked<'a, L: Lookup<'a>>(
 ///
 /// # Errors
 ///
-/// Those of the lookup, and `Memory`.
+/// Those of the lookup, `Damaged` with [`Part::Plans`] where the policy is asked and its plans are spoiled, and `Memory`.
 pub fn denial<'a, L: Lookup<'a>>(
     alloc: Global,
     lookup: &mut L,
     policy: &Policy,
-    plans: &[Verified],
+    plans: &StoredPlans,
     binding: &Binding,
     attempt: &Attempt<'_>,
     request: &mut Option<Json>,
 ) -> Result<Option<Denial>, LookupFault>
     requires told { IfSome request.old (λ d. view d ≡ request_of (attempt_seen attempt.now)) }
     ensures told { OnOk result (IfSome request.new (λ d. view d ≡ request_of (attempt_seen attempt.now))) }
-    ensures found { (objects : Objects) (trees : List Expr) → L.shows lookup.old objects → AreReady (policy_seen policy.now) trees plans.now
+    ensures found { (objects : Objects) (trees : List Expr) (ready : List Judged) → L.shows lookup.old objects → plans_seen plans.now ≡ these ready → AreReady (policy_seen policy.now) trees ready
         → IfOk result (λ o. option_map denial_seen o ≡ denial (shown_objects objects) (policy_seen policy.now) trees (binding_seen binding.now) (attempt_seen attempt.now)) }
     ensures kept { (objects : Objects) → L.shows lookup.old objects → L.shows lookup.new objects }
     ensures goes { L.goes_to lookup.old lookup.new }
     ensures counts { L.failures lookup.old ≤ L.failures lookup.new }
     ensures device { IsErrOf result LookupFault.Device → HasGrown (L.failures lookup.old) (L.failures lookup.new) }
-    ensures damaged { IsErrOf result LookupFault.Damaged → L.is_damaged lookup.new }
+    ensures damaged { (part : Part) → IsErrOf result (LookupFault.Damaged part) → (ready : List Judged) → plans_seen plans.now ≡ these ready → L.is_damaged lookup.new }
 {
     if !matches(&policy.constraints, &binding.resources, attempt) {
         return Ok(None);
     }
+    let plans = match plans {
+        StoredPlans::Plans(plans) => plans,
+        StoredPlans::Spoiled(_) => return Err(LookupFault::Damaged(Part::Plans)),
+    };
     let told = match request.take() {
         Some(told) => told,
         None => request_document(alloc, attempt)?,

@@ -11,6 +11,7 @@ ghost use Rattle.bindings.specs.Parameters.{found_or_not, namespace_of, looked_u
 ghost use Rattle.bindings.specs.Seen.{listed_seen, parameters_seen, shown_held};
 ghost use Rattle.bindings.specs.Turns.{if_wanted};
 ghost use Rattle.objects.specs.Failing.{HasGrown};
+ghost use Rattle.objects.specs.declared.fault.Part.{Part};
 ghost use Rattle.objects.specs.declared.fault.LookupFault.TheVariants as LookupFault;
 
 use crate::lookup::{Listed, Lookup};
@@ -136,7 +137,7 @@ fn looked_up<'a, L: Lookup<'a>>(
     ensures goes { L.goes_to lookup.old lookup.new }
     ensures counts { L.failures lookup.old ≤ L.failures lookup.new }
     ensures device { IsErrOf result LookupFault.Device → HasGrown (L.failures lookup.old) (L.failures lookup.new) }
-    ensures damaged { IsErrOf result LookupFault.Damaged → L.is_damaged lookup.new }
+    ensures damaged { (part : Part) → IsErrOf result (LookupFault.Damaged part) → L.is_damaged lookup.new }
 {
     let documents = lookup.parameters(alloc, resource, namespace, wanted)?;
     Ok(found_or_not(documents))
@@ -160,7 +161,7 @@ pub(crate) fn parameters_of<'a, L: Lookup<'a>>(
     ensures goes { L.goes_to lookup.old lookup.new }
     ensures counts { L.failures lookup.old ≤ L.failures lookup.new }
     ensures device { IsErrOf result LookupFault.Device → HasGrown (L.failures lookup.old) (L.failures lookup.new) }
-    ensures damaged { IsErrOf result LookupFault.Damaged → L.is_damaged lookup.new }
+    ensures damaged { (part : Part) → IsErrOf result (LookupFault.Damaged part) → L.is_damaged lookup.new }
 {
     let resource = match kind {
         Some(resource) => resource,

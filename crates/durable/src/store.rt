@@ -68,7 +68,7 @@ impl<D: Device> Store<D> {
     ghost use Rattle.expressions.specs.Specification.{Specification};
     ghost use Rattle.apicore.specs.Beside.{Beside};
     ghost use Rattle.apicore.specs.Prepared.{IsReadOf, IsPrepared};
-    ghost use Rattle.apicore.specs.Standing.{Write, History, View, AllMayFollow, with_plans};
+    ghost use Rattle.apicore.specs.Standing.{Write, History, View, IsView, AllMayFollow, with_plans};
     ghost use Rattle.apicore.specs.Compiled.{HasOwnPlans};
     ghost use Rattle.paged.specs.Lying.{base_of};
     ghost use Rattle.durable.specs.declared.fault.Damage.{Damage};
@@ -192,7 +192,7 @@ impl<D: Device> Store<D> {
         ensures form { RequestHasForm (request_of request.now) }
         ensures device { Ran D.disk (device_of self.old) (device_of self.new) Same }
         ensures read { IsErrOf result Fault.Device → (s : Specification Expr) × IsReadOf (request_of request.now) s }
-        ensures damaged { (damage : Damage) → IsErrOf result (Fault.Damaged damage) → (v : View) → IsShown self.old v → ⊥ }
+        ensures damaged { (damage : Damage) → IsErrOf result (Fault.Damaged damage) → (v : View) → IsShown self.old v → IsView v → ⊥ }
         ensures goes_on { OnOk result (serves self.new ≡ serves self.old) }
         ensures memory_goes_on { IsErrOf result Fault.Memory → serves self.new ≡ serves self.old }
         ensures stops { IsErrOf result Fault.Device → serves self.new ≡ false }
@@ -204,7 +204,7 @@ impl<D: Device> Store<D> {
             Ok(prepared) => Ok(prepared),
             Err(LookupFault::Memory) => Err(Fault::Memory),
             Err(LookupFault::Device) => Err(self.stop_for(Fault::Device)),
-            Err(LookupFault::Damaged) => Err(self.stop_for(Fault::Damaged(Damage::Entry))),
+            Err(LookupFault::Damaged(part)) => Err(self.stop_for(Fault::Damaged(Damage::from(part)))),
         }
     }
 
@@ -507,8 +507,8 @@ impl<D: Device> Store<D> {
             Ok(next) => next,
             Err(LookupFault::Memory) => return Err(Fault::Memory),
             Err(LookupFault::Device) => return Err(self.stop_for(Fault::Device)),
-            Err(LookupFault::Damaged) => {
-                return Err(self.stop_for(Fault::Damaged(Damage::Entry)));
+            Err(LookupFault::Damaged(part)) => {
+                return Err(self.stop_for(Fault::Damaged(Damage::from(part))));
             }
         };
         if !next.entries.ascends() {

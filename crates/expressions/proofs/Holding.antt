@@ -13,7 +13,7 @@ use Rattle.expressions.specs.Expressions.{sources}
 use Rattle.expressions.specs.Plans.{plans_of}
 use Rattle.expressions.specs.Typed.{AreTyped}
 use Rattle.expressions.specs.Places.{places_of, policy_in}
-use Rattle.expressions.specs.Specification.{MayHavePlans}
+use Rattle.expressions.specs.Specification.{FitsPolicy}
 use Rattle.expressions.proofs.Counting.{places_counted}
 use Rattle.expressions.proofs.Placing.{own_places}
 use Rattle.expressions.proofs.Standing.{few_sources}
@@ -34,7 +34,7 @@ are_for (n ∷ ns) (p ∷ ps) same verified short =
     (record { place = place; verified = verified.0; short = short.0 }, are_for ns ps others verified.1 short.1)
 
 pub may_hold : (d : Data) (p : Policy) (trees : List Expr) (plans : List Judged) → policy_in d ≡ Some p → AreTyped p [] (sources p) trees → plans ≡ plans_of p trees
-    → AllByRecursion (λ j. IsVerified j.vars j.ops) plans → length (list_bytes plans) ≤ 2 + 22 * length (text d) → length (text d) ≤ 2 ^ 24 → MayHavePlans ValidatingAdmissionPolicy d plans
+    → AllByRecursion (λ j. IsVerified j.vars j.ops) plans → length (list_bytes plans) ≤ 2 + 22 * length (text d) → length (text d) ≤ 2 ^ 24 → FitsPolicy d plans
 may_hold d p trees plans is typed same verified short small =
     let places : map (λ j. j.vars) plans ≡ places_of p = ap (map (λ j. j.vars)) same ∙ own_places p trees typed in
     let bytes : length (flat_map plan_bytes plans) < 2 ^ 32 = omega (arith, short, small) in

@@ -3,16 +3,15 @@ use Rattle.std.specs.Prelude.{◌≡◌, ◌≤◌, ℕ, ◌+◌, List, [], ◌�
 use Rattle.serde_json.specs.Data.{Data}
 use Rattle.jsondoc.specs.Document.{text}
 use Rattle.names.specs.declared.resource.Resource.{Resource}
-use Rattle.plancode.specs.Plans.{Judged}
 use Rattle.policy.specs.Policies.{policy_of}
 use Rattle.policy.specs.Spec.{Policy}
 use Rattle.expressions.specs.Expressions.{Source, sources}
-use Rattle.expressions.specs.Specification.{plans_bytes, MayHavePlans}
+use Rattle.expressions.specs.Specification.{Plans, plans_bytes, MayHavePlans}
 
 -- Plans that an object may have, with the same bytes, are the same.
 abbrev pub OneStoredList : Type 0
 OneStoredList =
-    (r : Resource) (d : Data) (first second : List Judged) → MayHavePlans r d first → MayHavePlans r d second → plans_bytes r first ≡ plans_bytes r second
+    (r : Resource) (d : Data) (first second : Plans) → MayHavePlans r d first → MayHavePlans r d second → plans_bytes r first ≡ plans_bytes r second
     → first ≡ second
 
 -- how many bytes expressions have together

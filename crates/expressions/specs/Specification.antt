@@ -1,5 +1,5 @@
 -- What stands in the `spec` of an object: those of policies and bindings have a form, and the expressions of a policy spell trees.
-use Rattle.std.specs.Prelude.{◌≡◌, ℕ, ◌+◌, ◌*◌, ◌^◌, ◌≤◌, List, [], length, Some, None, IsTrue, is_some, string_bytes}
+use Rattle.std.specs.Prelude.{◌≡◌, ◌≢◌, ℕ, ◌+◌, ◌*◌, ◌^◌, ◌≤◌, List, [], length, Some, None, IsTrue, is_some, string_bytes}
 use Rattle.std.specs.Option.{option_map_or}
 use Rattle.serde_json.specs.Data.{Data}
 use Rattle.celtree.specs.Tree.{Expr}
@@ -18,6 +18,8 @@ use Rattle.expressions.specs.Typed.{AreTyped, IsFirstBad}
 use Rattle.expressions.specs.Places.{places_of, policy_in}
 use Rattle.expressions.specs.declared.specification.Specification as code
 use Rattle.expressions.specs.declared.specification.Specification.TheVariants as specification
+use Rattle.expressions.specs.declared.stored.StoredPlans as stored
+use Rattle.expressions.specs.declared.stored.StoredPlans.TheVariants as stored_plans
 
 -- what stands there, with each expression of a policy as its tree, or compiled
 pub data Specification (T : Type 0) : Type 0 where
@@ -79,9 +81,18 @@ specification_seen (specification.BadExpression text) = bad_expression (string_b
 
 -- ---- stored
 
+-- The plans of an object: these, or bytes that are those of no plans that it may have.
+pub data Plans : Type 0 where
+  these : List Judged → Plans
+  spoiled : (bytes : List ℕ) → Plans
+
+abbrev pub policy_bytes : Plans → List ℕ
+policy_bytes (these plans) = list_bytes plans
+policy_bytes (spoiled bytes) = bytes
+
 -- the bytes of an object's plans: none but for a policy
-abbrev pub plans_bytes : Resource → List Judged → List ℕ
-plans_bytes ValidatingAdmissionPolicy plans = list_bytes plans
+abbrev pub plans_bytes : Resource → Plans → List ℕ
+plans_bytes ValidatingAdmissionPolicy plans = policy_bytes plans
 plans_bytes ValidatingAdmissionPolicyBinding plans = []
 plans_bytes ConfigMap plans = []
 plans_bytes Node plans = []
@@ -89,18 +100,30 @@ plans_bytes Pod plans = []
 plans_bytes Service plans = []
 plans_bytes Deployment plans = []
 
--- plans that an object may have: a policy one for each expression, others none
-abbrev pub MayHavePlans : Resource → Data → List Judged → Type 0
-MayHavePlans ValidatingAdmissionPolicy d plans = (p : Policy) × (policy_in d ≡ Some p) × IsListFor (places_of p) plans
-MayHavePlans ValidatingAdmissionPolicyBinding d plans = plans ≡ []
-MayHavePlans ConfigMap d plans = plans ≡ []
-MayHavePlans Node d plans = plans ≡ []
-MayHavePlans Pod d plans = plans ≡ []
-MayHavePlans Service d plans = plans ≡ []
-MayHavePlans Deployment d plans = plans ≡ []
+-- a policy may have these plans, one for each expression
+abbrev pub FitsPolicy : Data → List Judged → Type 0
+FitsPolicy d plans = (p : Policy) × (policy_in d ≡ Some p) × IsListFor (places_of p) plans
+
+abbrev pub ArePolicyPlans : Data → Plans → Type 0
+ArePolicyPlans d (these plans) = FitsPolicy d plans
+ArePolicyPlans d (spoiled bytes) = (plans : List Judged) → FitsPolicy d plans → list_bytes plans ≢ bytes
+
+-- plans that an object may have: a policy those that fit it, or spoiled ones; others none
+abbrev pub MayHavePlans : Resource → Data → Plans → Type 0
+MayHavePlans ValidatingAdmissionPolicy d plans = ArePolicyPlans d plans
+MayHavePlans ValidatingAdmissionPolicyBinding d plans = plans ≡ these []
+MayHavePlans ConfigMap d plans = plans ≡ these []
+MayHavePlans Node d plans = plans ≡ these []
+MayHavePlans Pod d plans = plans ≡ these []
+MayHavePlans Service d plans = plans ≡ these []
+MayHavePlans Deployment d plans = plans ≡ these []
+
+abbrev pub plans_seen : stored.StoredPlans → Plans
+plans_seen (stored_plans.Plans plans) = these plans.items
+plans_seen (stored_plans.Spoiled bytes) = spoiled bytes.items
 
 -- sound plans may be held, where the document's text has at most 2^24 bytes
 abbrev pub MayBeHeld : Resource → Data → Specification Judged → Type 0
-MayBeHeld r d (sound plans) = length (text d) ≤ 2 ^ 24 → MayHavePlans r d plans
+MayBeHeld r d (sound plans) = length (text d) ≤ 2 ^ 24 → MayHavePlans r d (these plans)
 MayBeHeld r d bad_spec = Unit {0}
 MayBeHeld r d (bad_expression t) = Unit {0}

@@ -7,7 +7,7 @@
 //!     Specification::BadSpec => ..,
 //!     Specification::BadExpression(text) => ..,         // the first that is bad
 //! }
-//! let bytes = plans_bytes(alloc, resource, &plans)?;    // what a record holds of them
+//! let bytes = plans_bytes(alloc, resource, &StoredPlans::Plans(plans))?;    // what a record holds of them
 //! let plans = stored_plans(alloc, resource, &document, &bytes)?;
 //! ```
 //!
@@ -33,5 +33,5 @@ mod typing;
 pub use fault::PolicyFault;
 pub use laws::{expressions_fit_the_text, one_stored_list};
 pub use specification::{Specification, specification_of};
-pub use stored::{plans_bytes, stored_plans};
+pub use stored::{StoredPlans, plans_bytes, stored_plans};
 pub use typed_policy::TypedPolicy;

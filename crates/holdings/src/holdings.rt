@@ -25,6 +25,7 @@ ghost use Rattle.holdings.specs.Holdings.{Shows, ShowsSame, watched};
 ghost use Rattle.holdings.specs.Prepared.{AreNext, IsNextPut, IsNextDeletion, HasRoom, HasRoomFor, puts, writes_of};
 ghost use Rattle.objects.specs.Failing.{HasGrown};
 ghost use Rattle.holdings.specs.Sources.{found_in};
+ghost use Rattle.objects.specs.declared.fault.Part.{Part};
 ghost use Rattle.objects.specs.declared.fault.LookupFault.TheVariants as LookupFault;
 
 use crate::prepared::{Deletion, PreparedWrite, Put};
@@ -242,7 +243,7 @@ impl<P: Drop> Holdings<P> {
         ensures goes { S.goes_to source.old source.new }
         ensures counts { S.failures source.old ≤ S.failures source.new }
         ensures device { IsErrOf result LookupFault.Device → HasGrown (S.failures source.old) (S.failures source.new) }
-        ensures damaged { IsErrOf result LookupFault.Damaged → S.is_damaged source.new }
+        ensures damaged { (part : Part) → IsErrOf result (LookupFault.Damaged part) → S.is_damaged source.new }
     {
         match self.changes.get(key) {
             Some(change) => Ok(found(change)?),

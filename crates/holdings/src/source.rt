@@ -7,6 +7,7 @@ ghost use Rattle.objects.specs.Objects.{value_at, is_of};
 ghost use Rattle.history.specs.declared.stored.Stored.{Stored as StoredData};
 ghost use Rattle.objects.specs.Failing.{HasGrown};
 ghost use Rattle.holdings.specs.Sources.{found_in};
+ghost use Rattle.objects.specs.declared.fault.Part.{Part};
 ghost use Rattle.objects.specs.declared.fault.LookupFault.TheVariants as LookupFault;
 
 use documents::Document;
@@ -47,7 +48,7 @@ pub trait Source<P> {
         ensures goes { goes_to self.old self.new }
         ensures counts { failures self.old ≤ failures self.new }
         ensures device { IsErrOf result LookupFault.Device → HasGrown (failures self.old) (failures self.new) }
-        ensures damaged { IsErrOf result LookupFault.Damaged → is_damaged self.new };
+        ensures damaged { (part : Part) → IsErrOf result (LookupFault.Damaged part) → is_damaged self.new };
 
     /// The objects of a resource, in one namespace or in all, in key order.
     ///
@@ -66,7 +67,7 @@ pub trait Source<P> {
         ensures goes { goes_to self.old self.new }
         ensures counts { failures self.old ≤ failures self.new }
         ensures device { IsErrOf result LookupFault.Device → HasGrown (failures self.old) (failures self.new) }
-        ensures damaged { IsErrOf result LookupFault.Damaged → is_damaged self.new };
+        ensures damaged { (part : Part) → IsErrOf result (LookupFault.Damaged part) → is_damaged self.new };
 
     /// What is damaged holds nothing.
     ghost holds_nothing: { (source : Self) (objects : List (KeyData × StoredData P)) → holds source objects → is_damaged source → ⊥ };

@@ -6,15 +6,24 @@ ghost use Rattle.objects.specs.declared.fault.LookupFault.TheVariants as LookupF
 use std::alloc::{AllocError, AllocFailed};
 use thiserror::Error;
 
+/// A part of what is stored, which may be damaged.
+#[derive(Clone, Copy, Debug, Drop)]
+pub enum Part {
+    /// An object.
+    Entry,
+    /// The plans of a policy.
+    Plans,
+}
+
 /// Why a look at objects, which may lie on a device, gives no answer.
 #[derive(Clone, Copy, Debug, Drop, Error)]
 pub enum LookupFault {
     /// The device below them failed.
     #[error("device failed")]
     Device,
-    /// What was read is damaged.
+    /// This part of what was read is damaged.
     #[error("damaged store")]
-    Damaged,
+    Damaged(Part),
     /// No memory is left.
     #[error("out of memory")]
     Memory,

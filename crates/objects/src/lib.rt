@@ -16,5 +16,5 @@ mod fault;
 mod objects;
 
 pub use entry::Entry;
-pub use fault::LookupFault;
+pub use fault::{LookupFault, Part};
 pub use objects::Objects;

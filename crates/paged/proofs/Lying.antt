@@ -14,8 +14,7 @@ use Rattle.window.specs.declared.event.Event.{Event}
 use Rattle.documents.specs.Document.{Document}
 use Rattle.history.specs.declared.stored.Stored.{Stored}
 use Rattle.history.specs.View as seen
-use Rattle.plancode.specs.Plans.{Judged}
-use Rattle.expressions.specs.Specification.{MayHavePlans}
+use Rattle.expressions.specs.Specification.{Plans, these, MayHavePlans}
 use Rattle.pages.specs.Page.{bytes_cmp}
 use Rattle.entries.specs.Holding.{IsStorableEvent, CanHoldObject, CanHoldEvent, HasFewPlans, IsHoldable}
 use Rattle.entries.proofs.Ascending as ascending
@@ -86,7 +85,7 @@ entries_ascend rules held is = ascending.entries_ascend held_plans (wide held) h
 
 -- ---- beside each that lies below stands what its document spells, and no plans
 
-no_plans : (r : Resource) (d : Data) (plans : List Judged) → not (is_rule r) ≡ true → MayHavePlans r d plans → plans ≡ []
+no_plans : (r : Resource) (d : Data) (plans : Plans) → not (is_rule r) ≡ true → MayHavePlans r d plans → plans ≡ these []
 no_plans ConfigMap d plans lies may = may
 no_plans Node d plans lies may = may
 no_plans Pod d plans lies may = may

@@ -8,8 +8,7 @@ use Rattle.names.specs.declared.resource.Resource.{Resource}
 use Rattle.names.specs.declared.resource.Resource.TheVariants.{ConfigMap, Node, Pod, Service, Deployment, ValidatingAdmissionPolicy, ValidatingAdmissionPolicyBinding}
 use Rattle.names.specs.Key.{Key}
 use Rattle.history.specs.declared.stored.Stored.{Stored}
-use Rattle.plancode.specs.Plans.{Judged}
-use Rattle.expressions.specs.Specification.{IsSpecification, sound, plans_in, plans_bytes}
+use Rattle.expressions.specs.Specification.{IsSpecification, sound, Plans, these, plans_in, plans_bytes}
 use Rattle.stock.specs.declared.stocked.Stocked.{Stocked}
 use Rattle.base.specs.Whole.{whole}
 use Rattle.base.specs.Base.{not_held}
@@ -29,7 +28,7 @@ no_form Deployment d lies = refl
 no_form ValidatingAdmissionPolicy d lies = cc
 no_form ValidatingAdmissionPolicyBinding d lies = cc
 
-no_bytes : (r : Resource) (plans other : List Judged) → not (is_rule r) ≡ true → plans_bytes r plans ≡ plans_bytes r other
+no_bytes : (r : Resource) (plans other : Plans) → not (is_rule r) ≡ true → plans_bytes r plans ≡ plans_bytes r other
 no_bytes ConfigMap plans other lies = refl
 no_bytes Node plans other lies = refl
 no_bytes Pod plans other lies = refl
@@ -48,7 +47,7 @@ each_own bare (o ∷ os) =
         record {
           trees = [];
           spelled = no_form o.0.resource o.1.document.json lies;
-          bytes = no_bytes o.0.resource [] (plans_in o.1.document.json []) lies;
+          bytes = no_bytes o.0.resource (these []) (these (plans_in o.1.document.json [])) lies;
         },
         each_own bare os,
       )

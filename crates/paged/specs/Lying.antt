@@ -10,6 +10,7 @@ use Rattle.matching.specs.Matching.{is_guarded}
 use Rattle.shelf.specs.declared.shelf.Shelf.{Shelf}
 use Rattle.base.specs.Base.{Lies}
 use Rattle.snapshots.specs.LyingBelow as snapshots
+use Rattle.expressions.specs.Specification.{these}
 use Rattle.apicore.specs.Beside.{Beside, spelled}
 use Rattle.paged.specs.declared.bare.Bare.{Bare}
 
@@ -19,7 +20,7 @@ is_rule r = not (is_guarded r)
 
 -- beside a document that lies in a page stands what it spells, and no plans
 abbrev pub made_bare : Bare → Document → Beside
-made_bare bare d = spelled d.json []
+made_bare bare d = spelled d.json (these [])
 
 abbrev pub held_bare : Bare → Resource → Bool
 held_bare bare r = is_rule r

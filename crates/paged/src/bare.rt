@@ -6,6 +6,7 @@ ghost use Rattle.paged.specs.Lying.{made_bare, held_bare};
 use apicore::Beside;
 use base::FromDocument;
 use documents::Document;
+use expressions::StoredPlans;
 use matching::is_guarded;
 use names::Resource;
 use snapshots::Below;
@@ -21,7 +22,7 @@ impl FromDocument<Beside> for Bare {
     ghost held = { held_bare };
 
     fn make(&self, alloc: Global, document: &Document) -> Result<Beside, AllocError> {
-        Beside::of(alloc, document.json(), Vec::new(alloc))
+        Beside::of(alloc, document.json(), StoredPlans::Plans(Vec::new(alloc)))
     }
 
     fn is_held(&self, resource: Resource) -> bool {

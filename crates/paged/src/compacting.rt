@@ -6,6 +6,7 @@ ghost use Rattle.device.specs.Step.{Same};
 ghost use Rattle.device.specs.Run.{Ran};
 ghost use Rattle.names.specs.declared.format.Rules.{Rules as RulesData};
 ghost use Rattle.names.specs.Key.{Key as KeyData};
+ghost use Rattle.objects.specs.declared.fault.Part.{Part};
 ghost use Rattle.objects.specs.declared.fault.LookupFault.TheVariants as LookupFault;
 ghost use Rattle.roots.specs.Root.{log_start};
 ghost use Rattle.checkpoint.specs.EntryList.{entries_of as in_list};
@@ -27,7 +28,7 @@ use checkpoint::EntryList;
 use device::Device;
 use history::Stored;
 use names::Key;
-use objects::LookupFault;
+use objects::{LookupFault, Part};
 use roots::Root;
 use snapshots::{SnapshotFault, entries_in, renewed};
 use std::alloc::Global;
@@ -49,13 +50,13 @@ fn renewed_core(
 ) -> Result<Core, LookupFault>
     ensures rules { IfOk result (λ next. next.rules ≡ core.now.rules) }
     ensures held { (held : seen.View BesideData) → Shows core.now below.now held → IsHeld core.now.rules held → IfOk result (λ next. Shows next (base_of held) held) }
-    ensures damaged { IsErrOf result LookupFault.Damaged → (held : seen.View BesideData) → Shows core.now below.now held → IsHeld core.now.rules held → ⊥ }
+    ensures damaged { (part : Part) → IsErrOf result (LookupFault.Damaged part) → (held : seen.View BesideData) → Shows core.now below.now held → IsHeld core.now.rules held → ⊥ }
     ensures device { IsErrOf result LookupFault.Device → ⊥ }
 {
     match renewed(alloc, core, below, &Bare) {
         Ok(next) => Ok(next),
-        Err(SnapshotFault::Entry) => Err(LookupFault::Damaged),
-        Err(SnapshotFault::Plans) => Err(LookupFault::Damaged),
+        Err(SnapshotFault::Entry) => Err(LookupFault::Damaged(Part::Entry)),
+        Err(SnapshotFault::Plans) => Err(LookupFault::Damaged(Part::Plans)),
         Err(SnapshotFault::Memory) => Err(LookupFault::Memory),
     }
 }
@@ -69,7 +70,7 @@ impl Paged {
     ) -> Result<Vec<(Key, Stored<Beside>)>, LookupFault>
         requires inside { D.disk.keeps device.old → 512 * log_start (root_of self.old) ≤ length (D.disk.content device.old) }
         ensures all { (base : List (KeyData × StoredData BesideData)) → Below D.disk device.old self.old base → IfOk result (λ all. all.items ≡ base) }
-        ensures damaged { IsErrOf result LookupFault.Damaged → (base : List (KeyData × StoredData BesideData)) → Below D.disk device.old self.old base → ⊥ }
+        ensures damaged { (part : Part) → IsErrOf result (LookupFault.Damaged part) → (base : List (KeyData × StoredData BesideData)) → Below D.disk device.old self.old base → ⊥ }
         ensures core { self.new.core ≡ self.old.core }
         ensures root { root_of self.new ≡ root_of self.old }
         ensures below { (base : List (KeyData × StoredData BesideData)) → Below D.disk device.old self.old base → Below D.disk device.new self.new base }
@@ -91,7 +92,7 @@ impl Paged {
         ensures rules { IfOk result (λ n. n.core.rules ≡ self.old.core.rules) }
         ensures held { (held : seen.View BesideData) → Holds D.disk device.old self.old held → IsHeld self.old.core.rules held
             → IfOk result (λ n. Shows n.core (base_of held) held) }
-        ensures damaged { IsErrOf result LookupFault.Damaged → (held : seen.View BesideData) → Holds D.disk device.old self.old held → IsHeld self.old.core.rules held → ⊥ }
+        ensures damaged { (part : Part) → IsErrOf result (LookupFault.Damaged part) → (held : seen.View BesideData) → Holds D.disk device.old self.old held → IsHeld self.old.core.rules held → ⊥ }
         ensures core { self.new.core ≡ self.old.core }
         ensures root { root_of self.new ≡ root_of self.old }
         ensures below { (base : List (KeyData × StoredData BesideData)) → Below D.disk device.old self.old base → Below D.disk device.new self.new base }

@@ -6,6 +6,7 @@ ghost use Rattle.device.specs.Step.{Same};
 ghost use Rattle.device.specs.Run.{Ran};
 ghost use Rattle.celtree.specs.Tree.{Expr};
 ghost use Rattle.names.specs.Key.{Key as KeyData};
+ghost use Rattle.objects.specs.declared.fault.Part.{Part};
 ghost use Rattle.objects.specs.declared.fault.LookupFault.TheVariants as LookupFault;
 ghost use Rattle.requests.specs.Request.{RequestHasForm};
 ghost use Rattle.requests.specs.RequestOf.{request_of};
@@ -18,7 +19,8 @@ ghost use Rattle.roots.specs.Root.{log_start};
 ghost use Rattle.expressions.specs.Specification.{Specification};
 ghost use Rattle.apicore.specs.Beside.{Beside as BesideData};
 ghost use Rattle.apicore.specs.Prepared.{IsPrepared, IsReadOf};
-ghost use Rattle.paged.specs.Paged.{Below, root_of};
+ghost use Rattle.apicore.specs.Standing.{View, IsView};
+ghost use Rattle.paged.specs.Paged.{Below, IsShown, root_of};
 
 use crate::bare::Bare;
 use crate::state::Paged;
@@ -36,7 +38,8 @@ impl Paged {
     ///
     /// # Errors
     ///
-    /// `Device` only where the device failed in this call; `Damaged` only where no objects lie in the pages; `Memory`.
+    /// `Device` only where the device failed in this call; `Damaged` only where no view is shown: no objects lie in the pages, or the plans of a policy that is
+    /// asked are spoiled; `Memory`.
     pub fn prepare<D: Device>(
         &mut self,
         alloc: Global,
@@ -54,8 +57,8 @@ impl Paged {
         ensures form { RequestHasForm (request_of request.now) }
         ensures ran { Ran D.disk device.old device.new Same }
         ensures device { IsErrOf result LookupFault.Device → HasFailed D.disk device.old device.new }
-        ensures read { IsErrOf result LookupFault.Device ⊎ IsErrOf result LookupFault.Damaged → (s : Specification Expr) × IsReadOf (request_of request.now) s }
-        ensures damaged { IsErrOf result LookupFault.Damaged → (base : List (KeyData × StoredData BesideData)) → Below D.disk device.old self.old base → ⊥ }
+        ensures read { IsErrOf result LookupFault.Device ⊎ ((part : Part) × IsErrOf result (LookupFault.Damaged part)) → (s : Specification Expr) × IsReadOf (request_of request.now) s }
+        ensures damaged { (part : Part) → IsErrOf result (LookupFault.Damaged part) → (v : View) → IsShown D.disk device.old self.old v → IsView v → ⊥ }
     {
         let mut base = Base::new(device, &mut self.shelf, Bare);
         prepare(&mut self.core, alloc, &mut base, request)

@@ -5,10 +5,9 @@ use crate::expressed::plans_in;
 use crate::texts::{debugged, told};
 use crate::writes::document;
 use cases::{TextBuilder, Wrong, first_word};
-use expressions::{Specification, plans_bytes, specification_of, stored_plans};
+use expressions::{Specification, StoredPlans, plans_bytes, specification_of, stored_plans};
 use jsondoc::Doc;
 use names::Resource;
-use plancode::Verified;
 use planlist::ReadPlansFault;
 use policy::{Binding, Policy};
 use rowcases::resource;
@@ -58,7 +57,7 @@ fn policy_places(alloc: Global, document: &Value) -> Result<String, Wrong> {
     }
 }
 
-fn bytes_answer(alloc: Global, resource: Resource, plans: &[Verified]) -> Result<String, Wrong> {
+fn bytes_answer(alloc: Global, resource: Resource, plans: &StoredPlans) -> Result<String, Wrong> {
     let Ok(bytes) = plans_bytes(alloc, resource, plans) else {
         return Err(Wrong::Told("the plans have no bytes"));
     };
@@ -71,6 +70,7 @@ fn specification(alloc: Global, plural: &str, document: &Doc) -> Result<String, 
     let resource = resource(plural)?;
     match specification_of(alloc, resource, document) {
         Ok(Specification::Sound(plans)) => {
+            let plans = StoredPlans::Plans(plans);
             let bytes = bytes_answer(alloc, resource, &plans);
             drop(plans);
             bytes
@@ -81,19 +81,20 @@ fn specification(alloc: Global, plural: &str, document: &Doc) -> Result<String, 
     }
 }
 
-// How many plans a resource's object has by these bytes, or `damaged`.
+// How many plans a resource's object has by these bytes, or `spoiled`, or `damaged`.
 fn stored(alloc: Global, words: &str, document: &Doc) -> Result<String, Wrong> {
     let (plural, bytes) = first_word(words);
     let resource = resource(plural)?;
     let bytes = read_bytes(alloc, bytes)?;
     match stored_plans(alloc, resource, document, &bytes) {
-        Ok(plans) => {
+        Ok(StoredPlans::Plans(plans)) => {
             let mut answer = TextBuilder::new(alloc);
             answer.show(&plans.len());
             drop(plans);
             answer.word("plans");
             answer.end()
         }
+        Ok(StoredPlans::Spoiled(_)) => cases::text(alloc, "spoiled"),
         Err(ReadPlansFault::Damaged) => cases::text(alloc, "damaged"),
         Err(ReadPlansFault::Memory) => Err(Wrong::Memory),
     }

@@ -9,6 +9,7 @@ use bindings::denial_text;
 use cases::{Wrong, first_word, shown};
 use documents::Document;
 use evaluation::{Conditions, Denial, conditions, evaluate, failure, request_document};
+use expressions::StoredPlans;
 use jsondoc::Doc;
 use names::Resource;
 use plancode::Verified;
@@ -27,7 +28,7 @@ fn plans_of(alloc: Global, resource: Resource, document: &Doc) -> Result<Vec<Ver
 // What a document spells, with the plans of its expressions if it is a policy.
 fn beside(alloc: Global, resource: Resource, document: &Doc) -> Result<Beside, Wrong> {
     let plans = plans_of(alloc, resource, document)?;
-    match Beside::of(alloc, document, plans) {
+    match Beside::of(alloc, document, StoredPlans::Plans(plans)) {
         Ok(beside) => Ok(beside),
         Err(_) => Err(Wrong::Memory),
     }
@@ -145,10 +146,12 @@ pub fn evaluation_answer(
         return Err(Wrong::Memory);
     };
     let answer = match &policy {
-        Some(policy) => {
-            let plans = stored.beside.plans();
-            policy_answer(alloc, policy, plans, write, value_of(param))
-        }
+        Some(policy) => match stored.beside.plans() {
+            StoredPlans::Plans(plans) => {
+                policy_answer(alloc, policy, plans, write, value_of(param))
+            }
+            StoredPlans::Spoiled(_) => Err(Wrong::Told("spoiled plans")),
+        },
         None => Err(Wrong::Told("no policy")),
     };
     drop(policy);

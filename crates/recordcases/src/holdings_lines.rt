@@ -101,7 +101,7 @@ fn keep_fault(fault: LookupFault, line: &mut Line<'_>) {
     line.fail(match fault {
         LookupFault::Memory => Wrong::Memory,
         LookupFault::Device => Wrong::Told("device failed"),
-        LookupFault::Damaged => Wrong::Told("damaged"),
+        LookupFault::Damaged(_) => Wrong::Told("damaged"),
     });
 }
 

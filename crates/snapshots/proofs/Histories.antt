@@ -14,8 +14,7 @@ use Rattle.history.specs.Laws.{events_from}
 use Rattle.history.specs.View as seen
 use Rattle.history.specs.View.{after, view, empty}
 use Rattle.history.proofs.ViewLemmas.{events-after_all, revision-after_all}
-use Rattle.plancode.specs.Plans.{Judged}
-use Rattle.expressions.specs.Specification.{plans_in, plans_bytes}
+use Rattle.expressions.specs.Specification.{Plans, these, plans_in, plans_bytes}
 use Rattle.entries.specs.Holding.{CanHoldObject, HasFewPlans, IsHoldable}
 use Rattle.entries.proofs.Histories.{holdable}
 use Rattle.apicore.specs.Standing.{Write, View, History, HasTrees, AllMayFollow, HaveTrees}
@@ -33,7 +32,7 @@ all_follow rules v (w ∷ ws) follow = (follow.0.0, all_follow rules (after rule
 
 -- ---- plans
 
-pub only_policies : (r : Resource) (plans : List Judged) → plans_bytes r plans ≢ [] → r ≡ ValidatingAdmissionPolicy
+pub only_policies : (r : Resource) (plans : Plans) → plans_bytes r plans ≢ [] → r ≡ ValidatingAdmissionPolicy
 only_policies ValidatingAdmissionPolicy plans some = refl
 only_policies ValidatingAdmissionPolicyBinding plans some = absurd (some refl)
 only_policies ConfigMap plans some = absurd (some refl)
@@ -54,7 +53,7 @@ few_plans : (rules : Rules) → rules.text_limit_bytes ≤ 2 ^ 24 → (os : List
     → AllByRecursion (λ o. HasTrees o.0.resource o.1.document.json o.1.beside) os → AllByRecursion (HasFewPlans tree_plans) os
 few_plans rules limit [] can trees = tt
 few_plans rules limit (o ∷ os) can trees = (
-  (only_policies o.0.resource (plans_in o.1.document.json o.1.beside), omega (arith, limit, can.0.1, trees.0.short)),
+  (only_policies o.0.resource (these (plans_in o.1.document.json o.1.beside)), omega (arith, limit, can.0.1, trees.0.short)),
   few_plans rules limit os can.1 trees.1,
 )
 

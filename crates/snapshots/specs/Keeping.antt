@@ -8,7 +8,7 @@ use Rattle.names.specs.Key.{Key, key_cmp}
 use Rattle.window.specs.Window.{AreNumberedFrom}
 use Rattle.history.specs.declared.stored.Stored.{Stored}
 use Rattle.history.specs.View as seen
-use Rattle.expressions.specs.Specification.{plans_in, plans_bytes, MayHavePlans}
+use Rattle.expressions.specs.Specification.{these, plans_in, plans_bytes, MayHavePlans}
 use Rattle.pages.specs.Page.{Entry}
 use Rattle.entries.specs.Entries as entry
 use Rattle.entries.specs.Holding.{IsStorableObject, IsStorableEvent, IsHoldable}
@@ -17,7 +17,7 @@ use Rattle.apicore.specs.Standing.{View, HaveTrees}
 
 -- the bytes of the plans of an object's trees
 abbrev pub tree_plans : Key × Stored (List Expr) → List ℕ
-tree_plans o = plans_bytes o.0.resource (plans_in o.1.document.json o.1.beside)
+tree_plans o = plans_bytes o.0.resource (these (plans_in o.1.document.json o.1.beside))
 
 -- the entries by which a checkpoint keeps a view
 abbrev pub entries_of : View → List Entry

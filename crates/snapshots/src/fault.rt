@@ -9,7 +9,7 @@ use std::alloc::{AllocError, AllocFailed};
 pub enum SnapshotFault {
     /// No view that can be kept has these entries.
     Entry,
-    /// The bytes of a policy's plans are those of no plans that it may have.
+    /// An object that is no policy has plans.
     Plans,
     /// There was no memory.
     Memory,

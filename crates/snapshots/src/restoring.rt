@@ -177,7 +177,7 @@ fn core_behind(
 ///
 /// # Errors
 ///
-/// `Entry` where no view that can be kept has these entries, `Plans` where else the bytes of a policy's plans are none of its own form, and
+/// `Entry` where no view that can be kept has these entries, `Plans` where else an object that is no policy has plans, and
 /// `Memory` where there was none.
 pub fn restored<B: Below>(
     alloc: Global,

@@ -4,7 +4,9 @@ ghost use Rattle.std.specs.Prelude.{◌≡◌, ◌≤◌, List, map, option_map,
 ghost use Rattle.std.specs.List.{filter_map};
 ghost use Rattle.std.specs.Option.{option_map_or};
 ghost use Rattle.serde_json.specs.View.{view};
+ghost use Rattle.plancode.specs.Plans.{Judged};
 ghost use Rattle.matching.specs.Rules.{attempt_seen};
+ghost use Rattle.expressions.specs.Specification.{these, plans_seen};
 ghost use Rattle.evaluation.specs.Environment.{request_of};
 ghost use Rattle.evaluation.specs.Seen.{denial_seen};
 ghost use Rattle.bindings.specs.Objects.{Object, Objects, HasTrees, HaveTrees, held};
@@ -15,6 +17,7 @@ ghost use Rattle.verdict.specs.Seen.{verdict_seen};
 ghost use Rattle.verdict.specs.Turns.{after_warnings, held_binding, denial_by_policy};
 ghost use Rattle.names.specs.declared.resource.Resource.TheVariants.{ValidatingAdmissionPolicy};
 ghost use Rattle.objects.specs.Failing.{HasGrown};
+ghost use Rattle.objects.specs.declared.fault.Part.{Part};
 ghost use Rattle.objects.specs.declared.fault.LookupFault.TheVariants as LookupFault;
 
 use bindings::{Bound, Found, Listed, Lookup, denial, warning};
@@ -83,7 +86,7 @@ fn bindings<'a, L: Lookup<'a>>(alloc: Global, lookup: &mut L) -> Result<Vec<Name
     ensures goes { L.goes_to lookup.old lookup.new }
     ensures counts { L.failures lookup.old ≤ L.failures lookup.new }
     ensures device { IsErrOf result LookupFault.Device → HasGrown (L.failures lookup.old) (L.failures lookup.new) }
-    ensures damaged { IsErrOf result LookupFault.Damaged → L.is_damaged lookup.new }
+    ensures damaged { (part : Part) → IsErrOf result (LookupFault.Damaged part) → L.is_damaged lookup.new }
 {
     let listed = lookup.bindings(alloc)?;
     let bindings = bindings_among(alloc, &listed)?;
@@ -107,7 +110,7 @@ fn denial_of<'a, L: Lookup<'a>>(
     ensures goes { L.goes_to lookup.old lookup.new }
     ensures counts { L.failures lookup.old ≤ L.failures lookup.new }
     ensures device { IsErrOf result LookupFault.Device → HasGrown (L.failures lookup.old) (L.failures lookup.new) }
-    ensures damaged { IsErrOf result LookupFault.Damaged → L.is_damaged lookup.new }
+    ensures damaged { (part : Part) → IsErrOf result (LookupFault.Damaged part) → (ready : List Judged) → plans_seen found.now.plans.now ≡ these ready → L.is_damaged lookup.new }
 {
     match found.policy {
         Some(policy) => {
@@ -142,7 +145,7 @@ fn denial_by<'a, L: Lookup<'a>>(
     ensures goes { L.goes_to lookup.old lookup.new }
     ensures counts { L.failures lookup.old ≤ L.failures lookup.new }
     ensures device { IsErrOf result LookupFault.Device → HasGrown (L.failures lookup.old) (L.failures lookup.new) }
-    ensures damaged { IsErrOf result LookupFault.Damaged → L.is_damaged lookup.new }
+    ensures damaged { (part : Part) → IsErrOf result (LookupFault.Damaged part) → (objects : Objects) → L.shows lookup.old objects → ⊥ }
 {
     let found = match lookup.policy(alloc, bound.policy_key())? {
         Some(found) => found,
@@ -193,7 +196,7 @@ fn verdict_of<'a, L: Lookup<'a>>(
     ensures goes { L.goes_to lookup.old lookup.new }
     ensures counts { L.failures lookup.old ≤ L.failures lookup.new }
     ensures device { IsErrOf result LookupFault.Device → HasGrown (L.failures lookup.old) (L.failures lookup.new) }
-    ensures damaged { IsErrOf result LookupFault.Damaged → L.is_damaged lookup.new }
+    ensures damaged { (part : Part) → IsErrOf result (LookupFault.Damaged part) → (objects : Objects) → L.shows lookup.old objects → ⊥ }
 {
     let mut warnings = Vec::new(alloc);
     let mut request = None;
@@ -214,7 +217,7 @@ fn verdict_of<'a, L: Lookup<'a>>(
 ///
 /// # Errors
 ///
-/// Those of the lookup, and `Memory` where no memory is left.
+/// Those of the lookup, `Damaged` with the plans of a policy that is asked and whose plans are spoiled, and `Memory` where no memory is left.
 pub fn admit<'a, L: Lookup<'a>>(
     alloc: Global,
     lookup: &mut L,
@@ -226,7 +229,7 @@ pub fn admit<'a, L: Lookup<'a>>(
     ensures goes { L.goes_to lookup.old lookup.new }
     ensures counts { L.failures lookup.old ≤ L.failures lookup.new }
     ensures device { IsErrOf result LookupFault.Device → HasGrown (L.failures lookup.old) (L.failures lookup.new) }
-    ensures damaged { IsErrOf result LookupFault.Damaged → L.is_damaged lookup.new }
+    ensures damaged { (part : Part) → IsErrOf result (LookupFault.Damaged part) → (objects : Objects) → L.shows lookup.old objects → ⊥ }
 {
     let bindings = bindings(alloc, lookup)?;
     verdict_of(alloc, lookup, &bindings, attempt)

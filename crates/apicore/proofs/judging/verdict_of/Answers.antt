@@ -8,3 +8,9 @@ returns-clause-verdict g c = λ held v over.
     c.admit.ensures.verdict (objects_of v)
     (record { base = over.base; below = over.below; free = over.free; held = held; shows = over.shows; are = sees.0; ascends = sees.1 })
     (have_trees v over.seen)
+
+pub returns-clause-damaged : goal.returns-clause-damaged
+returns-clause-damaged g c = λ part told held v over.
+    let sees = sees_shown held v over.plans over.seen in
+    c.admit.ensures.damaged part told (objects_of v)
+    (record { base = over.base; below = over.below; free = over.free; held = held; shows = over.shows; are = sees.0; ascends = sees.1 })

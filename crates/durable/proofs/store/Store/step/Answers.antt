@@ -26,7 +26,7 @@ returns-in_err-prepared-clause-stays g c is =
 pub returns-in_err-prepared-clause-damaged : goal.returns-in_err-prepared-clause-damaged
 returns-in_err-prepared-clause-damaged g c damage is rules v serving =
     let told : IsErrOf c.prepare.result (Faults.Damaged damage) = grind (arith, common_steps) in
-    c.prepare.ensures.damaged damage told v serving.shows
+    c.prepare.ensures.damaged damage told v serving.shows serving.seen
 
 pub returns-in_err-gather-clause-stays : goal.returns-in_err-gather-clause-stays
 returns-in_err-gather-clause-stays g c is =

@@ -3,7 +3,7 @@ use Rattle.std.proofs.lemmas.Result.{IfOk-weaker}
 use Rattle.planlist.specs.Plans.{IsListFor}
 use Rattle.policy.specs.Spec.{policy_seen}
 use Rattle.expressions.specs.Places.{places_of, policy_in}
-use Rattle.expressions.proofs.stored.policy_plans.Goals as goal
+use Rattle.expressions.proofs.stored.fitting_plans.Goals as goal
 
 pub returns-in-Some-clause-fits : goal.returns-in-Some-clause-fits
 returns-in-Some-clause-fits c =
