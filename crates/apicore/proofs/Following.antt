@@ -1,5 +1,5 @@
 -- What requests write may follow.
-use Rattle.std.proofs.Common.{◌≡◌, ◌≤◌, ◌<◌, ◌^◌, ℕ, List, [], ◌∷◌, ◌++◌, length, Bool, true, false, nat_lt, nat_le, cond, Some, is_some, IsTrue, not, inl, inr, refl, sym, ap, subst, ◌∙◌, arith, append_assoc}
+use Rattle.std.proofs.Common.{◌≡◌, ◌≤◌, ◌<◌, ◌⊎◌, ◌^◌, ℕ, List, [], ◌∷◌, ◌++◌, length, Bool, true, false, nat_lt, nat_le, cond, Some, is_some, IsTrue, not, inl, inr, refl, sym, ap, subst, ◌∙◌, arith, append_assoc}
 use Rattle.jsondoc.specs.Document.{text}
 use Rattle.names.specs.declared.format.Rules.{Rules}
 use Rattle.names.specs.declared.resource.Resource.{Resource}
@@ -39,6 +39,27 @@ trees_of_read r d trees read size = record {
   short = read.held.1;
 }
 
+-- a put of a document that is not too large, where the revision is not the greatest, may follow, whatever else is asked of it
+puts_tail : (rules : Rules) (v : View) (k : Key) (d : Document) (trees : List Expr) (tail : List Condition) → HasForm k d → rules.text_limit_bytes ≤ 2 ^ 24 → IsRead k.resource d.json (beside.sound trees)
+    → IsTrue (exists v k) ⊎ (length v.objects < rules.object_limit) → is_too_large rules d ≡ false → is_exhausted rules v ≡ false
+    → AllMayFollow rules v (cond (is_some (first_of tail)) [] (put k d trees ∷ []))
+puts_tail rules v k d trees tail form limit read room small more =
+    elim (is_some (first_of tail)) as (λ x. AllMayFollow rules v (cond x [] (put k d trees ∷ []))) [
+      | true ↦ tt
+      | false ↦ (
+        (
+          record {
+            form = form;
+            size = not_below rules.text_limit_bytes (length (text d.json)) small;
+            room = room;
+            revision = below rules.greatest_revision v.revision more;
+          },
+          trees_of_read k.resource d.json trees read (omega (arith, limit, not_below rules.text_limit_bytes (length (text d.json)) small)),
+        ),
+        tt,
+      )
+    ]
+
 put_follows : (rules : Rules) (v : View) (k : Key) (d : Document) (trees : List Expr) (tail : List Condition) → HasForm k d → rules.text_limit_bytes ≤ 2 ^ 24 → IsRead k.resource d.json (beside.sound trees)
     → (there large full last : Bool) → is_too_large rules d ≡ large → is_full rules v ≡ full → is_exhausted rules v ≡ last
     → AllMayFollow rules v
@@ -48,21 +69,7 @@ put_follows rules v k d trees tail form limit read false true full last a b c = 
 put_follows rules v k d trees tail form limit read false false true last a b c = tt
 put_follows rules v k d trees tail form limit read false false false true a b c = tt
 put_follows rules v k d trees tail form limit read false false false false a b c =
-    elim (is_some (first_of tail)) as (λ x. AllMayFollow rules v (cond x [] (put k d trees ∷ []))) [
-      | true ↦ tt
-      | false ↦ (
-        (
-          record {
-            form = form;
-            size = not_below rules.text_limit_bytes (length (text d.json)) a;
-            room = inr (below rules.object_limit (length v.objects) b);
-            revision = below rules.greatest_revision v.revision c;
-          },
-          trees_of_read k.resource d.json trees read (omega (arith, limit, not_below rules.text_limit_bytes (length (text d.json)) a)),
-        ),
-        tt,
-      )
-    ]
+    puts_tail rules v k d trees tail form limit read (inr (below rules.object_limit (length v.objects) b)) a c
 
 replaced_follows : (rules : Rules) (v : View) (k : Key) (d : Document) (trees : List Expr) (tail : List Condition) → HasForm k d → rules.text_limit_bytes ≤ 2 ^ 24 → IsRead k.resource d.json (beside.sound trees)
     → (there stale large last : Bool) → exists v k ≡ there → is_too_large rules d ≡ large → is_exhausted rules v ≡ last
@@ -73,21 +80,7 @@ replaced_follows rules v k d trees tail form limit read true true large last a b
 replaced_follows rules v k d trees tail form limit read true false true last a b c = tt
 replaced_follows rules v k d trees tail form limit read true false false true a b c = tt
 replaced_follows rules v k d trees tail form limit read true false false false a b c =
-    elim (is_some (first_of tail)) as (λ x. AllMayFollow rules v (cond x [] (put k d trees ∷ []))) [
-      | true ↦ tt
-      | false ↦ (
-        (
-          record {
-            form = form;
-            size = not_below rules.text_limit_bytes (length (text d.json)) b;
-            room = inl a;
-            revision = below rules.greatest_revision v.revision c;
-          },
-          trees_of_read k.resource d.json trees read (omega (arith, limit, not_below rules.text_limit_bytes (length (text d.json)) b)),
-        ),
-        tt,
-      )
-    ]
+    puts_tail rules v k d trees tail form limit read (inl a) b c
 
 deleted_follows : (rules : Rules) (v : View) (k : Key) (tail : List Condition) → (there stale last : Bool) → exists v k ≡ there → is_exhausted rules v ≡ last
     → AllMayFollow rules v

@@ -5,6 +5,7 @@ use Rattle.std.specs.List.{AllByRecursion}
 use Rattle.names.specs.declared.format.Rules.{Rules}
 use Rattle.names.specs.Key.{Key}
 use Rattle.documents.specs.Document.{Document}
+use Rattle.objects.proofs.Each.{one_each}
 use Rattle.history.specs.History as plain
 use Rattle.history.specs.History.{put, delete}
 use Rattle.history.specs.View as seen
@@ -40,20 +41,9 @@ one_recorded (put k d p) (delete l) a b same = let raw : ◌≡◌ {A = plain.Wr
 one_recorded (delete k) (put l e q) a b same = let raw : ◌≡◌ {A = plain.Write (List ℕ)} (delete k) (put l e (plans_bytes l.resource q.plans)) = same in cc
 one_recorded (delete k) (delete l) a b same = let raw : ◌≡◌ {A = plain.Write (List ℕ)} (delete k) (delete l) = same in let key : k ≡ l = cc in λ i. delete (key i)
 
-same_recorded : (vs ws : List Write) → AllByRecursion HasPlans vs → AllByRecursion HasPlans ws → map recorded vs ≡ map recorded ws → vs ≡ ws
-same_recorded [] [] a b same = refl
-same_recorded [] (w ∷ ws) a b same = cc
-same_recorded (v ∷ vs) [] a b same = cc
-same_recorded (v ∷ vs) (w ∷ ws) a b same =
-    let first : recorded v ≡ recorded w = cc in
-    let rest : map recorded vs ≡ map recorded ws = cc in
-    let one : v ≡ w = one_recorded v w a.0 b.0 first in
-    let others : vs ≡ ws = same_recorded vs ws a.1 b.1 rest in
-    λ i. one i ∷ others i
-
 -- a group with plans has its payload alone
 pub one_group : (vs ws : List Write) → IsGroup vs → IsGroup ws → payload vs ≡ payload ws → vs ≡ ws
-one_group vs ws a b same = same_recorded vs ws a.plans b.plans (bytes.one_group (map recorded vs) (map recorded ws) a.held b.held same)
+one_group vs ws a b same = one_each HasPlans recorded one_recorded vs ws a.plans b.plans (bytes.one_group (map recorded vs) (map recorded ws) a.held b.held same)
 
 -- ---- the writes of groups can be held
 
@@ -95,20 +85,9 @@ IsWritten-push rules v ws payloads us written follow group = record {
 
 -- ---- at most one list
 
-same_groups : (gs hs : List (List Write)) → AllByRecursion IsGroup gs → AllByRecursion IsGroup hs → map payload gs ≡ map payload hs → gs ≡ hs
-same_groups [] [] a b same = refl
-same_groups [] (w ∷ hs) a b same = cc
-same_groups (v ∷ gs) [] a b same = cc
-same_groups (v ∷ gs) (w ∷ hs) a b same =
-    let first : payload v ≡ payload w = cc in
-    let rest : map payload gs ≡ map payload hs = cc in
-    let one : v ≡ w = one_group v w a.0 b.0 first in
-    let others : gs ≡ hs = same_groups gs hs a.1 b.1 rest in
-    λ i. one i ∷ others i
-
 pub one_list : (rules : Rules) (v : View) (ws us : List Write) (payloads : List (List ℕ)) → IsWritten rules v ws payloads → IsWritten rules v us payloads → ws ≡ us
 one_list rules v ws us payloads a b =
-    a.parts ∙ ap (λ (groups : List (List Write)). writes_in groups) (same_groups a.groups b.groups a.grouped b.grouped (sym a.payloads_are ∙ b.payloads_are)) ∙ sym b.parts
+    a.parts ∙ ap (λ (groups : List (List Write)). writes_in groups) (one_each IsGroup payload one_group a.groups b.groups a.grouped b.grouped (sym a.payloads_are ∙ b.payloads_are)) ∙ sym b.parts
 
 -- ---- writes that go on
 

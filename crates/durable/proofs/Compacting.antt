@@ -143,11 +143,12 @@ ready_same disk old new root log keeps run ready =
       };
     }
 
-pub still_ready : {D : Type 0} (disk : Disk D) (old new : D) (root : Root) (log : Log) → Ran disk old new Same → (disk.keeps old → ∥ IsReady disk old root log ∥₁)
-    → disk.keeps new → ∥ IsReady disk new root log ∥₁
-still_ready disk old new root log run ready keeps =
+pub still_ready : {D : Type 0} (disk : Disk D) (old new : D) (root now : Root) (log : Log) → now ≡ root → Ran disk old new Same → (disk.keeps old → ∥ IsReady disk old root log ∥₁)
+    → disk.keeps new → ∥ IsReady disk new now log ∥₁
+still_ready disk old new root now log same run ready keeps =
     let kept = run.had_kept keeps in
-    ∥∥₁_elim (ready kept) ∥∥₁_prop (λ r. merely (ready_same disk old new root log kept run r))
+    let Ready : Root → Type 0 = λ r. ∥ IsReady disk new r log ∥₁ in
+    subst Ready (sym same) (∥∥₁_elim (ready kept) ∥∥₁_prop (λ r. merely (ready_same disk old new root log kept run r)))
 
 -- a store that begins a generation is ready
 pub ready_anew : {D : Type 0} (disk : Disk D) (device : D) (root : Root) (log : Log) → log.start ≡ log_start root → log.last ≡ log_start root → log.failed ≡ false

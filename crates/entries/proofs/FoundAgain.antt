@@ -25,6 +25,7 @@ use Rattle.entries.specs.Reading.{entry_read, IsStorableStored, IsReadObject, Be
 use Rattle.entries.proofs.One.{one_object, one_event}
 use Rattle.entries.proofs.Views.{above}
 use Rattle.entries.proofs.Pieces.{one_plans, cut_pieces, more_pieces}
+use Rattle.objects.proofs.Each.{one_each}
 
 -- an entry in front of those behind it
 pub at_index : (es : List Entry) (i : ℕ) (x : Entry) → i < length es → x ≡ get_or es i x → es ≡ take i es ++ x ∷ drop (i + 1) es
@@ -205,15 +206,7 @@ module _ (rules : Rules) where
       (can.0.0, (few.0.1, λ policy. above bytes_beside rules o.0 os es can.0.0.0.key policy can.1 few.1 ups.0, few.0.0), all_followed os es can.1 few.1 ups.1)
 
 pub one_events : (es fs : List (Event Document)) → AllByRecursion IsStorableEvent es → AllByRecursion IsStorableEvent fs → map event_entry es ≡ map event_entry fs → es ≡ fs
-one_events [] [] a b same = refl
-one_events [] (f ∷ fs) a b same = cc
-one_events (e ∷ es) [] a b same = cc
-one_events (e ∷ es) (f ∷ fs) a b same =
-    let first : event_entry e ≡ event_entry f = cc in
-    let rest : map event_entry es ≡ map event_entry fs = cc in
-    let here : e ≡ f = one_event e f a.0 b.0 first in
-    let others : es ≡ fs = one_events es fs a.1 b.1 rest in
-    λ i. here i ∷ others i
+one_events es fs a b same = one_each IsStorableEvent event_entry one_event es fs a b same
 
 module _ (rules : Rules) (v : View (List ℕ)) (holds : IsHoldable bytes_beside rules v) (all : List Entry) (same : entries_of bytes_beside v ≡ all)
     (read : List StoredObject) (n : ℕ) (len : n ≡ length read) (is : map entry_read read ++ drop (length read) all ≡ all) (stops : BeginsOtherwise (drop (length read) all)) where

@@ -1,3 +1,4 @@
+pub mod Each
 pub mod Edits
 pub mod Found
 pub mod Ranges

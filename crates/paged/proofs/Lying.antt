@@ -1,22 +1,19 @@
 -- The objects that a checkpoint keeps lie in its pages.
-use Rattle.std.specs.Prelude.{◌≡◌, ◌≤◌, ◌+◌, ℕ, true, not, List, [], ◌∷◌, length, map, IsTrue}
-use Rattle.std.proofs.Common.{arith, refl, ap, ◌∙◌}
+use Rattle.std.specs.Prelude.{◌≡◌, true, not, List, [], ◌∷◌, map, IsTrue}
+use Rattle.std.proofs.Common.{ap, ◌∙◌}
 use Rattle.std.specs.FinMap.{is_sorted}
 use Rattle.std.specs.List.{AllByRecursion}
 use Rattle.serde_json.specs.Data.{Data}
-use Rattle.jsondoc.specs.Document.{text}
 use Rattle.device.specs.Disk.{Disk}
 use Rattle.names.specs.declared.format.Rules.{Rules}
 use Rattle.names.specs.declared.resource.Resource.{Resource}
 use Rattle.names.specs.declared.resource.Resource.TheVariants.{ConfigMap, Node, Pod, Service, Deployment, ValidatingAdmissionPolicy, ValidatingAdmissionPolicyBinding}
 use Rattle.names.specs.Key.{Key}
-use Rattle.window.specs.declared.event.Event.{Event}
 use Rattle.documents.specs.Document.{Document}
 use Rattle.history.specs.declared.stored.Stored.{Stored}
 use Rattle.history.specs.View as seen
 use Rattle.expressions.specs.Specification.{Plans, these, MayHavePlans}
 use Rattle.pages.specs.Page.{bytes_cmp}
-use Rattle.entries.specs.Holding.{IsStorableEvent, CanHoldObject, CanHoldEvent, HasFewPlans, IsHoldable}
 use Rattle.entries.proofs.Ascending as ascending
 use Rattle.shelf.specs.declared.shelf.Shelf.{Shelf}
 use Rattle.shelf.specs.Shelf.{Shelves}
@@ -24,7 +21,7 @@ use Rattle.stock.specs.Stock.{plain, HoldObjects}
 use Rattle.stock.proofs.Views.{view_holds}
 use Rattle.base.proofs.Lying.{lies_of}
 use Rattle.snapshots.specs.Keeping.{held_plans, held_entries, IsHeldObject, IsHeld}
-use Rattle.snapshots.proofs.Histories.{only_policies}
+use Rattle.snapshots.proofs.Parts.{wide, holdable_held}
 use Rattle.apicore.specs.Beside.{Beside, spelled}
 use Rattle.paged.specs.declared.bare.Bare.{Bare}
 use Rattle.paged.specs.Lying.{is_rule, made_bare, held_bare, base_of, LiesBelow}
@@ -32,56 +29,14 @@ use Rattle.paged.specs.Lying.{is_rule, made_bare, held_bare, base_of, LiesBelow}
 abbrev Object : Type 0
 Object = Key × Stored Beside
 
-abbrev Told : Type 0
-Told = Event Document
-
--- ---- the entries of a view that may be held hold its objects: each text is within some limit
-
-abbrev stored_texts : List Object → ℕ
-stored_texts [] = 0
-stored_texts (o ∷ os) = length (text o.1.document.json) + stored_texts os
-
-abbrev told_texts : List Told → ℕ
-told_texts [] = 0
-told_texts (e ∷ es) = length (text e.document.json) + told_texts es
-
--- numbers by which all its texts may be held
-abbrev wide : seen.View Beside → Rules
-wide held = record {
-  window_events = 0;
-  text_limit_bytes = stored_texts held.objects + told_texts held.events;
-  body_limit_bytes = 0;
-  object_limit = 0;
-  greatest_revision = 0;
-}
-
-can_objects : (rules : Rules) (os : List Object) → AllByRecursion IsHeldObject os → stored_texts os ≤ rules.text_limit_bytes → AllByRecursion (CanHoldObject rules) os
-can_objects rules [] all short = tt
-can_objects rules (o ∷ os) all short = ((all.0.storable, omega (arith, short)), can_objects rules os all.1 (omega (arith, short)))
-
-can_events : (rules : Rules) (es : List Told) → AllByRecursion IsStorableEvent es → told_texts es ≤ rules.text_limit_bytes → AllByRecursion (CanHoldEvent rules) es
-can_events rules [] all short = tt
-can_events rules (e ∷ es) all short = ((all.0, omega (arith, short)), can_events rules es all.1 (omega (arith, short)))
-
-few_plans : (os : List Object) → AllByRecursion IsHeldObject os → AllByRecursion (HasFewPlans held_plans) os
-few_plans [] all = tt
-few_plans (o ∷ os) all = ((only_policies o.0.resource o.1.beside.plans, all.0.few), few_plans os all.1)
-
-holdable : (rules : Rules) (held : seen.View Beside) → IsHeld rules held → IsHoldable held_plans (wide held) held
-holdable rules held is = record {
-  objects = can_objects (wide held) held.objects is.objects (omega arith);
-  few = few_plans held.objects is.objects;
-  ascends = is.ascends;
-  events = can_events (wide held) held.events is.events (omega arith);
-  numbered = is.numbered;
-}
+-- ---- the entries of a view that may be held hold its objects
 
 entries_hold : (rules : Rules) (held : seen.View Beside) → IsHeld rules held → HoldObjects (held_entries held) (map plain held.objects)
-entries_hold rules held is = view_holds held_plans (wide held) held (holdable rules held is)
+entries_hold rules held is = view_holds held_plans (wide held) held (holdable_held rules held is)
 
 -- and ascend
 pub entries_ascend : (rules : Rules) (held : seen.View Beside) → IsHeld rules held → IsTrue (is_sorted bytes_cmp (held_entries held))
-entries_ascend rules held is = ascending.entries_ascend held_plans (wide held) held (holdable rules held is)
+entries_ascend rules held is = ascending.entries_ascend held_plans (wide held) held (holdable_held rules held is)
 
 -- ---- beside each that lies below stands what its document spells, and no plans
 

@@ -6,6 +6,7 @@ use Rattle.std.specs.List.{AllByRecursion}
 use Rattle.names.specs.declared.resource.Resource.{Resource}
 use Rattle.names.specs.Key.{Key, key_cmp}
 use Rattle.objects.specs.Objects.{value_at, with_value}
+use Rattle.objects.proofs.Each.{one_each}
 use Rattle.overlay.specs.Merged.{merged}
 use Rattle.documents.specs.Document.{Document}
 use Rattle.history.specs.declared.stored.Stored.{Stored}
@@ -47,19 +48,8 @@ one_held o p a b same =
     let beside : o.1.beside ≡ p.1.beside = a.beside ∙ (λ i. spelled (document i).json (plans i)) ∙ sym b.beside in
     λ i. (key i, record { document = document i; beside = beside i; revision = revision i })
 
-same_held : (os ps : List Object) → AllByRecursion IsSpelled os → AllByRecursion IsSpelled ps → map (in_bytes held_plans) os ≡ map (in_bytes held_plans) ps → os ≡ ps
-same_held [] [] a b same = refl
-same_held [] (p ∷ ps) a b same = cc
-same_held (o ∷ os) [] a b same = cc
-same_held (o ∷ os) (p ∷ ps) a b same =
-    let first : in_bytes held_plans o ≡ in_bytes held_plans p = cc in
-    let rest : map (in_bytes held_plans) os ≡ map (in_bytes held_plans) ps = cc in
-    let here : o ≡ p = one_held o p a.0 b.0 first in
-    let others : os ≡ ps = same_held os ps a.1 b.1 rest in
-    λ i. here i ∷ others i
-
 pub one_held_list : (os ps : List Object) (kept : List Kept) → AreHeldOf os kept → AreHeldOf ps kept → os ≡ ps
-one_held_list os ps kept a b = same_held os ps a.spelled b.spelled (a.are ∙ sym b.are)
+one_held_list os ps kept a b = one_each IsSpelled (in_bytes held_plans) one_held os ps a.spelled b.spelled (a.are ∙ sym b.are)
 
 -- where objects are held of all that is kept, one is held of each
 held_at : (os : List Object) (done : List Kept) (kept : Kept) (next : List Kept) → AllByRecursion IsSpelled os → map (in_bytes held_plans) os ≡ done ++ kept ∷ next

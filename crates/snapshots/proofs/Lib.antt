@@ -5,7 +5,7 @@ pub mod Held
 mod Taking
 pub mod Shown
 pub mod Histories
-mod Parts
+pub mod Parts
 mod MadeAgain
 mod Chosen
 pub mod Alone

@@ -71,14 +71,17 @@ few_plans : (os : List Object) → AllByRecursion IsHeldObject os → AllByRecur
 few_plans [] all = tt
 few_plans (o ∷ os) all = ((only_policies o.0.resource o.1.beside.plans, all.0.few), few_plans os all.1)
 
-pub held_holdable : (rules : Rules) (held : View Beside) → IsHeld rules held → IsHoldable bytes_beside (wide held) (view_in_bytes held_plans held)
-held_holdable rules held is = holdable_in_bytes held_plans (wide held) held (record {
+pub holdable_held : (rules : Rules) (held : View Beside) → IsHeld rules held → IsHoldable held_plans (wide held) held
+holdable_held rules held is = record {
   objects = can_objects (wide held) held.objects is.objects (omega arith);
   few = few_plans held.objects is.objects;
   ascends = is.ascends;
   events = can_events (wide held) held.events is.events (omega arith);
   numbered = is.numbered;
-})
+}
+
+pub held_holdable : (rules : Rules) (held : View Beside) → IsHeld rules held → IsHoldable bytes_beside (wide held) (view_in_bytes held_plans held)
+held_holdable rules held is = holdable_in_bytes held_plans (wide held) held (holdable_held rules held is)
 
 -- and its events are the last ones
 pub held_last : (rules : Rules) (held : View Beside) → IsHeld rules held → HasLastEvents rules (view_in_bytes held_plans held)

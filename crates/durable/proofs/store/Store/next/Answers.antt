@@ -29,10 +29,7 @@ invariant_of-self g c =
       limits = subst Small (sym (ap (λ (core : State Beside). core.rules) c.next.ensures.core)) store.limits;
       in_data = store.in_data;
       works = store.works;
-      ready = λ serves keeps.
-          let Ready : Root → Type 0 = λ root. ∥ IsReady g.D.Device.disk c.next.new.device root store.log ∥₁ in
-          subst Ready (sym c.next.ensures.root)
-          (still_ready g.D.Device.disk store.device c.next.new.device (root_of store) store.log c.next.ensures.ran (λ kept. store.ready serves kept) keeps);
+      ready = λ serves. still_ready g.D.Device.disk store.device c.next.new.device (root_of store) _ store.log c.next.ensures.root c.next.ensures.ran (store.ready serves);
     }
 
 pub returns-in-Err-Damaged-clause-damaged : goal.returns-in-Err-Damaged-clause-damaged

@@ -20,8 +20,5 @@ invariant_of-self g c =
       limits = subst Small (sym c.prepare.ensures.rules) store.limits;
       in_data = store.in_data;
       works = store.works;
-      ready = λ serves keeps.
-          let Ready : Root → Type 0 = λ root. ∥ IsReady g.D.Device.disk c.prepare.new.device root store.log ∥₁ in
-          subst Ready (sym c.prepare.ensures.root)
-          (still_ready g.D.Device.disk store.device c.prepare.new.device (root_of store) store.log c.prepare.ensures.ran (λ kept. store.ready serves kept) keeps);
+      ready = λ serves. still_ready g.D.Device.disk store.device c.prepare.new.device (root_of store) _ store.log c.prepare.ensures.root c.prepare.ensures.ran (store.ready serves);
     }

@@ -10,9 +10,9 @@ returns-clause-all g c base below =
     (holds_below c.new-base.result c.args.device.now c.args.self.now.shelf c.new-base.ensures.device c.new-base.ensures.shelf base c.new-base.ensures.whole below)
 
 pub returns-clause-damaged : goal.returns-clause-damaged
-returns-clause-damaged g c told base below =
+returns-clause-damaged g c part told base below =
     let holds = holds_below c.new-base.result c.args.device.now c.args.self.now.shelf c.new-base.ensures.device c.new-base.ensures.shelf base c.new-base.ensures.whole below in
-    holds_nothing made_bare held_bare c.all.new.self base (c.all.ensures.kept base holds) (c.all.ensures.damaged told)
+    holds_nothing made_bare held_bare c.all.new.self base (c.all.ensures.kept base holds) (c.all.ensures.damaged part told)
 
 pub returns-clause-below : goal.returns-clause-below
 returns-clause-below g c base below =

@@ -1,6 +1,4 @@
 use Rattle.std.proofs.Common.{rules, refl}
-use Rattle.base.specs.Base.{holds_nothing}
-use Rattle.paged.specs.Lying.{made_bare, held_bare}
 use Rattle.paged.specs.Paged.{Below}
 use Rattle.paged.proofs.Stepping.{HoldsBare, base_holds, base_lies, prepared_over}
 use Rattle.paged.proofs.state.Paged.prepare.Goals as goal
@@ -19,8 +17,14 @@ returns-clause-step g c =
     c.prepare.ensures.step
 
 pub returns-clause-damaged : goal.returns-clause-damaged
-returns-clause-damaged g c damaged objects below =
+returns-clause-damaged g c part damaged v shown is_view =
     let before = c.new-base.ensures in
-    holds_nothing made_bare held_bare c.prepare.new.source objects
-    (c.prepare.ensures.kept objects (base_holds c.new-base.result c.args.device.now c.args.self.now.shelf before.device before.shelf objects before.whole below))
-    (c.prepare.ensures.damaged damaged)
+    c.prepare.ensures.damaged part damaged shown.shows.held v
+    (record {
+      base = shown.base;
+      below = base_holds c.new-base.result c.args.device.now c.args.self.now.shelf before.device before.shelf shown.base before.whole shown.below;
+      shows = shown.shows.shows;
+      plans = shown.shows.plans;
+      free = shown.shows.free;
+      seen = is_view;
+    })
