@@ -24,6 +24,7 @@ pub use bench::Rows;
 pub use exchange::{Exchange, Service};
 use httpmsg::one_stream;
 use jsondoc::text_escapes;
+pub use messages::fault_word;
 pub use names_asked::{key_of, resource, rules_text};
 pub use replies::{message, short};
 pub use requested::push_key;

@@ -42,23 +42,28 @@ fn push_message(line: &mut TextBuilder, message: &Message) {
     line.push("\r\n");
 }
 
+/// The word of a message's fault.
+pub fn fault_word(fault: MessageFault) -> &'static str {
+    match fault {
+        MessageFault::Malformed => "malformed",
+        MessageFault::Version => "version",
+        MessageFault::TooManyFields => "fields",
+        MessageFault::TransferCoding => "coding",
+        MessageFault::Host => "host",
+        MessageFault::ContentLength => "length",
+        MessageFault::BodyTooLarge => "body",
+        MessageFault::Expectation => "expectation",
+        MessageFault::Target => "target",
+    }
+}
+
 fn push_end(line: &mut TextBuilder, cutter: Cutter) {
     let has_closed = cutter.has_closed();
     match cutter.finish() {
         Ok(()) => line.push(if has_closed { "closed" } else { "clean" }),
         Err(broken) => {
             line.push("broken ");
-            line.push(match broken.fault {
-                MessageFault::Malformed => "malformed",
-                MessageFault::Version => "version",
-                MessageFault::TooManyFields => "fields",
-                MessageFault::TransferCoding => "coding",
-                MessageFault::Host => "host",
-                MessageFault::ContentLength => "length",
-                MessageFault::BodyTooLarge => "body",
-                MessageFault::Expectation => "expectation",
-                MessageFault::Target => "target",
-            });
+            line.push(fault_word(broken.fault));
             line.push(if broken.is_head { " head" } else { "" });
         }
     }

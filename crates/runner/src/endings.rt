@@ -1,9 +1,9 @@
 //! How a connection ended, as lines have it.
 
-use crate::refusals::fault_word;
 use api::ServeFault;
 use cases::{TextBuilder, Wrong};
 use httpmsg::End;
+use rowcases::fault_word;
 use std::alloc::Global;
 
 /// What was written, with its end behind it: `ends WORD`.

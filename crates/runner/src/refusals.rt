@@ -5,6 +5,7 @@ use cases::{Wrong, shown, text};
 use durable::{CreateFault, Damage, Fault};
 use history::Reply;
 use httpmsg::MessageFault;
+use rowcases::fault_word;
 use std::alloc::Global;
 
 const FAULTS: [MessageFault; 9] = [
@@ -18,21 +19,6 @@ const FAULTS: [MessageFault; 9] = [
     MessageFault::Expectation,
     MessageFault::Target,
 ];
-
-/// The word of a message's fault.
-pub fn fault_word(fault: MessageFault) -> &'static str {
-    match fault {
-        MessageFault::Malformed => "malformed",
-        MessageFault::Version => "version",
-        MessageFault::TooManyFields => "fields",
-        MessageFault::TransferCoding => "coding",
-        MessageFault::Host => "host",
-        MessageFault::ContentLength => "length",
-        MessageFault::BodyTooLarge => "body",
-        MessageFault::Expectation => "expectation",
-        MessageFault::Target => "target",
-    }
-}
 
 /// `at-hand WORD`: the body that takes no memory, of `memory`, of `storage` or of a message's fault.
 pub fn at_hand(alloc: Global, word: &str) -> Result<String, Wrong> {
