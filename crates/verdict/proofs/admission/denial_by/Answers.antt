@@ -9,7 +9,7 @@ use Rattle.bindings.specs.Objects.{Object, all_held, policy_key}
 use Rattle.bindings.specs.Seen.{held_by}
 use Rattle.verdict.specs.Admission.{denial_by}
 use Rattle.verdict.specs.Turns.{denial_by_policy}
-use Rattle.verdict.proofs.Standing.{found_policy, no_policy}
+use Rattle.verdict.proofs.Standing.{found_policy, plans_held, no_policy}
 use Rattle.verdict.proofs.admission.denial_by.Goals as goal
 
 pub returns-clause-found : goal.returns-clause-found
@@ -32,3 +32,13 @@ returns-in-None-clause-found g c = λ objects shows trees.
     let is : None ≡ option_map held_by c.in_ok-found.field-0 = search rules in
     let none : None ≡ value_at (policy_key b.policy) (all_held objects) = is ∙ c.in_ok-found.ensures.found objects shows ∙ ap (λ (k : Key). value_at k (all_held objects)) c.policy_key.ensures in
     sym (ap (λ (x : Option Object). option_and_then (λ y. denial_by_policy objects w b y) x) (no_policy objects b.policy none))
+
+pub returns-clause-damaged : goal.returns-clause-damaged
+returns-clause-damaged g c = λ part told objects shows.
+    let b = c.args.bound.now in
+    let look = c.policy.ensures.found objects shows in
+    let is : Some (held_by c.in-Some.found) ≡ value_at (policy_key b.policy) (all_held objects) = search rules in
+    let plans = plans_held objects b.policy (held_by c.in-Some.found) is in
+    let damaged : g.L.Lookup.is_damaged c.denial_of.new.lookup = c.denial_of.ensures.damaged part told plans.0 plans.1 in
+    let still : g.L.Lookup.shows c.denial_of.new.lookup objects = c.denial_of.ensures.kept objects (c.policy.ensures.kept objects shows) in
+    search rules

@@ -1,14 +1,15 @@
-use Rattle.std.proofs.Common.{◌≡◌, [], Option, Some, option_map, sym, ap, ◌∙◌, rules}
+use Rattle.std.proofs.Common.{◌≡◌, List, [], Option, Some, option_map, sym, ap, ◌∙◌, rules}
 use Rattle.std.specs.Prelude.{option_and_then}
 use Rattle.std.specs.Option.{option_map_or}
 use Rattle.std.proofs.lemmas.Result.{IfOk-weaker}
 use Rattle.matching.specs.Rules.{attempt_seen}
+use Rattle.plancode.specs.Plans.{Judged}
 use Rattle.policy.specs.Policies.{policy_of}
 use Rattle.policy.specs.Spec.{Policy, Binding, policy_seen, binding_seen}
 use Rattle.expressions.specs.Plans.{plans_of}
 use Rattle.evaluation.specs.Ready.{AreReady}
 use Rattle.evaluation.specs.Seen.{denial_seen}
-use Rattle.bindings.specs.Objects.{Held, shown_objects}
+use Rattle.bindings.specs.Objects.{Held, plans_in, shown_objects}
 use Rattle.bindings.specs.Verdict.{denial}
 use Rattle.verdict.specs.Turns.{denial_by_policy}
 use Rattle.verdict.proofs.admission.denial_of.Goals as goal
@@ -20,14 +21,12 @@ returns-in-Some-clause-found g c = λ objects object shows trees same.
     let w = attempt_seen c.args.attempt.now in
     let read : option_map (λ q. policy_seen q.now) c.args.found.now.policy ≡ Some p = search rules in
     let is : policy_of object.document.json ≡ Some p = ap (λ (h : Held). h.policy) (sym same) ∙ read in
-    let ready : AreReady p object.trees c.deref.result.now = record {
-      typed = trees p is;
-      compiled = c.deref.ensures.value ∙ ap (λ (h : Held). h.plans) same ∙ ap (λ (o : Option Policy). option_map_or (λ q. plans_of q object.trees) o []) is;
-    } in
+    let plans : List Judged = plans_in object.document object.trees in
+    let ready : AreReady p object.trees plans = record { typed = trees p is; compiled = ap (λ (o : Option Policy). option_map_or (λ q. plans_of q object.trees) o []) is } in
     let bound : binding_seen c.binding-binding.result.now ≡ b = c.binding-binding.ensures in
     IfOk-weaker c.denial.result
     (λ o. option_map denial_seen o ≡ denial (shown_objects objects) p object.trees (binding_seen c.binding-binding.result.now) w)
     (λ o. option_map denial_seen o ≡ denial_by_policy objects w b object)
     (λ o given. given ∙ ap (λ (x : Binding). denial (shown_objects objects) p object.trees x w) bound
     ∙ sym (ap (λ (x : Option Policy). option_and_then (λ q. denial (shown_objects objects) q object.trees b w) x) is))
-    (c.denial.ensures.found objects object.trees shows ready)
+    (c.denial.ensures.found objects object.trees plans shows (ap (λ (h : Held). h.plans) same) ready)
