@@ -5,7 +5,6 @@ use Rattle.std.specs.List.{AllByRecursion, flat_map}
 use Rattle.serde_json.specs.Data.{Data}
 use Rattle.jsondoc.specs.Document.{text}
 use Rattle.celtree.specs.Tree.{Expr}
-use Rattle.names.specs.declared.resource.Resource.TheVariants.{ValidatingAdmissionPolicy}
 use Rattle.plancode.specs.Plans.{Judged, IsVerified}
 use Rattle.planlist.specs.Plans.{plan_bytes, list_bytes, IsShort, AreFor}
 use Rattle.policy.specs.Spec.{Policy}

@@ -84,11 +84,7 @@ fn fitting_plans(
 }
 
 // The plans of a policy.
-fn policy_plans(
-    alloc: Global,
-    document: &Doc,
-    bytes: &[u8],
-) -> Result<StoredPlans, ReadPlansFault>
+fn policy_plans(alloc: Global, document: &Doc, bytes: &[u8]) -> Result<StoredPlans, ReadPlansFault>
     ensures found { IfOk result (λ p. policy_bytes (plans_seen p) ≡ bytes.now) }
     ensures fits { IfOk result (λ p. ArePolicyPlans document.now (plans_seen p)) }
     ensures damaged { IsErrOf result read_fault.Damaged → ⊥ }
