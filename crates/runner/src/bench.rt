@@ -90,14 +90,19 @@ impl Stand {
 
     // Answers a line on the store, or on its device. The opening before the first step is that of the case.
     fn answer_of_place(&mut self, alloc: Global, word: &str, rest: &str) -> Result<String, Wrong> {
-        if word == "compact" || (word == "open" && self.steps.len() > 1) {
-            let is_kept = keep(alloc, &mut self.steps, word);
-            self.place.note(is_kept, "out of memory");
+        let mut is_kept = true;
+        if word == "compact" || word == "again" {
+            is_kept = keep(alloc, &mut self.steps, "compact");
         }
+        if word == "again" || (word == "open" && self.steps.len() > 1) {
+            is_kept = is_kept && keep(alloc, &mut self.steps, "open");
+        }
+        self.place.note(is_kept, "out of memory");
         match word {
             "open" => self.place.open(),
             "settled" => self.place.settled(),
             "compact" => self.place.compact(),
+            "again" => self.place.again(),
             "check" => self.place.check(),
             "crash" => {
                 let mut picks = Vec::new(alloc);

@@ -243,6 +243,14 @@ impl Place {
         self.tell(told);
     }
 
+    /// `again`: compacts the open store, and opens it again on its device.
+    pub fn again(&mut self) {
+        self.compact();
+        if self.told().starts_with("generation ") {
+            self.open();
+        }
+    }
+
     /// `check`: tells of the open store as a whole.
     pub fn check(&mut self) {
         let alloc = self.alloc;
