@@ -18,7 +18,7 @@ use Rattle.plancode.specs.Plans.{Judged}
 use Rattle.records.proofs.Groups.{all-push}
 use Rattle.expressions.specs.Specification.{Specification, IsSpecification, IsCompiled, compiled, sound, plans_in}
 use Rattle.apicore.specs.Beside.{Beside, beside_of}
-use Rattle.apicore.specs.Prepared.{plans_held, Shows, ShowsOver}
+use Rattle.apicore.specs.Prepared.{plans_held, ShowsOver}
 use Rattle.apicore.specs.Standing.{View, IsView, HasTrees, plans_beside}
 use Rattle.apicore.proofs.Changed.{all_stand, put_has}
 

@@ -1,4 +1,6 @@
-use Rattle.std.proofs.Common.{◌∙◌, ◌+◌, sym, ap, string_bytes, map}
+use Rattle.std.proofs.Common.{rules, ◌∙◌, ◌+◌, sym, ap, string_bytes, map}
+use Rattle.std.specs.Prelude.{IsErrOf}
+use Rattle.objects.specs.declared.fault.LookupFault.TheVariants as LookupFault
 use Rattle.history.specs.History.{delete}
 use Rattle.history.specs.Mapped.{mapped_write}
 use Rattle.history.specs.Reply.{showing}
@@ -25,3 +27,8 @@ returns-in_ok-denied-in-Denied-clause-judged g c = λ held v over found.
     let is = sym (c.in_ok-warnings.ensures.verdict held v over) ∙ ap verdict_seen c.in-Denied.is in
     denied_judged held (λ ws. showing 200 ws d (held.revision + 1)) (delete c.args.key.now) _ (string_bytes c.in-Denied.policy) (string_bytes c.in-Denied.binding) c.in-Denied.reason (string_bytes c.in-Denied.message) c.in_ok-denied-in-Denied.field-0 is
     c.in_ok-denied-in-Denied.ensures
+
+pub returns-in_err-warnings-clause-damaged : goal.returns-in_err-warnings-clause-damaged
+returns-in_err-warnings-clause-damaged g c = λ part told held v over.
+    let damaged : IsErrOf c.verdict_of.result (LookupFault.Damaged part) = search rules in
+    c.verdict_of.ensures.damaged part damaged held v over

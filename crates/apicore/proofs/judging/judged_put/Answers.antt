@@ -1,4 +1,6 @@
-use Rattle.std.proofs.Common.{◌≡◌, ◌∙◌, ◌+◌, sym, ap, if◌then◌else◌, is_some, option_map, string_bytes, map, Bor}
+use Rattle.std.proofs.Common.{rules, ◌≡◌, ◌∙◌, ◌+◌, sym, ap, if◌then◌else◌, is_some, option_map, string_bytes, map, Bor}
+use Rattle.std.specs.Prelude.{IsErrOf}
+use Rattle.objects.specs.declared.fault.LookupFault.TheVariants as LookupFault
 use Rattle.serde_json.specs.declared.value.Value.{Value}
 use Rattle.serde_json.specs.View.{view}
 use Rattle.requests.specs.Codes.{document_in}
@@ -30,3 +32,8 @@ returns-in_ok-denied-in-Denied-clause-judged g c = λ held v trees over stands s
     let is = sym (rw c.put_attempt-attempt.ensures at (c.in_ok-warnings.ensures.verdict held v over)) ∙ ap verdict_seen c.in-Denied.is in
     denied_judged held (λ ws. showing (if stood then 200 else 201) ws d (held.revision + 1)) (put m.key d trees) _ (string_bytes c.in-Denied.policy) (string_bytes c.in-Denied.binding) c.in-Denied.reason (string_bytes c.in-Denied.message) c.in_ok-denied-in-Denied.field-0 is
     c.in_ok-denied-in-Denied.ensures
+
+pub returns-in_err-warnings-clause-damaged : goal.returns-in_err-warnings-clause-damaged
+returns-in_err-warnings-clause-damaged g c = λ part told held v over.
+    let damaged : IsErrOf c.verdict_of.result (LookupFault.Damaged part) = search rules in
+    c.verdict_of.ensures.damaged part damaged held v over

@@ -39,3 +39,6 @@ returns-in_ok-refused-in-Some-clause-read g c = λ _. (c.in_ok-specification.ens
 
 pub returns-in-None-clause-read : goal.returns-in-None-clause-read
 returns-in-None-clause-read g c = λ _. (c.in_ok-specification.ensures.0, c.in_ok-specification.ensures.1)
+
+pub returns-in-None-clause-damaged : goal.returns-in-None-clause-damaged
+returns-in-None-clause-damaged g c = λ part told held v over. c.create_free.ensures.damaged part told held v (over_kept _ _ c.args.core.now held v c.in_ok-find.ensures.kept over)

@@ -20,3 +20,6 @@ returns-in_ok-refused-in-None-clause-step g c = record {
       let none = sym (c.in_ok-found.ensures.found over.base held over.below over.shows) ∙ c.in-None.is in
       delete_missing c.args.core.now.rules held c.args.key.now (option_map string_bytes c.args.version.now) v over.plans c.in_ok-refused-in-None.field-0 bad_spec none c.in_ok-refused-in-None.ensures;
 }
+
+pub returns-in-Some-clause-damaged : goal.returns-in-Some-clause-damaged
+returns-in-Some-clause-damaged g c = λ part told held v over. c.delete_found.ensures.damaged part told held v (over_kept _ _ c.args.core.now held v c.in_ok-found.ensures.kept over)

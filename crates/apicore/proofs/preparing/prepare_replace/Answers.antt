@@ -39,3 +39,6 @@ returns-in_err-refused-in-None-clause-read g c = λ _. (c.in_ok-specification.en
 
 pub returns-in_ok-refused-in-None-clause-read : goal.returns-in_ok-refused-in-None-clause-read
 returns-in_ok-refused-in-None-clause-read g c = λ _. (c.in_ok-specification.ensures.0, c.in_ok-specification.ensures.1)
+
+pub returns-in-Some-clause-damaged : goal.returns-in-Some-clause-damaged
+returns-in-Some-clause-damaged g c = λ part told held v over. c.replace_of.ensures.damaged part told held v (over_kept _ _ c.args.core.now held v c.in_ok-found.ensures.kept over)
