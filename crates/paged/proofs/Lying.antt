@@ -1,6 +1,6 @@
 -- The objects that a checkpoint keeps lie in its pages.
 use Rattle.std.specs.Prelude.{◌≡◌, true, not, List, [], ◌∷◌, map, IsTrue}
-use Rattle.std.proofs.Common.{ap, ◌∙◌}
+use Rattle.std.proofs.Common.{refl, ap, ◌∙◌}
 use Rattle.std.specs.FinMap.{is_sorted}
 use Rattle.std.specs.List.{AllByRecursion}
 use Rattle.serde_json.specs.Data.{Data}

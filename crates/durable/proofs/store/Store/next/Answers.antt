@@ -1,5 +1,6 @@
-use Rattle.std.proofs.Common.{◌≡◌, ◌∙◌, sym, ap, subst, List, true, false, Bool, Err}
+use Rattle.std.proofs.Common.{rules, ◌≡◌, ◌∙◌, sym, ap, subst, List, true, false, Bool, IsErrOf}
 use Rattle.std.specs.FinMap.{is_sorted}
+use Rattle.objects.specs.declared.fault.LookupFault.TheVariants as LookupFault
 use Rattle.pages.specs.Page.{Entry, bytes_cmp}
 use Rattle.roots.specs.declared.root.Root.{Root}
 use Rattle.holdings.specs.Holdings.{State}
@@ -35,7 +36,8 @@ invariant_of-self g c =
 pub returns-in-Err-Damaged-clause-damaged : goal.returns-in-Err-Damaged-clause-damaged
 returns-in-Err-Damaged-clause-damaged g c damage told v shown keepable =
     let store = c.args.self.now in
-    c.next.ensures.damaged (c.in-Err-Damaged.is ∙ ap Err c.in-Err-Damaged.field-0-is) (with_plans v) (holds_shown store v shown) (kept_held (kept_rules store) v keepable)
+    let damaged : IsErrOf c.next.result (LookupFault.Damaged c.in-Err-Damaged.part) = search rules in
+    c.next.ensures.damaged c.in-Err-Damaged.part damaged (with_plans v) (holds_shown store v shown) (kept_held (kept_rules store) v keepable)
 
 pub returns-then-not-ascends-clause-damaged : goal.returns-then-not-ascends-clause-damaged
 returns-then-not-ascends-clause-damaged g c damage told v shown keepable =
