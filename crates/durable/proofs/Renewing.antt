@@ -1,14 +1,12 @@
 -- A store whose next generation is told, and then written.
-use Rattle.std.proofs.Common.{arith, ◌≡◌, ◌∙◌, refl, sym, ap, subst, ◌≤◌, ◌+◌, ◌⊎◌, inl, inr, ⊎_elim, ℕ, List, [], true, false, Result, Ok, Err, OnOk, OnErr, IsErrOf}
+use Rattle.std.proofs.Common.{arith, ◌≡◌, ◌∙◌, sym, ap, subst, ◌⊎◌, inl, inr, ⊎_elim, [], true, false, Result, Ok, Err, OnOk, OnErr, IsErrOf}
 use Rattle.device.specs.declared.device.Device.{Ghosts}
 use Rattle.device.specs.Disk.{Disk, HasFailed}
 use Rattle.device.specs.Run.{Ran, Stands}
 use Rattle.device.specs.Step.{Same}
 use Rattle.device.proofs.Moments.{followed_by}
 use Rattle.names.specs.declared.format.Rules.{Rules}
-use Rattle.names.specs.Key.{Key}
 use Rattle.history.specs.View.{view}
-use Rattle.history.specs.declared.stored.Stored.{Stored}
 use Rattle.holdings.specs.Holdings.{State, Shows}
 use Rattle.snapshots.specs.Keeping.{IsKeepable}
 use Rattle.apicore.specs.Beside.{Beside}
@@ -17,15 +15,13 @@ use Rattle.paged.specs.declared.state.Paged.{Paged}
 use Rattle.paged.specs.Lying.{base_of}
 use Rattle.paged.specs.Paged.{Below}
 use Rattle.paged.proofs.Staying.{below_ran}
-use Rattle.durable.specs.declared.fault.Damage.{Damage}
 use Rattle.durable.specs.declared.fault.Fault.{Fault}
 use Rattle.durable.specs.declared.fault.Fault.TheVariants as Faults
 use Rattle.durable.specs.declared.store.Store.{Store}
 use Rattle.durable.specs.Faults.{MayBeMet}
-use Rattle.durable.specs.Ready.{HoldsHistory}
 use Rattle.durable.specs.Stands.{StandsFor}
 use Rattle.durable.specs.Settled.{device_of, serves, kept_rules, revision_of, IsFound, IsShown, LiesUnder, LiesStill, ServesAt, IsSettledAt, IsLeftAt, LeavesSome}
-use Rattle.durable.proofs.Answering.{serving_by, settled_by, settled_serves, revision_is, shown_anew}
+use Rattle.durable.proofs.Answering.{serving_by, settled_serves, revision_is, shown_anew}
 use Rattle.durable.proofs.Findings.{found_none}
 use Rattle.durable.proofs.Grouping.{settled_still}
 use Rattle.durable.proofs.Reading.{history_kept}

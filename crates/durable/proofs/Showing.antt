@@ -1,5 +1,5 @@
 -- What a core shows over the objects that lie below, and what a step leaves of it.
-use Rattle.std.proofs.Common.{◌≡◌, ◌∙◌, refl, sym, ap, subst, map, List, []}
+use Rattle.std.proofs.Common.{◌≡◌, ◌∙◌, sym, ap, subst, map, List}
 use Rattle.names.specs.declared.format.Rules.{Rules}
 use Rattle.names.specs.Key.{Key}
 use Rattle.requests.specs.Request.{Request}

@@ -1,7 +1,6 @@
 -- Pages hold entries in one way at most.
-use Rattle.std.proofs.Common.{◌≡◌, ◌+◌, ℕ, zero, suc, List, [], ◌∷◌, refl}
+use Rattle.std.proofs.Common.{◌+◌, ℕ, zero, suc, List, [], ◌∷◌}
 use Rattle.std.proofs.Props.{props}
-use Rattle.gatelog.specs.Record.{part}
 use Rattle.pages.specs.Page.{Entry, IsSound}
 use Rattle.roots.specs.declared.root.Root.{Root}
 use Rattle.checkpoint.specs.Pages.{AreSound, HoldsEntries, IsIndex, NoneEmpty, pages_of_root}

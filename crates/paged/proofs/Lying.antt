@@ -9,7 +9,6 @@ use Rattle.names.specs.declared.format.Rules.{Rules}
 use Rattle.names.specs.declared.resource.Resource.{Resource}
 use Rattle.names.specs.declared.resource.Resource.TheVariants.{ConfigMap, Node, Pod, Service, Deployment, ValidatingAdmissionPolicy, ValidatingAdmissionPolicyBinding}
 use Rattle.names.specs.Key.{Key}
-use Rattle.documents.specs.Document.{Document}
 use Rattle.history.specs.declared.stored.Stored.{Stored}
 use Rattle.history.specs.View as seen
 use Rattle.expressions.specs.Specification.{Plans, these, MayHavePlans}

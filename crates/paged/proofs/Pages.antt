@@ -3,11 +3,11 @@ use Rattle.std.proofs.Common.{arith, ◌≡◌, ◌∙◌, refl, sym, ap, subst,
 use Rattle.std.proofs.lemmas.List.{length-map}
 use Rattle.std.specs.Prelude.{not, IsTrue, IsErrOf}
 use Rattle.std.specs.FinMap.{is_sorted}
-use Rattle.std.specs.List.{AllByRecursion, filter}
+use Rattle.std.specs.List.{filter}
 use Rattle.std.specs.Result.{IsErrAnd}
 use Rattle.names.specs.declared.format.Rules.{Rules}
 use Rattle.names.specs.declared.resource.Resource.{Resource}
-use Rattle.names.specs.Key.{Key, key_bytes}
+use Rattle.names.specs.Key.{Key}
 use Rattle.history.specs.declared.stored.Stored.{Stored}
 use Rattle.history.specs.View as seen
 use Rattle.holdings.specs.Holdings.{State, Shows}

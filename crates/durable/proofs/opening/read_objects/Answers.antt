@@ -9,7 +9,7 @@ use Rattle.shelf.specs.declared.shelf.Shelf.{Shelf}
 use Rattle.snapshots.specs.Keeping.{IsHeld}
 use Rattle.snapshots.proofs.Shown.{held_as_it_is}
 use Rattle.apicore.specs.Beside.{Beside}
-use Rattle.apicore.specs.Known.{Writes, AllKnown}
+use Rattle.apicore.specs.Known.{AllKnown}
 use Rattle.apicore.specs.Prepared.{plans_held}
 use Rattle.apicore.specs.Standing.{with_plans}
 use Rattle.apicore.specs.Taken.{HasReplayed}

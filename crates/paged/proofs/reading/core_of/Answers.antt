@@ -1,10 +1,7 @@
-use Rattle.std.proofs.Common.{◌≡◌, ◌∙◌, sym, ℕ, ◌-◌, length}
+use Rattle.std.proofs.Common.{◌≡◌, ◌∙◌, sym, ◌-◌, length}
 use Rattle.std.proofs.lemmas.Result.{IfOk-weaker}
 use Rattle.names.specs.declared.resource.Resource.{Resource}
 use Rattle.std.specs.Prelude.{not, Bool}
-use Rattle.snapshots.specs.Keeping.{held_entries, IsHeld}
-use Rattle.snapshots.specs.Restoring.{IsRestored}
-use Rattle.stock.specs.Sieve.{objects_among}
 use Rattle.paged.specs.Lying.{is_rule, base_of}
 use Rattle.paged.specs.Chosen.{rules_among}
 use Rattle.paged.proofs.Choosing.{are_chosen, count_is}

@@ -1,4 +1,4 @@
-use Rattle.std.proofs.Common.{◌≡◌, ◌∙◌, sym, ap, subst}
+use Rattle.std.proofs.Common.{◌∙◌, sym, ap, subst}
 use Rattle.roots.specs.declared.root.Root.{Root}
 use Rattle.holdings.specs.Holdings.{State, Shows}
 use Rattle.apicore.specs.Beside.{Beside}

@@ -1,4 +1,4 @@
-use Rattle.std.proofs.Common.{◌+◌, ◌≡◌, ◌∙◌, sym, ap, subst, inl, inr, ⊎_elim, [], Err}
+use Rattle.std.proofs.Common.{◌+◌, ◌≡◌, ◌∙◌, sym, ap, subst, ⊎_elim, [], Err}
 use Rattle.roots.specs.declared.root.Root.{Root}
 use Rattle.checkpoint.specs.EntryList.{entries_of as in_list}
 use Rattle.names.specs.declared.format.Rules.{Rules}

@@ -2,7 +2,6 @@ use Rattle.std.proofs.Common.{rules, ◌≡◌, ◌∙◌, sym, ap, subst, List,
 use Rattle.std.specs.FinMap.{is_sorted}
 use Rattle.objects.specs.declared.fault.LookupFault.TheVariants as LookupFault
 use Rattle.pages.specs.Page.{Entry, bytes_cmp}
-use Rattle.roots.specs.declared.root.Root.{Root}
 use Rattle.holdings.specs.Holdings.{State}
 use Rattle.checkpoint.specs.EntryList.{entries_of as in_list}
 use Rattle.snapshots.specs.Keeping.{entries_of}
@@ -11,7 +10,6 @@ use Rattle.snapshots.proofs.Kept.{entries_ascend}
 use Rattle.snapshots.proofs.Shown.{held_as_it_is, entries_shown}
 use Rattle.apicore.specs.Beside.{Beside}
 use Rattle.apicore.specs.Standing.{with_plans}
-use Rattle.durable.specs.Ready.{IsReady}
 use Rattle.durable.specs.Settled.{root_of, kept_rules}
 use Rattle.durable.proofs.Answering.{Small, holds_shown}
 use Rattle.durable.proofs.Compacting.{still_ready}

@@ -1,7 +1,5 @@
-use Rattle.std.proofs.Common.{◌≡◌, ap, sym, subst}
-use Rattle.std.proofs.lemmas.Grind.{common_steps}
-use Rattle.roots.specs.declared.root.Root.{Root}
-use Rattle.durable.specs.Ready.{IsReady}
+use Rattle.std.proofs.Common.{rules, sym, subst, IsErrOf}
+use Rattle.objects.specs.declared.fault.LookupFault.TheVariants as LookupFault
 use Rattle.durable.specs.Settled.{root_of}
 use Rattle.durable.proofs.Answering.{Small}
 use Rattle.durable.proofs.Compacting.{still_ready}
@@ -22,3 +20,8 @@ invariant_of-self g c =
       works = store.works;
       ready = λ serves. still_ready g.D.Device.disk store.device c.prepare.new.device (root_of store) _ store.log c.prepare.ensures.root c.prepare.ensures.ran (store.ready serves);
     }
+
+pub returns-in-Err-Damaged-clause-damaged : goal.returns-in-Err-Damaged-clause-damaged
+returns-in-Err-Damaged-clause-damaged g c damage told v shown is_view =
+    let damaged : IsErrOf c.prepare.result (LookupFault.Damaged c.in-Err-Damaged.part) = search rules in
+    c.prepare.ensures.damaged c.in-Err-Damaged.part damaged v shown is_view

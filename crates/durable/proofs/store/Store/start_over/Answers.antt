@@ -1,4 +1,4 @@
-use Rattle.std.proofs.Common.{arith, ◌≤◌, ◌^◌, ◌≡◌, ◌∙◌, sym, subst}
+use Rattle.std.proofs.Common.{arith, ◌≤◌, ◌^◌, ◌∙◌, sym, subst}
 use Rattle.std.proofs.Math.Logic.{∥∥₁_elim, ∥∥₁_prop}
 use Rattle.std.proofs.lemmas.Grind.{merely}
 use Rattle.roots.specs.declared.root.Root.{Root}

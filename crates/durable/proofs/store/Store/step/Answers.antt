@@ -1,4 +1,4 @@
-use Rattle.std.proofs.Common.{arith, rules, ◌≡◌, ◌∙◌, refl, sym, ap, subst, IsErrOf, List}
+use Rattle.std.proofs.Common.{arith, rules, ◌≡◌, ◌∙◌, refl, sym, subst, IsErrOf, List}
 use Rattle.std.proofs.lemmas.Grind.{common_steps}
 use Rattle.names.specs.declared.format.Rules.{Rules}
 use Rattle.names.specs.Key.{Key}
@@ -13,7 +13,6 @@ use Rattle.apicore.specs.Beside.{Beside}
 use Rattle.paged.specs.Lying.{LiesBelow}
 use Rattle.durable.specs.declared.fault.Fault.TheVariants as Faults
 use Rattle.durable.specs.Ready.{IsReady}
-use Rattle.durable.specs.Settled.{root_of, LiesStill}
 use Rattle.durable.proofs.Answering.{Small, stepped, not_stepped}
 use Rattle.durable.proofs.store.Store.step.Goals as goal
 

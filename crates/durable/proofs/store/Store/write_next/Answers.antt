@@ -1,4 +1,4 @@
-use Rattle.std.proofs.Common.{arith, ◌≡◌, ◌∙◌, ◌≤◌, ◌^◌, refl, sym, ap, subst, ⊎_elim, List, [], Err}
+use Rattle.std.proofs.Common.{arith, ◌≡◌, ◌∙◌, ◌≤◌, refl, sym, ap, subst, ⊎_elim, List, [], Err}
 use Rattle.std.proofs.Math.Logic.{∥∥₁_elim, ∥∥₁_prop}
 use Rattle.std.proofs.lemmas.Grind.{merely}
 use Rattle.device.specs.Run.{Stands}
@@ -16,7 +16,6 @@ use Rattle.apicore.specs.Standing.{with_plans}
 use Rattle.durable.specs.Stands.{StandsFor}
 use Rattle.checkpoint.specs.EntryList.{entries_of as in_list}
 use Rattle.durable.specs.declared.fault.Fault.TheVariants as Fault
-use Rattle.durable.specs.Ready.{IsReady}
 use Rattle.durable.specs.Settled.{root_of}
 use Rattle.durable.proofs.Answering.{Small}
 use Rattle.durable.proofs.Keeping.{reaches}

@@ -1,4 +1,4 @@
-use Rattle.std.proofs.Common.{arith, ◌≡◌, ◌∙◌, sym, ap, subst, true, ◌||◌, ⊎_elim, ◌+◌, ◌++◌, ◌∷◌, [], ℕ, List, take, Bool, Contains}
+use Rattle.std.proofs.Common.{arith, ◌≡◌, ◌∙◌, sym, ap, subst, ⊎_elim, ◌+◌, ◌++◌, ◌∷◌, [], ℕ, List, take, Contains}
 use Rattle.std.proofs.lemmas.List.{take_more, take_all}
 use Rattle.std.proofs.lemmas.List.Elements.{Contains-push_cases}
 use Rattle.names.specs.Key.{Key, key_bytes}

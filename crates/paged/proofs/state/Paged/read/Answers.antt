@@ -1,4 +1,4 @@
-use Rattle.std.proofs.Common.{rules, arith, ◌≡◌, ◌∙◌, sym, ap, subst, ⊎_elim, inl, inr, List, [], length, ℕ, Err}
+use Rattle.std.proofs.Common.{rules, arith, ◌∙◌, sym, ap, subst, ⊎_elim, inl, inr, List, [], ℕ, Err}
 use Rattle.std.proofs.lemmas.List.{length-map}
 use Rattle.stock.specs.declared.sieve.Sieve.{Sieve}
 use Rattle.checkpoint.specs.Pages.{pages_of_root, HoldsEntries, IsIndex}

@@ -1,5 +1,4 @@
-use Rattle.std.proofs.Common.{rules, ◌∙◌, ap, sym, ⊎_elim, inl, inr, Err}
-use Rattle.apicore.specs.declared.fault.RecoveryFault.TheVariants as RecoveryFault
+use Rattle.std.proofs.Common.{rules, ⊎_elim, inl, inr}
 use Rattle.paged.proofs.state.Paged.replayed.Goals as goal
 
 pub returns-in_err-core-clause-damaged : goal.returns-in_err-core-clause-damaged
