@@ -1,15 +1,10 @@
-use Rattle.std.proofs.Common.{arith, ◌∙◌, sym, ap, ◌<◌, List, length, get_or}
-use Rattle.pages.specs.Page.{Entry, count}
-use Rattle.pages.proofs.Entries.{length-entries_in, get_or-entries_in}
+use Rattle.std.proofs.Common.{ap, ◌∙◌}
+use Rattle.pages.specs.Page.{Entry}
+use Rattle.pages.proofs.Entries.{inside_page, entry_at-get_or}
 use Rattle.pages.proofs.page.Page.key.Goals as goal
 
 pub read_key-requires-clause-inside : goal.read_key-requires-clause-inside
-read_key-requires-clause-inside c = omega (arith, length-entries_in c.self.inside.bytes.now, ap length c.self.view_is)
+read_key-requires-clause-inside c = inside_page c.self.inside.bytes.now c.args.self.now c.args.i c.self.view_is c.requires
 
 pub returns : goal.returns
-returns c = λ d.
-    let bytes = c.self.inside.bytes.now in
-    let inside : c.args.i < count bytes = omega (arith, length-entries_in bytes, ap length c.self.view_is) in
-    c.read_key.ensures
-    ∙ ap (λ (entry : Entry). entry.0) (sym (get_or-entries_in bytes c.args.i d inside))
-    ∙ ap (λ (entries : List Entry). (get_or entries c.args.i d).0) c.self.view_is
+returns c = λ d. c.read_key.ensures ∙ ap (λ (entry : Entry). entry.0) (entry_at-get_or c.self.inside.bytes.now c.args.self.now c.args.i d c.self.view_is c.requires)
