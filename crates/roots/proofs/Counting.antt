@@ -72,6 +72,19 @@ none_open_unspelled content b root counts = elim (counts_somewhere root.slot con
   | inr there ↦ b.1 root there.spelled
 ]
 
+-- beside an open root of its own generation a root does not count
+none_beside_equal : (slot : Slot) (content : List ℕ) (root here there : Root) → CountsIn slot content root → IsRoot here (sector_of slot content)
+    → IsOpen (gate_sector (other slot)) content → IsRoot there (sector_of (other slot) content) → here.generation ≡ there.generation → ⊥
+none_beside_equal slot content root here there counts spelled opens spelled_there same =
+    let found = counts.above opens in
+    omega (
+      arith,
+      same,
+      found.2,
+      same_generation (sector_of slot content) here root spelled counts.spelled,
+      same_generation (sector_of (other slot) content) there found.0 spelled_there found.1,
+    )
+
 -- roots of one generation stand in both
 pub none_equal : (content : List ℕ) (a b : Root) → StandsIn A content (Open a) → StandsIn B content (Open b) → a.generation ≡ b.generation
     → (root : Root) → Counts content root → ⊥
@@ -84,24 +97,8 @@ none_equal content a b in_a in_b same root counts =
     let opens_a : IsOpen (gate_sector A) content = subst Opens in_a.0 in_a.1.is_open in
     let opens_b : IsOpen (gate_sector B) content = subst Opens in_b.0 in_b.1.is_open in
     elim (counts_somewhere root.slot content root refl counts) [
-      | inl here ↦
-          let found = here.above opens_b in
-          omega (
-            arith,
-            same,
-            found.2,
-            same_generation (sector_of A content) a root spelled_a here.spelled,
-            same_generation (sector_of B content) b found.0 spelled_b found.1,
-          )
-      | inr there ↦
-          let found = there.above opens_a in
-          omega (
-            arith,
-            same,
-            found.2,
-            same_generation (sector_of B content) b root spelled_b there.spelled,
-            same_generation (sector_of A content) a found.0 spelled_a found.1,
-          )
+      | inl here ↦ none_beside_equal A content root a b here spelled_a opens_b spelled_b same
+      | inr there ↦ none_beside_equal B content root b a there spelled_b opens_a spelled_a (sym same)
     ]
 
 -- the greater of two open roots counts

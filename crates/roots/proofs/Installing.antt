@@ -22,6 +22,12 @@ on_ok (Err e) holds = tt
 pub generation_size : (root : Root) (pages : List ℕ) → length pages ≡ 32768 * root.pages → length (generation pages) ≡ 32768 * root.pages + 512
 generation_size root pages size = omega (arith, length-append pages (replicate 512 0), length-replicate {A = ℕ} 512 0, size)
 
+-- what holds once the new root's gate is open and the cut was tried
+pub record AfterCut {D : Type 0} (disk : Disk D) (start : D) (current : Root) (last : ℕ) (old : List ℕ) (next : Root) (pages : List ℕ) (now : D) : Type 0 where
+  pub either : Stands disk start now (IsBeforeOrAfter current last next (generation pages) old) (IsBeforeOrAfter current last next (generation pages) old)
+  pub installed : Stands disk start now (IsBeforeOrAfter current last next (generation pages) old) (IsAfter next (generation pages))
+  pub in_use : IsInUse disk now next (log_start next)
+
 module _ {D : Type 0} (disk : Disk D) (start first : D) (current : Root) (last : ℕ) (old : List ℕ) (next : Root) (pages : List ℕ)
     (is : IsStaged disk start first current last old next pages) where
   abbrev body : List ℕ
@@ -62,7 +68,7 @@ module _ {D : Type 0} (disk : Disk D) (start first : D) (current : Root) (last :
       module _ (opened_synced : Only (disk.content third) (disk.left third)) (is_open : IsOpen (gate_sector next.slot) (disk.content third))
           (fourth : D) (cut_run : Ran disk third fourth (Cut (512 * log_start next + 512))) where
         -- the new root counts, whether the cut went through or not
-        pub root_installed : Stands disk start fourth Either (IsAfter next body)
+        root_installed : Stands disk start fourth Either (IsAfter next body)
         root_installed =
             let At : Slot → Type 0 = λ s. IsRoot next (part (512 * root_sector s) 512 (disk.content second)) in
             let Opens : Slot → Type 0 = λ s. IsOpen (gate_sector s) (disk.content third) in
@@ -72,8 +78,11 @@ module _ {D : Type 0} (disk : Disk D) (start first : D) (current : Root) (last :
             gate_run_there opened_synced (subst Opens is.follows.slot is_open))
             cut_run
 
-        pub cut_either : Stands disk start fourth Either Either
+        cut_either : Stands disk start fourth Either Either
         cut_either = installed_either disk start current next last old is.follows body body_size fourth root_installed
 
-        pub root_in_use : IsInUse disk fourth next (log_start next)
+        root_in_use : IsInUse disk fourth next (log_start next)
         root_in_use = in_use_next disk third fourth next body body_size (cut_run.had_kept root_installed.kept) opened_synced cut_run root_installed.seen
+
+        pub after_cut : AfterCut disk start current last old next pages fourth
+        after_cut = record { either = cut_either; installed = root_installed; in_use = root_in_use }
