@@ -13,7 +13,7 @@ use Rattle.checkpoint.specs.declared.page_writer.PageWriter.{PageWriter}
 use Rattle.checkpoint.specs.Pages.{pages_at, AreSound}
 use Rattle.checkpoint.specs.Filling.{pages_of}
 use Rattle.roots.specs.Install.{HasAt}
-use Rattle.checkpoint.specs.PageWriter.{ArePages, IsFilled, HasPages}
+use Rattle.checkpoint.specs.PageWriter.{ArePages, IsFilled, HasPages, Advances}
 use Rattle.checkpoint.proofs.Joining.{page_at, pages_at-more, sound_more}
 use Rattle.roots.proofs.Staging.{HasAt-more, part-HasAt, look_then_torn}
 
@@ -196,3 +196,12 @@ pub look_then_within : {D : Type 0} (disk : Disk D) (old mid look new : D) (firs
     → Ran disk old mid (Torn first count) → Ran disk mid look Same → Ran disk look new (Torn at n) → Ran disk old new (Torn first count)
 look_then_within disk old mid look new first count at n low high before same run =
     torn_then disk old mid new first count at n low high before (look_then_torn disk mid look new at n same run)
+
+-- what is written by a writer that filled nothing when it began lies within its pages
+pub pages_within : {D : Type 0} (disk : Disk D) (old mid look new : D) (start writer : PageWriter) → start.filled ≡ 0 → Advances start writer
+    → Ran disk old mid (Torn (512 * start.at) (32768 * (start.filled + start.left))) → Ran disk mid look Same
+    → Ran disk look new (Torn (512 * writer.at) (32768 * (writer.filled + writer.left))) → Ran disk old new (Torn (512 * start.at) (32768 * start.left))
+pages_within disk old mid look new start writer none goes_on before same run =
+    torn_within disk old new (512 * start.at) (32768 * (start.filled + start.left)) (512 * start.at) (32768 * start.left) (omega arith) (omega (arith, none))
+    (look_then_within disk old mid look new (512 * start.at) (32768 * (start.filled + start.left)) (512 * writer.at) (32768 * (writer.filled + writer.left))
+    (omega (arith, goes_on.at)) (omega (arith, goes_on.end)) before same run)

@@ -16,7 +16,7 @@ use Rattle.roots.specs.declared.root.Root.{Root}
 use Rattle.checkpoint.specs.declared.page_writer.PageWriter.{PageWriter}
 use Rattle.roots.specs.Root.{gate_sector, other, log_start, HoldsRoot}
 use Rattle.checkpoint.specs.Pages.{pages_at, AreSound, joined, first_key, pages_of_root, IsIndex}
-use Rattle.checkpoint.specs.Filling.{pages_of}
+use Rattle.checkpoint.specs.Filling.{AllFit, pages_of}
 use Rattle.checkpoint.specs.Index.{keys_of}
 use Rattle.roots.specs.Install.{HasAt, IsNext, IsInUse, IsBefore, IsClear, IsAfter, IsBeforeOrAfter, IsStaged, generation}
 use Rattle.checkpoint.specs.PageWriter.{ArePages, HasPages, IsFor, end_of}
@@ -183,7 +183,7 @@ pages_for writer root entries content ready has =
 -- ---- a walk before it
 
 -- the generation is in use still
-pub in_use_same : {D : Type 0} (disk : Disk D) (start new : D) (root : Root) (last : ℕ) → disk.keeps start → Ran disk start new Same
+in_use_same : {D : Type 0} (disk : Disk D) (start new : D) (root : Root) (last : ℕ) → disk.keeps start → Ran disk start new Same
     → IsInUse disk start root last → IsInUse disk new root last
 in_use_same disk start new root last keeps run is =
     let same : disk.content new ≡ disk.content start = run.seen keeps in
@@ -237,7 +237,7 @@ either_since_walk disk start mid new current root last revision entries was same
     subst (λ r. Then (disk.content start) r) is (subst (λ (old : List ℕ). Then old root.revision) same has))
 
 -- and the source gives the same entries
-pub source_walked : {E : Type 0} (gives : E → List ℕ → List Entry → Type 0) (reads : E → ℕ → Type 0) (current : Root) (last : ℕ) (old new : List ℕ)
+source_walked : {E : Type 0} (gives : E → List ℕ → List Entry → Type 0) (reads : E → ℕ → Type 0) (current : Root) (last : ℕ) (old new : List ℕ)
     (source walked : E) (entries : List Entry) → new ≡ old → (gives source old entries → gives walked old entries)
     → ((k : ℕ) → reads walked k → reads source k) → IsSource gives reads current last old source entries
     → IsSource gives reads current last new walked entries
@@ -250,7 +250,36 @@ source_walked gives reads current last old new source walked entries same still 
     }
 
 -- as many pages as first keys
-pub count_of_keys : (keys : List (Vec ℕ Global)) (entries : List Entry) → keys_of keys ≡ map first_key (pages_of entries) → length keys ≡ length (pages_of entries)
+count_of_keys : (keys : List (Vec ℕ Global)) (entries : List Entry) → keys_of keys ≡ map first_key (pages_of entries) → length keys ≡ length (pages_of entries)
 count_of_keys keys entries are =
     let Key : Vec ℕ Global → List ℕ = λ key. key.items in
     sym (length-map keys Key) ∙ ap length are ∙ length-map (pages_of entries) first_key
+
+-- what a walk that changed nothing leaves to write the entries by
+pub record IsReady {D E : Type 0} (disk : Disk D) (gives : E → List ℕ → List Entry → Type 0) (reads : E → ℕ → Type 0) (start mid : D) (current root : Root) (last : ℕ)
+    (walked : E) (keys : List (Vec ℕ Global)) (entries : List Entry) : Type 0 where
+  pub keeps : disk.keeps mid
+  pub same : disk.content mid ≡ disk.content start
+  pub before : Stands disk start mid (IsBefore current last (disk.content start)) (IsBefore current last (disk.content start))
+  pub in_use : IsInUse disk mid current last
+  pub source : IsSource gives reads current last (disk.content mid) walked entries
+  pub first_keys : keys_of keys ≡ map first_key (pages_of entries)
+  pub fit : AllFit entries
+  pub count : root.pages ≡ length (pages_of entries)
+
+pub ready_after_walk : {D E : Type 0} (disk : Disk D) (gives : E → List ℕ → List Entry → Type 0) (reads : E → ℕ → Type 0) (start mid : D) (current root : Root) (last : ℕ)
+    (source walked : E) (keys : List (Vec ℕ Global)) (entries : List Entry) → disk.keeps start → ((c : List ℕ) → disk.since start (disk.moment start) c → disk.left start c)
+    → Ran disk start mid Same → IsInUse disk start current last
+    → IsSource gives reads current last (disk.content start) source entries → (gives source (disk.content start) entries → gives walked (disk.content start) entries)
+    → ((k : ℕ) → reads walked k → reads source k) → keys_of keys ≡ map first_key (pages_of entries) → AllFit entries → root.pages ≡ length keys
+    → IsReady disk gives reads start mid current root last walked keys entries
+ready_after_walk disk gives reads start mid current root last source walked keys entries keeps now run in_use is still no_more are fit pages = record {
+  keeps = run.kept keeps;
+  same = run.seen keeps;
+  before = walk_before disk start mid current last keeps now in_use run;
+  in_use = in_use_same disk start mid current last keeps run in_use;
+  source = source_walked gives reads current last (disk.content start) (disk.content mid) source walked entries (run.seen keeps) still no_more is;
+  first_keys = are;
+  fit = fit;
+  count = pages ∙ count_of_keys keys entries are;
+}

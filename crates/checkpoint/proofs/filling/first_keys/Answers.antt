@@ -1,38 +1,38 @@
-use Rattle.std.proofs.Common.{rules, ◌≡◌, ◌∙◌, sym, ap, subst, ◌<◌, ◌≤◌, ◌++◌, ◌∷◌, ℕ, Bool, false, true≢false, IsTrue, List, []}
+use Rattle.std.proofs.Common.{rules, ◌≡◌, ◌∙◌, sym, ap, subst, ◌<◌, ◌≤◌, ◌++◌, ◌∷◌, ℕ, Bool, false, true≢false, IsTrue, List, [], map}
 use Rattle.std.specs.Prelude.{IsErrOf}
 use Rattle.gatelog.proofs.Walking.{same_then}
 use Rattle.pages.specs.Page.{Entry, room_of}
-use Rattle.checkpoint.specs.Filling.{keys_from}
+use Rattle.checkpoint.specs.Filling.{AllFit, keys_from, pages_of}
 use Rattle.checkpoint.specs.Index.{keys_of}
+use Rattle.checkpoint.specs.Pages.{first_key}
 use Rattle.checkpoint.specs.declared.filling.EntriesFault.TheVariants as EntriesFault
 use Rattle.checkpoint.proofs.Cutting.{walked_all, walked_more, walked_long}
+use Rattle.checkpoint.proofs.filling.first_keys.Given.{Over}
+use Rattle.checkpoint.proofs.filling.first_keys.Goals.{After-into_first_keys}
 use Rattle.checkpoint.proofs.filling.first_keys.Goals as goal
 
 is_not : (b : Bool) → b ≡ false → IsTrue b → ⊥
 is_not b unset told = true≢false (sym told ∙ unset)
 
+-- the walk took all entries
+took_all : (g : Over) (c : After-into_first_keys g) (all : List Entry) → g.D.Device.disk.keeps c.args.device.now
+    → g.E.Entries.gives c.args.entries.now (g.D.Device.disk.content c.args.device.now) all
+    → (keys_of c.walk.filling.first_keys.items ≡ map first_key (pages_of all)) × AllFit all
+took_all g c all keeps gives =
+    let inv = c.walk.invariant in
+    let content : List ℕ = g.D.Device.disk.content c.args.device.now in
+    let ahead : List ℕ → List Entry → Type 0 = λ x es. g.E.Entries.ahead c.walk.entries x es in
+    walked_all (ahead content) (keys_of c.walk.filling.first_keys.items) c.walk.filling.free all (inv.walked keeps all gives)
+    (λ entry entries there.
+    let back : ahead (g.D.Device.disk.content c.walk.device) (entry ∷ entries) = subst (λ x. ahead x (entry ∷ entries)) (sym (inv.ran.seen keeps)) there in
+    is_not c.in_ok-advance.field-0 c.if-not-branch.true (c.in_ok-advance.ensures.some (inv.ran.kept keeps) entry entries back).0)
+
 pub returns-then-not-branch-clause-keys : goal.returns-then-not-branch-clause-keys
 returns-then-not-branch-clause-keys g c keeps all gives =
-    let inv = c.walk.invariant in
-    let content : List ℕ = g.D.Device.disk.content c.args.device.now in
-    let ahead : List ℕ → List Entry → Type 0 = λ x es. g.E.Entries.ahead c.walk.entries x es in
-    let none : (entry : Entry) (entries : List Entry) → ahead content (entry ∷ entries) → ⊥ = λ entry entries there.
-    let back : ahead (g.D.Device.disk.content c.walk.device) (entry ∷ entries) = subst (λ x. ahead x (entry ∷ entries)) (sym (inv.ran.seen keeps)) there in
-    is_not c.in_ok-advance.field-0 c.if-not-branch.true (c.in_ok-advance.ensures.some (inv.ran.kept keeps) entry entries back).0
-    in
-    ap (λ keys. keys_of keys.items) c.into_first_keys.ensures
-    ∙ (walked_all (ahead content) (keys_of c.walk.filling.first_keys.items) c.walk.filling.free all (inv.walked keeps all gives) none).0
+    ap (λ keys. keys_of keys.items) c.into_first_keys.ensures ∙ (took_all g (goal.at.returns-then-not-branch-clause-keys g c).After-into_first_keys all keeps gives).0
 
 pub returns-then-not-branch-clause-fit : goal.returns-then-not-branch-clause-fit
-returns-then-not-branch-clause-fit g c keeps all gives =
-    let inv = c.walk.invariant in
-    let content : List ℕ = g.D.Device.disk.content c.args.device.now in
-    let ahead : List ℕ → List Entry → Type 0 = λ x es. g.E.Entries.ahead c.walk.entries x es in
-    let none : (entry : Entry) (entries : List Entry) → ahead content (entry ∷ entries) → ⊥ = λ entry entries there.
-    let back : ahead (g.D.Device.disk.content c.walk.device) (entry ∷ entries) = subst (λ x. ahead x (entry ∷ entries)) (sym (inv.ran.seen keeps)) there in
-    is_not c.in_ok-advance.field-0 c.if-not-branch.true (c.in_ok-advance.ensures.some (inv.ran.kept keeps) entry entries back).0
-    in
-    (walked_all (ahead content) (keys_of c.walk.filling.first_keys.items) c.walk.filling.free all (inv.walked keeps all gives) none).1
+returns-then-not-branch-clause-fit g c keeps all gives = (took_all g (goal.at.returns-then-not-branch-clause-fit g c).After-into_first_keys all keeps gives).1
 
 pub walk-preserved : goal.walk-preserved
 walk-preserved g c =

@@ -11,29 +11,32 @@ use Rattle.checkpoint.specs.declared.scanning.ScanFault.TheVariants as ScanFault
 use Rattle.checkpoint.proofs.Hearing.{heard_then}
 use Rattle.checkpoint.proofs.Joining.{page_at, pages_at-more, sound_more, sound_at, sorted_to, joined-push}
 use Rattle.checkpoint.proofs.Taking.{page_read}
+use Rattle.checkpoint.proofs.scanning.take_pages.Given.{Over}
+use Rattle.checkpoint.proofs.scanning.take_pages.Goals.{After-take_page}
 use Rattle.checkpoint.proofs.scanning.take_pages.Goals as goal
+
+-- the buffer holds the page
+read_page : (g : Over) (c : After-take_page g) → g.D.Device.disk.keeps c.args.device.now
+    → c.read.new.buffer ≡ page_at c.args.root.now.first c.loop-i.i (g.D.Device.disk.content c.args.device.now)
+read_page g c keeps =
+    let inv = c.loop-i.invariant in
+    let size : length c.loop-i.buffer ≡ 32768 = omega arith in
+    let place : c.args.root.now.first + 64 * c.from.result ≡ c.args.root.now.first + 64 * c.loop-i.i = omega (arith, c.from.ensures) in
+    page_read (c.args.root.now.first + 64 * c.from.result) c.loop-i.buffer c.read.new.buffer (g.D.Device.disk.content c.loop-i.device)
+    (g.D.Device.disk.content c.args.device.now) size (c.in_ok-read.ensures.bytes (inv.ran.kept keeps)) (inv.ran.seen keeps)
+    ∙ ap (λ at. part (512 * at) 32768 (g.D.Device.disk.content c.args.device.now)) place
 
 pub returns-in_err-refused-clause-page : goal.returns-in_err-refused-clause-page
 returns-in_err-refused-clause-page g c keeps is holds =
-    let inv = c.loop-i.invariant in
-    let disk = g.D.Device.disk in
-    let content : List ℕ = disk.content c.args.device.now in
+    let content : List ℕ = g.D.Device.disk.content c.args.device.now in
     let root = c.args.root.now in
-    let i : ℕ = c.loop-i.i in
-    let bytes : List ℕ = c.read.new.buffer in
-    let pages : List (List Entry) = pages_at root.first i content in
-    let size : length c.loop-i.buffer ≡ 32768 = omega arith in
-    let place : root.first + 64 * c.from.result ≡ root.first + 64 * i = omega (arith, c.from.ensures) in
-    let read : bytes ≡ page_at root.first i content =
-    page_read (root.first + 64 * c.from.result) c.loop-i.buffer bytes (disk.content c.loop-i.device) content size
-    (c.in_ok-read.ensures.bytes (inv.ran.kept keeps)) (inv.ran.seen keeps)
-    ∙ ap (λ at. part (512 * at) 32768 content) place
-    in
+    let pages : List (List Entry) = pages_at root.first c.loop-i.i content in
+    let read = read_page g (goal.at.returns-in_err-refused-clause-page g c).After-take_page keeps in
     let told : IsErrOf c.take_page.result ScanFault.Page = search rules in
     let Sorted : List ℕ → Type 0 = λ x. IsTrue (is_sorted bytes_cmp (joined pages ++ entries_in x)) in
-    c.take_page.ensures.page pages (inv.indexed keeps) told
-    (subst (λ (x : List ℕ). IsSound x) (sym read) (sound_at root.first root.pages i content holds.sound c.loop-i-test.true))
-    (subst Sorted (sym read) (sorted_to root.first root.pages i content c.loop-i-test.true holds.ascending))
+    c.take_page.ensures.page pages (c.loop-i.invariant.indexed keeps) told
+    (subst (λ (x : List ℕ). IsSound x) (sym read) (sound_at root.first root.pages c.loop-i.i content holds.sound c.loop-i-test.true))
+    (subst Sorted (sym read) (sorted_to root.first root.pages c.loop-i.i content c.loop-i-test.true holds.ascending))
 
 pub loop-i-preserved : goal.loop-i-preserved
 loop-i-preserved g c =
@@ -42,15 +45,8 @@ loop-i-preserved g c =
     let content : List ℕ = disk.content c.args.device.now in
     let root = c.args.root.now in
     let i : ℕ = c.loop-i.i in
-    let bytes : List ℕ = c.read.new.buffer in
     let pages : List (List Entry) = pages_at root.first i content in
-    let size : length c.loop-i.buffer ≡ 32768 = omega arith in
-    let place : root.first + 64 * c.from.result ≡ root.first + 64 * i = omega (arith, c.from.ensures) in
-    let read : disk.keeps c.args.device.now → bytes ≡ page_at root.first i content = λ keeps.
-    page_read (root.first + 64 * c.from.result) c.loop-i.buffer bytes (disk.content c.loop-i.device) content size
-    (c.in_ok-read.ensures.bytes (inv.ran.kept keeps)) (inv.ran.seen keeps)
-    ∙ ap (λ at. part (512 * at) 32768 content) place
-    in
+    let read = read_page g (goal.at.loop-i-preserved g c).After-take_page in
     let page : List Entry = entries_in (page_at root.first i content) in
     record {
       ran = same_then disk c.args.device.now c.loop-i.device c.read.new.self inv.ran c.read.ensures.ran;

@@ -1,179 +1,92 @@
-use Rattle.std.proofs.Common.{rules, ◌≡◌, ◌∙◌, ap, length, map}
+use Rattle.std.proofs.Common.{rules, ◌∙◌, ap, List, length}
 use Rattle.std.specs.Prelude.{IsErrOf}
-use Rattle.checkpoint.specs.Filling.{pages_of}
-use Rattle.checkpoint.specs.Pages.{first_key}
+use Rattle.device.specs.Run.{Stands}
+use Rattle.pages.specs.Page.{Entry}
+use Rattle.roots.specs.Install.{IsInUse}
 use Rattle.checkpoint.specs.Index.{keys_of}
-use Rattle.checkpoint.specs.Writing.{IsWritten}
+use Rattle.checkpoint.specs.Writing.{IsSource, IsWritten, IsBeforeOrWritten}
 use Rattle.checkpoint.specs.declared.writing.WriteFault.TheVariants as WriteFault
-use Rattle.checkpoint.proofs.Generations.{before_either, walk_before, in_use_same, source_walked, since_walk, either_since_walk, count_of_keys, written_index}
+use Rattle.checkpoint.proofs.Generations.{before_either, walk_before, since_walk, either_since_walk, IsReady, ready_after_walk, written_index}
+use Rattle.checkpoint.proofs.writing.write.Given.{Over}
+use Rattle.checkpoint.proofs.writing.write.Goals.{After-first_keys, After-write_generation}
 use Rattle.checkpoint.proofs.writing.write.Goals as goal
+
+-- the walk is all that was done
+only_walked : (g : Over) (c : After-first_keys g) (all : List Entry) → g.D.Device.disk.keeps c.args.device.now
+    → IsInUse g.D.Device.disk c.args.device.now c.args.current.now c.args.last_gate
+    → Stands g.D.Device.disk c.args.device.now c.first_keys.new.device
+    (IsBeforeOrWritten c.args.current.now c.args.last_gate (g.D.Device.disk.content c.args.device.now) c.args.revision all)
+    (IsBeforeOrWritten c.args.current.now c.args.last_gate (g.D.Device.disk.content c.args.device.now) c.args.revision all)
+only_walked g c all keeps in_use =
+    before_either g.D.Device.disk c.args.device.now c.first_keys.new.device c.args.current.now c.args.last_gate (g.D.Device.disk.content c.args.device.now) c.args.revision all
+    (walk_before g.D.Device.disk c.args.device.now c.first_keys.new.device c.args.current.now c.args.last_gate keeps
+    (λ x since. g.met.D.Device.only_now c.args.device.now x keeps since) in_use c.first_keys.ensures.ran)
 
 pub returns-in_err-first_keys-clause-any_moment : goal.returns-in_err-first_keys-clause-any_moment
 returns-in_err-first_keys-clause-any_moment g c keeps all in_use source =
-    let disk = g.D.Device.disk in
-    let start = c.args.device.now in
-    let mid = c.first_keys.new.device in
-    before_either disk start mid c.args.current.now c.args.last_gate (disk.content start) c.args.revision all
-    (walk_before disk start mid c.args.current.now c.args.last_gate keeps (λ x since. g.met.D.Device.only_now start x keeps since) in_use c.first_keys.ensures.ran)
+    only_walked g (goal.at.returns-in_err-first_keys-clause-any_moment g c).After-first_keys all keeps in_use
 
 pub returns-in_err-root-clause-any_moment : goal.returns-in_err-root-clause-any_moment
 returns-in_err-root-clause-any_moment g c keeps all in_use source =
-    let disk = g.D.Device.disk in
-    let start = c.args.device.now in
-    let mid = c.first_keys.new.device in
-    before_either disk start mid c.args.current.now c.args.last_gate (disk.content start) c.args.revision all
-    (walk_before disk start mid c.args.current.now c.args.last_gate keeps (λ x since. g.met.D.Device.only_now start x keeps since) in_use c.first_keys.ensures.ran)
+    only_walked g (goal.at.returns-in_err-root-clause-any_moment g c).After-first_keys all keeps in_use
 
 pub returns-in_err-writer-clause-any_moment : goal.returns-in_err-writer-clause-any_moment
 returns-in_err-writer-clause-any_moment g c keeps all in_use source =
-    let disk = g.D.Device.disk in
-    let start = c.args.device.now in
-    let mid = c.first_keys.new.device in
-    before_either disk start mid c.args.current.now c.args.last_gate (disk.content start) c.args.revision all
-    (walk_before disk start mid c.args.current.now c.args.last_gate keeps (λ x since. g.met.D.Device.only_now start x keeps since) in_use c.first_keys.ensures.ran)
+    only_walked g (goal.at.returns-in_err-writer-clause-any_moment g c).After-first_keys all keeps in_use
+
+-- the entries can be written after the walk
+ready : (g : Over) (c : After-write_generation g) (all : List Entry) → g.D.Device.disk.keeps c.args.device.now
+    → IsInUse g.D.Device.disk c.args.device.now c.args.current.now c.args.last_gate
+    → IsSource g.E.Entries.gives g.E.Entries.reads c.args.current.now c.args.last_gate (g.D.Device.disk.content c.args.device.now) c.args.entries.now all
+    → IsReady g.D.Device.disk g.E.Entries.gives g.E.Entries.reads c.args.device.now c.first_keys.new.device c.args.current.now c.in_ok-root.root c.args.last_gate
+    c.first_keys.new.entries c.in_ok-first_keys.first_keys.items all
+ready g c all keeps in_use source =
+    ready_after_walk g.D.Device.disk g.E.Entries.gives g.E.Entries.reads c.args.device.now c.first_keys.new.device c.args.current.now c.in_ok-root.root c.args.last_gate
+    c.args.entries.now c.first_keys.new.entries c.in_ok-first_keys.first_keys.items all keeps (λ x since. g.met.D.Device.only_now c.args.device.now x keeps since) c.first_keys.ensures.ran in_use source
+    (c.first_keys.ensures.gives (g.D.Device.disk.content c.args.device.now) all) c.first_keys.ensures.reads
+    (c.in_ok-first_keys.ensures.keys keeps all source.given) (c.in_ok-first_keys.ensures.fit keeps all source.given)
+    (c.in_ok-root.ensures.pages ∙ ap length c.deref.ensures.value)
+
+-- at each moment since the walk began the old root counts, or the new one
+either_now : (g : Over) (c : After-write_generation g) (all : List Entry) → g.D.Device.disk.keeps c.args.device.now
+    → IsInUse g.D.Device.disk c.args.device.now c.args.current.now c.args.last_gate
+    → IsSource g.E.Entries.gives g.E.Entries.reads c.args.current.now c.args.last_gate (g.D.Device.disk.content c.args.device.now) c.args.entries.now all
+    → Stands g.D.Device.disk c.args.device.now c.write_generation.new.device
+    (IsBeforeOrWritten c.args.current.now c.args.last_gate (g.D.Device.disk.content c.args.device.now) c.args.revision all)
+    (IsBeforeOrWritten c.args.current.now c.args.last_gate (g.D.Device.disk.content c.args.device.now) c.args.revision all)
+either_now g c all keeps in_use source =
+    let is = ready g c all keeps in_use source in
+    either_since_walk g.D.Device.disk c.args.device.now c.first_keys.new.device c.write_generation.new.device c.args.current.now c.in_ok-root.root c.args.last_gate c.args.revision all
+    is.before is.same c.in_ok-root.ensures.revision
+    (c.write_generation.ensures.any_moment is.keeps c.args.last_gate all is.in_use is.source c.in_ok-root.ensures.next is.fit is.count)
 
 pub returns-in_err-write_generation-clause-any_moment : goal.returns-in_err-write_generation-clause-any_moment
 returns-in_err-write_generation-clause-any_moment g c keeps all in_use source =
-    let disk = g.D.Device.disk in
-    let start = c.args.device.now in
-    let mid = c.first_keys.new.device in
-    let new = c.write_generation.new.device in
-    let current = c.args.current.now in
-    let last = c.args.last_gate in
-    let root = c.in_ok-root.root in
-    let keys = c.in_ok-first_keys.first_keys.items in
-    let same : disk.content mid ≡ disk.content start = c.first_keys.ensures.ran.seen keeps in
-    let kept = c.first_keys.ensures.ran.kept keeps in
-    let are : keys_of keys ≡ map first_key (pages_of all) = c.in_ok-first_keys.ensures.keys keeps all source.given in
-    let fit = c.in_ok-first_keys.ensures.fit keeps all source.given in
-    let count : root.pages ≡ length (pages_of all) =
-    c.in_ok-root.ensures.pages ∙ ap length c.deref.ensures.value ∙ count_of_keys keys all are
-    in
-    let used = in_use_same disk start mid current last keeps c.first_keys.ensures.ran in_use in
-    let given = source_walked g.E.Entries.gives g.E.Entries.reads current last (disk.content start) (disk.content mid) c.args.entries.now c.first_keys.new.entries all
-    same (c.first_keys.ensures.gives (disk.content start) all) c.first_keys.ensures.reads source
-    in
-    let walk = walk_before disk start mid current last keeps (λ x since. g.met.D.Device.only_now start x keeps since) in_use c.first_keys.ensures.ran in
-    either_since_walk disk start mid new current root last c.args.revision all walk same c.in_ok-root.ensures.revision
-    (c.write_generation.ensures.any_moment kept last all used given c.in_ok-root.ensures.next fit count)
+    either_now g (goal.at.returns-in_err-write_generation-clause-any_moment g c).After-write_generation all keeps in_use source
 
 pub returns-in_err-write_generation-clause-damaged : goal.returns-in_err-write_generation-clause-damaged
 returns-in_err-write_generation-clause-damaged g c keeps all in_use source told =
-    let disk = g.D.Device.disk in
-    let start = c.args.device.now in
-    let mid = c.first_keys.new.device in
-    let new = c.write_generation.new.device in
-    let current = c.args.current.now in
-    let last = c.args.last_gate in
-    let root = c.in_ok-root.root in
-    let keys = c.in_ok-first_keys.first_keys.items in
-    let same : disk.content mid ≡ disk.content start = c.first_keys.ensures.ran.seen keeps in
-    let kept = c.first_keys.ensures.ran.kept keeps in
-    let are : keys_of keys ≡ map first_key (pages_of all) = c.in_ok-first_keys.ensures.keys keeps all source.given in
-    let fit = c.in_ok-first_keys.ensures.fit keeps all source.given in
-    let count : root.pages ≡ length (pages_of all) =
-    c.in_ok-root.ensures.pages ∙ ap length c.deref.ensures.value ∙ count_of_keys keys all are
-    in
-    let used = in_use_same disk start mid current last keeps c.first_keys.ensures.ran in_use in
-    let given = source_walked g.E.Entries.gives g.E.Entries.reads current last (disk.content start) (disk.content mid) c.args.entries.now c.first_keys.new.entries all
-    same (c.first_keys.ensures.gives (disk.content start) all) c.first_keys.ensures.reads source
-    in
+    let is = ready g (goal.at.returns-in_err-write_generation-clause-damaged g c).After-write_generation all keeps in_use source in
     let damaged : IsErrOf c.write_generation.result WriteFault.Damaged = search rules in
-    c.write_generation.ensures.damaged kept last all used given c.in_ok-root.ensures.next fit count damaged
+    c.write_generation.ensures.damaged is.keeps c.args.last_gate all is.in_use is.source c.in_ok-root.ensures.next is.fit is.count damaged
 
 pub returns-clause-any_moment : goal.returns-clause-any_moment
-returns-clause-any_moment g c keeps all in_use source =
-    let disk = g.D.Device.disk in
-    let start = c.args.device.now in
-    let mid = c.first_keys.new.device in
-    let new = c.write_generation.new.device in
-    let current = c.args.current.now in
-    let last = c.args.last_gate in
-    let root = c.in_ok-root.root in
-    let keys = c.in_ok-first_keys.first_keys.items in
-    let same : disk.content mid ≡ disk.content start = c.first_keys.ensures.ran.seen keeps in
-    let kept = c.first_keys.ensures.ran.kept keeps in
-    let are : keys_of keys ≡ map first_key (pages_of all) = c.in_ok-first_keys.ensures.keys keeps all source.given in
-    let fit = c.in_ok-first_keys.ensures.fit keeps all source.given in
-    let count : root.pages ≡ length (pages_of all) =
-    c.in_ok-root.ensures.pages ∙ ap length c.deref.ensures.value ∙ count_of_keys keys all are
-    in
-    let used = in_use_same disk start mid current last keeps c.first_keys.ensures.ran in_use in
-    let given = source_walked g.E.Entries.gives g.E.Entries.reads current last (disk.content start) (disk.content mid) c.args.entries.now c.first_keys.new.entries all
-    same (c.first_keys.ensures.gives (disk.content start) all) c.first_keys.ensures.reads source
-    in
-    let walk = walk_before disk start mid current last keeps (λ x since. g.met.D.Device.only_now start x keeps since) in_use c.first_keys.ensures.ran in
-    either_since_walk disk start mid new current root last c.args.revision all walk same c.in_ok-root.ensures.revision
-    (c.write_generation.ensures.any_moment kept last all used given c.in_ok-root.ensures.next fit count)
+returns-clause-any_moment g c keeps all in_use source = either_now g (goal.at.returns-clause-any_moment g c).After-write_generation all keeps in_use source
 
 pub returns-clause-written : goal.returns-clause-written
 returns-clause-written g c keeps all in_use source =
-    let disk = g.D.Device.disk in
-    let start = c.args.device.now in
-    let mid = c.first_keys.new.device in
-    let new = c.write_generation.new.device in
-    let current = c.args.current.now in
-    let last = c.args.last_gate in
-    let root = c.in_ok-root.root in
-    let keys = c.in_ok-first_keys.first_keys.items in
-    let same : disk.content mid ≡ disk.content start = c.first_keys.ensures.ran.seen keeps in
-    let kept = c.first_keys.ensures.ran.kept keeps in
-    let are : keys_of keys ≡ map first_key (pages_of all) = c.in_ok-first_keys.ensures.keys keeps all source.given in
-    let fit = c.in_ok-first_keys.ensures.fit keeps all source.given in
-    let count : root.pages ≡ length (pages_of all) =
-    c.in_ok-root.ensures.pages ∙ ap length c.deref.ensures.value ∙ count_of_keys keys all are
-    in
-    let used = in_use_same disk start mid current last keeps c.first_keys.ensures.ran in_use in
-    let given = source_walked g.E.Entries.gives g.E.Entries.reads current last (disk.content start) (disk.content mid) c.args.entries.now c.first_keys.new.entries all
-    same (c.first_keys.ensures.gives (disk.content start) all) c.first_keys.ensures.reads source
-    in
-    let walk = walk_before disk start mid current last keeps (λ x since. g.met.D.Device.only_now start x keeps since) in_use c.first_keys.ensures.ran in
-    since_walk disk start mid new current root last c.args.revision all (λ x. IsWritten root all x) walk same c.in_ok-root.ensures.revision
-    (c.in_ok-write_generation.ensures.written kept last all used given c.in_ok-root.ensures.next fit count)
+    let is = ready g (goal.at.returns-clause-written g c).After-write_generation all keeps in_use source in
+    since_walk g.D.Device.disk c.args.device.now c.first_keys.new.device c.write_generation.new.device c.args.current.now c.in_ok-root.root c.args.last_gate c.args.revision all
+    (λ x. IsWritten c.in_ok-root.root all x) is.before is.same c.in_ok-root.ensures.revision
+    (c.in_ok-write_generation.ensures.written is.keeps c.args.last_gate all is.in_use is.source c.in_ok-root.ensures.next is.fit is.count)
 
 pub returns-clause-in_use : goal.returns-clause-in_use
 returns-clause-in_use g c keeps all in_use source =
-    let disk = g.D.Device.disk in
-    let start = c.args.device.now in
-    let mid = c.first_keys.new.device in
-    let new = c.write_generation.new.device in
-    let current = c.args.current.now in
-    let last = c.args.last_gate in
-    let root = c.in_ok-root.root in
-    let keys = c.in_ok-first_keys.first_keys.items in
-    let same : disk.content mid ≡ disk.content start = c.first_keys.ensures.ran.seen keeps in
-    let kept = c.first_keys.ensures.ran.kept keeps in
-    let are : keys_of keys ≡ map first_key (pages_of all) = c.in_ok-first_keys.ensures.keys keeps all source.given in
-    let fit = c.in_ok-first_keys.ensures.fit keeps all source.given in
-    let count : root.pages ≡ length (pages_of all) =
-    c.in_ok-root.ensures.pages ∙ ap length c.deref.ensures.value ∙ count_of_keys keys all are
-    in
-    let used = in_use_same disk start mid current last keeps c.first_keys.ensures.ran in_use in
-    let given = source_walked g.E.Entries.gives g.E.Entries.reads current last (disk.content start) (disk.content mid) c.args.entries.now c.first_keys.new.entries all
-    same (c.first_keys.ensures.gives (disk.content start) all) c.first_keys.ensures.reads source
-    in
-    c.in_ok-write_generation.ensures.in_use kept last all used given c.in_ok-root.ensures.next fit count
+    let is = ready g (goal.at.returns-clause-in_use g c).After-write_generation all keeps in_use source in
+    c.in_ok-write_generation.ensures.in_use is.keeps c.args.last_gate all is.in_use is.source c.in_ok-root.ensures.next is.fit is.count
 
 pub returns-clause-index : goal.returns-clause-index
 returns-clause-index g c keeps all in_use source =
-    let disk = g.D.Device.disk in
-    let start = c.args.device.now in
-    let mid = c.first_keys.new.device in
-    let new = c.write_generation.new.device in
-    let current = c.args.current.now in
-    let last = c.args.last_gate in
-    let root = c.in_ok-root.root in
-    let keys = c.in_ok-first_keys.first_keys.items in
-    let same : disk.content mid ≡ disk.content start = c.first_keys.ensures.ran.seen keeps in
-    let kept = c.first_keys.ensures.ran.kept keeps in
-    let are : keys_of keys ≡ map first_key (pages_of all) = c.in_ok-first_keys.ensures.keys keeps all source.given in
-    let fit = c.in_ok-first_keys.ensures.fit keeps all source.given in
-    let count : root.pages ≡ length (pages_of all) =
-    c.in_ok-root.ensures.pages ∙ ap length c.deref.ensures.value ∙ count_of_keys keys all are
-    in
-    let used = in_use_same disk start mid current last keeps c.first_keys.ensures.ran in_use in
-    let given = source_walked g.E.Entries.gives g.E.Entries.reads current last (disk.content start) (disk.content mid) c.args.entries.now c.first_keys.new.entries all
-    same (c.first_keys.ensures.gives (disk.content start) all) c.first_keys.ensures.reads source
-    in
-    let stands = c.in_ok-write_generation.ensures.written kept last all used given c.in_ok-root.ensures.next fit count in
-    written_index root all (keys_of keys) (disk.content new) source.ascending are stands.seen
+    let is = ready g (goal.at.returns-clause-index g c).After-write_generation all keeps in_use source in
+    let stands = c.in_ok-write_generation.ensures.written is.keeps c.args.last_gate all is.in_use is.source c.in_ok-root.ensures.next is.fit is.count in
+    written_index c.in_ok-root.root all (keys_of c.in_ok-first_keys.first_keys.items) (g.D.Device.disk.content c.write_generation.new.device) source.ascending is.first_keys stands.seen

@@ -6,7 +6,7 @@ use Rattle.device.proofs.Steps.{torn_idle, torn-bytes}
 use Rattle.pages.specs.Page.{Entry}
 use Rattle.checkpoint.specs.PageWriter.{IsLaid}
 use Rattle.checkpoint.specs.declared.writing.WriteFault.TheVariants as WriteFault
-use Rattle.checkpoint.proofs.Buffering.{torn_within, look_then_within}
+use Rattle.checkpoint.proofs.Buffering.{look_then_within, pages_within}
 use Rattle.checkpoint.proofs.Paging.{laid_none, some_entries, laid_step, laid_stop, laid_end}
 use Rattle.checkpoint.proofs.writing.write_pages.Goals as goal
 
@@ -97,14 +97,8 @@ returns-then-not-branch-clause-damaged g c keeps all gives apart sorted fit empt
 
 pub returns-then-not-branch-clause-ran : goal.returns-then-not-branch-clause-ran
 returns-then-not-branch-clause-ran g c =
-    let inv = c.walk.invariant in
-    let start = c.args.writer.now in
-    let old = c.walk.writer in
-    torn_within g.D.Device.disk c.args.device.now c.finish.new.device (512 * start.at) (32768 * (start.filled + start.left)) (512 * start.at) (32768 * start.left)
-    (omega arith) (omega (arith, c.requires.none))
-    (look_then_within g.D.Device.disk c.args.device.now c.walk.device c.advance.new.device c.finish.new.device (512 * start.at) (32768 * (start.filled + start.left))
-    (512 * old.at) (32768 * (old.filled + old.left)) (omega (arith, inv.goes_on.at)) (omega (arith, inv.goes_on.end))
-    inv.ran c.advance.ensures.ran c.finish.ensures.ran)
+    pages_within g.D.Device.disk c.args.device.now c.walk.device c.advance.new.device c.finish.new.device c.args.writer.now c.walk.writer c.requires.none c.walk.invariant.goes_on
+    c.walk.invariant.ran c.advance.ensures.ran c.finish.ensures.ran
 
 pub returns-in_err-add-clause-damaged : goal.returns-in_err-add-clause-damaged
 returns-in_err-add-clause-damaged g c keeps all gives apart sorted fit empty left is =
@@ -130,11 +124,5 @@ returns-in_err-add-clause-damaged g c keeps all gives apart sorted fit empty lef
 
 pub returns-in_err-add-clause-ran : goal.returns-in_err-add-clause-ran
 returns-in_err-add-clause-ran g c =
-    let inv = c.walk.invariant in
-    let start = c.args.writer.now in
-    let old = c.walk.writer in
-    torn_within g.D.Device.disk c.args.device.now c.add.new.device (512 * start.at) (32768 * (start.filled + start.left)) (512 * start.at) (32768 * start.left)
-    (omega arith) (omega (arith, c.requires.none))
-    (look_then_within g.D.Device.disk c.args.device.now c.walk.device c.advance.new.device c.add.new.device (512 * start.at) (32768 * (start.filled + start.left))
-    (512 * old.at) (32768 * (old.filled + old.left)) (omega (arith, inv.goes_on.at)) (omega (arith, inv.goes_on.end))
-    inv.ran c.advance.ensures.ran c.add.ensures.ran)
+    pages_within g.D.Device.disk c.args.device.now c.walk.device c.advance.new.device c.add.new.device c.args.writer.now c.walk.writer c.requires.none c.walk.invariant.goes_on
+    c.walk.invariant.ran c.advance.ensures.ran c.add.ensures.ran
