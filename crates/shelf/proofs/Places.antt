@@ -1,9 +1,12 @@
 -- What is found among the first keys of pages.
-use Rattle.std.proofs.Common.{◌≡◌, ◌⊎◌, inl, inr, ⊎_elim, ℕ, zero, suc, Bool, true, false, not, ◌||◌, List, [], ◌∷◌, ◌++◌, length, map, get_or, take, ◌+◌, ◌-◌, ◌≤◌, ◌<◌, refl, sym, ap, ◌∙◌, arith}
+use denote.Param.Members.{Mut}
+use Rattle.std.proofs.Common.{Bor, ◌≡◌, ◌⊎◌, inl, inr, ⊎_elim, ℕ, zero, suc, Bool, true, false, not, ◌||◌, List, [], ◌∷◌, ◌++◌, length, map, get_or, take, ◌+◌, ◌-◌, ◌≤◌, ◌<◌, refl, sym, ap, subst, ◌∙◌, arith}
 use Rattle.std.proofs.lemmas.Bool.{cases_lt, true≢false}
 use Rattle.std.proofs.lemmas.Cmp.{nat_list_cmp_total}
 use Rattle.std.proofs.lemmas.List.{length-map}
+use Rattle.std.proofs.lemmas.List.Sorted.{IsPartitionPoint-from_clause}
 use Rattle.std.specs.FinMap.{find}
+use Rattle.std.specs.Fn.{Called, ComputesKey}
 use Rattle.std.specs.List.Sorted.{IsPartitionedBy, IsPartitionPoint}
 use Rattle.std.specs.Ordering.{is_lt}
 use Rattle.std.specs.Prelude.{None}
@@ -205,7 +208,7 @@ module _ (firsts : List (List ℕ)) (pages : List (List Entry)) (index : IsIndex
 key_at : (keys : List (Vec ℕ Global)) (i : ℕ) (d : Vec ℕ Global) → i < length keys → get_or (keys_of keys) i [] ≡ (get_or keys i d).items
 key_at keys i d inside = get_map (λ (key : Vec ℕ Global). key.items) keys i d [] inside
 
-pub split_of : (test : List ℕ → Bool) (keys : List (Vec ℕ Global)) (count : ℕ)
+split_of : (test : List ℕ → Bool) (keys : List (Vec ℕ Global)) (count : ℕ)
     → IsPartitionPoint (λ key. test key.items ≡ true) (λ key. test key.items ≡ false) keys count → IsSplit test (keys_of keys) count
 split_of test [] count point = record { before = λ k l m. absurd (omega arith); behind = λ k l m. absurd (omega arith) }
 split_of test (key ∷ keys) count point =
@@ -215,6 +218,17 @@ split_of test (key ∷ keys) count point =
       before = λ k l m. ap test (key_at all k key (omega (arith, size, m))) ∙ point.0 k key (omega arith) l;
       behind = λ k l m. ap test (key_at all k key (omega (arith, size, m))) ∙ point.1 k key l (omega (arith, size, m));
     }
+
+-- a vector's first keys are split where a look at its slice finds the first one that fails the test
+pub split_found : {F : Type 0} {g : Mut F (Bor (Vec ℕ Global) × Unit {0}) Bool} {f : F} (test : List ℕ → Bool) (slice keys : List (Vec ℕ Global)) (count : ℕ) → slice ≡ keys
+    → IsPartitionedBy (λ (first : Vec ℕ Global). test first.items) keys
+    → ((q : Vec ℕ Global → Bool) → ComputesKey g q f → IsPartitionedBy q slice → IsPartitionPoint (λ y. q y ≡ true) (λ y. q y ≡ false) slice count)
+    → ((a : Bor (Vec ℕ Global) × Unit {0}) (r : Bool) (f' : F) → Called g f a r f' → (r ≡ test a.0.now.items) × (f' ≡ f)) → IsSplit test (keys_of keys) count
+split_found test slice keys count is parted found calls =
+    let tested : Vec ℕ Global → Bool = λ first. test first.items in
+    let Parted : List (Vec ℕ Global) → Type 0 = λ firsts. IsPartitionedBy tested firsts in
+    let Split : List (Vec ℕ Global) → Type 0 = λ firsts. IsSplit test (keys_of firsts) count in
+    subst Split is (split_of test slice count (IsPartitionPoint-from_clause tested slice count found (subst Parted (sym is) parted) calls))
 
 module _ (keys : List (Vec ℕ Global)) (pages : List (List Entry)) (index : IsIndex (keys_of keys) pages) where
   pub keys_length : length keys ≡ length pages

@@ -1,11 +1,17 @@
 -- What a reader was told of entries with a prefix.
-use Rattle.std.proofs.Common.{◌≡◌, sym, ap, subst, ◌∙◌, ◌+◌, ◌<◌, ◌≤◌, ℕ, true, false, cond, List, [], ◌∷◌, ◌++◌, length, get_or, take, drop}
+use Rattle.std.proofs.Common.{arith, ◌≡◌, sym, ap, subst, ◌∙◌, ◌+◌, ◌-◌, ◌<◌, ◌≤◌, ℕ, true, false, cond, List, [], ◌∷◌, ◌++◌, length, get_or, take, drop}
 use Rattle.std.proofs.lemmas.List.{take_more, take_all, take-append-drop}
+use Rattle.device.specs.Disk.{Disk}
 use Rattle.pages.specs.Page.{Entry}
 use Rattle.checkpoint.specs.Pages.{joined}
 use Rattle.checkpoint.specs.Reader.{IsRefused}
 use Rattle.checkpoint.proofs.Hearing.{refused_more, refused_then}
+use Rattle.shelf.specs.declared.shelf.Shelf.{Shelf}
+use Rattle.shelf.specs.Places.{is_at_or_below, may_begin, IsSplit}
 use Rattle.shelf.specs.Prefix.{begins, beginning}
+use Rattle.shelf.specs.Shelf.{root_of, firsts_of, pages_of, Shelves}
+use Rattle.shelf.proofs.Holding.{length-pages_of}
+use Rattle.shelf.proofs.Places.{range_of}
 use Rattle.shelf.proofs.Ranging.{beginning-append, pages_from, range_more, range_front}
 
 -- one entry, which begins so, or does not
@@ -92,3 +98,15 @@ module _ {R : Type 0} (told : R → R → List Entry → Type 0)
       let Here : List (List Entry) → Type 0 = λ ps. IsRefused told refuses mid (beginning prefix (get_or ps (first + n) [])) in
       subst Refused (ap (λ (es : List Entry). es ++ rest.0) (range_more pages first n prefix inside) ∙ rest.1)
       (refused_more told refuses start (front ++ here) rest.0 (refused_then told refuses told_then start mid front here before (subst Here same refused)))
+
+-- the pages between the two splits show all that begins so
+pub range_shown : {D : Type 0} (disk : Disk D) (device : D) (shelf : Shelf) (entries : List Entry) (prefix : List ℕ) (low high start count : ℕ)
+    → Shelves disk device shelf entries → IsSplit (is_at_or_below prefix) (firsts_of shelf) low → IsSplit (may_begin prefix) (firsts_of shelf) high
+    → low ≤ (root_of shelf).pages → high ≤ (root_of shelf).pages → start ≡ low - 1 → count ≡ high - start
+    → beginning prefix (joined (pages_from (pages_of disk device shelf) start count)) ≡ beginning prefix entries
+range_shown disk device shelf entries prefix low high start count shelves lows highs low_bound high_bound start_is count_is =
+    let size = length-pages_of disk device shelf in
+    ap (λ n. beginning prefix (joined (pages_from (pages_of disk device shelf) start n))) count_is
+    ∙ sym (range_of (firsts_of shelf) (pages_of disk device shelf) shelves.index prefix low high start lows highs
+    (omega (arith, low_bound, size)) (omega (arith, high_bound, size)) start_is)
+    ∙ ap (beginning prefix) shelves.are

@@ -1,17 +1,13 @@
-use Rattle.std.proofs.Common.{rules, arith, ◌≡◌, ◌∙◌, sym, ap, subst, ◌-◌, ℕ, List}
+use Rattle.std.proofs.Common.{rules, arith, ◌≡◌, ◌∙◌, ap, subst, ◌-◌, List}
 use Rattle.std.specs.Prelude.{IsErrOf}
 use Rattle.gatelog.proofs.Walking.{same_then}
 use Rattle.pages.specs.Page.{Entry}
-use Rattle.checkpoint.specs.Pages.{joined}
 use Rattle.checkpoint.specs.Reader.{IsRefused}
 use Rattle.roots.specs.declared.root.Root.{Root}
-use Rattle.shelf.specs.Prefix.{beginning}
 use Rattle.shelf.specs.Shelf.{root_of, pages_of}
 use Rattle.shelf.specs.declared.fault.ShelfFault.TheVariants as ShelfFault
 use Rattle.shelf.proofs.Holding.{length-pages_of, inside_still}
-use Rattle.shelf.proofs.Places.{range_of}
-use Rattle.shelf.proofs.Ranging.{pages_from}
-use Rattle.shelf.proofs.Telling.{told_page, refused_page}
+use Rattle.shelf.proofs.Telling.{told_page, refused_page, range_shown}
 use Rattle.shelf.proofs.shelf.Shelf.tell.Goals as goal
 
 pub tell_one-requires : goal.tell_one-requires
@@ -29,26 +25,18 @@ tell_one-requires g c =
 pub returns-in_err-tell_one-clause-refused : goal.returns-in_err-tell_one-clause-refused
 returns-in_err-tell_one-clause-refused g c entries shelves is =
     let inv = c.loop-i.invariant in
-    let shelf = c.args.self.now in
-    let prefix : List ℕ = c.args.prefix.now in
     let disk = g.D.Device.disk in
-    let pages : List (List Entry) = pages_of disk c.args.device.now shelf in
-    let size = length-pages_of disk c.args.device.now shelf in
-    let low = c.count_up_to.ensures.bound in
+    let pages : List (List Entry) = pages_of disk c.args.device.now c.args.self.now in
+    let size = length-pages_of disk c.args.device.now c.args.self.now in
     let high = c.count_with.ensures.bound in
-    let start : c.saturating_sub-start.result ≡ c.count_up_to.result - 1 = c.saturating_sub-start.ensures in
     let count : c.saturating_sub-i-end.result ≡ c.count_with.result - c.saturating_sub-start.result = c.saturating_sub-i-end.ensures in
-    let all : beginning prefix (joined (pages_from pages c.saturating_sub-start.result c.saturating_sub-i-end.result)) ≡ beginning prefix entries =
-    ap (λ n. beginning prefix (joined (pages_from pages c.saturating_sub-start.result n))) count
-    ∙ sym (range_of _ _ shelves.index prefix c.count_up_to.result c.count_with.result c.saturating_sub-start.result (c.count_up_to.ensures.split _ shelves.index) (c.count_with.ensures.split _ shelves.index)
-    (omega (arith, low, size)) (omega (arith, high, size)) start)
-    ∙ ap (beginning prefix) shelves.are
-    in
     let told : IsErrOf c.tell_one.result ShelfFault.Entry = search rules in
     let Refused : List Entry → Type 0 = λ es. IsRefused g.R.Reader.told g.R.Reader.refuses c.args.reader.now es in
-    subst Refused all
+    subst Refused
+    (range_shown disk c.args.device.now c.args.self.now entries c.args.prefix.now c.count_up_to.result c.count_with.result c.saturating_sub-start.result c.saturating_sub-i-end.result
+    shelves (c.count_up_to.ensures.split _ shelves.index) (c.count_with.ensures.split _ shelves.index) c.count_up_to.ensures.bound high c.saturating_sub-start.ensures count)
     (refused_page g.R.Reader.told g.met.R.Reader.told_then g.R.Reader.refuses c.args.reader.now c.loop-i.reader pages (pages_of disk c.loop-i.device c.loop-i.self) c.saturating_sub-start.result c.loop-i.i
-    c.saturating_sub-i-end.result prefix (inv.pages entries shelves) (omega (arith, size, high, count, c.loop-i-test.true)) (omega (arith, c.loop-i-test.true)) (inv.told entries shelves)
+    c.saturating_sub-i-end.result c.args.prefix.now (inv.pages entries shelves) (omega (arith, size, high, count, c.loop-i-test.true)) (omega (arith, c.loop-i-test.true)) (inv.told entries shelves)
     (c.tell_one.ensures.refused entries (inv.kept entries shelves) told))
 
 pub returns-in_err-tell_one-clause-kept : goal.returns-in_err-tell_one-clause-kept
@@ -75,21 +63,10 @@ loop-i-preserved g c =
 
 pub returns-clause-told : goal.returns-clause-told
 returns-clause-told g c entries shelves =
-    let inv = c.loop-i.invariant in
-    let shelf = c.args.self.now in
-    let prefix : List ℕ = c.args.prefix.now in
-    let disk = g.D.Device.disk in
-    let pages : List (List Entry) = pages_of disk c.args.device.now shelf in
-    let size = length-pages_of disk c.args.device.now shelf in
-    let low = c.count_up_to.ensures.bound in
-    let high = c.count_with.ensures.bound in
-    let start : c.saturating_sub-start.result ≡ c.count_up_to.result - 1 = c.saturating_sub-start.ensures in
     let count : c.loop-i.i ≡ c.count_with.result - c.saturating_sub-start.result = omega (arith, c.saturating_sub-i-end.ensures) in
-    let all : beginning prefix (joined (pages_from pages c.saturating_sub-start.result c.loop-i.i)) ≡ beginning prefix entries =
-    ap (λ n. beginning prefix (joined (pages_from pages c.saturating_sub-start.result n))) count
-    ∙ sym (range_of _ _ shelves.index prefix c.count_up_to.result c.count_with.result c.saturating_sub-start.result (c.count_up_to.ensures.split _ shelves.index) (c.count_with.ensures.split _ shelves.index)
-    (omega (arith, low, size)) (omega (arith, high, size)) start)
-    ∙ ap (beginning prefix) shelves.are
-    in
     let Told : List Entry → Type 0 = λ es. g.R.Reader.told c.args.reader.now c.loop-i.reader es in
-    subst Told all (inv.told entries shelves)
+    subst Told
+    (range_shown g.D.Device.disk c.args.device.now c.args.self.now entries c.args.prefix.now c.count_up_to.result c.count_with.result c.saturating_sub-start.result c.loop-i.i
+    shelves (c.count_up_to.ensures.split _ shelves.index) (c.count_with.ensures.split _ shelves.index) c.count_up_to.ensures.bound c.count_with.ensures.bound
+    c.saturating_sub-start.ensures count)
+    (c.loop-i.invariant.told entries shelves)
