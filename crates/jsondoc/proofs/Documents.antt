@@ -74,26 +74,30 @@ text_reads_back s d is whole = reading-whole (string_bytes s) d (IsUtf8-string_b
 
 -- ---- members and items
 
-chosen : (o : Ordering) (rest : Option Data) (e d : Data) → (rest ≡ Some d → is_whole d ≡ true) → is_whole e ≡ true
-    → match_ordering o rest (Some e) rest ≡ Some d → is_whole d ≡ true
-chosen Less rest e d later here is = later is
-chosen Equal rest e d later here is = let same : e ≡ d = cc in ap is_whole (sym same) ∙ here
-chosen Greater rest e d later here is = later is
+-- what is found at a member is its value, or is found behind it
+pub chosen : (P : Data → Type 0) (o : Ordering) (rest : Option Data) (e d : Data) → (rest ≡ Some d → P d) → P e → match_ordering o rest (Some e) rest ≡ Some d → P d
+chosen P Less rest e d later here is = later is
+chosen P Equal rest e d later here is = let same : e ≡ d = cc in subst P same here
+chosen P Greater rest e d later here is = later is
+
+-- what is found by name stands among the members of an object
+pub found_inside : (P : Type 0) (name : List ℕ) (d e : Data) → get name d ≡ Some e → ((ms : Members) → d ≡ object ms → get_member name ms ≡ Some e → P) → P
+found_inside P name null e is inside = absurd (let none : None ≡ Some e = is in cc)
+found_inside P name (boolean b) e is inside = absurd (let none : None ≡ Some e = is in cc)
+found_inside P name (number n) e is inside = absurd (let none : None ≡ Some e = is in cc)
+found_inside P name (string s) e is inside = absurd (let none : None ≡ Some e = is in cc)
+found_inside P name (array ds) e is inside = absurd (let none : None ≡ Some e = is in cc)
+found_inside P name (object ms) e is inside = inside ms refl is
 
 -- a member's value is whole where the object is
 pub is_whole-member : (name : List ℕ) (ms : Members) (d : Data) → members_are_whole ms ≡ true → get_member name ms ≡ Some d → is_whole d ≡ true
 is_whole-member name no_members d w is = absurd (let none : None ≡ Some d = is in cc)
 is_whole-member name (member k e ms) d w is =
     let parts = both (is_whole e) (members_are_whole ms) w in
-    chosen (slice_cmp nat_cmp name k) (get_member name ms) e d (is_whole-member name ms d parts.1) parts.0 is
+    chosen (λ x. is_whole x ≡ true) (slice_cmp nat_cmp name k) (get_member name ms) e d (is_whole-member name ms d parts.1) parts.0 is
 
 pub is_whole-get : (name : List ℕ) (d e : Data) → is_whole d ≡ true → get name d ≡ Some e → is_whole e ≡ true
-is_whole-get name null e w is = absurd (let none : None ≡ Some e = is in cc)
-is_whole-get name (boolean b) e w is = absurd (let none : None ≡ Some e = is in cc)
-is_whole-get name (number n) e w is = absurd (let none : None ≡ Some e = is in cc)
-is_whole-get name (string s) e w is = absurd (let none : None ≡ Some e = is in cc)
-is_whole-get name (array ds) e w is = absurd (let none : None ≡ Some e = is in cc)
-is_whole-get name (object ms) e w is = is_whole-member name ms e w is
+is_whole-get name d e w is = found_inside (is_whole e ≡ true) name d e is (λ ms same found. is_whole-member name ms e (sym (ap is_whole same) ∙ w) found)
 
 -- the value that a look finds is whole
 pub found_is_whole : (name : List ℕ) (d : Data) (r : Option (Bor Value)) → is_whole d ≡ true → option_map (λ v. view v.now) r ≡ get name d

@@ -10,7 +10,7 @@ use Rattle.serde_json.specs.Data.{Data, null, boolean, number, string, array, ob
 use Rattle.serde_json.specs.Find.{get, get_member}
 use Rattle.serde_json.specs.Read.{read, of_json, of_items, of_members, number_of, max_depth}
 use Rattle.jsondoc.specs.Document.{is_whole, reading, reading_of, json_of, not_json, not_whole, document, with_member}
-use Rattle.jsondoc.proofs.Documents.{both}
+use Rattle.jsondoc.proofs.Documents.{both, chosen, found_inside}
 
 -- the name stands below the first member's
 abbrev precedes : List ℕ → Members → Bool
@@ -169,23 +169,13 @@ with_member-same name d (string s) all found = refl
 with_member-same name d (array ds) all found = refl
 with_member-same name d (object ms) all found = ap object (put-same name d ms all found)
 
-found_is_ordered_at : (o : Ordering) (rest : Option Data) (e d : Data) → (rest ≡ Some d → is_ordered d ≡ true) → is_ordered e ≡ true
-    → match_ordering o rest (Some e) rest ≡ Some d → is_ordered d ≡ true
-found_is_ordered_at Less rest e d later here found = later found
-found_is_ordered_at Equal rest e d later here found = let same : e ≡ d = cc in ap is_ordered (sym same) ∙ here
-found_is_ordered_at Greater rest e d later here found = later found
-
 is_ordered-get_member : (name : List ℕ) (ms : Members) (d : Data) → members_are_ordered ms ≡ true → get_member name ms ≡ Some d → is_ordered d ≡ true
 is_ordered-get_member name no_members d all found = absurd (let none : None ≡ Some d = found in cc)
 is_ordered-get_member name (member l e ms) d all found =
     let parts = both (precedes l ms && is_ordered e) (members_are_ordered ms) all in
     let first = both (precedes l ms) (is_ordered e) parts.0 in
-    found_is_ordered_at (slice_cmp nat_cmp name l) (get_member name ms) e d (is_ordered-get_member name ms d parts.1) first.1 found
+    chosen (λ x. is_ordered x ≡ true) (slice_cmp nat_cmp name l) (get_member name ms) e d (is_ordered-get_member name ms d parts.1) first.1 found
 
 pub is_ordered-get : (name : List ℕ) (d e : Data) → is_ordered d ≡ true → get name d ≡ Some e → is_ordered e ≡ true
-is_ordered-get name null e all found = absurd (let none : None ≡ Some e = found in cc)
-is_ordered-get name (boolean b) e all found = absurd (let none : None ≡ Some e = found in cc)
-is_ordered-get name (number n) e all found = absurd (let none : None ≡ Some e = found in cc)
-is_ordered-get name (string s) e all found = absurd (let none : None ≡ Some e = found in cc)
-is_ordered-get name (array ds) e all found = absurd (let none : None ≡ Some e = found in cc)
-is_ordered-get name (object ms) e all found = is_ordered-get_member name ms e all found
+is_ordered-get name d e all found =
+    found_inside (is_ordered e ≡ true) name d e found (λ ms same here. is_ordered-get_member name ms e (sym (ap is_ordered same) ∙ all) here)
