@@ -1,5 +1,5 @@
 use Rattle.std.specs.Prelude.{map}
-use Rattle.std.proofs.Common.{refl, sym, ap, ◌∙◌, Err}
+use Rattle.std.proofs.Common.{rules, arith, sym, ap, ◌∙◌, Err}
 use Rattle.base.specs.Whole.{whole}
 use Rattle.base.specs.Base.{not_held}
 use Rattle.base.proofs.Looking.{held_still, goes}
@@ -13,28 +13,17 @@ returns-in_ok-all_of-in-Ok-clause-listed g c objects holds =
     c.in_ok-all_of-in-Ok.ensures ∙ ap (map (whole made)) (c.lying-objects.ensures ∙ ap (not_held held) (c.in-Ok.ensures.found holds.lies.all holds.lies.stocks)) ∙ sym holds.lies.are
 
 pub returns-in_ok-all_of-in-Ok-clause-kept : goal.returns-in_ok-all_of-in-Ok-clause-kept
-returns-in_ok-all_of-in-Ok-clause-kept g c objects holds =
-    held_still g.M.FromDocument.made g.M.FromDocument.held c.args.self.now _ c.list_all.new.device c.list_all.new.shelf objects refl refl refl refl c.list_all.ensures.kept holds
+returns-in_ok-all_of-in-Ok-clause-kept g c = grind (arith, held_still)
 
 pub returns-in_ok-all_of-in-Ok-clause-goes : goal.returns-in_ok-all_of-in-Ok-clause-goes
-returns-in_ok-all_of-in-Ok-clause-goes g c =
-    goes c.args.self.now _ c.list_all.new.device c.list_all.new.shelf refl refl refl refl refl c.list_all.ensures.root c.list_all.ensures.entries c.list_all.ensures.ran
+returns-in_ok-all_of-in-Ok-clause-goes g c = search (rules, goes)
 
-pub returns-in_err-all_of-in-Ok-clause-kept : goal.returns-in_err-all_of-in-Ok-clause-kept
-returns-in_err-all_of-in-Ok-clause-kept g c objects holds =
-    held_still g.M.FromDocument.made g.M.FromDocument.held c.args.self.now _ c.list_all.new.device c.list_all.new.shelf objects refl refl refl refl c.list_all.ensures.kept holds
-
-pub returns-in_err-all_of-in-Ok-clause-goes : goal.returns-in_err-all_of-in-Ok-clause-goes
-returns-in_err-all_of-in-Ok-clause-goes g c =
-    goes c.args.self.now _ c.list_all.new.device c.list_all.new.shelf refl refl refl refl refl c.list_all.ensures.root c.list_all.ensures.entries c.list_all.ensures.ran
+pub returns-in_err-all_of-in-Ok : goal.returns-in_err-all_of-in-Ok
+returns-in_err-all_of-in-Ok g c = search (rules, held_still, goes)
 
 pub returns-in-Err-clause-kept : goal.returns-in-Err-clause-kept
 returns-in-Err-clause-kept g c objects holds =
-    held_still g.M.FromDocument.made g.M.FromDocument.held c.args.self.now c.told.new.self c.list_all.new.device c.list_all.new.shelf objects c.told.ensures.making
-    (c.told.ensures.whole (λ damaged. c.in-Err.ensures.damaged holds.lies.all holds.lies.stocks (λ i. Err (damaged i)))) c.told.ensures.device c.told.ensures.shelf
-    c.list_all.ensures.kept holds
+    let undamaged = c.told.ensures.whole (λ damaged. c.in-Err.ensures.damaged holds.lies.all holds.lies.stocks (λ i. Err (damaged i))) in search (rules, held_still)
 
 pub returns-in-Err-clause-goes : goal.returns-in-Err-clause-goes
-returns-in-Err-clause-goes g c =
-    goes c.args.self.now c.told.new.self c.list_all.new.device c.list_all.new.shelf c.told.ensures.same_device c.told.ensures.same_shelf c.told.ensures.making
-    c.told.ensures.device c.told.ensures.shelf c.list_all.ensures.root c.list_all.ensures.entries c.list_all.ensures.ran
+returns-in-Err-clause-goes g c = search (rules, goes)

@@ -1,5 +1,5 @@
 use Rattle.std.specs.Prelude.{◌≡◌, true, false}
-use Rattle.std.proofs.Common.{refl, sym, ap, ◌∙◌, Err, option_map}
+use Rattle.std.proofs.Common.{rules, arith, sym, ap, ◌∙◌, Err, option_map}
 use Rattle.objects.specs.Objects.{value_at}
 use Rattle.holdings.specs.Sources.{found_in}
 use Rattle.base.specs.Whole.{found_of}
@@ -29,20 +29,14 @@ returns-in-Ok-clause-found g c objects holds =
     ∙ ap (λ os. option_map found_in (value_at key os)) (sym holds.lies.are)
 
 pub returns-in-Ok-clause-kept : goal.returns-in-Ok-clause-kept
-returns-in-Ok-clause-kept g c objects holds =
-    held_still g.M.FromDocument.made g.M.FromDocument.held c.args.self.now _ c.find.new.device c.find.new.shelf objects refl refl refl refl c.find.ensures.kept holds
+returns-in-Ok-clause-kept g c = grind (arith, held_still)
 
 pub returns-in-Ok-clause-goes : goal.returns-in-Ok-clause-goes
-returns-in-Ok-clause-goes g c =
-    goes c.args.self.now _ c.find.new.device c.find.new.shelf refl refl refl refl refl c.find.ensures.root c.find.ensures.entries c.find.ensures.ran
+returns-in-Ok-clause-goes g c = search (rules, goes)
 
 pub returns-in-Err-clause-kept : goal.returns-in-Err-clause-kept
 returns-in-Err-clause-kept g c objects holds =
-    held_still g.M.FromDocument.made g.M.FromDocument.held c.args.self.now c.told.new.self c.find.new.device c.find.new.shelf objects c.told.ensures.making
-    (c.told.ensures.whole (λ damaged. c.in-Err.ensures.damaged holds.lies.all holds.lies.stocks (λ i. Err (damaged i)))) c.told.ensures.device c.told.ensures.shelf
-    c.find.ensures.kept holds
+    let undamaged = c.told.ensures.whole (λ damaged. c.in-Err.ensures.damaged holds.lies.all holds.lies.stocks (λ i. Err (damaged i))) in search (rules, held_still)
 
 pub returns-in-Err-clause-goes : goal.returns-in-Err-clause-goes
-returns-in-Err-clause-goes g c =
-    goes c.args.self.now c.told.new.self c.find.new.device c.find.new.shelf c.told.ensures.same_device c.told.ensures.same_shelf c.told.ensures.making
-    c.told.ensures.device c.told.ensures.shelf c.find.ensures.root c.find.ensures.entries c.find.ensures.ran
+returns-in-Err-clause-goes g c = search (rules, goes)
