@@ -1,7 +1,10 @@
-use Rattle.std.specs.Prelude.{◌≡◌, true, false, map}
+use Rattle.std.specs.Prelude.{◌≡◌, true, false, List, map}
 use Rattle.std.proofs.Common.{rules, arith, sym, ap, ◌∙◌, Err, option_map}
 use Rattle.std.specs.List.{filter}
+use Rattle.names.specs.Key.{Key}
 use Rattle.objects.specs.Objects.{is_of}
+use Rattle.history.specs.declared.stored.Stored.{Stored}
+use Rattle.base.specs.Base.{HoldsBase}
 use Rattle.base.specs.Whole.{whole}
 use Rattle.base.proofs.Objects.{listed_lying, none_listed}
 use Rattle.base.proofs.Looking.{held_still, goes}
@@ -16,28 +19,25 @@ returns-then-is_held-clause-listed g c objects holds =
     ∙ sym (ap (filter (λ o. is_of c.args.resource namespace o.0)) holds.lies.are
     ∙ none_listed (g.M.FromDocument.made making) (g.M.FromDocument.held making) c.args.resource namespace holds.lies.all hidden)
 
-pub returns-in_ok-all_of-in-Ok-clause-listed : goal.returns-in_ok-all_of-in-Ok-clause-listed
-returns-in_ok-all_of-in-Ok-clause-listed g c objects holds =
+pub returns-in_ok-all_of-in-Ok : goal.returns-in_ok-all_of-in-Ok
+returns-in_ok-all_of-in-Ok g c =
     let making = c.args.self.now.making in
     let namespace = option_map (λ text. text.now) c.args.namespace in
-    let made = g.M.FromDocument.made making in
     let shown : g.M.FromDocument.held making c.args.resource ≡ false = sym c.is_held.ensures ∙ c.if-is_held.false in
-    c.in_ok-all_of-in-Ok.ensures ∙ ap (map (whole made)) (c.in-Ok.ensures.found holds.lies.all holds.lies.stocks)
-    ∙ listed_lying made (g.M.FromDocument.held making) c.args.resource namespace holds.lies.all shown
+    let listed : (objects : List (Key × Stored g.row.P.Denot)) → HoldsBase g.M.FromDocument.made g.M.FromDocument.held c.args.self.now objects
+    → c.in_ok-all_of-in-Ok.field-0.items ≡ filter (λ o. is_of c.args.resource namespace o.0) objects =
+    λ objects holds.
+    c.in_ok-all_of-in-Ok.ensures ∙ ap (map (whole (g.M.FromDocument.made making))) (c.in-Ok.ensures.found holds.lies.all holds.lies.stocks)
+    ∙ listed_lying (g.M.FromDocument.made making) (g.M.FromDocument.held making) c.args.resource namespace holds.lies.all shown
     ∙ ap (filter (λ o. is_of c.args.resource namespace o.0)) (sym holds.lies.are)
-
-pub returns-in_ok-all_of-in-Ok-clause-kept : goal.returns-in_ok-all_of-in-Ok-clause-kept
-returns-in_ok-all_of-in-Ok-clause-kept g c = grind (arith, held_still)
-
-pub returns-in_ok-all_of-in-Ok-clause-goes : goal.returns-in_ok-all_of-in-Ok-clause-goes
-returns-in_ok-all_of-in-Ok-clause-goes g c = search (rules, goes)
+    in
+    record { listed = listed; kept = grind (arith, held_still); goes = search (rules, goes); counts = search rules; device = grind arith; damaged = grind arith }
 
 pub returns-in_err-all_of-in-Ok : goal.returns-in_err-all_of-in-Ok
 returns-in_err-all_of-in-Ok g c = search (rules, held_still, goes)
 
 pub returns-in-Err-clause-kept : goal.returns-in-Err-clause-kept
-returns-in-Err-clause-kept g c objects holds =
-    let undamaged = c.told.ensures.whole (λ damaged. c.in-Err.ensures.damaged holds.lies.all holds.lies.stocks (λ i. Err (damaged i))) in search (rules, held_still)
+returns-in-Err-clause-kept g c objects holds = let undamaged = c.told.ensures.whole (λ damaged. c.in-Err.ensures.damaged holds.lies.all holds.lies.stocks (λ i. Err (damaged i))) in search (rules, held_still)
 
 pub returns-in-Err-clause-goes : goal.returns-in-Err-clause-goes
 returns-in-Err-clause-goes g c = search (rules, goes)
