@@ -4,3 +4,4 @@ pub mod Size
 pub mod Nesting
 pub mod Digits
 pub mod Calls
+pub mod Variables
