@@ -1,5 +1,5 @@
 -- Lists and maps inside a value, and as such.
-use Rattle.std.proofs.Common.{◌≡◌, ◌≢◌, suc, Bool, true, false, ◌&&◌, Option, Some, None, is_some, option_map, List, [], ◌∷◌, length, ◌<◌, refl, ap, arith}
+use Rattle.std.proofs.Common.{◌≡◌, ◌≢◌, suc, Bool, true, false, ◌&&◌, Option, Some, None, is_some, option_map, List, [], ◌∷◌, length, refl, ap}
 use Rattle.celmean.specs.Value.{Value, sequence, items, mapping, entries}
 use Rattle.celmean.specs.Equality.{same, all_same, entries_same}
 
@@ -33,8 +33,3 @@ entries_same-lengths [] [] unlike = absurd (unlike refl)
 entries_same-lengths [] (f ∷ fs) unlike = refl
 entries_same-lengths (e ∷ es) [] unlike = refl
 entries_same-lengths (e ∷ es) (f ∷ fs) unlike = rw (entries_same-lengths es fs (λ p. unlike (ap suc p))) (and_false (same e.0 f.0 && same e.1 f.1))
-
--- not empty behind the first
-pub two_at_least : {A : Type 0} (os : List A) (a : A) (rest : List A) → os ≡ a ∷ rest → 0 < length rest → (x : A) × (y : A) × (more : List A) × (os ≡ x ∷ y ∷ more)
-two_at_least os a [] e some = absurd (omega arith)
-two_at_least os a (b ∷ rest) e some = (a, b, rest, e)

@@ -9,4 +9,3 @@ pub mod Operators
 pub mod Functions
 pub mod Meaning
 pub mod Seen
-pub mod Arguments

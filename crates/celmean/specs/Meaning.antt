@@ -1,7 +1,8 @@
 -- What a tree means in an environment (CEL language definition, "Evaluation").
-use Rattle.std.specs.Prelude.{ℕ, Bool, false, if◌then◌else◌, List, [], ◌∷◌, codes, bytes_eq}
+use Rattle.std.specs.Prelude.{ℕ, if◌then◌else◌, List, [], ◌∷◌, bytes_eq}
 use Rattle.celtree.specs.Tree as tree
 use Rattle.celtree.specs.Tree.{Expr, Exprs, no_items, item, Pairs, no_pairs, pair}
+use Rattle.celtree.specs.Variables.{is_variables}
 use Rattle.celmean.specs.Value.{Value, Null, Truth, Int, Uint, Text, Outcome, Gives, Error, with_value, with_values}
 use Rattle.celmean.specs.Collections.{indexed, member, has_member, list_of, map_of}
 use Rattle.celmean.specs.Macros.{is_true, is_false, range_of, over_items}
@@ -21,10 +22,6 @@ bound x (b ∷ bs) = if bytes_eq x b.0 then b.1 else bound x bs
 -- with the variable of a macro bound to an item
 abbrev pub bind : List ℕ → Value → Environment → Environment
 bind x v env = record { names = (x, Gives v) ∷ env.names; variables = env.variables }
-
-abbrev pub is_variables : Expr → Bool
-is_variables (tree.Name x) = bytes_eq x (codes "variables")
-is_variables _ = false
 
 -- `e.f`, where `variables.f` stands for a variable
 abbrev pub field : Expr → Outcome → List ℕ → Environment → Outcome

@@ -3,7 +3,6 @@
 ghost use Rattle.std.specs.Prelude.{◌≡◌, ◌∷◌, [], pos, IfOk};
 ghost use Rattle.celmean.specs.Value.{Int, Gives, with_value};
 ghost use Rattle.celmean.specs.Arithmetic.{signed};
-ghost use Rattle.celmean.specs.Arguments.{AreArguments};
 ghost use Rattle.celmean.specs.Functions.{size, to_int, to_uint, to_string, function, called, text_test, test_values, size_method, method_called};
 ghost use Rattle.celmean.specs.Seen.{value_of, outcome_of, outcomes_seen};
 
@@ -105,28 +104,6 @@ fn function(alloc: Global, name: &str, argument: &Value) -> Result<Outcome, Allo
     }
 }
 
-// The arguments of a call, as far as functions take them.
-enum Arguments<'a> {
-    None,
-    One(&'a Outcome),
-    More,
-}
-
-fn arguments_of(arguments: &Vec<Outcome>) -> Arguments<'_>
-    ensures { AreArguments arguments.now.items result }
-{
-    match arguments.as_slice().split_first() {
-        Some((first, rest)) => {
-            if rest.is_empty() {
-                Arguments::One(first)
-            } else {
-                Arguments::More
-            }
-        }
-        None => Arguments::None,
-    }
-}
-
 fn on_argument(alloc: Global, name: &str, argument: &Outcome) -> Result<Outcome, AllocError>
     ensures { IfOk result (λ o. outcome_of o ≡ with_value (function name.now) (outcome_of argument.now)) }
 {
@@ -144,9 +121,9 @@ fn on_argument(alloc: Global, name: &str, argument: &Outcome) -> Result<Outcome,
 pub fn called(alloc: Global, name: &str, arguments: &Vec<Outcome>) -> Result<Outcome, AllocError>
     ensures { IfOk result (λ o. outcome_of o ≡ called name.now (outcomes_seen arguments.now.items)) }
 {
-    match arguments_of(arguments) {
-        Arguments::One(argument) => on_argument(alloc, name, argument),
-        Arguments::None | Arguments::More => Ok(Outcome::Error),
+    match arguments.as_slice() {
+        [argument] => on_argument(alloc, name, argument),
+        _ => Ok(Outcome::Error),
     }
 }
 
@@ -203,10 +180,10 @@ pub fn method_called(name: &str, of: &Outcome, arguments: &Vec<Outcome>) -> Outc
     ensures { outcome_of result ≡ method_called name.now (outcome_of of.now) (outcomes_seen arguments.now.items) }
 {
     match of {
-        Outcome::Gives(value) => match arguments_of(arguments) {
-            Arguments::None => size_method(name, value),
-            Arguments::One(argument) => method_on_argument(name, value, argument),
-            Arguments::More => Outcome::Error,
+        Outcome::Gives(value) => match arguments.as_slice() {
+            [] => size_method(name, value),
+            [argument] => method_on_argument(name, value, argument),
+            _ => Outcome::Error,
         },
         Outcome::Error => Outcome::Error,
     }

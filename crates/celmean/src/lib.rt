@@ -17,6 +17,6 @@ mod value;
 
 pub use collections::{has_member_of, index_of, list_of, map_of, member_of};
 pub use functions::{called, method_called};
-pub use macros::{both, either, is_false, is_true, list_items, range_of, reduced};
+pub use macros::{LONGEST_RANGE, both, either, is_false, is_true, list_items, range_of, reduced};
 pub use operators::{infixed, prefixed};
 pub use value::{Outcome, Value};

@@ -10,6 +10,9 @@ use crate::value::{Outcome, Value, copy_items};
 use celtree::Macro;
 use std::alloc::{AllocError, Global};
 
+/// The most items that a macro goes over.
+pub const LONGEST_RANGE: usize = 1024;
+
 /// Whether the outcome is true.
 pub fn is_true(outcome: &Outcome) -> bool
     ensures { result ≡ is_true (outcome_of outcome.now) }
