@@ -1,4 +1,3 @@
-pub mod Lists
 pub mod Steps
 pub mod Relations
 pub mod Complete

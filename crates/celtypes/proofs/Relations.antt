@@ -73,9 +73,13 @@ element_of (t ∷ ts) = element_by (all_are t ts) t ts refl
 
 -- What fits a row.
 
+-- a test that a type and `dyn` pass is passed by what fits the type
+fits_is : {t s : ValueType} (test : ValueType → Bool) → test s ≡ true → test dyn ≡ true → Fits t s → test t ≡ true
+fits_is test own any itself = own
+fits_is test own any dynamic = any
+
 pub bool_is : {t : ValueType} → Fits t bool → fits_bool t ≡ true
-bool_is itself = refl
-bool_is dynamic = refl
+bool_is = fits_is fits_bool refl refl
 
 pub bool_of : (t : ValueType) → fits_bool t ≡ true → Fits t bool
 bool_of bool e = itself
@@ -83,8 +87,7 @@ bool_of dyn e = dynamic
 bool_of t e = absurd (false≢true e)
 
 pub int_is : {t : ValueType} → Fits t int → fits_int t ≡ true
-int_is itself = refl
-int_is dynamic = refl
+int_is = fits_is fits_int refl refl
 
 pub int_of : (t : ValueType) → fits_int t ≡ true → Fits t int
 int_of int e = itself
@@ -97,8 +100,7 @@ uint_of dyn e = dynamic
 uint_of t e = absurd (false≢true e)
 
 pub string_is : {t : ValueType} → Fits t string → fits_string t ≡ true
-string_is itself = refl
-string_is dynamic = refl
+string_is = fits_is fits_string refl refl
 
 pub string_of : (t : ValueType) → fits_string t ≡ true → Fits t string
 string_of string e = itself
@@ -112,10 +114,8 @@ number_of dyn e = (int, dynamic, signed)
 number_of t e = absurd (false≢true e)
 
 pub convertible_is : {t s : ValueType} → Fits t s → IsConvertible s → fits_convertible t ≡ true
-convertible_is dynamic s = refl
-convertible_is itself from_int = refl
-convertible_is itself from_uint = refl
-convertible_is itself from_string = refl
+convertible_is fits from_int = fits_is fits_convertible refl refl fits
+convertible_is fits s = fits_is fits_convertible refl refl fits
 
 pub convertible_of : (t : ValueType) → fits_convertible t ≡ true → (s : ValueType) × Fits t s × IsConvertible s
 convertible_of int e = (int, itself, from_int)
@@ -125,10 +125,8 @@ convertible_of dyn e = (int, dynamic, from_int)
 convertible_of t e = absurd (false≢true e)
 
 pub sized_is : {t s : ValueType} → Fits t s → IsSized s → fits_sized t ≡ true
-sized_is dynamic s = refl
-sized_is itself string_size = refl
-sized_is itself list_size = refl
-sized_is itself map_size = refl
+sized_is fits string_size = fits_is fits_sized refl refl fits
+sized_is fits s = fits_is fits_sized refl refl fits
 
 pub sized_of : (t : ValueType) → fits_sized t ≡ true → (s : ValueType) × Fits t s × IsSized s
 sized_of string e = (string, itself, string_size)
@@ -138,11 +136,8 @@ sized_of dyn e = (string, dynamic, string_size)
 sized_of t e = absurd (false≢true e)
 
 key_is : {t k : ValueType} → Fits t k → IsKey k → fits_key t ≡ true
-key_is dynamic k = refl
-key_is itself int_key = refl
-key_is itself uint_key = refl
-key_is itself bool_key = refl
-key_is itself string_key = refl
+key_is fits int_key = fits_is fits_key refl refl fits
+key_is fits k = fits_is fits_key refl refl fits
 
 key_of : (t : ValueType) → fits_key t ≡ true → (k : ValueType) × Fits t k × IsKey k
 key_of int e = (int, itself, int_key)

@@ -10,9 +10,10 @@ use Rattle.celtree.specs.declared.tree.Operator.TheVariants as operator_of
 use Rattle.celtree.specs.declared.tree.Macro.{Macro}
 use Rattle.celtree.specs.declared.tree.Macro.TheVariants as macro_of
 use Rattle.celtree.specs.Tree.{Expr, Null, Truth, Int, Uint, Text, Name, Field, Has, Index, Sequence, Mapping, Unary, Infix, Conditional, Call, Method, Over, Exprs, no_items, item, Pairs, no_pairs, pair}
+use Rattle.celtree.specs.Variables.{is_variables}
 use Rattle.celtypes.specs.Types.{ValueType, int, uint, bool, string, null, dyn, list, map}
 use Rattle.celtypes.specs.Tables.{subtraction, multiplication, division, remainder, conjunction, disjunction, equal, not_equal, IsComparison, less, less_or_equal, greater, greater_or_equal, IsConnective, IsTest, all_items, some_item, one_item, ItemOf}
-use Rattle.celtypes.specs.Typing.{Scope, bound, bind, is_declared, is_variables, HasType, HaveTypes, HaveKeyTypes, HaveValueTypes, null_literal, bool_literal, int_literal, uint_literal, string_literal, macro_variable, declared_name, variable, field, presence, index, sequence, mapping, denial, negation, sum, arithmetic, connective, equality, comparison, membership, conditional, call, size_method, text_test, test_macro, map_macro, filter_macro, no_types, types, no_key_types, key_types, no_value_types, value_types}
+use Rattle.celtypes.specs.Typing.{Scope, bound, bind, is_declared, HasType, HaveTypes, HaveKeyTypes, HaveValueTypes, null_literal, bool_literal, int_literal, uint_literal, string_literal, macro_variable, declared_name, variable, field, presence, index, sequence, mapping, denial, negation, sum, arithmetic, connective, equality, comparison, membership, conditional, call, size_method, text_test, test_macro, map_macro, filter_macro, no_types, types, no_key_types, key_types, no_value_types, value_types}
 use Rattle.celtypes.specs.Computed.{type_of, types_of, key_types_of, value_types_of, element, common, given, fits_bool, fits_int, fits_string, fits_sized, are_keys, compares, has_items, local_or, field_type, presence_type, index_type, prefix_type, infix_type, conditional_type, mapping_type, call_type, method_type, is_text_test, item_type, range_type, macro_type}
 use Rattle.celtypes.proofs.Steps.{map_some, both_some, if_some, named}
 use Rattle.celtypes.proofs.Relations.{given_some, common_of, element_of, bool_of, int_of, string_of, sized_of, are_keys_of, sum_of, calculates_of, compares_of, item_of, has_items_of, index_of, field_of, call_of, text_test_of}

@@ -7,8 +7,9 @@ use Rattle.celtree.specs.declared.tree.Operator.TheVariants as operator_of
 use Rattle.celtree.specs.declared.tree.Macro.{Macro}
 use Rattle.celtree.specs.declared.tree.Macro.TheVariants as macro_of
 use Rattle.celtree.specs.Tree.{Expr, Null, Truth, Int, Uint, Text, Name, Field, Has, Index, Sequence, Mapping, Unary, Infix, Conditional, Call, Method, Over, Exprs, no_items, item, Pairs, no_pairs, pair}
+use Rattle.celtree.specs.Variables.{is_variables}
 use Rattle.celtypes.specs.Types.{ValueType, int, uint, bool, string, null, dyn, list, map}
-use Rattle.celtypes.specs.Typing.{Scope, bound, bind, is_declared, is_variables}
+use Rattle.celtypes.specs.Typing.{Scope, bound, bind, is_declared}
 
 -- whether two types are the same
 abbrev pub same : ValueType → ValueType → Bool

@@ -3,4 +3,3 @@ pub mod Tables
 pub mod Typing
 pub mod Computed
 pub mod Seen
-pub mod Arguments

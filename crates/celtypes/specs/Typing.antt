@@ -6,6 +6,7 @@ use Rattle.celtree.specs.declared.tree.Operator.TheVariants as operator_of
 use Rattle.celtree.specs.declared.tree.Macro.{Macro}
 use Rattle.celtree.specs.declared.tree.Macro.TheVariants as macro_of
 use Rattle.celtree.specs.Tree.{Expr, Null, Truth, Int, Uint, Text, Name, Field, Has, Index, Sequence, Mapping, Unary, Infix, Conditional, Call, Method, Over, Exprs, no_items, item, Pairs, no_pairs, pair}
+use Rattle.celtree.specs.Variables.{is_variables}
 use Rattle.celtypes.specs.Types.{ValueType, int, uint, bool, string, null, dyn, list, map}
 use Rattle.celtypes.specs.Tables.{Fits, Common, Element, AreKeys, Sums, IsArithmetic, Calculates, IsConnective, IsEquality, IsComparison, Comparable, ItemOf, IndexOf, FieldOf, IsSized, Calls, IsTextTest, IsTest}
 
@@ -27,11 +28,6 @@ bind x t g = record { locals = (x, t) ∷ g.locals; has_params = g.has_params; v
 -- `object`, `oldObject`, `request`, and `params` where it is declared
 abbrev pub is_declared : Bool → List ℕ → Bool
 is_declared p x = bytes_eq x (codes "object") || (bytes_eq x (codes "oldObject") || (bytes_eq x (codes "request") || (p && bytes_eq x (codes "params"))))
-
--- the name behind which a policy's variables stand
-abbrev pub is_variables : Expr → Bool
-is_variables (Name x) = bytes_eq x (codes "variables")
-is_variables _ = false
 
 mutual
   -- under the scope the expression has the type

@@ -1,7 +1,6 @@
 //! Calls, macros and literals of lists and maps.
 
 ghost use Rattle.std.specs.Prelude.{◌≡◌, option_map, IfOk};
-ghost use Rattle.celtypes.specs.Arguments.{AreArguments};
 ghost use Rattle.celtypes.specs.Computed.{given, function_type, call_type, is_text_test, size_method_type, text_test_type, method_type, macro_type, mapping_type};
 ghost use Rattle.celtypes.specs.Seen.{type_seen, types_seen};
 ghost use Rattle.celtypes.specs.Types.{int, uint, string};
@@ -30,35 +29,13 @@ fn function_type(name: &str, of: &CelType) -> Option<CelType>
     }
 }
 
-// The arguments of a call, as far as functions take them.
-enum Arguments<'a> {
-    None,
-    One(&'a CelType),
-    More,
-}
-
-fn arguments_of(arguments: &Vec<CelType>) -> Arguments<'_>
-    ensures { AreArguments arguments.now.items result }
-{
-    match arguments.as_slice().split_first() {
-        Some((first, rest)) => {
-            if rest.is_empty() {
-                Arguments::One(first)
-            } else {
-                Arguments::More
-            }
-        }
-        None => Arguments::None,
-    }
-}
-
 /// `f(e)`: no function takes any other number of arguments.
 pub(crate) fn call_type(name: &str, arguments: &Vec<CelType>) -> Option<CelType>
     ensures { option_map type_seen result ≡ call_type name.now (types_seen arguments.now.items) }
 {
-    match arguments_of(arguments) {
-        Arguments::One(argument) => function_type(name, argument),
-        Arguments::None | Arguments::More => None,
+    match arguments.as_slice() {
+        [argument] => function_type(name, argument),
+        _ => None,
     }
 }
 
@@ -84,10 +61,10 @@ fn text_test_type(name: &str, of: &CelType, argument: &CelType) -> Option<CelTyp
 pub(crate) fn method_type(name: &str, of: &CelType, arguments: &Vec<CelType>) -> Option<CelType>
     ensures { option_map type_seen result ≡ method_type name.now (type_seen of.now) (types_seen arguments.now.items) }
 {
-    match arguments_of(arguments) {
-        Arguments::None => size_method_type(name, of),
-        Arguments::One(argument) => text_test_type(name, of, argument),
-        Arguments::More => None,
+    match arguments.as_slice() {
+        [] => size_method_type(name, of),
+        [argument] => text_test_type(name, of, argument),
+        _ => None,
     }
 }
 

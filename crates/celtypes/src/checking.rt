@@ -6,7 +6,7 @@ ghost use Rattle.celtree.specs.View.{view, views, pair_views};
 ghost use Rattle.celtypes.specs.declared.fault.TypeFault.TheVariants as fault;
 ghost use Rattle.celtypes.specs.Computed.{presence_type, infix_type, type_of, types_of, key_types_of, value_types_of};
 ghost use Rattle.celtypes.specs.Seen.{type_seen, types_seen, scope_seen, declared};
-ghost use Rattle.celtypes.specs.Typing.{HasType, HasNoType, bind, is_variables};
+ghost use Rattle.celtypes.specs.Typing.{HasType, HasNoType, bind};
 
 use crate::calls::call_type;
 use crate::fault::TypeFault;
@@ -16,21 +16,8 @@ use crate::operands::{
 use crate::rows::{field_type, prefix_type, presence_type};
 use crate::scope::{Env, Local, Scope, bind, name_type, variable_type};
 use crate::types::{CelType, element, list_of};
-use celtree::{Operator, Prefix, Tree};
+use celtree::{Operator, Prefix, Tree, is_variables};
 use std::alloc::{AllocError, Global};
-
-fn is_variables(tree: &Tree) -> bool
-    ensures { result ≡ is_variables (view tree.now) }
-{
-    match tree {
-        Tree::Name(name) => name.as_str() == "variables",
-        Tree::Null | Tree::Bool(_) | Tree::Int(_) | Tree::Uint(_) | Tree::Text(_) => false,
-        Tree::Field(_, _) | Tree::Has(_, _) | Tree::Index(_, _) => false,
-        Tree::List(_) | Tree::Map(_) | Tree::Unary(_, _) | Tree::Infix(_, _, _) => false,
-        Tree::Conditional(_, _, _) | Tree::Call(_, _) | Tree::Method(_, _, _) => false,
-        Tree::Macro(_, _, _, _) => false,
-    }
-}
 
 // The type of the tree, or none. Apart from `typed_variant`, so that a long sum or a long chain of prefix operators or fields takes
 // little stack.
