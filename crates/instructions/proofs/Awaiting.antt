@@ -4,6 +4,7 @@ use Rattle.std.specs.Prelude.{slice_get}
 use Rattle.std.specs.List.{filter}
 use Rattle.std.proofs.lemmas.Bool.{eqb-true}
 use Rattle.std.proofs.lemmas.Bool.Decides.{nat_tests}
+use Rattle.std.proofs.lemmas.List.{length-map}
 use Rattle.std.proofs.lemmas.Option.{slice_get_within}
 use Rattle.instructions.specs.Op.{Op, Over}
 use Rattle.instructions.specs.Judging.{Arrival, Body, height_at, comes_to, arrivals, left, has_one, is_one, goes_on, opens}
@@ -64,6 +65,29 @@ innermost code at c b [] n lt same own = own
 innermost code at c b (o ∷ os) n lt same (inl own) = own
 innermost code at c b (o ∷ os) n lt same (inr m) = let e : b.end ≤ c.place = awaits_low code at b.end c o os n.1 m in absurd (omega arith)
 
+-- ---- in how many bodies
+
+-- control that its own body awaits lies in as many bodies as that body does
+pub own_depth : (c : Control) (b : Body) (os : List Body) → Own c b os → length c.outer ≡ length os
+own_depth c b os own = ap (λ (o : List ℕ). length o) (sym own.is.outer_is) ∙ length-map os (λ (x : Body). x.end)
+
+-- what is awaited lies in no more bodies than the innermost
+pub awaits_depth : (c : Control) (b : Body) (os : List Body) → Awaits c b os → length c.outer ≤ length os
+awaits_depth c b [] own = omega (arith, own_depth c b [] own)
+awaits_depth c b (o ∷ os) (inl own) = omega (arith, own_depth c b (o ∷ os) own)
+awaits_depth c b (o ∷ os) (inr m) = let le : length c.outer ≤ length os = awaits_depth c o os m in omega arith
+
+-- what lies as deep as the innermost body is awaited in it
+pub own_here : (c : Control) (b : Body) (os : List Body) → length c.outer ≡ length os → Awaits c b os → Own c b os
+own_here c b [] same own = own
+own_here c b (o ∷ os) same (inl own) = own
+own_here c b (o ∷ os) same (inr m) = let le : length c.outer ≤ length os = awaits_depth c o os m in absurd (omega arith)
+
+-- what lies less deep than the innermost body is awaited in those around it
+pub awaits_outside : (c : Control) (b o : Body) (os : List Body) → length c.outer ≤ length os → Awaits c b (o ∷ os) → Awaits c o os
+awaits_outside c b o os le (inl own) = absurd (omega (arith, own_depth c b (o ∷ os) own))
+awaits_outside c b o os le (inr m) = m
+
 -- ---- leaving bodies
 
 leave_other : (at : ℕ) (c : Control) → at < c.end → (b o : Body) (os : List Body) → b.end ≡ at → has_one at b ≡ true → Awaits c b (o ∷ os) → Awaits c o os
@@ -97,7 +121,8 @@ open_opens : (op : Op) (at : ℕ) (c : Control) (b : Body) (os : List Body) → 
 open_opens (Over m end) at c b os w = inr w
 open_opens op at c b os w = w
 
-own_awaits : (c : Control) (b : Body) (os : List Body) → Own c b os → Awaits c b os
+-- what its own body awaits is awaited
+pub own_awaits : (c : Control) (b : Body) (os : List Body) → Own c b os → Awaits c b os
 own_awaits c b [] own = own
 own_awaits c b (o ∷ os) own = inl own
 

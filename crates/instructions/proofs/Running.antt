@@ -12,7 +12,7 @@ use Rattle.instructions.specs.WellFormed.{Among, Control, within, begins_body, n
 use Rattle.instructions.proofs.Arrivals.{among_either, among_map}
 use Rattle.instructions.proofs.Nested.{Nested, left_by, left_stays, left_nested, before_end, Steps, steps, leads}
 use Rattle.instructions.proofs.Stepping.{ends_of, arrival_of, nested_step, Real, RealIn, real_step, left_real, inner_real}
-use Rattle.instructions.proofs.Awaiting.{Is, Own, Awaits, stays_awaited, leads_on}
+use Rattle.instructions.proofs.Awaiting.{Is, Awaits, own_here, awaits_outside, stays_awaited, leads_on}
 use Rattle.instructions.proofs.Reaching.{at_op, states, start_fine, start_real}
 use Rattle.instructions.proofs.Converse.{agreed}
 
@@ -157,23 +157,6 @@ Each n b (o ∷ os) = (b.end ≡ n → has_one n b ≡ true) × Each n o os
 abbrev pub Waits : ℕ → List Op → Body → List Body → Type 0
 Waits n code b os = (d : Control) → Comes code d → d.place ≡ n → length d.outer ≤ length os → Awaits d b os
 
-own_depth : (d : Control) (b : Body) (os : List Body) → Own d b os → length d.outer ≡ length os
-own_depth d b os own = ap (λ (o : List ℕ). length o) (sym own.is.outer_is) ∙ length-map os (λ (x : Body). x.end)
-
-awaits_depth : (d : Control) (b : Body) (os : List Body) → Awaits d b os → length d.outer ≤ length os
-awaits_depth d b [] own = omega (arith, own_depth d b [] own)
-awaits_depth d b (o ∷ os) (inl own) = omega (arith, own_depth d b (o ∷ os) own)
-awaits_depth d b (o ∷ os) (inr m) = let le : length d.outer ≤ length os = awaits_depth d o os m in omega arith
-
-own_here : (d : Control) (b : Body) (os : List Body) → length d.outer ≡ length os → Awaits d b os → Own d b os
-own_here d b [] len own = own
-own_here d b (o ∷ os) len (inl own) = own
-own_here d b (o ∷ os) len (inr m) = let le : length d.outer ≤ length os = awaits_depth d o os m in absurd (omega arith)
-
-strip : (d : Control) (b o : Body) (os : List Body) → length d.outer ≤ length os → Awaits d b (o ∷ os) → Awaits d o os
-strip d b o os len (inl own) = absurd (omega (arith, own_depth d b (o ∷ os) own))
-strip d b o os len (inr m) = m
-
 one_here : (vars : ℕ) (code : List Op) → IsWellFormed vars code → (n : ℕ) (b : Body) (os : List Body) → RealIn code b os → Lived code b os → Waits n code b os → b.end ≡ n → has_one n b ≡ true
 one_here vars code wf n b os real lived waits ends =
     let e = wf.ends lived.control lived.comes in
@@ -187,7 +170,7 @@ pub each_of : (vars : ℕ) (code : List Op) → IsWellFormed vars code → (n : 
 each_of vars code wf n b [] real live waits = one_here vars code wf n b [] real live waits
 each_of vars code wf n b (o ∷ os) real live waits = (
   one_here vars code wf n b (o ∷ os) real.0 live.0 waits,
-  each_of vars code wf n o os real.1 live.1 (λ d comes place len. strip d b o os len (waits d comes place (omega arith))),
+  each_of vars code wf n o os real.1 live.1 (λ d comes place len. awaits_outside d b o os len (waits d comes place (omega arith))),
 )
 
 left_ok_at : (t : Bool) (n : ℕ) (b o : Body) (os : List Body) → (t ≡ true → has_one n b ≡ true) → (z : Body × List Body) × (left n o os ≡ Ok z) → (z : Body × List Body) × (cond t (cond (has_one n b) (left n o os) (Err fault.BadStack)) (Ok (b, o ∷ os)) ≡ Ok z)
