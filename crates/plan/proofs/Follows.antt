@@ -11,14 +11,14 @@ use Rattle.celtree.specs.declared.tree.Macro.{Macro}
 use Rattle.celtree.specs.Tree as expr
 use Rattle.celtree.specs.Tree.{Expr, Exprs, no_items, item, Pairs, no_pairs, pair}
 use Rattle.celtree.specs.Nesting.{nests_within, all_within, pairs_within}
+use Rattle.celtree.specs.Variables.{is_variables}
 use Rattle.celmean.specs.Value.{Value, Null, Truth, Int, Uint, Text, Outcome, Gives, Error, with_value, with_values}
 use Rattle.celmean.specs.Collections.{indexed, member, has_member, list_of, map_of}
 use Rattle.celmean.specs.Macros.{is_true, is_false, both, either, range_of, reduced, over_items}
 use Rattle.celmean.specs.Operators.{prefixed, infixed}
 use Rattle.celmean.specs.Functions.{called, method_called}
 use Rattle.celmean.specs.Meaning as meaning
-use Rattle.celmean.specs.Meaning.{Environment, bound, is_variables, field, chosen, mean, all_means, pair_means}
-use Rattle.celtypes.specs.Typing as typing
+use Rattle.celmean.specs.Meaning.{Environment, bound, field, chosen, mean, all_means, pair_means}
 use Rattle.celtypes.specs.Typing.{Scope}
 use Rattle.instructions.specs.Op.{Op, PushInt, PushUint, PushText, PushTruth, PushNull, PushName, PushVariable, PushSlot, TakeField, TakeHas, TakeIndex, TakeItems, TakePairs, TakeUnary, TakeCall, TakeBoth, TakeEither, IfFalse, IfTrue, Branch, Jump, Over}
 use Rattle.instructions.specs.declared.instruction.Slot.{Slot}
@@ -138,10 +138,6 @@ map_taken : (ms os : List Outcome) (qs : List (Outcome × Outcome)) (n : ℕ) �
 map_taken ms os qs n e f =
     ap (λ l. map_of (in_pairs l) ∷ drop n (reverse ms ++ os)) (taken ms os n e) ∙ (ap (λ l. map_of l ∷ drop n (reverse ms ++ os)) f ∙ ap (λ l. map_of qs ∷ l) (left_over ms os n e))
 
-same_variables : (e : Expr) → typing.is_variables e ≡ is_variables e
-same_variables (expr.Name x) = refl
-same_variables e = refl
-
 -- the operand of a field that is no variable ends before the field's end
 field_end : (b : Bool) (at to stop n : ℕ) → b ≡ false → at + cond b 1 (n + 1) ≡ to → to ≤ stop → at + n ≤ stop
 field_end true at to stop n e end le = absurd (false≢true (sym e))
@@ -213,7 +209,7 @@ module _ (w : World) (code : List Op) where
       let same : w.names n ≡ bound x env.names = sym (m.names n free) ∙ ap (λ y. bound y env.names) (known e) in
       simple_as (PushName n) stop at to items os (w.names n ∷ os) (bound x env.names ∷ os) h end le (λ next. refl) (ap (λ v. v ∷ os) same)
 
-  field_goes : (stop at to : ℕ) (items : List Value) (os : List Outcome) (d : Names) (env : Environment) (e : Expr) (f : List ℕ) (b : Bool) → typing.is_variables e ≡ b
+  field_goes : (stop at to : ℕ) (items : List Value) (os : List Outcome) (d : Names) (env : Environment) (e : Expr) (f : List ℕ) (b : Bool) → is_variables e ≡ b
       → Meets w d env items → HasAt code at (cond b (PushVariable (place_of f d.variables) ∷ []) (compiled e at d ++ TakeField f ∷ [])) → at + cond b 1 (size e + 1) ≡ to → to ≤ stop
       → (b ≡ false → HasAt code at (compiled e at d) → Goes stop items at os (at + size e) (mean e env ∷ os))
       → Goes stop items at os to (cond b (bound f env.variables) (with_value (member f) (mean e env)) ∷ os)
@@ -297,9 +293,8 @@ module _ (w : World) (code : List Op) where
     runs (expr.Text s) at to stop k d env items os known nest deep m h end le = simple (PushText s) stop at to items os (Gives (Text s) ∷ os) h.0 end le (λ next. refl)
     runs (expr.Name x) at to stop k d env items os known nest deep m h end le = name_goes stop at to items os d env x (slot_of x d.locals) refl known m h.0 end le
     runs (expr.Field e f) at to stop k d env items os known nest deep m h end le =
-        subst (λ b. Goes stop items at os to (cond b (bound f env.variables) (with_value (member f) (mean e env)) ∷ os)) (same_variables e)
-        (field_goes stop at to items os d env e f (typing.is_variables e) refl m h end le
-        (λ no_variable has. runs e at (at + size e) stop k d env items os (known no_variable) nest deep m has refl (field_end (typing.is_variables e) at to stop (size e) no_variable end le)))
+        field_goes stop at to items os d env e f (is_variables e) refl m h end le
+        (λ no_variable has. runs e at (at + size e) stop k d env items os (known.1 no_variable) nest deep m has refl (field_end (is_variables e) at to stop (size e) no_variable end le))
     runs (expr.Has e f) at to stop k d env items os known nest deep m h end le =
         on (runs e at (at + size e) stop k d env items os known nest deep m (has_front code at (compiled e at d) (TakeHas f ∷ []) h) refl (omega arith))
         (simple (TakeHas f) stop (at + size e) to items (mean e env ∷ os) (with_value (has_member f) (mean e env) ∷ os) (behind code at e d (TakeHas f ∷ []) h).0 (omega arith) le (λ next. refl))
@@ -356,23 +351,23 @@ module _ (w : World) (code : List Op) where
         (branch.0 ∙ ap (λ n. Some (Branch s n)) end) (jump.0 ∙ ap (λ n. Some (Jump n)) end) refl (omega arith) refl (omega arith) le refl refl
         (runs a r q stop k d env items os known.1 nested.0 deep m (has_front code r (compiled a r d) (Jump target ∷ compiled b s d) branch.1) refl (omega arith))
         (runs b s to stop k d env items os known.2 nested.1 deep m jump.1 (omega arith) le))
-    runs (expr.Call f no_items) at to stop k d env items os known nest deep m h end le = absurd known
+    runs (expr.Call f no_items) at to stop k d env items os known nest deep m h end le = absurd known.0
     runs (expr.Call f (item e no_items)) at to stop k d env items os known nest deep m h end le =
         let es = item e no_items in
         let q = at + size_of_items es in
         let op = TakeCall (function_named f) in
         let nests = and_parts (nests_within e k) true nest in
-        on (runs e at q stop k d env items os known.1 nests.0 deep m (has_front code at (compiled e at d) [] (has_front code at (compiled_items es at d) (op ∷ []) h)) (omega arith) (omega arith))
+        on (runs e at q stop k d env items os known.1.0 nests.0 deep m (has_front code at (compiled e at d) [] (has_front code at (compiled_items es at d) (op ∷ []) h)) (omega arith) (omega arith))
         (simple op stop q to items (mean e env ∷ os) (called f (mean e env ∷ []) ∷ os) (behind_items code at es d (op ∷ []) h).0 (omega arith) le
-        (λ next. ap (λ l. next (q + 1) stop items l) (known.0 (mean e env) os)))
-    runs (expr.Call f (item e (item g es))) at to stop k d env items os known nest deep m h end le = absurd known
+        (λ next. ap (λ l. next (q + 1) stop items l) (known.0.1 (mean e env) os)))
+    runs (expr.Call f (item e (item g es))) at to stop k d env items os known nest deep m h end le = absurd known.0
     runs (expr.Method e f no_items) at to stop k d env items os known nest deep m h end le =
         let p = at + size e in
         let op = TakeCall (method_named f) in
         let nests = and_parts (nests_within e k) true nest in
         on (runs e at p stop k d env items os known.1 nests.0 deep m (has_front code at (compiled e at d) (op ∷ []) h) refl (omega arith))
         (simple op stop p to items (mean e env ∷ os) (method_called f (mean e env) [] ∷ os) (behind code at e d (op ∷ []) h).0 (omega arith) le
-        (λ next. ap (λ l. next (p + 1) stop items l) (known.0 (mean e env) os)))
+        (λ next. ap (λ l. next (p + 1) stop items l) (known.0.1 (mean e env) os)))
     runs (expr.Method e f (item g no_items)) at to stop k d env items os known nest deep m h end le =
         let es = item g no_items in
         let p = at + size e in
@@ -382,10 +377,10 @@ module _ (w : World) (code : List Op) where
         let nested = and_parts (nests_within g k) true nests.1 in
         let second = behind code at e d (compiled_items es p d ++ op ∷ []) h in
         on (runs e at p stop k d env items os known.1 nests.0 deep m (has_front code at (compiled e at d) (compiled_items es p d ++ op ∷ []) h) refl (omega arith))
-        (on (runs g p q stop k d env items (mean e env ∷ os) known.2 nested.0 deep m (has_front code p (compiled g p d) [] (has_front code p (compiled_items es p d) (op ∷ []) second)) (omega arith) (omega arith))
+        (on (runs g p q stop k d env items (mean e env ∷ os) known.2.0 nested.0 deep m (has_front code p (compiled g p d) [] (has_front code p (compiled_items es p d) (op ∷ []) second)) (omega arith) (omega arith))
         (simple op stop q to items (mean g env ∷ mean e env ∷ os) (method_called f (mean e env) (mean g env ∷ []) ∷ os) (behind_items code p es d (op ∷ []) second).0 (omega arith) le
-        (λ next. ap (λ l. next (q + 1) stop items l) (known.0 (mean e env) (mean g env) os))))
-    runs (expr.Method e f (item g (item i es))) at to stop k d env items os known nest deep m h end le = absurd known
+        (λ next. ap (λ l. next (q + 1) stop items l) (known.0.1 (mean e env) (mean g env) os))))
+    runs (expr.Method e f (item g (item i es))) at to stop k d env items os known nest deep m h end le = absurd known.0
     runs (expr.Over c e x body) at to stop zero d env items os known nest deep m h end le = absurd (false≢true nest)
     runs (expr.Over c e x body) at to stop (suc k) d env items os known nest deep m h end le =
         let p = at + size e in

@@ -4,7 +4,7 @@ use Rattle.celtree.specs.declared.tree.Operator.{Operator}
 use Rattle.celtree.specs.declared.tree.Operator.TheVariants as operator_of
 use Rattle.celtree.specs.Tree as expr
 use Rattle.celtree.specs.Tree.{Expr, Exprs, no_items, item, Pairs, no_pairs, pair}
-use Rattle.celtypes.specs.Typing.{is_variables}
+use Rattle.celtree.specs.Variables.{is_variables}
 use Rattle.instructions.specs.Op.{Op, PushVariable, TakeField, TakeHas, TakeIndex, TakeItems, TakePairs, TakeUnary, TakeCall, Branch, Jump, Over}
 use Rattle.plan.specs.Names.{Names, bind, place_of}
 use Rattle.plan.specs.Tables.{infix_op, between, steps_between, function_named, method_named}

@@ -3,6 +3,7 @@ pub mod Typed
 pub mod Meets
 pub mod Follows
 pub mod Places
+pub mod Parts
 pub mod Sizes
 pub mod Spelled
 pub mod Rooms
@@ -10,5 +11,4 @@ pub mod TreeValues
 pub mod NamesDeclared
 pub mod Arriving
 pub mod Passes
-pub mod Supplied
 pub mod Sound

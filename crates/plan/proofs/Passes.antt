@@ -1,5 +1,5 @@
 -- The pass over a stretch of code meets no fault: backwards, from what it finds behind the stretch to what it finds before it.
-use Rattle.std.proofs.Common.{◌≡◌, ℕ, ◌+◌, ◌-◌, ◌≤◌, Bool, true, false, not, cond, nat_lt, List, [], ◌∷◌, ◌++◌, length, Ok, Err, refl, sym, ap, subst, ◌∙◌, arith, append_assoc, length-append}
+use Rattle.std.proofs.Common.{◌≡◌, ℕ, ◌+◌, ◌-◌, ◌≤◌, Bool, true, false, not, cond, nat_lt, List, [], ◌∷◌, ◌++◌, length, Ok, Err, refl, sym, ap, subst, ◌∙◌, arith, rules, append_assoc, length-append}
 use Rattle.std.specs.List.{filter, list_all}
 use Rattle.std.proofs.lemmas.Bool.Decides.{nat_tests}
 use Rattle.std.proofs.lemmas.List.{append-nil}
@@ -49,24 +49,10 @@ pub record IsTest (op : Op) (to : ℕ) : Type 0 where
   pub takes_one : takes op ≡ 1
 
 pub if_false : (to : ℕ) → IsTest (IfFalse to) to
-if_false to = record {
-  targets_are = refl;
-  leads = λ at h. refl;
-  opens_none = λ at b os. refl;
-  clear = λ place. refl;
-  named = λ vars depth. refl;
-  takes_one = refl;
-}
+if_false to = search rules
 
 pub if_true : (to : ℕ) → IsTest (IfTrue to) to
-if_true to = record {
-  targets_are = refl;
-  leads = λ at h. refl;
-  opens_none = λ at b os. refl;
-  clear = λ place. refl;
-  named = λ vars depth. refl;
-  takes_one = refl;
-}
+if_true to = search rules
 
 -- where control may be behind the branch of a conditional, its own next place first
 branched : (at from other to h : ℕ) (further : List Arrival) → at + 1 ≡ from → Same (arrivals (Branch other to) at (h + 1) ++ further) (come from h ∷ come other h ∷ come to (h + 1) ∷ further)

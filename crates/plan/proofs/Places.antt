@@ -5,7 +5,7 @@ use Rattle.celtree.specs.declared.tree.Tree.{Tree}
 use Rattle.celtree.specs.Tree as expr
 use Rattle.celtree.specs.Tree.{Expr, Exprs, no_items, item, Pairs, no_pairs, pair}
 use Rattle.celtree.specs.View.{view, views, pair_views}
-use Rattle.celtypes.specs.Typing.{is_variables}
+use Rattle.celtree.specs.Variables.{is_variables}
 use Rattle.instructions.specs.declared.instruction.Instruction.{Instruction}
 use Rattle.instructions.specs.Op.{Op}
 use Rattle.instructions.specs.Seen.{op_of, ops_of}

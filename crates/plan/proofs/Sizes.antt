@@ -5,7 +5,7 @@ use Rattle.celtree.specs.declared.tree.Operator.TheVariants as operator_of
 use Rattle.celtree.specs.Tree as expr
 use Rattle.celtree.specs.Tree.{Expr, Exprs, no_items, item, Pairs, no_pairs, pair}
 use Rattle.celtree.specs.Size.{nodes, nodes_of_items, nodes_of_pairs}
-use Rattle.celtypes.specs.Typing.{is_variables}
+use Rattle.celtree.specs.Variables.{is_variables}
 use Rattle.plan.specs.Tables.{steps_between}
 use Rattle.plan.specs.Compilation.{size, size_of_items, size_of_pairs}
 

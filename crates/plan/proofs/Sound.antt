@@ -9,8 +9,9 @@ use Rattle.celtree.specs.declared.tree.Operator.TheVariants as operator_of
 use Rattle.celtree.specs.Tree as expr
 use Rattle.celtree.specs.Tree.{Expr, Exprs, no_items, item, Pairs, no_pairs, pair}
 use Rattle.celtree.specs.Nesting.{nests_within, all_within, pairs_within}
+use Rattle.celtree.specs.Variables.{is_variables}
 use Rattle.celtypes.specs.declared.scope.Env.{Env}
-use Rattle.celtypes.specs.Typing.{Scope, is_variables}
+use Rattle.celtypes.specs.Typing.{Scope}
 use Rattle.celtypes.specs.Seen.{variable_seen, declared}
 use Rattle.instructions.specs.declared.instruction.Slot.{Slot}
 use Rattle.instructions.specs.declared.instruction.Slot.TheVariants as slot
@@ -24,7 +25,7 @@ use Rattle.plan.specs.Compilation.{count, pair_count, size, size_of_items, size_
 use Rattle.plan.specs.Correct.{names_of}
 use Rattle.plan.specs.Seen.{HasSomeType}
 use Rattle.plan.proofs.Follows.{no_locals}
-use Rattle.plan.proofs.Supplied.{IsDeclared, IsSupplied, AreSupplied, KeysAreSupplied, ValuesAreSupplied, is_supplied}
+use Rattle.plan.proofs.Typed.{IsDeclared, HasCode, HaveCode, KeysHaveCode, ValuesHaveCode, function_takes, method_takes, has_code}
 use Rattle.plan.proofs.Passes.{plainly, is_plain, Leads, nothing, on, plain, if_false, if_true, tests, chooses, loops, sound}
 
 -- ---- names
@@ -88,7 +89,7 @@ module _ (vars : ℕ) where
       (on vars depth from (h + 1) near (h + 1 + 1) to (h + 1) right (infix_op o ∷ []) side (take_two depth near to h (infix_op o) refl refl refl end))
 
 mutual
-  leads : (t : Expr) (at to k h : ℕ) (d : Names) → IsSupplied t d → nests_within t k ≡ true → length d.locals + k ≤ 2 → at + size t ≡ to
+  leads : (t : Expr) (at to k h : ℕ) (d : Names) → HasCode t d → nests_within t k ≡ true → length d.locals + k ≤ 2 → at + size t ≡ to
       → Leads (length d.variables) (length d.locals) at (compiled t at d) h to (h + 1)
   leads expr.Null at to k h d known nest deep end = push (length d.variables) (length d.locals) at to h PushNull refl refl refl end
   leads (expr.Truth b) at to k h d known nest deep end = push (length d.variables) (length d.locals) at to h (PushTruth b) refl refl refl end
@@ -156,7 +157,7 @@ mutual
       let p = at + size_of_items es in
       let l = h + count es in
       on (length d.variables) (length d.locals) at h p l to (h + 1) (compiled_items es at d) (TakeCall (function_named f) ∷ []) (leads_all es at p k h l d known.1 nest deep refl refl)
-      (take_all (length d.variables) (length d.locals) p to h l (TakeCall (function_named f)) refl refl (omega (arith, known.0)) (omega (arith, end)))
+      (take_all (length d.variables) (length d.locals) p to h l (TakeCall (function_named f)) refl refl (omega (arith, function_takes f es known.0)) (omega (arith, end)))
   leads (expr.Method e f es) at to k h d known nest deep end =
       let vars = length d.variables in
       let depth = length d.locals in
@@ -167,7 +168,7 @@ mutual
       let nests = and_parts (nests_within e k) (all_within es k) nest in
       on vars depth at h p (h + 1) to (h + 1) (compiled e at d) (compiled_items es p d ++ op ∷ []) (leads e at p k h d known.1 nests.0 deep refl)
       (on vars depth p (h + 1) q l to (h + 1) (compiled_items es p d) (op ∷ []) (leads_all es p q k (h + 1) l d known.2 nests.1 deep refl refl)
-      (take_all vars depth q to h l op refl refl (omega (arith, known.0)) (omega (arith, end))))
+      (take_all vars depth q to h l op refl refl (omega (arith, method_takes f es known.0)) (omega (arith, end))))
   leads (expr.Over m e x body) at to zero h d known nest deep end = absurd (false≢true nest)
   leads (expr.Over m e x body) at to (suc k) h d known nest deep end =
       let vars = length d.variables in
@@ -181,7 +182,7 @@ mutual
       (loops vars depth (length inner.locals) p r to h m inside (omega arith) (omega (arith, deep)) refl (leads body r to k 0 inner known.1 nests.1 (omega (arith, deep)) (omega (arith, end)))) in
       on vars depth at h p (h + 1) to (h + 1) (compiled e at d) (Over m (at + size (expr.Over m e x body)) ∷ inside) (leads e at p (suc k) h d known.0 nests.0 deep refl) rest
 
-  leads_all : (es : Exprs) (at to k h l : ℕ) (d : Names) → AreSupplied es d → all_within es k ≡ true → length d.locals + k ≤ 2 → at + size_of_items es ≡ to → h + count es ≡ l
+  leads_all : (es : Exprs) (at to k h l : ℕ) (d : Names) → HaveCode es d → all_within es k ≡ true → length d.locals + k ≤ 2 → at + size_of_items es ≡ to → h + count es ≡ l
       → Leads (length d.variables) (length d.locals) at (compiled_items es at d) h to l
   leads_all no_items at to k h l d known nest deep end height = nothing (length d.variables) (length d.locals) at h to l (omega (arith, end)) (omega (arith, height))
   leads_all (item e es) at to k h l d known nest deep end height =
@@ -190,7 +191,7 @@ mutual
       on (length d.variables) (length d.locals) at h p (h + 1) to l (compiled e at d) (compiled_items es p d) (leads e at p k h d known.0 nests.0 deep refl)
       (leads_all es p to k (h + 1) l d known.1 nests.1 deep (omega (arith, end)) (omega (arith, height)))
 
-  leads_pairs : (ps : Pairs) (at to k h l : ℕ) (d : Names) → KeysAreSupplied ps d → ValuesAreSupplied ps d → pairs_within ps k ≡ true → length d.locals + k ≤ 2 → at + size_of_pairs ps ≡ to → h + 2 * pair_count ps ≡ l
+  leads_pairs : (ps : Pairs) (at to k h l : ℕ) (d : Names) → KeysHaveCode ps d → ValuesHaveCode ps d → pairs_within ps k ≡ true → length d.locals + k ≤ 2 → at + size_of_pairs ps ≡ to → h + 2 * pair_count ps ≡ l
       → Leads (length d.variables) (length d.locals) at (compiled_pairs ps at d) h to l
   leads_pairs no_pairs at to k h l d ks vs nest deep end height = nothing (length d.variables) (length d.locals) at h to l (omega (arith, end)) (omega (arith, height))
   leads_pairs (pair a b ps) at to k h l d ks vs nest deep end height =
@@ -208,7 +209,7 @@ mutual
 pub code_is_well_formed : (g : Scope) (e : Expr) → g.locals ≡ [] → HasSomeType g e → nests_within e 2 ≡ true → IsWellFormed (length g.variables) (compiled e 0 (names_of g))
 code_is_well_formed g e none typed nest =
     let d = names_of g in
-    let known = subst (λ (n : Names). IsSupplied e n) (no_locals g none) (is_supplied typed.1) in
+    let known = subst (λ (n : Names). HasCode e n) (no_locals g none) (has_code typed.1) in
     let stretch = leads e 0 (size e) 2 0 d known nest (omega arith) (omega arith) in
     let vars : length d.variables ≡ length g.variables = length-map g.variables (λ v. v.0) in
     sound_is_well_formed (length g.variables) (compiled e 0 d)

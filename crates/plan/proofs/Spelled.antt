@@ -7,7 +7,7 @@ use Rattle.celtree.specs.declared.tree.Operator.TheVariants as operator_of
 use Rattle.celtree.specs.Tree as expr
 use Rattle.celtree.specs.Tree.{Expr, Exprs, no_items, item, Pairs, no_pairs, pair}
 use Rattle.celtree.specs.Size.{nodes, nodes_of_items, nodes_of_pairs, text_bytes, text_bytes_of_items, text_bytes_of_pairs}
-use Rattle.celtypes.specs.Typing.{is_variables}
+use Rattle.celtree.specs.Variables.{is_variables}
 use Rattle.instructions.specs.declared.instruction.Name.{Name}
 use Rattle.instructions.specs.declared.instruction.Slot.{Slot}
 use Rattle.instructions.specs.Op.{Op, PushText, PushVariable, TakeField, TakeHas, TakeIndex, TakeItems, TakePairs, TakeUnary, TakeCall, Branch, Jump, Over}

@@ -2,7 +2,7 @@
 use Rattle.std.specs.Prelude.{ℕ, suc, ◌+◌, if◌then◌else◌, List, [], ◌∷◌, ◌++◌}
 use Rattle.celtree.specs.Tree.{Expr, Null, Truth, Int, Uint, Text, Name, Field, Has, Index, Sequence, Mapping, Unary, Infix, Conditional, Call, Method, Exprs, no_items, item, Pairs, no_pairs, pair}
 use Rattle.celtree.specs.Tree as expr
-use Rattle.celtypes.specs.Typing.{is_variables}
+use Rattle.celtree.specs.Variables.{is_variables}
 use Rattle.instructions.specs.Op.{Op, PushInt, PushUint, PushText, PushTruth, PushNull, PushVariable, TakeField, TakeHas, TakeIndex, TakeItems, TakePairs, TakeUnary, TakeCall, Branch, Jump, Over}
 use Rattle.plan.specs.Names.{Names, bind, name_op, place_of}
 use Rattle.plan.specs.Tables.{infix_op, between, steps_between, function_named, method_named}

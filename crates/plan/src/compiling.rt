@@ -5,7 +5,6 @@ ghost use Rattle.celtree.specs.Tree as expr;
 ghost use Rattle.celtree.specs.View.{view, views, pair_views};
 ghost use Rattle.celtree.specs.Size.{nodes, text_bytes};
 ghost use Rattle.celtypes.specs.Seen.{declared};
-ghost use Rattle.celtypes.specs.Typing.{is_variables};
 ghost use Rattle.instructions.specs.Bytes.{code, HaveRoom};
 ghost use Rattle.instructions.specs.Seen.{ops_of, plan_ops};
 ghost use Rattle.instructions.specs.WellFormed.{IsWellFormed};
@@ -18,23 +17,10 @@ ghost use Rattle.plan.specs.Values.{HasValues, HaveValues, PairsHaveValues};
 use crate::code::{alone, conditional_code, followed, gathered, infix_code, joined, macro_code};
 use crate::names::{Names, bind, name_instruction, place_of};
 use crate::operations::{function_named, method_named, steps_between};
-use celtree::{Macro, Operator, Prefix, Tree};
+use celtree::{Macro, Operator, Prefix, Tree, is_variables};
 use celtypes::Env;
 use instructions::{Instruction, Plan};
 use std::alloc::{AllocError, Global};
-
-fn is_variables(tree: &Tree) -> bool
-    ensures { result ≡ is_variables (view tree.now) }
-{
-    match tree {
-        Tree::Name(name) => name.as_str() == "variables",
-        Tree::Null | Tree::Bool(_) | Tree::Int(_) | Tree::Uint(_) | Tree::Text(_) => false,
-        Tree::Field(_, _) | Tree::Has(_, _) | Tree::Index(_, _) => false,
-        Tree::List(_) | Tree::Map(_) | Tree::Unary(_, _) | Tree::Infix(_, _, _) => false,
-        Tree::Conditional(_, _, _) | Tree::Call(_, _) | Tree::Method(_, _, _) => false,
-        Tree::Macro(_, _, _, _) => false,
-    }
-}
 
 // The place behind the instructions of a tree that begin at `at`. The tree is named for the contract.
 fn behind_tree(at: usize, _tree: &Tree, code: &Vec<Instruction>) -> usize
