@@ -9,7 +9,7 @@ use Rattle.instructions.specs.declared.fault.CodeFault.{CodeFault}
 use Rattle.instructions.specs.declared.fault.CodeFault.TheVariants as fault
 use Rattle.instructions.specs.declared.instruction.Name.{Name}
 use Rattle.instructions.specs.declared.instruction.Name.TheVariants as name
-use Rattle.instructions.specs.Op.{Op, PushInt, PushUint, PushText, PushTruth, PushNull, PushName, PushVariable, PushSlot, TakeField, TakeHas, TakeIndex, TakeItems, TakePairs, TakeUnary, TakeBinary, TakeCall, TakeBoth, TakeEither, IfFalse, IfTrue, Branch, Jump, Over}
+use Rattle.instructions.specs.Op.{Op, PushName}
 use Rattle.std.specs.Prelude.{IfOk}
 use Rattle.instructions.specs.Faults.{◌>>=◌, Gives}
 use Rattle.instructions.specs.Bytes.{name_number, short, spelled, code, Fits, HaveRoom}
@@ -83,29 +83,8 @@ up_to_params name.Request = omega arith
 up_to_params name.Params = omega arith
 
 op_up_to_params : (op : Op) → NamesUpTo name.Params op
-op_up_to_params (PushInt n) = tt
-op_up_to_params (PushUint n) = tt
-op_up_to_params (PushText t) = tt
-op_up_to_params (PushTruth b) = tt
-op_up_to_params PushNull = tt
 op_up_to_params (PushName x) = up_to_params x
-op_up_to_params (PushVariable v) = tt
-op_up_to_params (PushSlot s) = tt
-op_up_to_params (TakeField f) = tt
-op_up_to_params (TakeHas f) = tt
-op_up_to_params TakeIndex = tt
-op_up_to_params (TakeItems n) = tt
-op_up_to_params (TakePairs n) = tt
-op_up_to_params (TakeUnary p) = tt
-op_up_to_params (TakeBinary o) = tt
-op_up_to_params (TakeCall f) = tt
-op_up_to_params TakeBoth = tt
-op_up_to_params TakeEither = tt
-op_up_to_params (IfFalse t) = tt
-op_up_to_params (IfTrue t) = tt
-op_up_to_params (Branch t u) = tt
-op_up_to_params (Jump t) = tt
-op_up_to_params (Over m t) = tt
+op_up_to_params op = tt
 
 pub all_up_to_params : (ops : List Op) → UsesNamesUpTo name.Params ops
 all_up_to_params [] = tt

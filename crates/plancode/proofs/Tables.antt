@@ -1,5 +1,5 @@
 -- The numbers of operands that are one of a few: a number is read as the operand that is written with it.
-use Rattle.std.proofs.Common.{◌≡◌, ℕ, ◌≤◌, Bool, true, false, cond, eqb, nat_lt, Result, Ok, Err, refl, sym, ap, subst, ◌∙◌}
+use Rattle.std.proofs.Common.{◌≡◌, ℕ, ◌≤◌, Bool, true, false, cond, eqb, nat_lt, List, [], ◌∷◌, Result, Ok, Err, refl, sym, ap, subst, ◌∙◌}
 use Rattle.std.proofs.lemmas.Bool.{eqb-true, ltb-false, le-ltb}
 use Rattle.celtree.specs.declared.tree.Prefix.{Prefix}
 use Rattle.celtree.specs.declared.tree.Prefix.TheVariants as prefix
@@ -20,35 +20,34 @@ use Rattle.instructions.specs.Bytes.{truth_number, name_number, slot_number, pre
 use Rattle.plancode.specs.Reading.{truth_of, name_of, name_up_to, slot_of, prefix_of, binary_of, function_of, macro_of}
 use Rattle.plancode.proofs.Low.{bind_ok}
 
-taken : {A : Type 0} (t : Bool) (b k : ℕ) (x y : A) (rest : Result A CodeFault) (number : A → ℕ) → (t ≡ true → b ≡ k) → number x ≡ k → (rest ≡ Ok y → number y ≡ b) → cond t (Ok x) rest ≡ Ok y → number y ≡ b
-taken true b k x y rest number is here more e =
-    let same : x ≡ y = cc in
-    sym (ap number same) ∙ here ∙ sym (is refl)
-taken false b k x y rest number is here more e = more e
+-- a number that is compared with those of a few values, one after the other, is read as the one that has it
+abbrev one_of : {A : Type 0} → (number : A → ℕ) → List A → ℕ → Result A CodeFault
+one_of number [] b = Err fault.BadOperand
+one_of number (x ∷ xs) b = cond (eqb b (number x)) (Ok x) (one_of number xs b)
 
--- a row of a table
-row : {A : Type 0} (b k : ℕ) (x y : A) (rest : Result A CodeFault) (number : A → ℕ) → number x ≡ k → (rest ≡ Ok y → number y ≡ b) → cond (eqb b k) (Ok x) rest ≡ Ok y → number y ≡ b
-row b k x y rest number here more e = taken (eqb b k) b k x y rest number (eqb-true b k) here more e
+first_or_later : {A : Type 0} (t : Bool) (b : ℕ) (x y : A) (rest : Result A CodeFault) (number : A → ℕ) → (t ≡ true → b ≡ number x) → (rest ≡ Ok y → number y ≡ b) → cond t (Ok x) rest ≡ Ok y → number y ≡ b
+first_or_later true b x y rest number is more e =
+    let same : x ≡ y = cc in
+    sym (is refl ∙ ap number same)
+first_or_later false b x y rest number is more e = more e
+
+one_of_takes : {A : Type 0} (number : A → ℕ) (xs : List A) (b : ℕ) (y : A) → one_of number xs b ≡ Ok y → number y ≡ b
+one_of_takes number [] b y e = absurd cc
+one_of_takes number (x ∷ xs) b y e = first_or_later (eqb b (number x)) b x y (one_of number xs b) number (eqb-true b (number x)) (one_of_takes number xs b y) e
 
 pub truth_takes : (b : ℕ) (y : Bool) → truth_of b ≡ Ok y → truth_number y ≡ b
-truth_takes b y e = row b 0 false y _ truth_number refl (λ e. row b 1 true y _ truth_number refl (λ e. absurd cc) e) e
+truth_takes = one_of_takes truth_number (false ∷ true ∷ [])
 
 pub truth_again : (x : Bool) → truth_of (truth_number x) ≡ Ok x
 truth_again false = refl
 truth_again true = refl
 
 pub name_takes : (b : ℕ) (y : Name) → name_of b ≡ Ok y → name_number y ≡ b
-name_takes b y e =
-    row b 1 name.Object y _ name_number refl (λ e.
-    row b 2 name.OldObject y _ name_number refl (λ e.
-    row b 3 name.Request y _ name_number refl (λ e.
-    row b 4 name.Params y _ name_number refl (λ e. absurd cc) e) e) e) e
+name_takes = one_of_takes name_number (name.Object ∷ name.OldObject ∷ name.Request ∷ name.Params ∷ [])
 
 pub name_again : (x : Name) → name_of (name_number x) ≡ Ok x
 name_again name.Object = refl
-name_again name.OldObject = refl
-name_again name.Request = refl
-name_again name.Params = refl
+name_again other = refl
 
 -- a name that is declared is read as it is written, and no other is
 up_to : (b : Bool) (x y : Name) → cond b (Err fault.BadOperand) (Ok x) ≡ Ok y → (b ≡ false) × (x ≡ y)
@@ -68,80 +67,36 @@ name_up_to_again g x le =
     ∙ ap (λ (t : Bool). cond t (Err fault.BadOperand) (Ok x)) (le-ltb (name_number g) (name_number x) le)
 
 pub slot_takes : (b : ℕ) (y : Slot) → slot_of b ≡ Ok y → slot_number y ≡ b
-slot_takes b y e = row b 0 slot.Outer y _ slot_number refl (λ e. row b 1 slot.Inner y _ slot_number refl (λ e. absurd cc) e) e
+slot_takes = one_of_takes slot_number (slot.Outer ∷ slot.Inner ∷ [])
 
 pub slot_again : (x : Slot) → slot_of (slot_number x) ≡ Ok x
 slot_again slot.Outer = refl
 slot_again slot.Inner = refl
 
 pub prefix_takes : (b : ℕ) (y : Prefix) → prefix_of b ≡ Ok y → prefix_number y ≡ b
-prefix_takes b y e = row b 1 prefix.Not y _ prefix_number refl (λ e. row b 2 prefix.Negate y _ prefix_number refl (λ e. absurd cc) e) e
+prefix_takes = one_of_takes prefix_number (prefix.Not ∷ prefix.Negate ∷ [])
 
 pub prefix_again : (x : Prefix) → prefix_of (prefix_number x) ≡ Ok x
 prefix_again prefix.Not = refl
 prefix_again prefix.Negate = refl
 
 pub binary_takes : (b : ℕ) (y : Binary) → binary_of b ≡ Ok y → binary_number y ≡ b
-binary_takes b y e =
-    row b 1 binary.Add y _ binary_number refl (λ e.
-    row b 2 binary.Subtract y _ binary_number refl (λ e.
-    row b 3 binary.Multiply y _ binary_number refl (λ e.
-    row b 4 binary.Divide y _ binary_number refl (λ e.
-    row b 5 binary.Remainder y _ binary_number refl (λ e.
-    row b 6 binary.Equal y _ binary_number refl (λ e.
-    row b 7 binary.NotEqual y _ binary_number refl (λ e.
-    row b 8 binary.Less y _ binary_number refl (λ e.
-    row b 9 binary.LessEqual y _ binary_number refl (λ e.
-    row b 10 binary.Greater y _ binary_number refl (λ e.
-    row b 11 binary.GreaterEqual y _ binary_number refl (λ e.
-    row b 12 binary.In y _ binary_number refl (λ e. absurd cc) e) e) e) e) e) e) e) e) e) e) e) e
+binary_takes = one_of_takes binary_number (binary.Add ∷ binary.Subtract ∷ binary.Multiply ∷ binary.Divide ∷ binary.Remainder ∷ binary.Equal ∷ binary.NotEqual ∷ binary.Less ∷ binary.LessEqual ∷ binary.Greater ∷ binary.GreaterEqual ∷ binary.In ∷ [])
 
 pub binary_again : (x : Binary) → binary_of (binary_number x) ≡ Ok x
 binary_again binary.Add = refl
-binary_again binary.Subtract = refl
-binary_again binary.Multiply = refl
-binary_again binary.Divide = refl
-binary_again binary.Remainder = refl
-binary_again binary.Equal = refl
-binary_again binary.NotEqual = refl
-binary_again binary.Less = refl
-binary_again binary.LessEqual = refl
-binary_again binary.Greater = refl
-binary_again binary.GreaterEqual = refl
-binary_again binary.In = refl
+binary_again other = refl
 
 pub function_takes : (b : ℕ) (y : Function) → function_of b ≡ Ok y → function_number y ≡ b
-function_takes b y e =
-    row b 1 function.Size y _ function_number refl (λ e.
-    row b 2 function.Contains y _ function_number refl (λ e.
-    row b 3 function.StartsWith y _ function_number refl (λ e.
-    row b 4 function.EndsWith y _ function_number refl (λ e.
-    row b 5 function.Int y _ function_number refl (λ e.
-    row b 6 function.Uint y _ function_number refl (λ e.
-    row b 7 function.Text y _ function_number refl (λ e.
-    row b 8 function.Dyn y _ function_number refl (λ e. absurd cc) e) e) e) e) e) e) e) e
+function_takes = one_of_takes function_number (function.Size ∷ function.Contains ∷ function.StartsWith ∷ function.EndsWith ∷ function.Int ∷ function.Uint ∷ function.Text ∷ function.Dyn ∷ [])
 
 pub function_again : (x : Function) → function_of (function_number x) ≡ Ok x
 function_again function.Size = refl
-function_again function.Contains = refl
-function_again function.StartsWith = refl
-function_again function.EndsWith = refl
-function_again function.Int = refl
-function_again function.Uint = refl
-function_again function.Text = refl
-function_again function.Dyn = refl
+function_again other = refl
 
 pub macro_takes : (b : ℕ) (y : Macro) → macro_of b ≡ Ok y → macro_number y ≡ b
-macro_takes b y e =
-    row b 1 macro.All y _ macro_number refl (λ e.
-    row b 2 macro.Exists y _ macro_number refl (λ e.
-    row b 3 macro.ExistsOne y _ macro_number refl (λ e.
-    row b 4 macro.Map y _ macro_number refl (λ e.
-    row b 5 macro.Filter y _ macro_number refl (λ e. absurd cc) e) e) e) e) e
+macro_takes = one_of_takes macro_number (macro.All ∷ macro.Exists ∷ macro.ExistsOne ∷ macro.Map ∷ macro.Filter ∷ [])
 
 pub macro_again : (x : Macro) → macro_of (macro_number x) ≡ Ok x
 macro_again macro.All = refl
-macro_again macro.Exists = refl
-macro_again macro.ExistsOne = refl
-macro_again macro.Map = refl
-macro_again macro.Filter = refl
+macro_again other = refl
