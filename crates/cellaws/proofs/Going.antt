@@ -11,10 +11,9 @@ use Rattle.instructions.specs.WellFormed.{Among, Control, within, begins_body, n
 use Rattle.instructions.proofs.Arrivals.{among_left, among_right, among_either, mapped, among_filter}
 use Rattle.instructions.proofs.Nested.{Nested, left_by, Steps}
 use Rattle.instructions.proofs.Stepping.{ends_of, arrival_of, nested_step}
-use Rattle.instructions.proofs.Awaiting.{Is, Own, Awaits, awaits_low, stays_awaited, leads_on}
+use Rattle.instructions.proofs.Awaiting.{Is, Own, Awaits, own_awaits, awaits_low, stays_awaited, leads_on}
 use Rattle.cellaws.specs.FirstFault.{ComesBefore}
 use Rattle.cellaws.specs.FirstFault as coming
-use Rattle.cellaws.proofs.Heights.{own_awaits}
 
 abbrev pub Sound : List Op → ℕ → Body → List Body → Type 0
 Sound code at b os = (c : Control) → Awaits c b os → ComesBefore code at c

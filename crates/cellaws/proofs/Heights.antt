@@ -6,7 +6,7 @@ use Rattle.instructions.specs.Judging.{Arrival, Body, height_at, has_one, is_one
 use Rattle.instructions.specs.WellFormed.{Among, Control, within}
 use Rattle.instructions.proofs.Arrivals.{agree}
 use Rattle.instructions.proofs.Stepping.{ends_of}
-use Rattle.instructions.proofs.Awaiting.{Own, Awaits, one_height}
+use Rattle.instructions.proofs.Awaiting.{Own, Awaits, own_here, own_awaits, awaits_outside, one_height}
 use Rattle.instructions.proofs.Converse.{agreed}
 use Rattle.cellaws.specs.FirstFault.{ComesBefore, HasHeight}
 
@@ -15,31 +15,10 @@ pub record Knows (code : List Op) (at : ℕ) (b : Body) (os : List Body) : Type 
   pub sound : (c : Control) → Awaits c b os → ComesBefore code at c
   pub complete : (c : Control) → ComesBefore code at c → at ≤ c.place → length c.outer ≤ length os → Awaits c b os
 
-pub own_awaits : (c : Control) (b : Body) (os : List Body) → Own c b os → Awaits c b os
-own_awaits c b [] own = own
-own_awaits c b (o ∷ os) own = inl own
-
-own_depth : (c : Control) (b : Body) (os : List Body) → Own c b os → length c.outer ≡ length os
-own_depth c b os own = ap (λ (o : List ℕ). length o) (sym own.is.outer_is) ∙ length-map os (λ (x : Body). x.end)
-
-awaits_depth : (c : Control) (b : Body) (os : List Body) → Awaits c b os → length c.outer ≤ length os
-awaits_depth c b [] own = omega (arith, own_depth c b [] own)
-awaits_depth c b (o ∷ os) (inl own) = omega (arith, own_depth c b (o ∷ os) own)
-awaits_depth c b (o ∷ os) (inr m) = let le : length c.outer ≤ length os = awaits_depth c o os m in omega arith
-
-own_here : (c : Control) (b : Body) (os : List Body) → length c.outer ≡ length os → Awaits c b os → Own c b os
-own_here c b [] same own = own
-own_here c b (o ∷ os) same (inl own) = own
-own_here c b (o ∷ os) same (inr m) = let le : length c.outer ≤ length os = awaits_depth c o os m in absurd (omega arith)
-
-strip : (c : Control) (b o : Body) (os : List Body) → length c.outer ≤ length os → Awaits c b (o ∷ os) → Awaits c o os
-strip c b o os le (inl own) = absurd (omega (arith, own_depth c b (o ∷ os) own))
-strip c b o os le (inr m) = m
-
 pub knows_other : (code : List Op) (at : ℕ) (b o : Body) (os : List Body) → Knows code at b (o ∷ os) → Knows code at o os
 knows_other code at b o os k = record {
   sound = λ c m. k.sound c (inr m);
-  complete = λ c comes le deep. strip c b o os deep (k.complete c comes le (omega arith));
+  complete = λ c comes le deep. awaits_outside c b o os deep (k.complete c comes le (omega arith));
 }
 
 own_within : (b : Body) (os : List Body) (a : Arrival) → Among a b.awaited → Own (within b.end (ends_of os) a) b os

@@ -4,13 +4,14 @@ use Rattle.std.proofs.lemmas.Option.{same_Some}
 use Rattle.std.proofs.lemmas.Bool.{false≢true}
 use Rattle.celtree.specs.Tree as tree
 use Rattle.celtree.specs.Tree.{Expr, Exprs, Pairs}
+use Rattle.celtree.specs.Variables.{is_variables}
 use Rattle.celmean.specs.Value.{Value, Outcome, Gives, with_value}
 use Rattle.celmean.specs.Collections.{member}
 use Rattle.celmean.specs.Meaning as meaning
 use Rattle.celmean.specs.Meaning.{Environment, mean, all_means, pair_means}
 use Rattle.celtypes.specs.Types.{ValueType, dyn}
 use Rattle.celtypes.specs.Tables.{AllAre, none_other, one_more, Element, of_none, of_one_type, of_many_types}
-use Rattle.celtypes.specs.Typing.{Scope, bound, bind, is_variables, HasType, HaveTypes, HaveKeyTypes, HaveValueTypes, null_literal, bool_literal, int_literal, uint_literal, string_literal, macro_variable, declared_name, variable, field, presence, index, sequence, mapping, denial, negation, sum, arithmetic, connective, equality, comparison, membership, conditional, call, size_method, text_test, test_macro, map_macro, filter_macro, no_types, types, no_key_types, key_types, no_value_types, value_types}
+use Rattle.celtypes.specs.Typing.{Scope, bound, bind, HasType, HaveTypes, HaveKeyTypes, HaveValueTypes, null_literal, bool_literal, int_literal, uint_literal, string_literal, macro_variable, declared_name, variable, field, presence, index, sequence, mapping, denial, negation, sum, arithmetic, connective, equality, comparison, membership, conditional, call, size_method, text_test, test_macro, map_macro, filter_macro, no_types, types, no_key_types, key_types, no_value_types, value_types}
 use Rattle.cellaws.specs.Kinds.{KindOf, of_int, of_uint, of_bool, of_string, of_null, Meets}
 use Rattle.cellaws.proofs.KindLists.{Held, keeps, held, held_dyn, EachHeld, held_list_of, held_map_of}
 use Rattle.cellaws.proofs.KindMacros.{test_kind, map_kind, filter_kind}
@@ -54,10 +55,6 @@ meets_bind {g} {env} x i v h meets = record {
 
 -- a field, or a declared variable
 
-is_variables_alike : (e : Expr) → is_variables e ≡ meaning.is_variables e
-is_variables_alike (tree.Name x) = refl
-is_variables_alike e = refl
-
 held_true : (t : ValueType) (b : Bool) (x y : Outcome) → b ≡ true → Held t x → Held t (cond b x y)
 held_true t true x y e h = h
 held_true t false x y e h = absurd (false≢true e)
@@ -69,12 +66,12 @@ held_false t false x y e h = h
 variable_held : (t : ValueType) (e : Expr) (f : List ℕ) (env : Environment) (o : Outcome) → is_variables e ≡ true
     → Held t (meaning.bound f env.variables) → Held t (meaning.field e o f env)
 variable_held t e f env o is h =
-    held_true t (meaning.is_variables e) (meaning.bound f env.variables) (with_value (member f) o) (sym (is_variables_alike e) ∙ is) h
+    held_true t (is_variables e) (meaning.bound f env.variables) (with_value (member f) o) is h
 
 field_held : (t : ValueType) (e : Expr) (f : List ℕ) (env : Environment) (o : Outcome) → is_variables e ≡ false
     → Held t (with_value (member f) o) → Held t (meaning.field e o f env)
 field_held t e f env o is h =
-    held_false t (meaning.is_variables e) (meaning.bound f env.variables) (with_value (member f) o) (sym (is_variables_alike e) ∙ is) h
+    held_false t (is_variables e) (meaning.bound f env.variables) (with_value (member f) o) is h
 
 mutual
   pub kind : {g : Scope} {e : Expr} {t : ValueType} → HasType g e t → (env : Environment) → Meets g env → Held t (mean e env)

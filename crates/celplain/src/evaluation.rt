@@ -8,33 +8,17 @@ ghost use Rattle.celmean.specs.Collections.{indexed};
 ghost use Rattle.celmean.specs.Operators.{infixed};
 ghost use Rattle.celmean.specs.Functions.{method_called};
 ghost use Rattle.celmean.specs.Macros.{range_of, over_items};
-ghost use Rattle.celmean.specs.Meaning.{mean, all_means, pair_means, bind, is_variables};
+ghost use Rattle.celmean.specs.Meaning.{mean, all_means, pair_means, bind};
 ghost use Rattle.celmean.specs.Seen.{value_of, values_seen, outcome_of, outcomes_seen, outcome_pairs_seen};
 ghost use Rattle.celplain.specs.Seen.{environment_of};
 
 use crate::environment::{Binding, Environment, bind, bound};
 use celmean::{
-    Outcome, Value, called, has_member_of, index_of, infixed, is_false, is_true, list_of, map_of,
+    LONGEST_RANGE, Outcome, Value, called, has_member_of, index_of, infixed, is_false, is_true, list_of, map_of,
     member_of, method_called, prefixed, range_of, reduced,
 };
-use celtree::{Macro, Operator, Prefix, Tree};
+use celtree::{Macro, Operator, Prefix, Tree, is_variables};
 use std::alloc::{AllocError, Global};
-
-/// The most items that a macro goes over.
-const LONGEST_RANGE: usize = 1024;
-
-fn is_variables(tree: &Tree) -> bool
-    ensures { result ≡ is_variables (view tree.now) }
-{
-    match tree {
-        Tree::Name(name) => name.as_str() == "variables",
-        Tree::Null | Tree::Bool(_) | Tree::Int(_) | Tree::Uint(_) | Tree::Text(_) => false,
-        Tree::Field(_, _) | Tree::Has(_, _) | Tree::Index(_, _) => false,
-        Tree::List(_) | Tree::Map(_) | Tree::Unary(_, _) | Tree::Infix(_, _, _) => false,
-        Tree::Conditional(_, _, _) | Tree::Call(_, _) | Tree::Method(_, _, _) => false,
-        Tree::Macro(_, _, _, _) => false,
-    }
-}
 
 /// What the tree means where names stand for what the environment says: a value, or the one error.
 ///
