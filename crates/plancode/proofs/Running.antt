@@ -5,13 +5,12 @@ use Rattle.std.specs.List.{list_all}
 use Rattle.instructions.specs.declared.fault.CodeFault.{CodeFault}
 use Rattle.instructions.specs.declared.fault.CodeFault.TheVariants as fault
 use Rattle.instructions.specs.Op.{Op}
-use Rattle.instructions.specs.Faults.{◌>>=◌, Fails}
+use Rattle.instructions.specs.Faults.{◌>>=◌}
 use Rattle.instructions.specs.Judging.{Body, height_at, takes, targets, arrivals, runs, judged, left, step, is_fair, are_fair, is_named, goes_on, opens}
 use Rattle.plancode.specs.declared.bodies.Body.{Body as Held}
 use Rattle.plancode.specs.Macros.{Tells, is_clear}
 use Rattle.plancode.specs.Bodies.{one_height, Table, table_of, tables_of, known_at, all_expecting, opening, Nested, AreOpen, AreKnown, AreWithin, Reaches, Follows}
 use Rattle.plancode.proofs.Between.{clear_is}
-use Rattle.plancode.proofs.Failing.{fails}
 use Rattle.plancode.proofs.Leaving.{height_known}
 use Rattle.plancode.proofs.Low.{low_height, low_left}
 use Rattle.plancode.proofs.Standing.{goes_on_open, innermost_stands, ends_inside}
@@ -112,11 +111,8 @@ left_known at count t u ts us k r =
     let low = low_left at at k.bodies.0 k.bodies.1 r.bodies k.low k.all_low r.are in
     record { bodies = r.bodies; standing = r.standing; low = low.0; all_low = low.1 }
 
+-- an instruction is judged in the bodies that do not end at its place
 pub steps : (vars at count : ℕ) (op : Op) (later : List Op) (bodies : Body × List Body) (u : Table) (us : List Table) (result : Result Held CodeFault) (outer : List Held) → (r : Reaches at count u us (left at bodies.0 bodies.1))
     → Follows (at + 1) count result outer (judged vars at op later r.bodies.0 r.bodies.1) → Follows (at + 1) count result outer (step vars at op later bodies.0 bodies.1)
 steps vars at count op later bodies u us result outer r f =
     subst (λ (e : Result (Body × List Body) CodeFault). Follows (at + 1) count result outer e) (sym (ap (λ (x : Result (Body × List Body) CodeFault). x >>= λ y. judged vars at op later y.0 y.1) r.are)) f
-
-pub step_fails : (e : CodeFault) (vars at : ℕ) (op : Op) (later : List Op) (bodies : Body × List Body) → Fails e (left at bodies.0 bodies.1) → Fails e (step vars at op later bodies.0 bodies.1)
-step_fails e vars at op later bodies h =
-    fails e (left at bodies.0 bodies.1) (step vars at op later bodies.0 bodies.1) (λ f is. ap (λ (x : Result (Body × List Body) CodeFault). x >>= λ y. judged vars at op later y.0 y.1) is) h

@@ -21,7 +21,6 @@ ghost use Rattle.instructions.specs.Op.{Op};
 ghost use Rattle.instructions.specs.Judging.{
   Body as Expected,
   first_fault,
-  judged,
   step,
   judge,
   left,
@@ -225,34 +224,6 @@ fn run(
     }
 }
 
-// Judges one instruction, which stands in the body.
-fn judge_one(
-    alloc: Global,
-    vars: u16,
-    at: usize,
-    instruction: &Instruction,
-    starts: &[usize],
-    body: Body,
-    outer: &mut Vec<Body>,
-) -> Result<Body, CodeFault>
-    requires known { AreKnown at (length starts.now - 1) (table_of body) (tables_of outer.old.items) }
-    requires room { 0 < length starts.now }
-    requires inside { at < body.end }
-    requires short { at + 1 < 2 ^ 64 }
-    ensures { (ops : List Op) (bodies : Expected × List Expected) → Tells ops starts.now
-        → AreOpen at (length ops) (table_of body) (tables_of outer.old.items) bodies
-        → Follows (at + 1) (length ops) result outer.new.items
-        (judged vars at (op_of instruction.now) (drop (at + 1) ops) bodies.0 bodies.1) }
-{
-    if !all_fair(at, body.end, starts, instruction) {
-        return Err(CodeFault::BadJump);
-    }
-    if !named(vars, outer.len(), instruction) {
-        return Err(CodeFault::BadName);
-    }
-    run(alloc, at, instruction, body, outer)
-}
-
 // Judges one instruction, behind the bodies that end at its place.
 fn step_over(
     alloc: Global,
@@ -272,7 +243,13 @@ fn step_over(
         (step vars at (op_of instruction.now) (drop (at + 1) ops) bodies.0 bodies.1) }
 {
     let body = leave(at, body, outer)?;
-    judge_one(alloc, vars, at, instruction, starts, body, outer)
+    if !all_fair(at, body.end, starts, instruction) {
+        return Err(CodeFault::BadJump);
+    }
+    if !named(vars, outer.len(), instruction) {
+        return Err(CodeFault::BadName);
+    }
+    run(alloc, at, instruction, body, outer)
 }
 
 // Judges the end of the plan.
