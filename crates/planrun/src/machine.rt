@@ -17,7 +17,7 @@ ghost use Rattle.planrun.specs.Deciding.{decides};
 ghost use Rattle.planrun.specs.Running.{items_of, world, ops, vars, depth, next_of, IsReady, IsAt, IsAtOp, BeginsBody, Leads};
 
 use crate::bindings::{Bindings, Slots, item_of, named, variable, with_item};
-use celmean::{Outcome, Value, list_items, range_of, reduced};
+use celmean::{LONGEST_RANGE, Outcome, Value, list_items, range_of, reduced};
 use celtree::Macro;
 use instructions::Instruction;
 use plancode::Verified;
@@ -27,9 +27,6 @@ use planstack::{
     topmost,
 };
 use std::alloc::{AllocError, Global};
-
-/// The most items that a macro goes over.
-const LONGEST_RANGE: usize = 1024;
 
 /// What instructions are run with.
 #[derive(Clone, Copy)]
