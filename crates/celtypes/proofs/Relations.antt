@@ -1,12 +1,12 @@
 -- The rows of the table, as relations and as computed.
-use Rattle.std.proofs.Common.{◌≡◌, ℕ, Bool, true, false, cond, Some, List, [], ◌∷◌, codes, bytes_eq, refl, sym, ap, subst, ◌∙◌}
+use Rattle.std.proofs.Common.{◌≡◌, ℕ, Bool, true, false, ◌||◌, cond, Some, List, [], ◌∷◌, codes, bytes_eq, refl, sym, ap, subst, ◌∙◌}
 use Rattle.std.proofs.lemmas.Option.{none-some, same_Some, cond_some}
 use Rattle.std.proofs.lemmas.Bool.{false≢true, false_from_ne_true, and_parts}
 use Rattle.celtree.specs.declared.tree.Operator.{Operator}
 use Rattle.celtree.specs.declared.tree.Macro.{Macro}
 use Rattle.celtypes.specs.Types.{ValueType, int, uint, bool, string, null, dyn, list, map}
 use Rattle.celtypes.specs.Tables.{Fits, itself, dynamic, Common, alike, unlike, AllAre, none_other, one_more, Element, of_none, of_one_type, of_many_types, IsNumber, signed, unsigned, IsKey, int_key, uint_key, bool_key, string_key, AreKeys, no_keys, keys, Sums, sum_of_numbers, sum_of_strings, sum_of_lists, number_and_dyn, dyn_and_number, string_and_dyn, dyn_and_string, list_and_dyn, dyn_and_list, dyn_and_dyn, IsArithmetic, subtraction, multiplication, division, remainder, Calculates, two_numbers, number_by_dyn, dyn_by_number, dyn_by_dyn, IsConnective, conjunction, disjunction, IsEquality, equal, not_equal, IsComparison, less, less_or_equal, greater, greater_or_equal, Comparable, compare_numbers, compare_strings, compare_bools, ItemOf, list_item, map_key, dyn_item, IndexOf, item_at, value_at, dyn_at, FieldOf, map_field, dyn_field, IsSized, string_size, list_size, map_size, IsConvertible, from_int, from_uint, from_string, Calls, size_of, to_int, to_uint, to_string, to_dyn, IsTextTest, contains, starts_with, ends_with, IsTest, all_items, some_item, one_item}
-use Rattle.celtypes.specs.Computed.{same, common, all_are, element, given, fits_bool, fits_int, fits_uint, fits_string, fits_number, fits_convertible, fits_key, are_keys, fits_sized, fits_ordered, list_sum, dyn_sum, sum_type, dyn_number, number_type, compares, has_items, item_type, index_type, field_type, infix_type, function_type, is_text_test, macro_type}
+use Rattle.celtypes.specs.Computed.{same, common, all_are, element, given, fits, fits_bool, fits_int, fits_uint, fits_string, fits_number, fits_convertible, fits_key, are_keys, fits_sized, fits_ordered, list_sum, dyn_sum, sum_type, dyn_number, number_type, compares, has_items, item_type, index_type, field_type, infix_type, function_type, is_text_test, macro_type}
 use Rattle.celtypes.proofs.Steps.{if_some, named}
 
 pub given_some : (b : Bool) (t u : ValueType) → given b t ≡ Some u → (b ≡ true) × (t ≡ u)
@@ -78,34 +78,35 @@ fits_is : {t s : ValueType} (test : ValueType → Bool) → test s ≡ true → 
 fits_is test own any itself = own
 fits_is test own any dynamic = any
 
+either_fits : (own any : Bool) (asked t : ValueType) → same t asked ≡ own → same t dyn ≡ any → (own || any) ≡ true → Fits t asked
+either_fits true any asked t own_is any_is e = subst (λ (u : ValueType). Fits t u) (same_types t asked own_is) itself
+either_fits false true asked t own_is any_is e = subst (λ (u : ValueType). Fits u asked) (sym (same_types t dyn any_is)) dynamic
+either_fits false false asked t own_is any_is e = absurd (false≢true e)
+
+-- what passes the test of a type fits it
+fits_of : (asked t : ValueType) → fits asked t ≡ true → Fits t asked
+fits_of asked t e = either_fits (same t asked) (same t dyn) asked t refl refl e
+
 pub bool_is : {t : ValueType} → Fits t bool → fits_bool t ≡ true
 bool_is = fits_is fits_bool refl refl
 
 pub bool_of : (t : ValueType) → fits_bool t ≡ true → Fits t bool
-bool_of bool e = itself
-bool_of dyn e = dynamic
-bool_of t e = absurd (false≢true e)
+bool_of t e = fits_of bool t e
 
 pub int_is : {t : ValueType} → Fits t int → fits_int t ≡ true
 int_is = fits_is fits_int refl refl
 
 pub int_of : (t : ValueType) → fits_int t ≡ true → Fits t int
-int_of int e = itself
-int_of dyn e = dynamic
-int_of t e = absurd (false≢true e)
+int_of t e = fits_of int t e
 
 pub uint_of : (t : ValueType) → fits_uint t ≡ true → Fits t uint
-uint_of uint e = itself
-uint_of dyn e = dynamic
-uint_of t e = absurd (false≢true e)
+uint_of t e = fits_of uint t e
 
 pub string_is : {t : ValueType} → Fits t string → fits_string t ≡ true
 string_is = fits_is fits_string refl refl
 
 pub string_of : (t : ValueType) → fits_string t ≡ true → Fits t string
-string_of string e = itself
-string_of dyn e = dynamic
-string_of t e = absurd (false≢true e)
+string_of t e = fits_of string t e
 
 number_of : (t : ValueType) → fits_number t ≡ true → (n : ValueType) × Fits t n × IsNumber n
 number_of int e = (int, itself, signed)
@@ -114,19 +115,20 @@ number_of dyn e = (int, dynamic, signed)
 number_of t e = absurd (false≢true e)
 
 pub convertible_is : {t s : ValueType} → Fits t s → IsConvertible s → fits_convertible t ≡ true
-convertible_is fits from_int = fits_is fits_convertible refl refl fits
-convertible_is fits s = fits_is fits_convertible refl refl fits
+convertible_is f from_int = fits_is fits_convertible refl refl f
+convertible_is f s = fits_is fits_convertible refl refl f
+
+from_number : {n : ValueType} → IsNumber n → IsConvertible n
+from_number signed = from_int
+from_number unsigned = from_uint
 
 pub convertible_of : (t : ValueType) → fits_convertible t ≡ true → (s : ValueType) × Fits t s × IsConvertible s
-convertible_of int e = (int, itself, from_int)
-convertible_of uint e = (uint, itself, from_uint)
 convertible_of string e = (string, itself, from_string)
-convertible_of dyn e = (int, dynamic, from_int)
-convertible_of t e = absurd (false≢true e)
+convertible_of t e = let n = number_of t e in (n.0, n.1, from_number n.2)
 
 pub sized_is : {t s : ValueType} → Fits t s → IsSized s → fits_sized t ≡ true
-sized_is fits string_size = fits_is fits_sized refl refl fits
-sized_is fits s = fits_is fits_sized refl refl fits
+sized_is f string_size = fits_is fits_sized refl refl f
+sized_is f s = fits_is fits_sized refl refl f
 
 pub sized_of : (t : ValueType) → fits_sized t ≡ true → (s : ValueType) × Fits t s × IsSized s
 sized_of string e = (string, itself, string_size)
@@ -136,16 +138,17 @@ sized_of dyn e = (string, dynamic, string_size)
 sized_of t e = absurd (false≢true e)
 
 key_is : {t k : ValueType} → Fits t k → IsKey k → fits_key t ≡ true
-key_is fits int_key = fits_is fits_key refl refl fits
-key_is fits k = fits_is fits_key refl refl fits
+key_is f int_key = fits_is fits_key refl refl f
+key_is f k = fits_is fits_key refl refl f
+
+key_from : {k : ValueType} → IsConvertible k → IsKey k
+key_from from_int = int_key
+key_from from_uint = uint_key
+key_from from_string = string_key
 
 key_of : (t : ValueType) → fits_key t ≡ true → (k : ValueType) × Fits t k × IsKey k
-key_of int e = (int, itself, int_key)
-key_of uint e = (uint, itself, uint_key)
 key_of bool e = (bool, itself, bool_key)
-key_of string e = (string, itself, string_key)
-key_of dyn e = (int, dynamic, int_key)
-key_of t e = absurd (false≢true e)
+key_of t e = let c = convertible_of t e in (c.0, c.1, key_from c.2)
 
 pub are_keys_is : {ts : List ValueType} → AreKeys ts → are_keys ts ≡ true
 are_keys_is no_keys = refl

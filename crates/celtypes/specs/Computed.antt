@@ -41,26 +41,21 @@ element (t ∷ ts) = if all_are t ts then t else dyn
 abbrev pub given : Bool → ValueType → Option ValueType
 given b t = if b then Some t else None
 
--- whether a row takes the type where it asks for bool; the same for the others
+-- whether a row takes the type where it asks for another: it is that type, or dyn
+abbrev pub fits : ValueType → ValueType → Bool
+fits asked t = same t asked || same t dyn
+
 abbrev pub fits_bool : ValueType → Bool
-fits_bool bool = true
-fits_bool dyn = true
-fits_bool _ = false
+fits_bool t = fits bool t
 
 abbrev pub fits_int : ValueType → Bool
-fits_int int = true
-fits_int dyn = true
-fits_int _ = false
+fits_int t = fits int t
 
 abbrev pub fits_uint : ValueType → Bool
-fits_uint uint = true
-fits_uint dyn = true
-fits_uint _ = false
+fits_uint t = fits uint t
 
 abbrev pub fits_string : ValueType → Bool
-fits_string string = true
-fits_string dyn = true
-fits_string _ = false
+fits_string t = fits string t
 
 abbrev pub fits_number : ValueType → Bool
 fits_number int = true
