@@ -5,12 +5,8 @@ use Rattle.std.specs.List.{AllByRecursion, flat_map}
 use Rattle.std.specs.Option.{option_map_or}
 use Rattle.celtree.specs.Tree.{Expr}
 use Rattle.celtypes.specs.Types.{ValueType}
-use Rattle.instructions.specs.declared.instruction.Name.TheVariants as name
-use Rattle.instructions.specs.Op.{Op, PushInt, PushUint, PushText, PushTruth, PushNull, PushName, PushVariable, PushSlot, TakeField, TakeHas, TakeIndex, TakeItems, TakePairs, TakeUnary, TakeBinary, TakeCall, TakeBoth, TakeEither, IfFalse, IfTrue, Branch, Jump, Over}
-use Rattle.instructions.specs.declared.instruction.Name.{Name}
-use Rattle.instructions.specs.Bytes.{name_number}
 use Rattle.plan.specs.Seen.{IsSmall}
-use Rattle.plancode.specs.Plans.{Judged, NamesUpTo, UsesNamesUpTo}
+use Rattle.plancode.specs.Plans.{Judged}
 use Rattle.policy.specs.Forms.{Text}
 use Rattle.policy.specs.Spec.{Named, Validation, Policy}
 use Rattle.expressions.specs.Variables.{names_in, declared_by, variables_among, HasItsType, Declares}
@@ -147,44 +143,6 @@ pub never_short : {A B : Type 0} (f : A → Source) (xs : List A) (i : ℕ) (g :
     {p : Policy} {ss : List Source} {es : List Expr} {vs : Variables} {done : List Judged}
     → i < length xs → length trees ≡ 0 → Planning p ss es vs done (map f (drop i xs)) (map g trees) → ⊥
 never_short f xs i g trees inside none so_far = no_tree_left f (drop i xs) g trees (omega (arith, length-drop i xs)) none so_far
-
--- ---- plans and their bytes
-
-up_to_params : (x : Name) → name_number x ≤ name_number name.Params
-up_to_params name.Object = omega arith
-up_to_params name.OldObject = omega arith
-up_to_params name.Request = omega arith
-up_to_params name.Params = omega arith
-
-op_up_to_params : (op : Op) → NamesUpTo name.Params op
-op_up_to_params (PushInt n) = tt
-op_up_to_params (PushUint n) = tt
-op_up_to_params (PushText t) = tt
-op_up_to_params (PushTruth b) = tt
-op_up_to_params PushNull = tt
-op_up_to_params (PushName x) = up_to_params x
-op_up_to_params (PushVariable v) = tt
-op_up_to_params (PushSlot s) = tt
-op_up_to_params (TakeField f) = tt
-op_up_to_params (TakeHas f) = tt
-op_up_to_params TakeIndex = tt
-op_up_to_params (TakeItems n) = tt
-op_up_to_params (TakePairs n) = tt
-op_up_to_params (TakeUnary p) = tt
-op_up_to_params (TakeBinary o) = tt
-op_up_to_params (TakeCall f) = tt
-op_up_to_params TakeBoth = tt
-op_up_to_params TakeEither = tt
-op_up_to_params (IfFalse t) = tt
-op_up_to_params (IfTrue t) = tt
-op_up_to_params (Branch t u) = tt
-op_up_to_params (Jump t) = tt
-op_up_to_params (Over m t) = tt
-
--- every plan uses declared names up to the last one alone
-pub all_up_to_params : (ops : List Op) → UsesNamesUpTo name.Params ops
-all_up_to_params [] = tt
-all_up_to_params (op ∷ ops) = (op_up_to_params op, all_up_to_params ops)
 
 -- ---- the program's lists
 

@@ -1,5 +1,5 @@
 -- A value's text has at least the bytes of its strings, and so those of the expressions that it spells.
-use Rattle.std.proofs.Common.{◌≡◌, ◌≢◌, ◌≤◌, ◌∙◌, sym, ap, refl, ℕ, ◌+◌, List, [], ◌∷◌, ◌++◌, length, Bool, true, false, cond, nat_lt, Option, Some, None, Ordering, Less, Equal, Greater, nat_cmp, arith, length-append}
+use Rattle.std.proofs.Common.{◌≡◌, ◌≢◌, ◌≤◌, ◌∙◌, sym, ap, refl, ℕ, ◌+◌, List, [], ◌∷◌, ◌++◌, length, Bool, true, false, cond, nat_lt, Option, Some, None, Ordering, Equal, nat_cmp, arith, length-append}
 use Rattle.std.specs.Cmp.Lexicographic.{slice_cmp}
 use Rattle.std.specs.Ordering.{match_ordering}
 use Rattle.json.specs.Print.{escape, escape_byte, escape_letter, quoted}
@@ -82,35 +82,15 @@ found_weight (Some d) = weight d
 abbrev pub weight_at : List ℕ → Data → ℕ
 weight_at k d = found_weight (get k d)
 
--- what a member adds to each of three names
+-- what a member adds to each of three names: it has one of them at most
 added : (o p q : Ordering) (e : Data) (x y z : Option Data) (rest : ℕ) → (o ≡ Equal → p ≡ Equal → ⊥) → (o ≡ Equal → q ≡ Equal → ⊥) → (p ≡ Equal → q ≡ Equal → ⊥)
     → found_weight x + found_weight y + found_weight z ≤ rest
     → found_weight (match_ordering o x (Some e) x) + found_weight (match_ordering p y (Some e) y) + found_weight (match_ordering q z (Some e) z) ≤ weight e + rest
 added Equal Equal q e x y z rest a b c h = absurd (a refl refl)
-added Equal Less Equal e x y z rest a b c h = absurd (b refl refl)
-added Equal Less Less e x y z rest a b c h = omega arith
-added Equal Less Greater e x y z rest a b c h = omega arith
-added Equal Greater Equal e x y z rest a b c h = absurd (b refl refl)
-added Equal Greater Less e x y z rest a b c h = omega arith
-added Equal Greater Greater e x y z rest a b c h = omega arith
-added Less Equal Equal e x y z rest a b c h = absurd (c refl refl)
-added Less Equal Less e x y z rest a b c h = omega arith
-added Less Equal Greater e x y z rest a b c h = omega arith
-added Less Less Equal e x y z rest a b c h = omega arith
-added Less Less Less e x y z rest a b c h = omega arith
-added Less Less Greater e x y z rest a b c h = omega arith
-added Less Greater Equal e x y z rest a b c h = omega arith
-added Less Greater Less e x y z rest a b c h = omega arith
-added Less Greater Greater e x y z rest a b c h = omega arith
-added Greater Equal Equal e x y z rest a b c h = absurd (c refl refl)
-added Greater Equal Less e x y z rest a b c h = omega arith
-added Greater Equal Greater e x y z rest a b c h = omega arith
-added Greater Less Equal e x y z rest a b c h = omega arith
-added Greater Less Less e x y z rest a b c h = omega arith
-added Greater Less Greater e x y z rest a b c h = omega arith
-added Greater Greater Equal e x y z rest a b c h = omega arith
-added Greater Greater Less e x y z rest a b c h = omega arith
-added Greater Greater Greater e x y z rest a b c h = omega arith
+added Equal p Equal e x y z rest a b c h = absurd (b refl refl)
+added o Equal Equal e x y z rest a b c h = absurd (c refl refl)
+added o p Equal e x y z rest a b c h = omega arith
+added o p q e x y z rest a b c h = omega arith
 
 not_both : (j k l : List ℕ) → j ≢ k → slice_cmp nat_cmp j l ≡ Equal → slice_cmp nat_cmp k l ≡ Equal → ⊥
 not_both j k l differ a b = differ (same_names j l a ∙ sym (same_names k l b))
