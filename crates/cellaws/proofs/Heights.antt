@@ -1,5 +1,5 @@
 -- What is awaited in the open bodies is where control comes by the instructions before: so the height that is found is the one there.
-use Rattle.std.proofs.Common.{◌≡◌, inl, inr, ℕ, ◌≤◌, true, List, [], ◌∷◌, length, Some, refl, sym, ap, subst, ◌∙◌, arith}
+use Rattle.std.proofs.Common.{◌≡◌, inr, ℕ, ◌≤◌, true, List, ◌∷◌, length, Some, refl, ap, subst, arith}
 use Rattle.std.proofs.lemmas.List.{length-map}
 use Rattle.instructions.specs.Op.{Op}
 use Rattle.instructions.specs.Judging.{Arrival, Body, height_at, has_one, is_one}

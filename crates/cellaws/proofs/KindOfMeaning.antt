@@ -1,8 +1,7 @@
 -- What a tree of a type means is of the type's kind.
-use Rattle.std.proofs.Common.{◌≡◌, ℕ, Bool, true, false, cond, Option, Some, List, [], ◌∷◌, map, bytes_eq, refl, subst, sym, ◌∙◌}
+use Rattle.std.proofs.Common.{◌≡◌, ℕ, Bool, true, false, cond, Option, Some, List, [], ◌∷◌, map, bytes_eq, subst, sym}
 use Rattle.std.proofs.lemmas.Option.{same_Some}
 use Rattle.std.proofs.lemmas.Bool.{false≢true}
-use Rattle.celtree.specs.Tree as tree
 use Rattle.celtree.specs.Tree.{Expr, Exprs, Pairs}
 use Rattle.celtree.specs.Variables.{is_variables}
 use Rattle.celmean.specs.Value.{Value, Outcome, Gives, with_value}

@@ -14,8 +14,8 @@ ghost use Rattle.celplain.specs.Seen.{environment_of};
 
 use crate::environment::{Binding, Environment, bind, bound};
 use celmean::{
-    LONGEST_RANGE, Outcome, Value, called, has_member_of, index_of, infixed, is_false, is_true, list_of, map_of,
-    member_of, method_called, prefixed, range_of, reduced,
+    LONGEST_RANGE, Outcome, Value, called, has_member_of, index_of, infixed, is_false, is_true,
+    list_of, map_of, member_of, method_called, prefixed, range_of, reduced,
 };
 use celtree::{Macro, Operator, Prefix, Tree, is_variables};
 use std::alloc::{AllocError, Global};
