@@ -204,9 +204,10 @@ impl<D: Device> Store<D> {
             Ok(prepared) => Ok(prepared),
             Err(LookupFault::Memory) => Err(Fault::Memory),
             Err(LookupFault::Device) => Err(self.stop_for(Fault::Device)),
-            Err(LookupFault::Damaged(part)) => Err(self.stop_for(Fault::Damaged(Damage::from(
-                part,
-            )))),
+            Err(LookupFault::Damaged(part)) => {
+                let damage = Damage::from(part);
+                Err(self.stop_for(Fault::Damaged(damage)))
+            }
         }
     }
 
