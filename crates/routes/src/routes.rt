@@ -1,12 +1,17 @@
 //! From a message to its request.
 
-ghost use Rattle.std.specs.Prelude.{◌≡◌, IfOk, Some, None, if◌then◌else◌, option_map, is_some, unwrap_or};
+ghost use Rattle.std.specs.Prelude.{◌≡◌, IfOk, Some, None, Err, false, if◌then◌else◌, option_map, is_some, unwrap_or};
 ghost use Rattle.requests.specs.declared.refusal.Refusal.TheVariants.{MethodNotAllowed};
+ghost use Rattle.requests.specs.declared.refusal.Refusal.{Refusal as RefusalData};
+ghost use Rattle.requests.specs.declared.manifest.BodyFault.TheVariants as BodyFault;
+ghost use Rattle.requests.specs.Manifest.{IsManifestOf};
+ghost use Rattle.requests.specs.Refusal.{first_of};
 ghost use Rattle.requests.specs.Request.{refused};
 ghost use Rattle.requests.specs.RequestOf.{request_of};
 ghost use Rattle.routes.specs.Path.{query_of};
 ghost use Rattle.routes.specs.PlaceOf.{seen};
-ghost use Rattle.routes.specs.Asked.{shown, created, replaced, deleted, deletion, gathered, collection_at, of_item, of_collection, of_everywhere, asked_at, asked};
+ghost use Rattle.routes.specs.Query.{has_pairs};
+ghost use Rattle.routes.specs.Asked.{object_conditions, shown, created, replaced, deleted, deletion, gathered, collection_at, of_item, of_collection, of_everywhere, asked_at, asked};
 ghost use Rattle.routes.specs.Allow.{allowed, allow_of};
 
 use crate::collection::gathered;
@@ -184,6 +189,27 @@ fn shown(
     Ok(Request::Get(key))
 }
 
+// What a POST or a PUT asks to be stored.
+fn manifest_asked(
+    alloc: Global,
+    message: &Message,
+    target: &Target,
+    name: Option<&str>,
+    query: &str,
+) -> Result<Manifest, BodyFault>
+    requires query { query.now ≡ query_of message.now.target }
+    requires name { target.now.name ≡ option_map (λ n. n.now) name }
+    ensures asked { IfOk result (IsManifestOf target.now message.now.body) }
+    ensures no_pairs { IfOk result (λ _. has_pairs (query_of message.now.target) ≡ false) }
+    ensures refused { (r : RefusalData) → result ≡ Err (BodyFault.Refused r) → first_of (object_conditions message.now target.now) ≡ Some r }
+{
+    if has_pairs(query) {
+        return Err(BodyFault::Refused(Refusal::BadQuery));
+    }
+    let (resource, namespace) = (target.resource, target.namespace);
+    Manifest::read(alloc, resource, namespace, name, message.body())
+}
+
 // POST to a collection.
 fn created(
     alloc: Global,
@@ -195,11 +221,7 @@ fn created(
     requires name { target.now.name ≡ None }
     ensures { IfOk result (λ request. request_of request ≡ created message.now target.now) }
 {
-    if has_pairs(query) {
-        return Ok(Request::Refused(Refusal::BadQuery));
-    }
-    let (resource, namespace) = (target.resource, target.namespace);
-    match Manifest::read(alloc, resource, namespace, None, message.body()) {
+    match manifest_asked(alloc, message, target, None, query) {
         Ok(manifest) => Ok(Request::Create(manifest)),
         Err(BodyFault::Refused(refusal)) => Ok(Request::Refused(refusal)),
         Err(BodyFault::Memory) => Err(AllocError),
@@ -218,11 +240,7 @@ fn replaced(
     requires name { target.now.name ≡ Some name.now }
     ensures { IfOk result (λ request. request_of request ≡ replaced message.now target.now) }
 {
-    if has_pairs(query) {
-        return Ok(Request::Refused(Refusal::BadQuery));
-    }
-    let (resource, namespace) = (target.resource, target.namespace);
-    match Manifest::read(alloc, resource, namespace, Some(name), message.body()) {
+    match manifest_asked(alloc, message, target, Some(name), query) {
         Ok(manifest) => Ok(Request::Replace(manifest)),
         Err(BodyFault::Refused(refusal)) => Ok(Request::Refused(refusal)),
         Err(BodyFault::Memory) => Err(AllocError),
