@@ -6,6 +6,7 @@ ghost use Rattle.holdings.specs.Prepared.{HasRoomFor};
 use crate::refusals::status;
 use apicore::{Beside, Core, Prepared, prepare};
 use cases::{TextBuilder, WordReader, Wrong, text, wanted};
+use expressions::StoredPlans;
 use history::Reply;
 use holdings::{Nothing, PreparedWrite, Put, ReplayFault};
 use http::StatusCode;
@@ -97,7 +98,8 @@ fn replayed(alloc: Global, done: Result<(), ReplayFault>) -> Result<String, Wron
 
 // Takes a put again, as one that was stored.
 fn put_again(alloc: Global, core: &mut Core, manifest: &Manifest) -> Result<String, Wrong> {
-    match Beside::of(alloc, manifest.document().json(), Vec::new(alloc)) {
+    let none = StoredPlans::Plans(Vec::new(alloc));
+    match Beside::of(alloc, manifest.document().json(), none) {
         Ok(beside) => replayed(alloc, core.replay_put(alloc, manifest, beside)),
         Err(_) => Err(Wrong::Memory),
     }
