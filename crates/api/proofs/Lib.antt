@@ -1,6 +1,5 @@
 pub mod Codes
 pub mod Folds
-pub mod Sheets
 pub mod Groups
 pub mod Streams
 pub mod Tellings

@@ -1,5 +1,3 @@
-pub mod ReplyBytes
-pub mod AnswerBytes
 pub mod Answers
 pub mod Serving
 pub mod Piece

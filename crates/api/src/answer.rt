@@ -15,12 +15,12 @@ ghost use Rattle.routes.specs.Allow.{allow_of};
 ghost use Rattle.api.specs.Answers.{ShowsAt, Answers, Stops, HasCauses};
 
 use crate::fault::ServeFault;
-use crate::reply::{write_answers, write_storage_failed};
 use device::Device;
 use durable::{Fault, Store};
 use history::Reply;
 use httpmsg::{Message, Output, Sheet};
 use records::GROUP_LIMIT;
+use replies::{write_answers, write_storage_failed};
 use requests::Request;
 use routes::{Routed, Routes, route};
 use std::alloc::{AllocError, Global};

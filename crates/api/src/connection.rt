@@ -11,10 +11,10 @@ ghost use Rattle.api.specs.Serving.{HasEnded, HasReadSome, HasWrittenSome, HasFa
 
 use crate::fault::ServeFault;
 use crate::piece::{Connection, Step, next_step};
-use crate::reply::write_no_more;
 use device::Device;
 use durable::Store;
 use httpmsg::{End, Input, Output};
+use replies::write_no_more;
 use std::alloc::{AllocError, Global};
 
 /// How many bytes are read at once, at most.

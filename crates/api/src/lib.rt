@@ -1,7 +1,7 @@
 //! From the bytes of a connection to the bytes of its replies.
 //!
 //! ```text
-//! let mut store = Store::open(alloc, device)?;
+//! let mut store = open(alloc, device)?;
 //! let end = serve(alloc, &mut input, &mut output, &mut store)?;
 //! ```
 //!
@@ -12,14 +12,12 @@
 #![tactic(auto)]
 
 mod answer;
-mod bodies;
 mod connection;
 mod fault;
 mod laws;
 mod piece;
-mod reply;
 
-pub use bodies::fault_body;
 pub use connection::serve;
 pub use fault::ServeFault;
 pub use laws::answers_are_runs;
+pub use replies::fault_body;

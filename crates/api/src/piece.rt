@@ -11,16 +11,16 @@ ghost use Rattle.httpmsg.specs.Stream.{Message as MessageData, IsCut};
 ghost use Rattle.httpmsg.specs.declared.head.End.{End as EndData};
 ghost use Rattle.objects.specs.Failing.{HasGrown};
 ghost use Rattle.api.specs.Answers.{ShowsAt, HasCauses};
-ghost use Rattle.api.specs.ReplyBytes.{closing_bytes, end_bytes};
+ghost use Rattle.replies.specs.ReplyBytes.{closing_bytes, end_bytes};
 ghost use Rattle.api.specs.Serving.{HasAllCauses};
 ghost use Rattle.api.specs.Piece.{Tells, Breaks, Steps, StepsWrong, Finishes, FinishesInPart};
 
 use crate::answer::answer_all;
 use crate::fault::ServeFault;
-use crate::reply::{write_fault, write_no_more};
 use device::Device;
 use durable::Store;
 use httpmsg::{CutFault, Cutter, End, Input, Message, Output, Sheet};
+use replies::{write_fault, write_no_more};
 use routes::Routes;
 use std::alloc::{AllocError, Global};
 

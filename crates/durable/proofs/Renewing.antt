@@ -1,5 +1,6 @@
 -- A store whose next generation is told, and then written.
 use Rattle.std.proofs.Common.{arith, ◌≡◌, ◌∙◌, sym, ap, subst, ◌⊎◌, inl, inr, ⊎_elim, [], true, false, Result, Ok, Err, OnOk, OnErr, IsErrOf}
+use Rattle.std.specs.Result.{IsErrAnd}
 use Rattle.device.specs.declared.device.Device.{Ghosts}
 use Rattle.device.specs.Disk.{Disk, HasFailed}
 use Rattle.device.specs.Run.{Ran, Stands}
@@ -24,7 +25,7 @@ use Rattle.durable.specs.Settled.{device_of, serves, kept_rules, revision_of, Is
 use Rattle.durable.proofs.Answering.{serving_by, settled_serves, revision_is, shown_anew}
 use Rattle.durable.proofs.Findings.{found_none}
 use Rattle.durable.proofs.Grouping.{settled_still}
-use Rattle.durable.proofs.Reading.{history_kept}
+use Rattle.durable.proofs.Numbers.{history_kept}
 use Rattle.durable.proofs.Unwritten.{moments_read}
 
 -- ---- results
@@ -32,6 +33,11 @@ use Rattle.durable.proofs.Unwritten.{moments_read}
 pub on_ok_three : {T E : Type 0} (P Q R S : Type 0) (r : Result T E) → (P → Q → R → S) → OnOk r P → OnOk r Q → OnOk r R → OnOk r S
 on_ok_three P Q R S (Ok x) to p q s = to p q s
 on_ok_three P Q R S (Err e) to p q s = tt
+
+-- what is known of an error that is told
+pub err_is : {T E : Type 0} (r : Result T E) (P : E → Type 0) (e : E) → IsErrAnd r P → IsErrOf r e → P e
+err_is (Ok x) P e holds is = absurd holds
+err_is (Err f) P e holds is = let same : f ≡ e = cc in subst P same holds
 
 pub at_error : {T E : Type 0} (P : Type 0) (r : Result T E) (e : E) → IsErrOf r e → OnErr r P → P
 at_error P (Ok x) e is holds = cc

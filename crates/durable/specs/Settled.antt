@@ -22,6 +22,7 @@ use Rattle.apicore.specs.Standing.{Write, History, View, IsView, AreAdmitted}
 use Rattle.apicore.specs.Step.{Asked, writes, reply, accepted, replies}
 use Rattle.apicore.specs.Prepared.{IsReadOf}
 use Rattle.paged.specs.Paged as paged
+use Rattle.paged.specs.declared.state.Paged.{Paged}
 use Rattle.durable.specs.declared.store.Store.{Store}
 use Rattle.durable.specs.Stands.{StandsFor}
 
@@ -45,6 +46,10 @@ module _ {D : Type 0} {g : Ghosts D} where
   -- the device under a store
   abbrev pub device_of : Store D g → D
   device_of store = store.device
+
+  -- its objects, in pages and in memory over them
+  abbrev pub paged_of : Store D g → Paged
+  paged_of store = store.paged
 
   -- whether a store serves: it does until its device fails, or damage is found
   abbrev pub serves : Store D g → Bool

@@ -1,13 +1,10 @@
 ghost use Rattle.std.specs.Prelude.{◌≡◌, ◌≢◌, ◌≤◌, ◌+◌, ◌-◌, ◌^◌, ◌<◌, IsTrue, ◌++◌, ◌∷◌, [], List, ℕ, length, take, map, true, false, is_ok, None, Some, IsSome, IfSome, IfOk, IfErr, OnOk, OnErr, IsErrOf, ◌⊎◌, ◌↔◌};
 ghost use Rattle.checkpoint.specs.declared.writing.WriteFault.TheVariants as WriteFault;
-ghost use Rattle.durable.specs.Rules.{AreOfFormat};
-ghost use Rattle.durable.specs.Opened.{IsReplayed};
 ghost use Rattle.durable.specs.Ready.{IsReady};
 ghost use Rattle.paged.specs.Paged.{root_of as paged_root};
 
 use crate::compacted::{Checked, Compacted};
 use crate::fault::{Damage, Fault};
-use crate::opening::synced_store;
 use crate::record::gather;
 use apicore::{Core, Prepared, has_own_plans};
 use checkpoint::{WriteFault, Written, write};
@@ -41,7 +38,7 @@ pub struct Store<D: Device> {
 }
 
 impl<D: Device> Store<D> {
-    ghost use Rattle.device.specs.Disk.{LeavesOnly, HasCause, HasFailed};
+    ghost use Rattle.device.specs.Disk.{HasCause, HasFailed};
     ghost use Rattle.device.specs.Run.{Ran, Stands};
     ghost use Rattle.std.specs.FinMap.{is_sorted};
     ghost use Rattle.std.specs.List.{AllByRecursion};
@@ -79,45 +76,24 @@ impl<D: Device> Store<D> {
     ghost use Rattle.durable.specs.Gathered.{in_record, CanBeAppended, HasStepped, StaysAs, HasGatheredMore, HasServedMore, HasStoppedIn, HasAnswered};
     ghost use Rattle.durable.specs.Ready.{IsReadyAt, HoldsHistory};
     ghost use Rattle.durable.specs.Stands.{StandsFor};
-    ghost use Rattle.durable.specs.Settled.{device_of, root_of, log_of, serves, kept_rules, revision_of, LiesUnder, LiesStill, Holds, IsShown, ServesAt, IsFound, IsSettledAt, IsLeftAt, LeavesSome, HasReplied, HasFailedAt, HasServed, HasStopped};
+    ghost use Rattle.durable.specs.Settled.{device_of, paged_of, root_of, log_of, serves, kept_rules, revision_of, LiesUnder, LiesStill, Holds, IsShown, ServesAt, IsFound, IsSettledAt, IsLeftAt, LeavesSome, HasReplied, HasFailedAt, HasServed, HasStopped};
 
-    /// Opens the store on a device: syncs it, reads it, and writes nothing. With a refusal it gives the device back.
-    ///
-    /// # Errors
-    ///
-    /// `Device` only where the device failed in this call; `Memory`; `Damaged` only where the content stands for no history.
-    pub fn open(alloc: Global, device: D) -> Result<Store<D>, (Fault, D)>
-        ensures settled { (rules : Rules) (h : History) → D.disk.keeps device → StandsFor rules (D.disk.content device) h
-            → IfOk result (λ store. IsSettledAt rules store h) }
-        ensures serves { IfOk result (λ store. serves store ≡ true) }
-
-        // Whatever the device: it keeps to the numbers of a format, and where the root that counts has no pages, it shows what the writes that were read
-        // left, with their plans.
-        ensures rules { IfOk result (λ store. AreOfFormat (kept_rules store)) }
-        ensures replayed { IfOk result (λ store. (root_of store).pages ≡ 0 → (held : seen.View Beside) × Holds store held × IsReplayed (kept_rules store) held) }
-
-        // At every moment a crash leaves what it might have left before.
-        ensures any_moment { D.disk.keeps device → IfOk result (λ store. LeavesOnly D.disk device (device_of store) (D.disk.left device)) }
-        ensures any_moment_err { D.disk.keeps device → IfErr result (λ e. LeavesOnly D.disk device e.1 (D.disk.left device)) }
-
-        ensures content { D.disk.keeps device → IfOk result (λ store. D.disk.content (device_of store) ≡ D.disk.content device) }
-        ensures content_err { D.disk.keeps device → IfErr result (λ e. D.disk.keeps e.1 × (D.disk.content e.1 ≡ D.disk.content device)) }
-        ensures left_err { D.disk.keeps device → IfErr result (λ e. (c : List ℕ) → D.disk.left e.1 c → D.disk.left device c) }
-        ensures refusal { (rules : Rules) (h : History) → D.disk.keeps device → StandsFor rules (D.disk.content device) h
-            → IfErr result (λ e. (e.0 ≡ Fault.Device) ⊎ (e.0 ≡ Fault.Memory)) }
-        ensures never_failed { IfErr result (λ e. (e.0 ≢ Fault.Failed) × (e.0 ≢ Fault.Exhausted)) }
-        ensures cause { IfErr result (λ e. e.0 ≡ Fault.Device → HasFailed D.disk device e.1) }
-        ensures count { IfOk result (λ store. D.disk.failures device ≤ D.disk.failures (device_of store)) }
+    /// The store of what an opening found on a device: what is shown over the pages of the root that counts, and the log behind them. It serves.
+    pub fn serving(device: D, paged: Paged, log: Log) -> Store<D>
+        requires limits { paged.core.rules.text_limit_bytes ≤ 2 ^ 24 }
+        requires in_data { 8 ≤ log.start }
+        requires works { log.failed ≡ false }
+        requires ready { D.disk.keeps device → ∥ IsReady D.disk device (paged_root paged) log ∥₁ }
+        ensures device { device_of result ≡ device }
+        ensures paged { paged_of result ≡ paged }
+        ensures log { log_of result ≡ log }
+        ensures serves { serves result ≡ true }
     {
-        let mut device = device;
-        match synced_store(alloc, &mut device) {
-            Ok(opened) => Ok(Store {
-                device,
-                paged: opened.paged,
-                log: opened.log,
-                serves: true,
-            }),
-            Err(fault) => Err((fault, device)),
+        Store {
+            device,
+            paged,
+            log,
+            serves: true,
         }
     }
 
@@ -645,8 +621,8 @@ impl Store<MemDevice> {
     ghost use Rattle.apicore.specs.Standing.{History};
     ghost use Rattle.durable.specs.Settled.{device_of, IsSettledAt};
 
-    /// From the n-th device call from now on all fail; 0 asks for none.
-    pub(crate) fn stop_on(&mut self, n: u64)
+    /// From the n-th device call from now on all fail; 0 asks for none. Nothing else changes.
+    pub fn stop_on(&mut self, n: u64)
         ensures asked { memory (device_of self.new) ≡ record (memory (device_of self.old)) { script = record (device_of self.old).script { stop_in = n } } }
         ensures paged { self.new.paged ≡ self.old.paged }
         ensures settled { (rules : Rules) (h : History) → IsSettledAt rules self.old h → IsSettledAt rules self.new h }

@@ -10,8 +10,8 @@ use Rattle.device.specs.declared.file_device.OpenFault.TheVariants as file_open_
 use Rattle.durable.specs.declared.fault.Damage.TheVariants as damage
 use Rattle.durable.specs.declared.fault.Fault as store
 use Rattle.durable.specs.declared.fault.Fault.TheVariants as store_fault
-use Rattle.durable.specs.declared.new_store.CreateFault as store_create
-use Rattle.durable.specs.declared.new_store.CreateFault.TheVariants as store_create_fault
+use Rattle.opening.specs.declared.new_store.CreateFault as store_create
+use Rattle.opening.specs.declared.new_store.CreateFault.TheVariants as store_create_fault
 use Rattle.httpmsg.specs.Flow.{TookSome}
 use Rattle.gated.specs.declared.problem.Problem.{Problem}
 use Rattle.gated.specs.declared.problem.Problem.TheVariants as problem

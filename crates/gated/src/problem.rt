@@ -8,8 +8,9 @@ ghost use Rattle.httpmsg.specs.Flow.{HasCause, Writes};
 use crate::status::Status;
 use api::ServeFault;
 use device::{CreateFault as FileCreateFault, OpenFault};
-use durable::{CreateFault, Damage, Fault};
+use durable::{Damage, Fault};
 use httpmsg::{Output, StreamFault, write_all};
+use opening::CreateFault;
 
 /// Why the program did not do what it was asked.
 #[derive(Clone, Copy)]

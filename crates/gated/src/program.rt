@@ -18,8 +18,9 @@ use api::serve;
 use clap::Error;
 use clap::error::ErrorKind;
 use device::{Device, FileDevice};
-use durable::{Checked, Compacted, Store, create};
+use durable::{Checked, Compacted, Store};
 use httpmsg::{Input, Output, write_all};
+use opening::{create, open};
 use std::alloc::Global;
 use std::convert::AsStr;
 use std::fs::File;
@@ -43,7 +44,7 @@ fn store_on<D: Device>(alloc: Global, device: D) -> Result<Store<D>, Problem>
     ensures no_file_made { IsErrOf result Problem.FileExists → ⊥ }
     ensures no_stream { IsErrOf result Problem.StreamFailed → ⊥ }
 {
-    match Store::open(alloc, device) {
+    match open(alloc, device) {
         Ok(store) => Ok(store),
         Err((fault, _)) => Err(Problem::from(fault)),
     }

@@ -3,8 +3,8 @@
 use crate::steps::byte;
 use cases::{TextBuilder, WordReader, Wrong, bytes, number, shown, spelled, text};
 use device::{Device, DeviceFault, MemDevice};
-use durable::create;
 use gatelog::{Body, Log, LogFault};
+use opening::create;
 use std::alloc::Global;
 use std::fmt::Display;
 

@@ -28,7 +28,7 @@ use bench::Stand;
 use cases::{Report, Wrong, paths, run_file};
 use celcases::{Expressions, laws_of_expressions};
 use diskcases::{Disk, check_files};
-use durable::one_view;
+use opening::one_view;
 use policycases::{Policies, View, laws_of_policies, laws_of_views};
 use recordcases::{Records, laws_of_records};
 use rowcases::{Exchange, Rows, laws_of_requests};

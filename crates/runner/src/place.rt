@@ -7,9 +7,11 @@ use crate::streams::{Parted, Taker};
 use api::serve;
 use cases::{TextBuilder, Wrong, shown, text, yes_or_no};
 use device::{MemDevice, Pick};
-use durable::{Checked, Compacted, Episode, Fault, Found, Store, create, drive};
+use durable::{Checked, Compacted, Fault, Store};
 use history::Reply;
 use httpmsg::Std;
+use lives::{Episode, Found, drive};
+use opening::{create, open};
 use requests::Request;
 use std::alloc::Global;
 use std::mem::replace;
@@ -217,7 +219,7 @@ impl Place {
         let Some(device) = self.taken() else {
             return self.note(false, "there is no device");
         };
-        let told = match Store::open(self.alloc, device) {
+        let told = match open(self.alloc, device) {
             Ok(store) => {
                 self.ground = Ground::Open(store);
                 text(self.alloc, "ok")

@@ -2,9 +2,10 @@
 
 use api::{ServeFault, fault_body};
 use cases::{Wrong, shown, text};
-use durable::{CreateFault, Damage, Fault};
+use durable::{Damage, Fault};
 use history::Reply;
 use httpmsg::MessageFault;
+use opening::CreateFault;
 use rowcases::fault_word;
 use std::alloc::Global;
 

@@ -4,7 +4,7 @@ use crate::looks::{crash_leaves, push_look};
 use crate::place::Place;
 use crate::steps::Stop;
 use cases::Wrong;
-use durable::Episode;
+use lives::Episode;
 use records::GROUP_LIMIT;
 use std::alloc::Global;
 

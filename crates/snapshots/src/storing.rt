@@ -5,7 +5,7 @@ ghost use Rattle.std.specs.List.{filter};
 ghost use Rattle.checkpoint.specs.EntryList.{listed, entries_of as in_list};
 ghost use Rattle.history.specs.View as seen;
 ghost use Rattle.holdings.specs.Holdings as holdings;
-ghost use Rattle.entries.specs.Entries.{plan_entries, stored_entry, event_entry, plans_among};
+ghost use Rattle.entries.specs.Entries.{plan_entries, stored_entry, plans_among};
 ghost use Rattle.apicore.specs.Beside.{Beside as BesideData};
 ghost use Rattle.apicore.specs.Prepared.{ShowsOver};
 ghost use Rattle.apicore.specs.Standing.{View};
@@ -15,14 +15,13 @@ ghost use Rattle.snapshots.specs.LyingBelow.{base_of, apart_of};
 use crate::below::Below;
 use apicore::{Beside, Core};
 use checkpoint::EntryList;
-use documents::Document;
-use entries::{Entry, event_entry, object_entry, plan_entries};
+use entries::{Entry, object_entry, plan_entries};
+use eventlist::add_events;
 use expressions::plans_bytes;
 use history::Stored;
 use names::Key;
 use overlay::Lent;
 use std::alloc::{AllocError, Global};
-use window::Events;
 
 // More bytes of plans than a policy can have.
 const MOST_PLAN_BYTES: usize = 1 << 30;
@@ -94,20 +93,6 @@ fn add_all_plans(
 {
     for held in objects {
         add_plans(alloc, entries, held)?;
-    }
-    Ok(())
-}
-
-// Adds the entries of events.
-fn add_events(
-    alloc: Global,
-    entries: &mut Vec<(Vec<u8>, Vec<u8>)>,
-    events: Events<'_, Document>,
-) -> Result<(), AllocError>
-    ensures { OnOk result (listed entries.new.items ≡ listed entries.old.items ++ map event_entry events.entry) }
-{
-    for event in events {
-        entries.push(event_entry(alloc, event)?.into_parts())?;
     }
     Ok(())
 }

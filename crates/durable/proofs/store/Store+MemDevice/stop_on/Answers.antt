@@ -8,7 +8,7 @@ use Rattle.paged.proofs.Staying.{below_ran}
 use Rattle.durable.specs.Settled.{root_of}
 use Rattle.durable.specs.Stands.{StandsFor}
 use Rattle.durable.proofs.Compacting.{ready_same}
-use Rattle.durable.proofs.Driving.{stop_ran}
+use Rattle.durable.proofs.Stopping.{stop_ran}
 use Rattle.durable.proofs.store.Store+MemDevice.stop_on.Goals as goal
 
 pub invariant_of-self : goal.invariant_of-self

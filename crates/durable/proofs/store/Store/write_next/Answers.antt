@@ -21,7 +21,7 @@ use Rattle.durable.proofs.Answering.{Small}
 use Rattle.durable.proofs.Keeping.{reaches}
 use Rattle.durable.proofs.Compacting.{ready_at, entries_written, ready_in_use, ready_same, list_source, generation_in_use, stands_either, stands_written, written_counts, damaged_or_long}
 use Rattle.durable.proofs.Single.{AreHeld, held_once}
-use Rattle.durable.proofs.Reading.{history_kept, of_first, kept_size}
+use Rattle.durable.proofs.Numbers.{history_kept, of_first, kept_size}
 use Rattle.durable.proofs.store.Store.write_next.Goals as goal
 
 pub write-requires-clause-inside : goal.write-requires-clause-inside

@@ -1,0 +1,26 @@
+ghost use Rattle.std.specs.Prelude.{◌≡◌, ◌++◌, map, OnOk};
+ghost use Rattle.checkpoint.specs.EntryList.{listed};
+ghost use Rattle.entries.specs.Entries.{event_entry};
+
+use documents::Document;
+use entries::event_entry;
+use std::alloc::{AllocError, Global};
+use window::Events;
+
+/// Adds the entries of events, each behind those before it.
+///
+/// # Errors
+///
+/// Where there was no memory.
+pub fn add_events(
+    alloc: Global,
+    entries: &mut Vec<(Vec<u8>, Vec<u8>)>,
+    events: Events<'_, Document>,
+) -> Result<(), AllocError>
+    ensures { OnOk result (listed entries.new.items ≡ listed entries.old.items ++ map event_entry events.entry) }
+{
+    for event in events {
+        entries.push(event_entry(alloc, event)?.into_parts())?;
+    }
+    Ok(())
+}

@@ -1,0 +1,6 @@
+//! The entries of events, as a checkpoint keeps them behind those of objects and plans.
+#![tactic(auto)]
+
+mod events;
+
+pub use events::add_events;

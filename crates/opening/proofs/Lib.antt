@@ -1,0 +1,4 @@
+pub mod Beginning
+pub mod Reading
+pub mod Readiness
+pub mod Bases

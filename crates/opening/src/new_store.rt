@@ -1,0 +1,72 @@
+ghost use Rattle.std.specs.Prelude.{◌≡◌, ◌≢◌, ◌*◌, List, ℕ, [], length, OnOk, IsErrOf};
+ghost use Rattle.durable.specs.Rules.{first_rules};
+ghost use Rattle.device.specs.Disk.{HasFailed};
+ghost use Rattle.device.specs.Run.{Ran};
+ghost use Rattle.device.specs.Step.{Same};
+ghost use Rattle.roots.specs.NewStore.{new_content};
+ghost use Rattle.durable.specs.Stands.{StandsFor};
+
+use device::Device;
+use roots::{StartFault, start};
+use std::fmt;
+use std::fmt::{Display, Formatter};
+
+/// Why no store was made.
+#[derive(Clone, Copy)]
+pub enum CreateFault {
+    /// The device failed in this call. It may hold a part of the new store.
+    Device,
+    /// The device has sectors: nothing changed.
+    NotEmpty,
+}
+
+impl Display for CreateFault {
+    ghost use Rattle.std.specs.Prelude.{Some};
+    ghost use Rattle.opening.specs.CreateFaults.{create_fault_text};
+
+    ghost output = { λ fault. Some (create_fault_text fault) };
+
+    fn fmt<W: fmt::Write>(&self, f: &mut Formatter<W>) -> fmt::Result {
+        f.write_str(match self {
+            CreateFault::Device => "device failed",
+            CreateFault::NotEmpty => "device is not empty",
+        })
+    }
+}
+
+impl From<StartFault> for CreateFault {
+    ghost use Rattle.opening.specs.CreateFaults.{of_start_fault};
+
+    ghost from_gives = { λ start_fault fault. fault ≡ of_start_fault start_fault };
+
+    fn from(fault: StartFault) -> CreateFault {
+        match fault {
+            StartFault::Device => CreateFault::Device,
+            StartFault::NotEmpty => CreateFault::NotEmpty,
+        }
+    }
+}
+
+/// Makes a store without objects on a device without sectors: nine sectors, and then a sync. No memory is taken.
+///
+/// # Errors
+///
+/// `NotEmpty` where the device has sectors, and nothing changes. `Device` only where the device failed in this call; it may then hold
+/// anything.
+pub fn create<D: Device>(device: &mut D) -> Result<(), CreateFault>
+    ensures empty { D.disk.keeps device.old → OnOk result (D.disk.content device.old ≡ []) }
+    ensures content { D.disk.keeps device.old → OnOk result (D.disk.content device.new ≡ new_content) }
+    ensures nine { D.disk.keeps device.old → OnOk result (length (D.disk.content device.new) ≡ 9 * 512) }
+    ensures stands { D.disk.keeps device.old → OnOk result (StandsFor first_rules (D.disk.content device.new) []) }
+    ensures left { D.disk.keeps device.old → OnOk result ((c : List ℕ) → D.disk.left device.new c → StandsFor first_rules c []) }
+    ensures not_empty { D.disk.keeps device.old → IsErrOf result CreateFault.NotEmpty → D.disk.content device.old ≢ [] }
+
+    // A device with sectors is left as it was, at every moment.
+    ensures untouched { IsErrOf result CreateFault.NotEmpty → Ran D.disk device.old device.new Same }
+
+    ensures cause { IsErrOf result CreateFault.Device → HasFailed D.disk device.old device.new }
+    ensures kept { D.disk.keeps device.old → D.disk.keeps device.new }
+{
+    start(device)?;
+    Ok(())
+}

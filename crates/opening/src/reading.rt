@@ -1,0 +1,171 @@
+//! What is found on a device that is opened.
+
+ghost use Rattle.std.specs.Prelude.{◌≡◌, ◌≢◌, ◌<◌, ◌≤◌, ◌*◌, ◌^◌, [], false, ℕ, List, length, map, Contains, IfOk, OnOk, OnErr, IsErrOf, Err};
+ghost use Rattle.device.specs.Disk.{Only, HasFailed};
+ghost use Rattle.device.specs.Step.{Same};
+ghost use Rattle.device.specs.Run.{Ran};
+ghost use Rattle.gatelog.specs.Log.{HoldsLog};
+ghost use Rattle.roots.specs.Root.{log_start};
+ghost use Rattle.names.specs.declared.format.Rules.{Rules};
+ghost use Rattle.names.specs.Key.{Key as KeyData};
+ghost use Rattle.apicore.specs.Standing.{History, IsHistory, with_plans};
+ghost use Rattle.apicore.specs.Known.{Writes};
+ghost use Rattle.apicore.specs.Taken.{HasReplayed};
+ghost use Rattle.apicore.specs.Written.{Write, IsWritten};
+ghost use Rattle.durable.specs.declared.fault.Damage.{Damage as DamageData};
+ghost use Rattle.durable.specs.declared.fault.Fault.TheVariants as Fault;
+ghost use Rattle.opening.specs.Opened.{IsLogOf, IsReplayed};
+ghost use Rattle.apicore.specs.Beside.{Beside as BesideData};
+ghost use Rattle.history.specs.View as seen;
+ghost use Rattle.history.specs.View.{view};
+ghost use Rattle.holdings.specs.Holdings as holdings;
+ghost use Rattle.paged.specs.Lying.{base_of};
+ghost use Rattle.paged.specs.Paged.{Below, Holds, IsShown, root_of};
+ghost use Rattle.durable.specs.Rules.{first_rules, AreOfFormat};
+ghost use Rattle.durable.specs.Stands.{HoldsBase, StandsFor};
+
+use apicore::{RecoveryFault, written_keys};
+use device::Device;
+use durable::{Damage, Fault};
+use gatelog::Log;
+use names::{Format, Key, Rules};
+use paged::Paged;
+use roots::{Root, counted_root};
+use std::alloc::Global;
+
+/// What is shown of a history, over the pages of the root that counts, and the log behind these.
+#[derive(Drop)]
+pub(crate) struct Opened {
+    pub(crate) paged: Paged,
+    pub(crate) log: Log,
+}
+
+// The numbers of the first format, which is the only one: a file of another has another header.
+#[tactic(auto, unfolding(durable::specs::Rules::first_rules))]
+fn rules() -> Rules
+    ensures { result ≡ first_rules }
+{
+    Format::First.rules()
+}
+
+// The keys that a log with these payloads writes. Where some payload is that of no writes there are none: it is told where the writes are taken.
+fn keys_in(alloc: Global, payloads: &[Vec<u8>]) -> Result<Vec<Key>, Fault>
+    ensures all { (v : seen.View BesideData) (ws : List Write) → IsWritten first_rules v ws (map (λ p. p.items) payloads.now)
+        → IfOk result (λ keys. (payload : List ℕ) (key : KeyData) → Contains (map (λ p. p.items) payloads.now) payload → Writes payload key → Contains keys.items key) }
+    ensures refusal { OnErr result (result ≡ Err Fault.Memory) }
+{
+    match written_keys(alloc, payloads) {
+        Ok(keys) => Ok(keys),
+        Err(RecoveryFault::Memory) => Err(Fault::Memory),
+        Err(RecoveryFault::Damaged) => Ok(Vec::new(alloc)),
+        Err(RecoveryFault::Plans) => unreachable!("no plans are read"),
+    }
+}
+
+// The objects of a root's pages, once the store took the writes of a log with these payloads.
+fn read_objects<D: Device>(
+    alloc: Global,
+    device: &mut D,
+    root: &Root,
+    payloads: &[Vec<u8>],
+) -> Result<Paged, Fault>
+    requires small { log_start root.now < 2 ^ 54 }
+    requires inside { D.disk.keeps device.old → 512 * log_start root.now ≤ length (D.disk.content device.old) }
+    ensures rules { IfOk result (λ p. p.core.rules ≡ first_rules) }
+    ensures root { IfOk result (λ p. root_of p ≡ root.now) }
+    ensures found { D.disk.keeps device.old → (rules : Rules) (base : History) (ws : List Write) → AreOfFormat rules → IsHistory rules base
+        → HoldsBase rules (D.disk.content device.old) root.now base → IsWritten rules (with_plans (view rules base)) ws (map (λ p. p.items) payloads.now)
+        → IfOk result (λ p. Below D.disk device.new p (base_of (with_plans (view rules base)))
+        × HasReplayed rules (base_of (with_plans (view rules base))) (with_plans (view rules base)) p.core (map (λ p. p.items) payloads.now)) }
+    ensures damaged { D.disk.keeps device.old → (damage : DamageData) → IsErrOf result (Fault.Damaged damage)
+        → (rules : Rules) (base : History) (ws : List Write) → AreOfFormat rules → IsHistory rules base
+        → HoldsBase rules (D.disk.content device.old) root.now base → IsWritten rules (with_plans (view rules base)) ws (map (λ p. p.items) payloads.now) → ⊥ }
+    ensures replayed { root.now.pages ≡ 0 → IfOk result (λ p. Below D.disk device.new p []
+        × ((held : seen.View BesideData) × holdings.Shows p.core [] held × IsReplayed first_rules held)) }
+    ensures ran { Ran D.disk device.old device.new Same }
+    ensures refusal { (result ≢ Err Fault.Failed) × (result ≢ Err Fault.Exhausted) }
+    ensures cause { IsErrOf result Fault.Device → HasFailed D.disk device.old device.new }
+{
+    let keys = keys_in(alloc, payloads)?;
+    let paged = Paged::read(alloc, device, rules(), root, &keys)?;
+    Ok(paged.replayed(alloc, payloads)?)
+}
+
+// The log at a gate, and its payloads.
+fn read_log<D: Device>(alloc: Global, device: &mut D, at: u64) -> Result<(Log, Vec<Vec<u8>>), Fault>
+    ensures place { IfOk result (λ found. (found.0.start ≡ at) × (found.0.failed ≡ false)) }
+    ensures found { D.disk.keeps device.old → IfOk result (λ found. HoldsLog at (map (λ p. p.items) found.1.items) found.0.last (D.disk.content device.old)) }
+    ensures damaged { D.disk.keeps device.old → (damage : DamageData) → IsErrOf result (Fault.Damaged damage)
+        → (payloads : List (List ℕ)) (last : ℕ) → HoldsLog at payloads last (D.disk.content device.old) → ⊥ }
+    ensures ran { Ran D.disk device.old device.new Same }
+    ensures refusal { (result ≢ Err Fault.Failed) × (result ≢ Err Fault.Exhausted) }
+    ensures cause { IsErrOf result Fault.Device → HasFailed D.disk device.old device.new }
+{
+    let mut log = Log::open(device, at)?;
+    let payloads = log.records(alloc, device)?;
+    Ok((log, payloads))
+}
+
+// Where the log of a root is damaged: what of it, unless the pages are, which is told first.
+fn read_pages_alone<D: Device>(alloc: Global, device: &mut D, root: &Root, damage: Damage) -> Fault
+    requires small { log_start root.now < 2 ^ 54 }
+    requires inside { D.disk.keeps device.old → 512 * log_start root.now ≤ length (D.disk.content device.old) }
+    ensures ran { Ran D.disk device.old device.new Same }
+    ensures refusal { (result ≢ Fault.Failed) × (result ≢ Fault.Exhausted) }
+    ensures cause { result ≡ Fault.Device → HasFailed D.disk device.old device.new }
+{
+    match Paged::read(alloc, device, rules(), root, &[]) {
+        Ok(_) => Fault::Damaged(damage),
+        Err(fault) => Fault::from(fault),
+    }
+}
+
+// Reads the store on a device. Nothing is written.
+fn read_store<D: Device>(alloc: Global, device: &mut D) -> Result<Opened, Fault>
+    ensures rules { IfOk result (λ opened. opened.paged.core.rules ≡ first_rules) }
+    ensures works { IfOk result (λ opened. opened.log.failed ≡ false) }
+    ensures in_data { IfOk result (λ opened. 8 ≤ opened.log.start) }
+    ensures found { D.disk.keeps device.old → (rules : Rules) (h : History) → StandsFor rules (D.disk.content device.old) h
+        → IfOk result (λ opened. (opened.paged.core.rules ≡ rules) × IsShown D.disk device.new opened.paged (view rules h)) }
+    ensures replayed { IfOk result (λ opened. (root_of opened.paged).pages ≡ 0
+        → (held : seen.View BesideData) × Holds D.disk device.new opened.paged held × IsReplayed opened.paged.core.rules held) }
+    ensures log { D.disk.keeps device.old → IfOk result (λ opened. IsLogOf (D.disk.content device.old) (root_of opened.paged) opened.log) }
+    ensures damaged { D.disk.keeps device.old → (damage : DamageData) → IsErrOf result (Fault.Damaged damage)
+        → (rules : Rules) (h : History) → StandsFor rules (D.disk.content device.old) h → ⊥ }
+    ensures ran { Ran D.disk device.old device.new Same }
+    ensures refusal { (result ≢ Err Fault.Failed) × (result ≢ Err Fault.Exhausted) }
+    ensures cause { IsErrOf result Fault.Device → HasFailed D.disk device.old device.new }
+{
+    let root = counted_root(device)?;
+    match read_log(alloc, device, root.log_start()) {
+        Ok((log, payloads)) => {
+            let paged = read_objects(alloc, device, &root, &payloads)?;
+            Ok(Opened { paged, log })
+        }
+        Err(Fault::Damaged(damage)) => Err(read_pages_alone(alloc, device, &root, damage)),
+        Err(fault) => Err(fault),
+    }
+}
+
+/// Syncs a device, and reads the store on it. Nothing is written.
+pub(crate) fn synced_store<D: Device>(alloc: Global, device: &mut D) -> Result<Opened, Fault>
+    ensures rules { IfOk result (λ opened. opened.paged.core.rules ≡ first_rules) }
+    ensures works { IfOk result (λ opened. opened.log.failed ≡ false) }
+    ensures in_data { IfOk result (λ opened. 8 ≤ opened.log.start) }
+    ensures found { D.disk.keeps device.old → (rules : Rules) (h : History) → StandsFor rules (D.disk.content device.old) h
+        → IfOk result (λ opened. (opened.paged.core.rules ≡ rules) × IsShown D.disk device.new opened.paged (view rules h)) }
+    ensures replayed { IfOk result (λ opened. (root_of opened.paged).pages ≡ 0
+        → (held : seen.View BesideData) × Holds D.disk device.new opened.paged held × IsReplayed opened.paged.core.rules held) }
+    ensures log { D.disk.keeps device.old → IfOk result (λ opened. IsLogOf (D.disk.content device.old) (root_of opened.paged) opened.log) }
+    ensures durable { D.disk.keeps device.old → OnOk result (Only (D.disk.content device.new) (D.disk.left device.new)) }
+    ensures damaged { D.disk.keeps device.old → (damage : DamageData) → IsErrOf result (Fault.Damaged damage)
+        → (rules : Rules) (h : History) → StandsFor rules (D.disk.content device.old) h → ⊥ }
+    ensures ran { Ran D.disk device.old device.new Same }
+    ensures refusal { (result ≢ Err Fault.Failed) × (result ≢ Err Fault.Exhausted) }
+    ensures cause { IsErrOf result Fault.Device → HasFailed D.disk device.old device.new }
+{
+    if device.sync().is_err() {
+        return Err(Fault::Device);
+    }
+    read_store(alloc, device)
+}

@@ -1,0 +1,2 @@
+pub mod ReplyBytes
+pub mod AnswerBytes
