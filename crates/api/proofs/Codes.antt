@@ -14,7 +14,7 @@ use Rattle.policy.specs.declared.validation.Reason.{Reason}
 use Rattle.policy.specs.declared.validation.Reason.TheVariants.{Unauthorized, Forbidden, Invalid, RequestEntityTooLarge}
 use Rattle.names.specs.declared.format.Rules.{Rules}
 use Rattle.apicore.specs.Step.{Asked, Refusal, known, with_bad_expression, denied_by, reason_code, status, refusal, success, warnings_of, verdict_of, asks_for, reply}
-use Rattle.apicore.specs.Standing.{View}
+use Rattle.recovery.specs.Standing.{View}
 
 table_code : (r : told.Refusal) → IsStatusCode (table.answer r).code
 table_code MalformedRequest = (omega arith, omega arith)

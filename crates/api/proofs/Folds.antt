@@ -7,7 +7,8 @@ use Rattle.device.proofs.Moments.{followed_by}
 use Rattle.requests.specs.declared.refusal.Refusal.TheVariants.{StorageFailed}
 use Rattle.names.specs.declared.format.Rules.{Rules}
 use Rattle.records.specs.Payload.{group_limit}
-use Rattle.apicore.specs.Standing.{Write, History, View, AreAdmitted}
+use Rattle.recovery.specs.Standing.{Write, History, View}
+use Rattle.apicore.specs.Admitted.{AreAdmitted}
 use Rattle.apicore.proofs.Admitting.{AreAdmitted-append}
 use Rattle.history.specs.View.{view, after_all}
 use Rattle.history.proofs.ViewLemmas.{after_all-append}

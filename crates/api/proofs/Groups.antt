@@ -11,7 +11,8 @@ use Rattle.requests.specs.Request.{Request}
 use Rattle.names.specs.declared.format.Rules.{Rules}
 use Rattle.records.specs.Payload.{group_limit}
 use Rattle.expressions.specs.Specification.{sound}
-use Rattle.apicore.specs.Standing.{Write, History, View, AreAdmitted}
+use Rattle.recovery.specs.Standing.{Write, History, View}
+use Rattle.apicore.specs.Admitted.{AreAdmitted}
 use Rattle.apicore.specs.Prepared.{IsReadOf}
 use Rattle.apicore.specs.Step.{Asked, writes, reply, accepted, replies}
 use Rattle.history.specs.Reply.{Reply, status}

@@ -6,7 +6,8 @@ use Rattle.device.specs.declared.device.Device.{Ghosts}
 use Rattle.objects.specs.Failing.{HasGrown}
 use Rattle.requests.specs.declared.refusal.Refusal.TheVariants.{OutOfMemory, StorageFailed}
 use Rattle.expressions.specs.Specification.{Specification}
-use Rattle.apicore.specs.Standing.{Write, History, View, AreAdmitted}
+use Rattle.recovery.specs.Standing.{Write, History, View}
+use Rattle.apicore.specs.Admitted.{AreAdmitted}
 use Rattle.history.specs.Reply.{Reply, status}
 use Rattle.records.specs.Payload.{group_limit}
 use Rattle.apicore.specs.Step.{Asked, writes, reply}

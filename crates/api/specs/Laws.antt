@@ -1,7 +1,7 @@
 -- The answers to messages are a run of their requests.
 use Rattle.std.specs.Prelude.{◌≡◌, ℕ, Bool, true, false, List, [], ◌∷◌, ◌++◌}
 use Rattle.requests.specs.declared.refusal.Refusal.TheVariants.{OutOfMemory}
-use Rattle.apicore.specs.Standing.{History}
+use Rattle.recovery.specs.Standing.{History}
 use Rattle.history.specs.Reply.{Reply, status}
 use Rattle.apicore.specs.Step.{Asked, runs}
 use Rattle.history.specs.View.{view}

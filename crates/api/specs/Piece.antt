@@ -2,7 +2,7 @@
 use Rattle.std.specs.Prelude.{◌≡◌, ℕ, ◌≤◌, ◌⊎◌, List, [], ◌++◌, length, take, false, Some, None}
 use Rattle.device.specs.declared.device.Device.{Ghosts}
 use Rattle.requests.specs.declared.refusal.Refusal.TheVariants.{OutOfMemory}
-use Rattle.apicore.specs.Standing.{View}
+use Rattle.recovery.specs.Standing.{View}
 use Rattle.names.specs.declared.format.Rules.{Rules}
 use Rattle.durable.specs.declared.store.Store.{Store}
 use Rattle.httpmsg.specs.declared.head.End.{End}

@@ -4,7 +4,8 @@ use Rattle.std.specs.List.{AllByRecursion}
 use Rattle.device.specs.declared.device.Device.{Ghosts}
 use Rattle.requests.specs.declared.refusal.Refusal.TheVariants.{OutOfMemory, StorageFailed}
 use Rattle.records.specs.Payload.{group_limit}
-use Rattle.apicore.specs.Standing.{View, AreAdmitted}
+use Rattle.recovery.specs.Standing.{View}
+use Rattle.apicore.specs.Admitted.{AreAdmitted}
 use Rattle.names.specs.declared.format.Rules.{Rules}
 use Rattle.durable.specs.declared.fault.Damage.{Damage}
 use Rattle.durable.specs.declared.store.Store.{Store}

@@ -5,7 +5,7 @@ ghost use Rattle.std.specs.Vec.{vec_len, vec_capacity};
 ghost use Rattle.requests.specs.RequestOf.{request_of};
 ghost use Rattle.names.specs.declared.format.Rules.{Rules};
 ghost use Rattle.records.specs.Payload.{group_limit};
-ghost use Rattle.apicore.specs.Standing.{View};
+ghost use Rattle.recovery.specs.Standing.{View};
 ghost use Rattle.history.specs.Reply.{Reply as ReplyData};
 ghost use Rattle.device.specs.Disk.{HasFailed};
 ghost use Rattle.durable.specs.declared.fault.Damage.{Damage};

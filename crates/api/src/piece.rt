@@ -3,7 +3,7 @@
 ghost use Rattle.std.specs.Prelude.{◌≡◌, ◌≢◌, ◌<◌, ◌≤◌, ◌⊎◌, ℕ, List, [], length, take, false, Some, None, IfOk, IfErr, IsErrOf, MatchResult};
 ghost use Rattle.requests.specs.declared.refusal.Refusal.TheVariants as refusal;
 ghost use Rattle.names.specs.declared.format.Rules.{Rules};
-ghost use Rattle.apicore.specs.Standing.{View};
+ghost use Rattle.recovery.specs.Standing.{View};
 ghost use Rattle.durable.specs.Settled.{device_of, serves};
 ghost use Rattle.httpmsg.specs.declared.head.BrokenMessage.{BrokenMessage as BrokenData};
 ghost use Rattle.httpmsg.specs.Flow.{TookSome};

@@ -7,7 +7,8 @@ use Rattle.history.specs.View.{after, after_all}
 use Rattle.celtree.specs.Tree.{Expr}
 use Rattle.expressions.specs.Specification.{Specification}
 use Rattle.verdict.specs.Verdict.{Verdict, admitted, denied}
-use Rattle.apicore.specs.Standing.{Write, View, IsAdmitted, AreAdmitted, verdict_on}
+use Rattle.recovery.specs.Standing.{Write, View}
+use Rattle.apicore.specs.Admitted.{IsAdmitted, AreAdmitted, verdict_on}
 use Rattle.apicore.specs.Step.{Asked, Condition, first_of, verdict_conditions, verdict_of, own_conditions, refusal, asks_for, put_of, writes, accepted}
 use Rattle.apicore.specs.Laws.{AcceptedAreAdmitted}
 

@@ -42,10 +42,12 @@ use Rattle.expressions.specs.Specification.{Specification, IsCompiled, AreShort,
 use Rattle.expressions.specs.Specification as stands
 use Rattle.verdict.specs.Admission.{verdict}
 use Rattle.verdict.specs.Verdict.{Verdict, admitted, denied}
-use Rattle.apicore.specs.Beside.{Beside, spelled}
+use Rattle.recovery.specs.Beside.{Beside, spelled}
 use Rattle.apicore.specs.Judged.{IsRefused, IsMade, IsJudged}
-use Rattle.apicore.specs.Prepared.{plans_held, Shows, IsOver, AreHeld, IsRead, IsReadOf, IsStepOf, IsPrepared}
-use Rattle.apicore.specs.Standing.{Write, View, objects_of, attempt_of, shown_at, write_with_plans, verdict_on}
+use Rattle.recovery.specs.Shown.{plans_held, Shows, IsOver}
+use Rattle.apicore.specs.Prepared.{AreHeld, IsRead, IsReadOf, IsStepOf, IsPrepared}
+use Rattle.recovery.specs.Standing.{Write, View, write_with_plans}
+use Rattle.apicore.specs.Admitted.{objects_of, attempt_of, shown_at, verdict_on}
 use Rattle.apicore.specs.Step.{Asked, Refusal, Condition, known, with_bad_expression, denied_by, first_of, of_table, status, form_conditions, verdict_conditions, verdict_of, asks_for, own_conditions, refusal, reply, success, warnings_of, create_conditions, replace_conditions, delete_conditions, create_limits, replace_limits, is_text_of, update_conflicts, update_conflicts_at, deletion_conflicts, deletion_conflicts_at}
 use Rattle.apicore.specs.declared.prepared.Prepared.{Prepared}
 use Rattle.apicore.proofs.Showing.{getting, getting_shown, listing_shown, telling, telling_shown, revision_shown, exists_shown, document_shown, shown_at_shown, replace_shown, delete_shown, create_limits_shown, replace_limits_shown}

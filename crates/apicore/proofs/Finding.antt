@@ -25,15 +25,16 @@ use Rattle.policy.specs.Spec.{Policy, Wanted}
 use Rattle.expressions.specs.Expressions.{sources}
 use Rattle.expressions.specs.Typed.{AreTyped}
 use Rattle.expressions.specs.Places.{policy_in}
-use Rattle.bindings.specs.Objects as asked
-use Rattle.bindings.specs.Objects.{Held, Object, Objects, all_held, shown_objects}
-use Rattle.bindings.specs.Parameters.{listed, wanted_of}
-use Rattle.bindings.specs.Seen.{shown_held}
-use Rattle.bindings.proofs.Standing.{listed-map, value_at-map, shown_listed}
-use Rattle.apicore.specs.Beside.{Beside}
-use Rattle.apicore.specs.Prepared.{plans_held, HasNoRules, Shows}
+use Rattle.lookup.specs.Objects as asked
+use Rattle.lookup.specs.Objects.{Held, Objects, all_held, shown_objects}
+use Rattle.lookup.specs.Listed.{listed, wanted_of}
+use Rattle.lookup.specs.Seen.{shown_held}
+use Rattle.lookup.proofs.Standing.{listed-map, value_at-map, shown_listed}
+use Rattle.recovery.specs.Beside.{Beside}
+use Rattle.recovery.specs.Shown.{plans_held, HasNoRules, Shows}
 use Rattle.apicore.specs.Sights.{held_of, entry_held}
-use Rattle.apicore.specs.Standing.{View, IsView, HasTrees, plans_beside, object_of, objects_of}
+use Rattle.recovery.specs.Standing.{View, IsView, HasTrees, plans_beside}
+use Rattle.apicore.specs.Admitted.{object_of, objects_of}
 
 abbrev Stands : Type 0
 Stands = Stored Beside

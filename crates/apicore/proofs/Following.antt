@@ -12,12 +12,13 @@ use Rattle.requests.specs.Manifest.{Body, sound, HasForm, BodyHasForm}
 use Rattle.requests.specs.Request.{Request, get, list, watch, create, replace, delete, refused, RequestHasForm}
 use Rattle.history.specs.History as write
 use Rattle.history.specs.History.{put}
-use Rattle.history.specs.View.{exists, is_too_large, is_full, is_exhausted, after, after_all, empty, view}
+use Rattle.history.specs.View.{exists, is_too_large, is_full, is_exhausted, after_all, empty, view}
 use Rattle.history.proofs.ViewLemmas.{after_all-append}
 use Rattle.celtree.specs.Tree.{Expr}
 use Rattle.expressions.specs.Specification.{Specification, bad_spec, bad_expression}
 use Rattle.expressions.specs.Specification as beside
-use Rattle.apicore.specs.Standing.{Write, History, View, HasTrees, AllMayFollow, IsHistory}
+use Rattle.recovery.specs.Standing.{Write, History, View, HasTrees, AllMayFollow, IsHistory}
+use Rattle.recovery.proofs.Following.{AllMayFollow-append}
 use Rattle.apicore.specs.Step.{Asked, Condition, Refusal, known, with_bad_expression, first_of, verdict_conditions, verdict_of, asks_for, put_of, writes, refusal, reply, accepted, replies, step, runs, update_conflicts, deletion_conflicts}
 use Rattle.apicore.specs.Prepared.{IsRead, IsReadOf}
 
@@ -127,21 +128,6 @@ AllMayFollow-writes rules v (replace m) bad_spec limit form read = bad_form_late
 AllMayFollow-writes rules v (replace m) (bad_expression t) limit form read = bad_form_later rules v (not (exists v m.key)) (update_conflicts v m.key m.version) (known NotFound) (known VersionNotCurrent) (with_bad_expression t) (asks_for (replace m) (bad_expression t))
 AllMayFollow-writes rules v (delete k asked) s limit form read =
     deleted_follows rules v k (verdict_conditions (verdict_of v (asks_for (delete k asked) s))) (exists v k) (deletion_conflicts v k asked) (is_exhausted rules v) refl refl
-
-pub AllMayFollow-append : (rules : Rules) (v : View) (ws us : List Write) → AllMayFollow rules v ws → AllMayFollow rules (after_all rules v ws) us
-    → AllMayFollow rules v (ws ++ us)
-AllMayFollow-append rules v [] us first more = more
-AllMayFollow-append rules v (w ∷ ws) us first more = (first.0, AllMayFollow-append rules (after rules v w) ws us first.1 more)
-
--- of writes that may follow the first may
-pub AllMayFollow-first : (rules : Rules) (v : View) (ws us : List Write) → AllMayFollow rules v (ws ++ us) → AllMayFollow rules v ws
-AllMayFollow-first rules v [] us follow = tt
-AllMayFollow-first rules v (w ∷ ws) us follow = (follow.0, AllMayFollow-first rules (after rules v w) ws us follow.1)
-
--- and the others after them
-pub AllMayFollow-others : (rules : Rules) (v : View) (ws us : List Write) → AllMayFollow rules v (ws ++ us) → AllMayFollow rules (after_all rules v ws) us
-AllMayFollow-others rules v [] us follow = follow
-AllMayFollow-others rules v (w ∷ ws) us follow = AllMayFollow-others rules (after rules v w) ws us follow.1
 
 -- ---- the key of a deletion
 

@@ -22,9 +22,10 @@ use Rattle.history.specs.Reply.{Reply, showing, status}
 use Rattle.history.specs.View as seen
 use Rattle.history.specs.View.{exists, stored_at, document_at, is_too_large, is_full, is_exhausted}
 use Rattle.history.proofs.Mapping.{value_each, there_mapped}
-use Rattle.apicore.specs.Beside.{Beside}
-use Rattle.apicore.specs.Prepared.{plans_held, Shows}
-use Rattle.apicore.specs.Standing.{View, plans_beside, shown_at}
+use Rattle.recovery.specs.Beside.{Beside}
+use Rattle.recovery.specs.Shown.{plans_held, Shows}
+use Rattle.recovery.specs.Standing.{View, plans_beside}
+use Rattle.apicore.specs.Admitted.{shown_at}
 use Rattle.apicore.specs.Step.{known, is_current, update_conflicts, deletion_conflicts, replace_conditions, delete_conditions, create_limits, replace_limits}
 
 abbrev Held : Type 0

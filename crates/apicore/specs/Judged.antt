@@ -4,10 +4,10 @@ use Rattle.history.specs.Mapped.{mapped_write}
 use Rattle.history.specs.Reply.{Reply}
 use Rattle.history.specs.View as seen
 use Rattle.holdings.specs.Prepared.{writes_of, AreNext}
-use Rattle.apicore.specs.Beside.{Beside}
+use Rattle.recovery.specs.Beside.{Beside}
 use Rattle.verdict.specs.Verdict.{Verdict, admitted, denied}
-use Rattle.apicore.specs.Prepared.{plans_held}
-use Rattle.apicore.specs.Standing.{Write, write_with_plans}
+use Rattle.recovery.specs.Shown.{plans_held}
+use Rattle.recovery.specs.Standing.{Write, write_with_plans}
 use Rattle.apicore.specs.Step.{Refusal, status, denied_by}
 use Rattle.apicore.specs.declared.prepared.Prepared.{Prepared}
 

@@ -1,12 +1,6 @@
-pub mod Beside
-pub mod Standing
+pub mod Admitted
 pub mod Step
 pub mod Prepared
 pub mod Judged
 pub mod Sights
-pub mod Written
-pub mod Taken
-pub mod Known
-pub mod Faults
 pub mod Laws
-pub mod Compiled

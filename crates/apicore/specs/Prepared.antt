@@ -1,58 +1,24 @@
--- What the core shows, and a step of a request that has all its memory.
-use Rattle.std.specs.Prelude.{◌≡◌, ◌+◌, ◌*◌, ◌≤◌, ◌^◌, List, [], map, length}
+-- A step of a request that has all its memory.
+use Rattle.std.specs.Prelude.{◌≡◌, ◌+◌, ◌*◌, ◌≤◌, ◌^◌, List, map, length}
 use Rattle.serde_json.specs.Data.{Data}
 use Rattle.celtree.specs.Tree.{Expr}
 use Rattle.jsondoc.specs.Document.{text}
 use Rattle.names.specs.declared.format.Rules.{Rules}
 use Rattle.names.specs.declared.resource.Resource.{Resource}
-use Rattle.names.specs.declared.resource.Resource.TheVariants.{ValidatingAdmissionPolicy, ValidatingAdmissionPolicyBinding}
 use Rattle.names.specs.Key.{Key}
-use Rattle.overlay.specs.Covered.{AreCovered}
-use Rattle.documents.specs.Document.{Document}
 use Rattle.requests.specs.Codes.{document_in}
 use Rattle.requests.specs.Request.{Request, get, list, watch, create, replace, delete, refused}
 use Rattle.history.specs.declared.stored.Stored.{Stored}
-use Rattle.history.specs.Mapped.{mapped, mapped_write}
+use Rattle.history.specs.Mapped.{mapped_write}
 use Rattle.history.specs.View as seen
-use Rattle.holdings.specs.Holdings as holdings
 use Rattle.holdings.specs.Holdings.{State}
 use Rattle.holdings.specs.Prepared.{writes_of, AreNext}
 use Rattle.expressions.specs.Specification.{Specification, IsSpecification, sound, bad_spec, bad_expression, these, plans_in, plans_bytes, MayHavePlans}
-use Rattle.apicore.specs.Beside.{Beside}
-use Rattle.apicore.specs.Standing.{View, IsView, with_plans, write_with_plans}
+use Rattle.recovery.specs.Beside.{Beside}
+use Rattle.recovery.specs.Shown.{plans_held, IsOver}
+use Rattle.recovery.specs.Standing.{View, write_with_plans}
 use Rattle.apicore.specs.Step.{Asked, reply, writes}
 use Rattle.apicore.specs.declared.prepared.Prepared.{Prepared}
-
--- ---- what the core shows
-
--- what the core holds beside a document stands as it is
-abbrev pub plans_held : Document → Beside → Beside
-plans_held d beside = beside
-
--- What is held is a view's: it has the plans of its trees, and what its documents spell.
-abbrev pub Shows : seen.View Beside → View → Type 0
-Shows held v = mapped plans_held held ≡ with_plans v
-
--- No policy and no binding lies below: those are held in memory, with what they spell.
-pub record HasNoRules (base : List (Key × Stored Beside)) : Type 0 where
-  pub policies : AreCovered ValidatingAdmissionPolicy [] base
-  pub bindings : AreCovered ValidatingAdmissionPolicyBinding [] base
-
--- Over the objects that lie below, the core shows a view.
-pub record ShowsOver (core : State Beside) (base : List (Key × Stored Beside)) (v : View) : Type 0 where
-  pub held : seen.View Beside
-  pub shows : holdings.Shows core base held
-  pub plans : Shows held v
-  pub free : HasNoRules base
-
--- So it does over the objects that a source holds, at a view as histories have it.
-pub record IsOver (holds : List (Key × Stored Beside) → Type 0) (core : State Beside) (held : seen.View Beside) (v : View) : Type 0 where
-  pub base : List (Key × Stored Beside)
-  pub below : holds base
-  pub shows : holdings.Shows core base held
-  pub plans : Shows held v
-  pub free : HasNoRules base
-  pub seen : IsView v
 
 -- ---- what stands in a document
 

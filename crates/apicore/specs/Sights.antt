@@ -6,9 +6,9 @@ use Rattle.names.specs.Key.{Key, key_cmp}
 use Rattle.history.specs.declared.stored.Stored.{Stored}
 use Rattle.history.specs.View as seen
 use Rattle.holdings.specs.Holdings as holdings
-use Rattle.bindings.specs.Objects.{Held, Objects, all_held}
-use Rattle.apicore.specs.Beside.{Beside, found_with}
-use Rattle.apicore.specs.Prepared.{HasNoRules}
+use Rattle.lookup.specs.Objects.{Held, Objects, all_held}
+use Rattle.recovery.specs.Beside.{Beside, found_with}
+use Rattle.recovery.specs.Shown.{HasNoRules}
 use Rattle.apicore.specs.declared.sight.Sight.{Sight}
 
 abbrev pub held_of : Stored Beside → Held

@@ -23,7 +23,8 @@ use Rattle.policy.specs.declared.validation.Reason.TheVariants.{Unauthorized, Fo
 use Rattle.expressions.specs.Specification.{Specification, sound, bad_spec, bad_expression}
 use Rattle.bindings.specs.Verdict.{denial_text}
 use Rattle.verdict.specs.Verdict.{Verdict, admitted, denied}
-use Rattle.apicore.specs.Standing.{Write, History, View, verdict_on}
+use Rattle.recovery.specs.Standing.{Write, History, View}
+use Rattle.apicore.specs.Admitted.{verdict_on}
 
 -- a request, and what stands in the document that it asks to be stored
 pub record Asked : Type 0 where

@@ -1,11 +1,8 @@
 ghost use Rattle.std.specs.Prelude.{◌≡◌, None};
 
-use crate::beside::Beside;
 use history::Reply;
-use holdings::{Holdings, PreparedWrite};
-
-/// What memory holds of what is stored, with what each document spells beside it.
-pub type Core = Holdings<Beside>;
+use holdings::PreparedWrite;
+use recovery::Beside;
 
 /// A step that has all its memory: the reply, and the write that it makes if it makes one.
 #[derive(Drop)]

@@ -15,15 +15,15 @@ ghost use Rattle.holdings.specs.Holdings.{ShowsSame};
 ghost use Rattle.holdings.specs.Prepared.{HasRoomFor};
 ghost use Rattle.holdings.specs.Sources.{found_in};
 ghost use Rattle.expressions.specs.Specification.{Specification as SpecificationOf, sound, compiled, plans_in, specification_seen};
-ghost use Rattle.apicore.specs.Beside.{Beside as BesideData};
-ghost use Rattle.apicore.specs.Prepared.{IsOver, IsPrepared, IsRead, IsReadOf, IsStepOf};
-ghost use Rattle.apicore.specs.Standing.{View};
+ghost use Rattle.recovery.specs.Beside.{Beside as BesideData};
+ghost use Rattle.recovery.specs.Shown.{IsOver};
+ghost use Rattle.apicore.specs.Prepared.{IsPrepared, IsRead, IsReadOf, IsStepOf};
+ghost use Rattle.recovery.specs.Standing.{View};
 ghost use Rattle.apicore.specs.Step.{first_of, replace_limits, update_conflicts_at, deletion_conflicts_at};
 
-use crate::beside::Beside;
 use crate::conflicts::{deletion_conflicts, update_conflicts};
 use crate::judging::{judged_delete, judged_put};
-use crate::prepared::{Core, Prepared};
+use crate::prepared::Prepared;
 use crate::reading::{get, list, refuse, watch};
 use crate::refusing::{bad_expression, create_limit, refused, replace_limit};
 use documents::shown_document;
@@ -32,6 +32,7 @@ use holdings::{Found, Source};
 use names::Key;
 use objects::LookupFault;
 use plancode::Verified;
+use recovery::{Beside, Core};
 use requests::{Manifest, Refusal, Request};
 use std::alloc::{AllocError, Global};
 

@@ -16,16 +16,17 @@ ghost use Rattle.history.specs.Listing.{listing, watch_conditions, watching};
 ghost use Rattle.history.specs.Reply.{showing, status};
 ghost use Rattle.history.specs.View.{View as Held, stored_at};
 ghost use Rattle.holdings.specs.Holdings.{Shows};
-ghost use Rattle.apicore.specs.Beside.{Beside as BesideData};
-ghost use Rattle.apicore.specs.Prepared.{IsOver, IsPrepared};
-ghost use Rattle.apicore.specs.Standing.{View};
+ghost use Rattle.recovery.specs.Beside.{Beside as BesideData};
+ghost use Rattle.recovery.specs.Shown.{IsOver};
+ghost use Rattle.apicore.specs.Prepared.{IsPrepared};
+ghost use Rattle.recovery.specs.Standing.{View};
 
-use crate::beside::Beside;
-use crate::prepared::{Core, Prepared};
+use crate::prepared::Prepared;
 use history::Reply;
 use holdings::{Found, Source};
 use names::Key;
 use objects::LookupFault;
+use recovery::{Beside, Core};
 use requests::{Collection, Refusal, Selector};
 use std::alloc::{AllocError, Global};
 

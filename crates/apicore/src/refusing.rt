@@ -6,14 +6,15 @@ ghost use Rattle.requests.specs.Codes.{document_in};
 ghost use Rattle.history.specs.declared.stored.Stored.{Stored as StoredData};
 ghost use Rattle.history.specs.View.{View as Held};
 ghost use Rattle.holdings.specs.Holdings.{Shows};
-ghost use Rattle.apicore.specs.Beside.{Beside as BesideData};
+ghost use Rattle.recovery.specs.Beside.{Beside as BesideData};
 ghost use Rattle.apicore.specs.Judged.{IsRefused};
 ghost use Rattle.apicore.specs.Step.{known, with_bad_expression, denied_by, first_of, reason_code, reason_word, create_limits, replace_limits};
 
-use crate::prepared::{Core, Prepared};
+use crate::prepared::Prepared;
 use bindings::denial_text;
 use history::Reply;
 use policy::Reason;
+use recovery::Core;
 use requests::{Manifest, Refusal};
 use std::alloc::{AllocError, Global};
 

@@ -1,19 +1,19 @@
 //! The core over a source, as objects are looked up in them.
 
 ghost use Rattle.std.specs.Prelude.{◌≡◌, map, IfOk};
-ghost use Rattle.bindings.specs.Seen.{held_by, listed_seen};
+ghost use Rattle.lookup.specs.Seen.{held_by, listed_seen};
 ghost use Rattle.apicore.specs.Sights.{held_of, entry_held};
 
-use crate::beside::Beside;
-use crate::prepared::Core;
-use bindings::{Found, Listed, Lookup, wanted_among};
+use bindings::wanted_among;
 use history::Stored;
 use holdings::Source;
 use jsondoc::Doc;
+use lookup::{Found, Listed, Lookup};
 use names::{Key, Resource};
 use objects::LookupFault;
 use overlay::Lent;
 use policy::Wanted;
+use recovery::{Beside, Core};
 use std::alloc::{AllocError, Global};
 
 /// A core over a source, as objects are looked up in them: policies and bindings in memory, parameters in both.

@@ -1,4 +1,3 @@
 pub mod Standing
-pub mod Bindings
 pub mod Turns
 pub mod Lists

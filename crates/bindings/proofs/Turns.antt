@@ -4,7 +4,7 @@ use Rattle.celtree.specs.Tree.{Expr}
 use Rattle.matching.specs.Rules.{Attempt}
 use Rattle.matching.specs.Matching.{is_matched}
 use Rattle.policy.specs.Spec as spec
-use Rattle.bindings.specs.Parameters.{Shown}
+use Rattle.lookup.specs.Listed.{Shown}
 use Rattle.bindings.specs.Verdict.{denial}
 use Rattle.bindings.specs.Turns.{asked}
 

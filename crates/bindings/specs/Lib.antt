@@ -1,5 +1,4 @@
 pub mod Parameters
 pub mod Verdict
-pub mod Objects
 pub mod Seen
 pub mod Turns

@@ -1,26 +1,14 @@
 -- The parameters of a policy, as a binding asks for them (Kubernetes, "Validating Admission Policy", "Parameter resources").
-use Rattle.std.specs.Prelude.{◌∷◌, List, [], map, Bool, Option, Some, None}
-use Rattle.std.specs.List.{filter}
-use Rattle.std.specs.Str.{bytes_eq}
+use Rattle.std.specs.Prelude.{◌∷◌, List, [], map, Option, Some, None}
 use Rattle.serde_json.specs.Data.{Data}
-use Rattle.names.specs.Key.{Key}
 use Rattle.names.specs.Resource.{row}
 use Rattle.names.specs.declared.resource.Resource.{Resource}
 use Rattle.names.specs.declared.resource.Scope.{Scope}
 use Rattle.names.specs.declared.resource.Scope.TheVariants.{Namespaced, Cluster}
-use Rattle.objects.specs.Objects.{is_of}
 use Rattle.matching.specs.Rules.{Attempt}
-use Rattle.labels.specs.Selecting.{selects}
 use Rattle.policy.specs.Forms.{Text}
-use Rattle.policy.specs.Spec.{Wanted, by_name, by_selector, ParamRef}
-
--- every object as it is shown, in key order
-abbrev pub Shown : Type 0
-Shown = List (Key × Data)
-
--- the objects of a resource, in this namespace if one is given
-abbrev pub listed : {A : Type 0} → Resource → Option Text → List (Key × A) → List (Key × A)
-listed r namespace objects = filter (λ o. is_of r namespace o.0) objects
+use Rattle.policy.specs.Spec.{Wanted, ParamRef}
+use Rattle.lookup.specs.Listed.{Shown, listed, wanted_of}
 
 pub data Parameters : Type 0 where
   -- those found, of which one may be that there is none
@@ -36,14 +24,6 @@ namespace_of Cluster (Some asked) write namespace = None
 namespace_of Namespaced (Some asked) write namespace = Some asked
 namespace_of Namespaced None Namespaced namespace = Some namespace
 namespace_of Namespaced None Cluster namespace = None
-
-abbrev pub is_wanted : Wanted → Key × Data → Bool
-is_wanted (by_name name) o = bytes_eq o.0.name name
-is_wanted (by_selector requirements) o = selects requirements o.1
-
--- those that are wanted
-abbrev pub wanted_of : Wanted → Shown → List Data
-wanted_of wanted objects = map (λ o. o.1) (filter (is_wanted wanted) objects)
 
 abbrev pub found_or_not : List (Option Data) → Parameters
 found_or_not [] = not_found

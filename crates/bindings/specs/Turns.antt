@@ -9,9 +9,9 @@ use Rattle.evaluation.specs.Environment.{seen}
 use Rattle.evaluation.specs.Denials.{Denial, conditions}
 use Rattle.policy.specs.Spec as spec
 use Rattle.policy.specs.Spec.{Binding, Wanted}
-use Rattle.bindings.specs.Objects.{Held}
-use Rattle.bindings.specs.Parameters.{Shown, is_wanted}
-use Rattle.bindings.specs.Seen.{shown_held}
+use Rattle.lookup.specs.Objects.{Held}
+use Rattle.lookup.specs.Listed.{Shown, is_wanted}
+use Rattle.lookup.specs.Seen.{shown_held}
 use Rattle.bindings.specs.Verdict.{on_conditions}
 
 -- the object as it is shown, if it is wanted

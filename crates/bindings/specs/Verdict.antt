@@ -11,7 +11,8 @@ use Rattle.policy.specs.declared.params.NotFound.TheVariants as when_not_found
 use Rattle.evaluation.specs.Trees.{conditions_of}
 use Rattle.evaluation.specs.Environment.{seen}
 use Rattle.evaluation.specs.Denials.{Denial, failure, Conditions, met, unmet, neither, conditions, first_denial, evaluate}
-use Rattle.bindings.specs.Parameters.{Shown, Parameters, found, misconfigured, not_found, parameters}
+use Rattle.lookup.specs.Listed.{Shown}
+use Rattle.bindings.specs.Parameters.{Parameters, found, misconfigured, not_found, parameters}
 
 -- ---- one binding
 

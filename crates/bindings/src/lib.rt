@@ -1,4 +1,4 @@
-//! What one binding of an admission policy says of a write, and where objects are looked up (Kubernetes, "Validating Admission Policy").
+//! What one binding of an admission policy says of a write (Kubernetes, "Validating Admission Policy").
 //!
 //! ```text
 //! let mut request = None;
@@ -8,20 +8,15 @@
 //! ```
 //!
 //! A binding whose policy matches the write, and whose match conditions are met, looks its parameters up and evaluates the policy with
-//! each: the first denial is its own. What policies, bindings and parameters there are is asked of a [`Lookup`], as it stands before the
-//! write: it lends what documents spell as policies and bindings, so that none is read again or copied, and may read them from a device.
+//! each: the first denial is its own. What parameters there are is asked of a `lookup::Lookup`, as it stands before the write.
 //! `specs/Verdict.antt` says what one binding gives over a list of objects, and [`denial`] gives that of each list which the lookup
 //! shows, as long as the plans are those of the policy's expressions.
 #![tactic(auto)]
 
-mod bound;
-mod lookup;
 mod one_binding;
 mod parameters;
 mod texts;
 
-pub use bound::Bound;
-pub use lookup::{Found, Listed, Lookup};
 pub use one_binding::denial;
 pub use parameters::wanted_among;
 pub use texts::{denial_text, warning};

@@ -21,13 +21,14 @@ use Rattle.holdings.specs.declared.prepared.PreparedWrite.TheVariants as prepare
 use Rattle.records.specs.Payload as bytes
 use Rattle.records.specs.Gathered.{Gathers, count_of}
 use Rattle.records.specs.declared.group.Group.{Group}
-use Rattle.apicore.specs.Beside.{Beside}
+use Rattle.recovery.specs.Beside.{Beside}
 use Rattle.apicore.specs.declared.prepared.Prepared.{Prepared}
-use Rattle.apicore.specs.Standing.{Write, History, View, IsView, MayFollow, AllMayFollow, with_plans, write_with_plans, recorded}
+use Rattle.recovery.specs.Standing.{Write, History, View, IsView, MayFollow, AllMayFollow, with_plans, write_with_plans, recorded}
 use Rattle.apicore.specs.Step.{Asked, writes}
-use Rattle.apicore.specs.Prepared.{ShowsOver, IsReadOf, IsPrepared, plans_held}
+use Rattle.recovery.specs.Shown.{ShowsOver, plans_held}
+use Rattle.apicore.specs.Prepared.{IsReadOf, IsPrepared}
 use Rattle.apicore.proofs.Following.{IsKeyOf, key_of_written, AllMayFollow-writes}
-use Rattle.apicore.proofs.Staying.{trees_stay, histories_show}
+use Rattle.recovery.proofs.Staying.{trees_stay, histories_show}
 use Rattle.snapshots.proofs.Shown.{held_as_it_is}
 use Rattle.paged.specs.Lying.{base_of}
 use Rattle.paged.proofs.Staying.{below_free}

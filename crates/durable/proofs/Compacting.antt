@@ -24,7 +24,7 @@ use Rattle.checkpoint.specs.Writing.{IsSource, IsWritten, IsBeforeOrWritten}
 use Rattle.roots.proofs.Chain.{stands_moments}
 use Rattle.names.specs.declared.format.Rules.{Rules}
 use Rattle.history.specs.View.{view}
-use Rattle.apicore.specs.Standing.{History, IsHistory, View, with_plans}
+use Rattle.recovery.specs.Standing.{History, IsHistory, View, with_plans}
 use Rattle.snapshots.specs.Keeping.{entries_of, held_entries}
 use Rattle.snapshots.proofs.Shown.{held_as_it_is, entries_shown}
 use Rattle.durable.specs.declared.fault.Damage.{Damage}

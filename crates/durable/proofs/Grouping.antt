@@ -20,10 +20,10 @@ use Rattle.records.specs.declared.group.Group.{Group}
 use Rattle.celtree.specs.Tree.{Expr}
 use Rattle.expressions.specs.Specification.{Specification}
 use Rattle.apicore.specs.Prepared.{IsReadOf}
-use Rattle.apicore.specs.Standing.{Write, History, View, write_with_plans, recorded}
+use Rattle.recovery.specs.Standing.{Write, History, View, write_with_plans, recorded}
 use Rattle.apicore.specs.Step.{Asked, writes, accepted, replies}
 use Rattle.apicore.proofs.Admitting.{written_admitted, accepted_admitted}
-use Rattle.apicore.proofs.Following.{AllMayFollow-append}
+use Rattle.recovery.proofs.Following.{AllMayFollow-append}
 use Rattle.durable.specs.declared.fault.Damage.{Damage}
 use Rattle.durable.specs.declared.fault.Fault.{Fault}
 use Rattle.durable.specs.declared.fault.Fault.TheVariants as Faults

@@ -5,7 +5,7 @@ use Rattle.names.specs.declared.format.Format.TheVariants.{First}
 use Rattle.names.specs.declared.format.Rules.{Rules}
 use Rattle.names.specs.Format.{rules_of}
 use Rattle.history.specs.View.{view}
-use Rattle.apicore.specs.Standing.{History, IsHistory}
+use Rattle.recovery.specs.Standing.{History, IsHistory}
 use Rattle.snapshots.specs.Keeping.{IsKeepable}
 use Rattle.snapshots.proofs.Histories.{histories_are_kept}
 use Rattle.durable.specs.Rules.{first_rules, AreOfFormat}

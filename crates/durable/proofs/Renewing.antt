@@ -10,8 +10,8 @@ use Rattle.names.specs.declared.format.Rules.{Rules}
 use Rattle.history.specs.View.{view}
 use Rattle.holdings.specs.Holdings.{State, Shows}
 use Rattle.snapshots.specs.Keeping.{IsKeepable}
-use Rattle.apicore.specs.Beside.{Beside}
-use Rattle.apicore.specs.Standing.{History, View, with_plans}
+use Rattle.recovery.specs.Beside.{Beside}
+use Rattle.recovery.specs.Standing.{History, View, with_plans}
 use Rattle.paged.specs.declared.state.Paged.{Paged}
 use Rattle.paged.specs.Lying.{base_of}
 use Rattle.paged.specs.Paged.{Below}

@@ -9,7 +9,7 @@ use Rattle.names.specs.declared.format.Rules.{Rules}
 use Rattle.history.specs.Reply.{Reply}
 use Rattle.history.specs.View.{view, empty, after_all}
 use Rattle.history.proofs.ViewLemmas.{after_all-append}
-use Rattle.apicore.specs.Standing.{Write, History, View}
+use Rattle.recovery.specs.Standing.{Write, History, View}
 use Rattle.apicore.specs.Step.{Asked, writes, reply, accepted, replies}
 use Rattle.apicore.proofs.Admitting.{accepted_admitted}
 use Rattle.durable.specs.declared.store.Store.{Store}

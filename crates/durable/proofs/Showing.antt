@@ -12,10 +12,11 @@ use Rattle.history.proofs.Mapping.{all_mapped}
 use Rattle.holdings.specs.Holdings as holdings
 use Rattle.holdings.specs.Holdings.{State, ShowsSame}
 use Rattle.holdings.specs.Prepared.{writes_of, AreNext}
-use Rattle.apicore.specs.Beside.{Beside}
+use Rattle.recovery.specs.Beside.{Beside}
 use Rattle.apicore.specs.declared.prepared.Prepared.{Prepared}
-use Rattle.apicore.specs.Prepared.{Shows, ShowsOver, IsStepOf, IsPrepared, plans_held}
-use Rattle.apicore.specs.Standing.{Write, View, IsView, plans_beside, with_plans, write_with_plans}
+use Rattle.recovery.specs.Shown.{Shows, ShowsOver, plans_held}
+use Rattle.apicore.specs.Prepared.{IsStepOf, IsPrepared}
+use Rattle.recovery.specs.Standing.{Write, View, IsView, plans_beside, with_plans, write_with_plans}
 use Rattle.apicore.specs.Step.{Asked, writes}
 
 -- what is shown after writes that are held with the plans of these

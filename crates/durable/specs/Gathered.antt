@@ -15,9 +15,10 @@ use Rattle.records.specs.Payload.{IsStorable}
 use Rattle.records.specs.declared.group.Group.{Group}
 use Rattle.celtree.specs.Tree.{Expr}
 use Rattle.expressions.specs.Specification.{Specification}
-use Rattle.apicore.specs.Beside.{Beside}
-use Rattle.apicore.specs.Prepared.{IsReadOf, plans_held}
-use Rattle.apicore.specs.Standing.{Write, View, AllMayFollow, write_with_plans, recorded}
+use Rattle.recovery.specs.Beside.{Beside}
+use Rattle.apicore.specs.Prepared.{IsReadOf}
+use Rattle.recovery.specs.Shown.{plans_held}
+use Rattle.recovery.specs.Standing.{Write, View, AllMayFollow, write_with_plans, recorded}
 use Rattle.apicore.specs.Step.{Asked, writes, reply, accepted, replies}
 use Rattle.durable.specs.declared.fault.Fault.{Fault}
 use Rattle.durable.specs.declared.fault.Fault.TheVariants as Faults

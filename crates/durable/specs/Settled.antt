@@ -17,8 +17,9 @@ use Rattle.history.specs.View.{view, after_all}
 use Rattle.history.specs.declared.stored.Stored.{Stored}
 use Rattle.celtree.specs.Tree.{Expr}
 use Rattle.expressions.specs.Specification.{Specification}
-use Rattle.apicore.specs.Beside.{Beside}
-use Rattle.apicore.specs.Standing.{Write, History, View, IsView, AreAdmitted}
+use Rattle.recovery.specs.Beside.{Beside}
+use Rattle.recovery.specs.Standing.{Write, History, View, IsView}
+use Rattle.apicore.specs.Admitted.{AreAdmitted}
 use Rattle.apicore.specs.Step.{Asked, writes, reply, accepted, replies}
 use Rattle.apicore.specs.Prepared.{IsReadOf}
 use Rattle.paged.specs.Paged as paged

@@ -8,11 +8,11 @@ ghost use Rattle.durable.specs.declared.fault.Fault.TheVariants as Fault;
 ghost use Rattle.durable.specs.Gathered.{prepared_in_record};
 
 use crate::Fault;
-use apicore::Beside;
 use expressions::plans_bytes;
 use gatelog::LogFault;
 use holdings::PreparedWrite;
 use records::Group;
+use recovery::Beside;
 use std::alloc::Global;
 
 /// Gathers a write, if there is one. Where memory is refused the group stays as it was.

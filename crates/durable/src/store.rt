@@ -6,7 +6,7 @@ ghost use Rattle.paged.specs.Paged.{root_of as paged_root};
 use crate::compacted::{Checked, Compacted};
 use crate::fault::{Damage, Fault};
 use crate::record::gather;
-use apicore::{Core, Prepared, has_own_plans};
+use apicore::Prepared;
 use checkpoint::{WriteFault, Written, write};
 use device::{Device, MemDevice};
 use gatelog::{Body, Log};
@@ -14,6 +14,7 @@ use history::Reply;
 use objects::LookupFault;
 use paged::{Next, Paged};
 use records::{GROUP_LIMIT, Group};
+use recovery::{Core, has_own_plans};
 use requests::Request;
 use std::alloc::Global;
 
@@ -63,10 +64,10 @@ impl<D: Device> Store<D> {
     ghost use Rattle.records.specs.Payload.{group_limit};
     ghost use Rattle.celtree.specs.Tree.{Expr};
     ghost use Rattle.expressions.specs.Specification.{Specification};
-    ghost use Rattle.apicore.specs.Beside.{Beside};
+    ghost use Rattle.recovery.specs.Beside.{Beside};
     ghost use Rattle.apicore.specs.Prepared.{IsReadOf, IsPrepared};
-    ghost use Rattle.apicore.specs.Standing.{Write, History, View, IsView, AllMayFollow, with_plans};
-    ghost use Rattle.apicore.specs.Compiled.{HasOwnPlans};
+    ghost use Rattle.recovery.specs.Standing.{Write, History, View, IsView, AllMayFollow, with_plans};
+    ghost use Rattle.recovery.specs.Compiled.{HasOwnPlans};
     ghost use Rattle.paged.specs.Lying.{base_of};
     ghost use Rattle.durable.specs.declared.fault.Damage.{Damage};
     ghost use Rattle.durable.specs.declared.fault.Fault.TheVariants as Fault;
@@ -618,7 +619,7 @@ impl<D: Device> Store<D> {
 impl Store<MemDevice> {
     ghost use Rattle.device.specs.Memory.{memory};
     ghost use Rattle.names.specs.declared.format.Rules.{Rules};
-    ghost use Rattle.apicore.specs.Standing.{History};
+    ghost use Rattle.recovery.specs.Standing.{History};
     ghost use Rattle.durable.specs.Settled.{device_of, IsSettledAt};
 
     /// From the n-th device call from now on all fail; 0 asks for none. Nothing else changes.

@@ -6,7 +6,8 @@ use Rattle.device.specs.declared.device.Device.{Ghosts}
 use Rattle.names.specs.declared.format.Rules.{Rules}
 use Rattle.history.specs.View.{view, after, after_all}
 use Rattle.apicore.specs.Prepared.{IsReadOf}
-use Rattle.apicore.specs.Standing.{Write, History, View, AreAdmitted}
+use Rattle.recovery.specs.Standing.{Write, History, View}
+use Rattle.apicore.specs.Admitted.{AreAdmitted}
 use Rattle.apicore.specs.Step.{Asked, writes, replies}
 use Rattle.durable.specs.declared.compacted.Compacted.{Compacted}
 use Rattle.durable.specs.declared.fault.Damage.{Damage}

@@ -5,7 +5,8 @@ use Rattle.requests.specs.Request.{Request}
 use Rattle.requests.specs.RequestOf.{request_of}
 use Rattle.history.specs.View.{view}
 use Rattle.records.specs.Payload.{group_limit}
-use Rattle.apicore.specs.Standing.{Write, History, AreAdmitted}
+use Rattle.recovery.specs.Standing.{Write, History}
+use Rattle.apicore.specs.Admitted.{AreAdmitted}
 use Rattle.apicore.specs.Step.{Asked, replies}
 use Rattle.lives.specs.declared.episodes.Episode.{Episode}
 use Rattle.lives.specs.declared.episodes.Found.{Found}

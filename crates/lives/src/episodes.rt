@@ -2,7 +2,7 @@ ghost use Rattle.std.specs.Prelude.{◌≡◌, ◌≤◌, ◌++◌, ◌⊎◌, �
 ghost use Rattle.device.specs.Disk.{HasFailed};
 ghost use Rattle.device.specs.Memory.{memory_content, memory_left, memory_disk};
 ghost use Rattle.names.specs.declared.format.Rules.{Rules};
-ghost use Rattle.apicore.specs.Standing.{Write, History};
+ghost use Rattle.recovery.specs.Standing.{Write, History};
 ghost use Rattle.durable.specs.declared.fault.Fault.TheVariants as Fault;
 ghost use Rattle.lives.specs.Lives.{EpisodeLeaves, LivesFrom};
 ghost use Rattle.durable.specs.Ready.{HoldsHistory};

@@ -9,11 +9,11 @@ use Rattle.roots.specs.declared.root.Root.{Root}
 use Rattle.checkpoint.specs.Pages.{HoldsEntries}
 use Rattle.paged.specs.declared.fault.ReadFault.{ReadFault}
 use Rattle.paged.specs.declared.fault.ReadFault.TheVariants as read_fault
-use Rattle.apicore.specs.declared.fault.RecoveryFault.{RecoveryFault}
-use Rattle.apicore.specs.declared.fault.RecoveryFault.TheVariants as recovery_fault
+use Rattle.recovery.specs.declared.fault.RecoveryFault.{RecoveryFault}
+use Rattle.recovery.specs.declared.fault.RecoveryFault.TheVariants as recovery_fault
 use Rattle.names.specs.declared.format.Rules.{Rules}
 use Rattle.history.specs.View.{view}
-use Rattle.apicore.specs.Standing.{History, IsHistory, View, with_plans}
+use Rattle.recovery.specs.Standing.{History, IsHistory, View, with_plans}
 use Rattle.snapshots.specs.Keeping.{held_entries, IsHeld, IsKeepable}
 use Rattle.snapshots.proofs.Alone.{kept_held}
 use Rattle.snapshots.proofs.Shown.{held_as_it_is, entries_shown}

@@ -20,17 +20,17 @@ use Rattle.history.specs.Mapped.{mapped}
 use Rattle.history.proofs.ViewLemmas.{after_all-append}
 use Rattle.holdings.specs.Holdings as holdings
 use Rattle.holdings.specs.Holdings.{State}
-use Rattle.apicore.specs.Beside.{Beside}
-use Rattle.apicore.specs.Prepared.{Shows, ShowsOver, HasNoRules, plans_held}
-use Rattle.apicore.specs.Standing.{Write, History, View, PutsTrees, HasTrees, AllMayFollow, IsHistory, plans_beside, with_plans, write_with_plans}
+use Rattle.recovery.specs.Beside.{Beside}
+use Rattle.recovery.specs.Shown.{Shows, ShowsOver, HasNoRules, plans_held}
+use Rattle.recovery.specs.Standing.{Write, History, View, PutsTrees, HasTrees, AllMayFollow, IsHistory, plans_beside, with_plans, write_with_plans}
 use Rattle.records.specs.Payload.{writes_in}
-use Rattle.apicore.specs.Written as written
-use Rattle.apicore.specs.Written.{IsWritten}
-use Rattle.apicore.specs.Taken.{HasReplayed}
-use Rattle.apicore.proofs.Histories.{one_list, written_storable}
+use Rattle.recovery.specs.Written as written
+use Rattle.recovery.specs.Written.{IsWritten}
+use Rattle.recovery.specs.Taken.{HasReplayed}
+use Rattle.recovery.proofs.Histories.{one_list, written_storable}
 use Rattle.durable.specs.Recorded.{payload, IsGroup}
-use Rattle.apicore.proofs.Following.{AllMayFollow-first, AllMayFollow-others}
-use Rattle.apicore.proofs.Staying.{histories_show}
+use Rattle.recovery.proofs.Following.{AllMayFollow-first, AllMayFollow-others}
+use Rattle.recovery.proofs.Staying.{histories_show}
 use Rattle.snapshots.specs.Keeping.{entries_of, IsKeepable, IsHeld}
 use Rattle.snapshots.proofs.Shown.{held_as_it_is}
 use Rattle.snapshots.proofs.Kept.{entries_have_one_view}

@@ -1,9 +1,9 @@
 -- Laws of contents.
 use Rattle.std.specs.Prelude.{◌≡◌, ℕ, List, [], ◌++◌, map}
 use Rattle.names.specs.declared.format.Rules.{Rules}
-use Rattle.apicore.specs.Beside.{Beside}
-use Rattle.apicore.specs.Prepared.{Shows}
-use Rattle.apicore.specs.Standing.{History, IsHistory, IsView, with_plans, write_with_plans}
+use Rattle.recovery.specs.Beside.{Beside}
+use Rattle.recovery.specs.Shown.{Shows}
+use Rattle.recovery.specs.Standing.{History, IsHistory, IsView, with_plans, write_with_plans}
 use Rattle.history.specs.View as seen
 use Rattle.history.specs.View.{view}
 use Rattle.roots.specs.NewStore.{new_content}

@@ -4,9 +4,9 @@ use Rattle.names.specs.declared.format.Rules.{Rules}
 use Rattle.history.specs.Mapped.{mapped}
 use Rattle.history.specs.View as seen
 use Rattle.history.specs.View.{AllMayFollow, after_all}
-use Rattle.apicore.specs.Beside.{Beside}
-use Rattle.apicore.specs.Prepared.{plans_held}
-use Rattle.apicore.specs.Written.{Write, AllStorable}
+use Rattle.recovery.specs.Beside.{Beside}
+use Rattle.recovery.specs.Shown.{plans_held}
+use Rattle.recovery.specs.Written.{Write, AllStorable}
 use Rattle.snapshots.specs.Keeping.{IsHeld}
 use Rattle.gatelog.specs.declared.gate_log.Log.{Log}
 use Rattle.roots.specs.declared.root.Root.{Root}

@@ -2,8 +2,8 @@ ghost use Rattle.std.specs.Prelude.{◌≡◌, ◌≢◌, ◌≤◌, ◌⊎◌, 
 ghost use Rattle.device.specs.Disk.{LeavesOnly, HasFailed};
 ghost use Rattle.names.specs.declared.format.Rules.{Rules};
 ghost use Rattle.history.specs.View as seen;
-ghost use Rattle.apicore.specs.Beside.{Beside};
-ghost use Rattle.apicore.specs.Standing.{History};
+ghost use Rattle.recovery.specs.Beside.{Beside};
+ghost use Rattle.recovery.specs.Standing.{History};
 ghost use Rattle.durable.specs.declared.fault.Fault.TheVariants as Fault;
 ghost use Rattle.durable.specs.Rules.{AreOfFormat};
 ghost use Rattle.durable.specs.Settled.{device_of, root_of, serves, kept_rules, Holds, IsSettledAt};

@@ -24,7 +24,7 @@ use Rattle.stock.specs.Sieve.{chosen_of, objects_among}
 use Rattle.stock.proofs.Sieving.{objects_of_view}
 use Rattle.snapshots.specs.LyingBelow.{AreChosen}
 use Rattle.snapshots.specs.Keeping.{held_plans, held_entries}
-use Rattle.apicore.specs.Beside.{Beside}
+use Rattle.recovery.specs.Beside.{Beside}
 use Rattle.paged.specs.declared.chosen.Chosen.{Chosen}
 use Rattle.paged.specs.Lying.{is_rule, base_of}
 use Rattle.paged.specs.Chosen.{is_rule_key, rules_among, has_key, is_chosen, ChoosesRules}

@@ -10,7 +10,7 @@ use Rattle.shelf.specs.declared.shelf.Shelf.{Shelf}
 use Rattle.shelf.specs.Shelf.{Shelves}
 use Rattle.base.specs.declared.base.Base.{Base}
 use Rattle.base.specs.Base.{Lies, HoldsBase, GoesTo}
-use Rattle.apicore.specs.Beside.{Beside}
+use Rattle.recovery.specs.Beside.{Beside}
 use Rattle.paged.specs.declared.bare.Bare.{Bare}
 use Rattle.paged.specs.Lying.{made_bare, held_bare, LiesBelow}
 

@@ -21,7 +21,7 @@ use Rattle.stock.proofs.Views.{view_holds}
 use Rattle.base.proofs.Lying.{lies_of}
 use Rattle.snapshots.specs.Keeping.{held_plans, held_entries, IsHeldObject, IsHeld}
 use Rattle.snapshots.proofs.Parts.{wide, holdable_held}
-use Rattle.apicore.specs.Beside.{Beside, spelled}
+use Rattle.recovery.specs.Beside.{Beside, spelled}
 use Rattle.paged.specs.declared.bare.Bare.{Bare}
 use Rattle.paged.specs.Lying.{is_rule, made_bare, held_bare, base_of, LiesBelow}
 

@@ -12,8 +12,8 @@ use Rattle.expressions.specs.Specification.{IsSpecification, sound, Plans, these
 use Rattle.stock.specs.declared.stocked.Stocked.{Stocked}
 use Rattle.base.specs.Whole.{whole}
 use Rattle.base.specs.Base.{not_held}
-use Rattle.apicore.specs.Beside.{Beside}
-use Rattle.apicore.specs.Compiled.{HasOwnPlans}
+use Rattle.recovery.specs.Beside.{Beside}
+use Rattle.recovery.specs.Compiled.{HasOwnPlans}
 use Rattle.paged.specs.declared.bare.Bare.{Bare}
 use Rattle.paged.specs.declared.state.Paged.{Paged}
 use Rattle.paged.specs.Lying.{is_rule, made_bare, held_bare}

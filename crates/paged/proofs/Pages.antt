@@ -29,7 +29,7 @@ use Rattle.snapshots.specs.Keeping.{held_entries, IsHeld}
 use Rattle.snapshots.specs.Restoring.{IsRestored, with_objects}
 use Rattle.snapshots.proofs.Alone.{held_kept}
 use Rattle.snapshots.proofs.LyingBelow.{merged_alone}
-use Rattle.apicore.specs.Beside.{Beside}
+use Rattle.recovery.specs.Beside.{Beside}
 use Rattle.paged.specs.declared.chosen.Chosen.{Chosen}
 use Rattle.paged.specs.declared.fault.ReadFault.{ReadFault}
 use Rattle.paged.specs.declared.fault.ReadFault.TheVariants.{Page, Entry as entry, Plans}

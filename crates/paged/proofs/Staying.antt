@@ -10,8 +10,8 @@ use Rattle.names.specs.Key.{Key, key_cmp}
 use Rattle.history.specs.declared.stored.Stored.{Stored}
 use Rattle.shelf.proofs.Staying.{HoldsAsBefore}
 use Rattle.base.proofs.Lying.{lies_hide, lies_stay, lies_ran, lies_ascend}
-use Rattle.apicore.specs.Beside.{Beside}
-use Rattle.apicore.specs.Prepared.{HasNoRules}
+use Rattle.recovery.specs.Beside.{Beside}
+use Rattle.recovery.specs.Shown.{HasNoRules}
 use Rattle.paged.specs.declared.bare.Bare.{Bare}
 use Rattle.paged.specs.declared.state.Paged.{Paged}
 use Rattle.paged.specs.Lying.{made_bare, held_bare}

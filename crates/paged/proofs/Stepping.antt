@@ -10,11 +10,11 @@ use Rattle.holdings.specs.Holdings.{State}
 use Rattle.shelf.specs.declared.shelf.Shelf.{Shelf}
 use Rattle.base.specs.declared.base.Base.{Base}
 use Rattle.base.specs.Base.{Lies, HoldsBase}
-use Rattle.apicore.specs.Beside.{Beside}
+use Rattle.recovery.specs.Beside.{Beside}
 use Rattle.apicore.specs.Prepared.{IsPrepared}
 use Rattle.apicore.specs.declared.prepared.Prepared.{Prepared}
 use Rattle.apicore.proofs.Deciding.{if_ok}
-use Rattle.apicore.proofs.Over.{over_kept}
+use Rattle.recovery.proofs.Over.{over_kept}
 use Rattle.paged.specs.declared.bare.Bare.{Bare}
 use Rattle.paged.specs.Lying.{made_bare, held_bare, LiesBelow}
 

@@ -11,7 +11,7 @@ use Rattle.shelf.specs.declared.shelf.Shelf.{Shelf}
 use Rattle.base.specs.Base.{Lies}
 use Rattle.snapshots.specs.LyingBelow as snapshots
 use Rattle.expressions.specs.Specification.{these}
-use Rattle.apicore.specs.Beside.{Beside, spelled}
+use Rattle.recovery.specs.Beside.{Beside, spelled}
 use Rattle.paged.specs.declared.bare.Bare.{Bare}
 
 -- policies and bindings are held in memory

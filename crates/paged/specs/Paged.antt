@@ -7,9 +7,9 @@ use Rattle.history.specs.declared.stored.Stored.{Stored}
 use Rattle.history.specs.View as seen
 use Rattle.holdings.specs.Holdings as holdings
 use Rattle.shelf.specs.Shelf as shelf
-use Rattle.apicore.specs.Beside.{Beside}
-use Rattle.apicore.specs.Prepared.{ShowsOver}
-use Rattle.apicore.specs.Standing.{View}
+use Rattle.recovery.specs.Beside.{Beside}
+use Rattle.recovery.specs.Shown.{ShowsOver}
+use Rattle.recovery.specs.Standing.{View}
 use Rattle.paged.specs.declared.state.Paged.{Paged}
 use Rattle.paged.specs.Lying.{LiesBelow}
 

@@ -3,12 +3,12 @@
 ghost use Rattle.std.specs.Prelude.{◌≡◌, not};
 ghost use Rattle.paged.specs.Lying.{made_bare, held_bare};
 
-use apicore::Beside;
 use base::FromDocument;
 use documents::Document;
 use expressions::StoredPlans;
 use matching::is_guarded;
 use names::Resource;
+use recovery::Beside;
 use snapshots::Below;
 use std::alloc::{AllocError, Global};
 

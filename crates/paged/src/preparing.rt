@@ -17,18 +17,19 @@ ghost use Rattle.holdings.specs.Holdings.{Shows, ShowsSame};
 ghost use Rattle.holdings.specs.Prepared.{AreNext, HasRoomFor, writes_of};
 ghost use Rattle.roots.specs.Root.{log_start};
 ghost use Rattle.expressions.specs.Specification.{Specification};
-ghost use Rattle.apicore.specs.Beside.{Beside as BesideData};
+ghost use Rattle.recovery.specs.Beside.{Beside as BesideData};
 ghost use Rattle.apicore.specs.Prepared.{IsPrepared, IsReadOf};
-ghost use Rattle.apicore.specs.Standing.{View, IsView};
+ghost use Rattle.recovery.specs.Standing.{View, IsView};
 ghost use Rattle.paged.specs.Paged.{Below, IsShown, root_of};
 
 use crate::bare::Bare;
 use crate::state::Paged;
-use apicore::{Beside, Prepared, prepare};
+use apicore::{Prepared, prepare};
 use base::Base;
 use device::Device;
 use holdings::PreparedWrite;
 use objects::LookupFault;
+use recovery::Beside;
 use requests::Request;
 use std::alloc::Global;
 

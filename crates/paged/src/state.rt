@@ -3,8 +3,8 @@
 ghost use Rattle.std.specs.Prelude.{◌≡◌};
 ghost use Rattle.paged.specs.Paged.{root_of};
 
-use apicore::Core;
 use names::Rules;
+use recovery::Core;
 use roots::Root;
 use shelf::Shelf;
 

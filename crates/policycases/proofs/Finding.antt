@@ -11,10 +11,10 @@ use Rattle.policy.specs.Forms.{Text}
 use Rattle.policy.specs.Spec.{Wanted}
 use Rattle.policycases.specs.declared.shelf.Stored.{Stored}
 use Rattle.policycases.specs.Stored.{held, entry_held}
-use Rattle.bindings.specs.Objects.{Held, Objects, all_held, shown_objects}
-use Rattle.bindings.specs.Parameters.{listed, wanted_of}
-use Rattle.bindings.specs.Seen.{shown_held}
-use Rattle.bindings.proofs.Standing.{listed-map, value_at-map, shown_listed}
+use Rattle.lookup.specs.Objects.{Held, Objects, all_held, shown_objects}
+use Rattle.lookup.specs.Listed.{listed, wanted_of}
+use Rattle.lookup.specs.Seen.{shown_held}
+use Rattle.lookup.proofs.Standing.{listed-map, value_at-map, shown_listed}
 
 pub value_found : (key : Key) (os : List (Key × Stored)) → value_at key (map entry_held os) ≡ option_map held (value_at key os)
 value_found key os = value_at-map held key os

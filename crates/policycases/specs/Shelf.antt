@@ -8,7 +8,7 @@ use Rattle.names.specs.Key.{Key, key_cmp}
 use Rattle.policycases.specs.declared.shelf.Shelf.{Shelf}
 use Rattle.policycases.specs.declared.shelf.Sight.{Sight}
 use Rattle.policycases.specs.Stored as stored
-use Rattle.bindings.specs.Objects.{Held, Objects, held, all_held}
+use Rattle.lookup.specs.Objects.{Held, Objects, held, all_held}
 
 -- the objects, in key order
 abbrev pub on_shelf : Shelf → List (Key × Held)

@@ -1,8 +1,8 @@
 -- Objects in memory, as a lookup finds them.
 use Rattle.names.specs.Key.{Key}
-use Rattle.apicore.specs.Beside.{found_with}
+use Rattle.recovery.specs.Beside.{found_with}
 use Rattle.policycases.specs.declared.shelf.Stored.{Stored}
-use Rattle.bindings.specs.Objects.{Held}
+use Rattle.lookup.specs.Objects.{Held}
 
 abbrev pub held : Stored → Held
 held s = found_with s.document s.beside s.revision

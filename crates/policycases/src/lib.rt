@@ -16,13 +16,13 @@ mod verdicts;
 mod view;
 mod writes;
 
-use apicore::{
-    accepted_are_admitted, events_are_last, histories_show, key_has_last_write, objects_ascend,
-    revision_counts, runs_are_steps, view_decides, writes_follow,
-};
+use apicore::{accepted_are_admitted, runs_are_steps, view_decides, writes_follow};
 use expressions::{expressions_fit_the_text, one_stored_list};
 use planlist::one_list;
 pub use policies::Policies;
+use recovery::{
+    events_are_last, histories_show, key_has_last_write, objects_ascend, revision_counts,
+};
 use verdict::bindings_ascend;
 pub use view::View;
 

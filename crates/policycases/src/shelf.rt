@@ -3,16 +3,17 @@
 ghost use Rattle.std.specs.Prelude.{◌≡◌, map, IfOk, IsTrue};
 ghost use Rattle.std.specs.FinMap.{is_sorted};
 ghost use Rattle.names.specs.Key.{key_cmp};
-ghost use Rattle.bindings.specs.Seen.{listed_seen};
+ghost use Rattle.lookup.specs.Seen.{listed_seen};
 ghost use Rattle.policycases.specs.Stored.{entry_held};
 
-use apicore::Beside;
-use bindings::{Found, Listed, Lookup, wanted_among};
+use bindings::wanted_among;
 use documents::Document;
 use jsondoc::Doc;
+use lookup::{Found, Listed, Lookup};
 use names::{Key, Resource};
 use objects::{Entry, LookupFault, Objects};
 use policy::Wanted;
+use recovery::Beside;
 use std::alloc::{AllocError, Global};
 
 /// An object in memory.
@@ -27,7 +28,7 @@ pub struct Stored {
 }
 
 impl Stored {
-    ghost use Rattle.bindings.specs.Seen.{held_by};
+    ghost use Rattle.lookup.specs.Seen.{held_by};
     ghost use Rattle.policycases.specs.Stored.{held};
 
     fn lent(&self) -> Found<'_>

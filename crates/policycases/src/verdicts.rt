@@ -4,7 +4,6 @@ use crate::expressed::plans_in;
 use crate::shelf::{Shelf, Stored};
 use crate::texts::told;
 use crate::writes::{Write, document, key, value_of};
-use apicore::Beside;
 use bindings::denial_text;
 use cases::{Wrong, first_word, shown};
 use documents::Document;
@@ -14,6 +13,7 @@ use jsondoc::Doc;
 use names::Resource;
 use plancode::Verified;
 use policy::{FailurePolicy, Policy};
+use recovery::Beside;
 use serde_json::Value;
 use std::alloc::Global;
 

@@ -4,7 +4,7 @@ ghost use Rattle.std.specs.Prelude.{IfOk};
 ghost use Rattle.holdings.specs.Prepared.{HasRoomFor};
 
 use crate::refusals::status;
-use apicore::{Beside, Core, Prepared, prepare};
+use apicore::{Prepared, prepare};
 use cases::{TextBuilder, WordReader, Wrong, text, wanted};
 use expressions::StoredPlans;
 use history::Reply;
@@ -12,6 +12,7 @@ use holdings::{Nothing, PreparedWrite, Put, ReplayFault};
 use http::StatusCode;
 use httpmsg::{Message, Response, Std};
 use names::{Format, Rules};
+use recovery::{Beside, Core};
 use requests::{Manifest, Request};
 use routes::{Routes, route};
 use rowcases::{Service, message, messages_of, push_key, routed_first, rules_text};

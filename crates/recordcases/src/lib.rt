@@ -12,13 +12,13 @@ mod paged;
 mod record_lines;
 mod view_lines;
 
-use apicore::payloads_have_one_list;
 pub use bench::Records;
 use overlay::{
     change_counts, change_is_one_more, found_over, found_where_covered, listed_over,
     listed_where_covered, same_is_nothing,
 };
 use records::payload_has_one_group;
+use recovery::payloads_have_one_list;
 use stock::{kept_are_of_a_view, views_hold_objects};
 
 /// The laws of records, of changes over entries, and of objects in pages.

@@ -1,11 +1,12 @@
 //! Lines on the payloads of records, and on the stores that they spell.
 
-use apicore::{Core, RecoveryFault, prepare, replayed, written_keys};
+use apicore::prepare;
 use cases::Wrong;
 use diskcases::Line;
 use holdings::Nothing;
 use names::{Format, Resource, Rules};
 use records::{RecordFault, StoredWrite, read_writes};
+use recovery::{Core, RecoveryFault, replayed, written_keys};
 use requests::{Manifest, Request};
 use std::alloc::Global;
 

@@ -176,10 +176,7 @@ pub fn write_no_more<O: Output>(output: &mut O, sheet: &mut Sheet) -> Result<(),
 }
 
 /// Writes that the storage failed, after which the connection ends.
-pub fn write_storage_failed<O: Output>(
-    output: &mut O,
-    sheet: &mut Sheet,
-) -> Result<(), StreamFault>
+pub fn write_storage_failed<O: Output>(output: &mut O, sheet: &mut Sheet) -> Result<(), StreamFault>
     ensures writes { Writes O.took output.old output.new (closing_bytes false refusal.StorageFailed) result }
     ensures cause { HasCause (O.failures output.old) (O.failures output.new) result }
 {

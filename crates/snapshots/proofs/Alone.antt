@@ -16,8 +16,8 @@ use Rattle.pages.specs.Page.{Entry}
 use Rattle.entries.specs.Holding.{IsStorableEvent, CanHoldObject, CanHoldEvent, HasFewPlans}
 use Rattle.stock.specs.Sieve.{kept_of, chosen_of}
 use Rattle.stock.proofs.Sieving.{kept_of_view}
-use Rattle.apicore.specs.Prepared.{Shows}
-use Rattle.apicore.specs.Standing.{View, HasTrees, plans_beside, with_plans}
+use Rattle.recovery.specs.Shown.{Shows}
+use Rattle.recovery.specs.Standing.{View, HasTrees, plans_beside, with_plans}
 use Rattle.snapshots.specs.LyingBelow.{base_of, AreChosen, HasThoseBelow}
 use Rattle.snapshots.specs.Keeping.{tree_plans, entries_of, held_plans, held_entries, IsHeldObject, IsHeld, IsKeepable}
 use Rattle.snapshots.specs.Restoring.{IsRestored, with_objects}

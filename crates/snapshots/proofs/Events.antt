@@ -7,7 +7,7 @@ use Rattle.window.specs.Window.{event_at, AreNumberedFrom}
 use Rattle.documents.specs.Document.{Document}
 use Rattle.history.specs.View.{View}
 use Rattle.holdings.specs.Holdings.{Shows}
-use Rattle.apicore.specs.Beside.{Beside}
+use Rattle.recovery.specs.Beside.{Beside}
 use Rattle.snapshots.specs.Restoring.{CanKeep, with_events}
 use Rattle.snapshots.proofs.Held.{Core, Object}
 

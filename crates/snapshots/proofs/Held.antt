@@ -17,7 +17,7 @@ use Rattle.expressions.proofs.Listed.{one_stored_list}
 use Rattle.entries.specs.Holding.{IsStorableObject, HasFewPlans}
 use Rattle.entries.specs.Laws.{bytes_beside}
 use Rattle.entries.specs.Reading.{IsStorableStored}
-use Rattle.apicore.specs.Beside.{Beside, spelled}
+use Rattle.recovery.specs.Beside.{Beside, spelled}
 use Rattle.snapshots.specs.LyingBelow.{puts_of, below_at, HasThoseBelow}
 use Rattle.snapshots.specs.Keeping.{held_plans, IsHeldObject}
 use Rattle.snapshots.specs.Restoring.{in_bytes, IsSpelled, IsHeldOf, AreHeldOf, HasTaken, with_objects}

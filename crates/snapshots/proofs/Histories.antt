@@ -17,8 +17,8 @@ use Rattle.history.proofs.ViewLemmas.{events-after_all, revision-after_all}
 use Rattle.expressions.specs.Specification.{Plans, these, plans_in, plans_bytes}
 use Rattle.entries.specs.Holding.{CanHoldObject, HasFewPlans, IsHoldable}
 use Rattle.entries.proofs.Histories.{holdable}
-use Rattle.apicore.specs.Standing.{Write, View, History, HasTrees, AllMayFollow, HaveTrees}
-use Rattle.apicore.proofs.Staying.{histories_show}
+use Rattle.recovery.specs.Standing.{Write, View, History, HasTrees, AllMayFollow, HaveTrees}
+use Rattle.recovery.proofs.Staying.{histories_show}
 use Rattle.snapshots.specs.Keeping.{tree_plans, HasLastEvents}
 use Rattle.snapshots.specs.Laws.{HistoriesAreKept}
 

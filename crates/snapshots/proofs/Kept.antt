@@ -12,7 +12,7 @@ use Rattle.entries.proofs.Ascending as ascending
 use Rattle.entries.proofs.Fitting as fitting
 use Rattle.entries.proofs.Fitting.{Fits}
 use Rattle.entries.proofs.Views.{one_view_of}
-use Rattle.apicore.specs.Standing.{HasTrees}
+use Rattle.recovery.specs.Standing.{HasTrees}
 use Rattle.snapshots.specs.Keeping.{tree_plans, entries_of}
 use Rattle.snapshots.specs.Laws.{AtMostOneView, EntriesAscend, EntriesFit}
 

@@ -9,7 +9,7 @@ use Rattle.entries.specs.declared.fault.EntryFault.{EntryFault}
 use Rattle.entries.specs.Entries.{entries_of as view_entries}
 use Rattle.entries.specs.Laws.{bytes_beside}
 use Rattle.entries.specs.Reading.{IsReadView}
-use Rattle.apicore.specs.Beside.{Beside}
+use Rattle.recovery.specs.Beside.{Beside}
 use Rattle.snapshots.specs.declared.fault.SnapshotFault.TheVariants as SnapshotFault
 use Rattle.snapshots.specs.Faults.{of_entry_fault}
 use Rattle.snapshots.specs.Keeping.{held_plans, held_entries, HasLastEvents, IsHeld}

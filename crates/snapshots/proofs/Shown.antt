@@ -11,9 +11,9 @@ use Rattle.history.specs.Mapped.{each, mapped}
 use Rattle.history.specs.View as seen
 use Rattle.entries.specs.Entries.{entries_of as view_entries}
 use Rattle.entries.specs.Laws.{bytes_beside}
-use Rattle.apicore.specs.Beside.{Beside}
-use Rattle.apicore.specs.Prepared.{plans_held, Shows}
-use Rattle.apicore.specs.Standing.{View, plans_beside, with_plans}
+use Rattle.recovery.specs.Beside.{Beside}
+use Rattle.recovery.specs.Shown.{plans_held, Shows}
+use Rattle.recovery.specs.Standing.{View, plans_beside, with_plans}
 use Rattle.snapshots.specs.Keeping.{tree_plans, entries_of, held_plans, held_entries}
 use Rattle.snapshots.specs.Restoring.{in_bytes}
 use Rattle.snapshots.proofs.Held.{Object, Kept}

@@ -11,7 +11,7 @@ use Rattle.overlay.proofs.Covering.{merged-same}
 use Rattle.history.specs.declared.stored.Stored.{Stored}
 use Rattle.history.specs.View.{View, stored_at, exists}
 use Rattle.holdings.specs.Holdings.{Shows}
-use Rattle.apicore.specs.Beside.{Beside}
+use Rattle.recovery.specs.Beside.{Beside}
 use Rattle.snapshots.specs.Restoring.{HasTaken, with_objects}
 use Rattle.snapshots.proofs.Held.{Core, Object}
 

@@ -12,8 +12,8 @@ use Rattle.expressions.specs.Specification.{these, plans_in, plans_bytes, MayHav
 use Rattle.pages.specs.Page.{Entry}
 use Rattle.entries.specs.Entries as entry
 use Rattle.entries.specs.Holding.{IsStorableObject, IsStorableEvent, IsHoldable}
-use Rattle.apicore.specs.Beside.{Beside, spelled}
-use Rattle.apicore.specs.Standing.{View, HaveTrees}
+use Rattle.recovery.specs.Beside.{Beside, spelled}
+use Rattle.recovery.specs.Standing.{View, HaveTrees}
 
 -- the bytes of the plans of an object's trees
 abbrev pub tree_plans : Key × Stored (List Expr) → List ℕ

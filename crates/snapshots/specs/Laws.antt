@@ -5,7 +5,7 @@ use Rattle.names.specs.declared.format.Rules.{Rules}
 use Rattle.history.specs.View.{view}
 use Rattle.pages.specs.Page.{bytes_cmp}
 use Rattle.checkpoint.specs.Filling.{AllFit}
-use Rattle.apicore.specs.Standing.{View, History, IsHistory}
+use Rattle.recovery.specs.Standing.{View, History, IsHistory}
 use Rattle.snapshots.specs.Keeping.{entries_of, IsKeepable}
 
 -- At most one view is kept by these entries, at a revision.

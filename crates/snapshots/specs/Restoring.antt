@@ -15,7 +15,7 @@ use Rattle.history.specs.View.{View}
 use Rattle.holdings.specs.Holdings.{State, Shows}
 use Rattle.expressions.specs.Specification.{MayHavePlans}
 use Rattle.pages.specs.Page.{Entry}
-use Rattle.apicore.specs.Beside.{Beside, spelled}
+use Rattle.recovery.specs.Beside.{Beside, spelled}
 use Rattle.snapshots.specs.LyingBelow.{puts_of, below_at, HasThoseBelow, MayLieBelow}
 use Rattle.snapshots.specs.Keeping.{held_plans, held_entries, IsHeld}
 use Rattle.snapshots.specs.declared.fault.SnapshotFault.{SnapshotFault}

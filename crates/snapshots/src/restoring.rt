@@ -10,20 +10,20 @@ ghost use Rattle.history.specs.View.{View};
 ghost use Rattle.holdings.specs.Holdings.{Shows};
 ghost use Rattle.holdings.specs.Known.{IsKnown};
 ghost use Rattle.stock.specs.Sieve.{chosen_of};
-ghost use Rattle.apicore.specs.Beside.{Beside as BesideData};
+ghost use Rattle.recovery.specs.Beside.{Beside as BesideData};
 ghost use Rattle.snapshots.specs.LyingBelow.{base_of, AreChosen};
 ghost use Rattle.snapshots.specs.Keeping.{held_entries, HasLastEvents, IsHeld};
 ghost use Rattle.snapshots.specs.Restoring.{IsDamaged, IsHeldOf, AreHeldOf, HasTaken, AreRestored, CanKeep, IsRestored, behind, with_events};
 
 use crate::below::Below;
 use crate::fault::SnapshotFault;
-use apicore::{Beside, Core};
 use documents::Document;
 use entries::{Entry, KeptObject, KeptView, read_view};
 use expressions::stored_plans;
 use history::Stored;
 use holdings::Holdings;
 use names::{Key, Rules};
+use recovery::{Beside, Core};
 use std::alloc::{AllocError, Global};
 use window::Event;
 

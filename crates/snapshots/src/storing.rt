@@ -6,14 +6,13 @@ ghost use Rattle.checkpoint.specs.EntryList.{listed, entries_of as in_list};
 ghost use Rattle.history.specs.View as seen;
 ghost use Rattle.holdings.specs.Holdings as holdings;
 ghost use Rattle.entries.specs.Entries.{plan_entries, stored_entry, plans_among};
-ghost use Rattle.apicore.specs.Beside.{Beside as BesideData};
-ghost use Rattle.apicore.specs.Prepared.{ShowsOver};
-ghost use Rattle.apicore.specs.Standing.{View};
+ghost use Rattle.recovery.specs.Beside.{Beside as BesideData};
+ghost use Rattle.recovery.specs.Shown.{ShowsOver};
+ghost use Rattle.recovery.specs.Standing.{View};
 ghost use Rattle.snapshots.specs.Keeping.{entries_of, held_plans, held_entries};
 ghost use Rattle.snapshots.specs.LyingBelow.{base_of, apart_of};
 
 use crate::below::Below;
-use apicore::{Beside, Core};
 use checkpoint::EntryList;
 use entries::{Entry, object_entry, plan_entries};
 use eventlist::add_events;
@@ -21,6 +20,7 @@ use expressions::plans_bytes;
 use history::Stored;
 use names::Key;
 use overlay::Lent;
+use recovery::{Beside, Core};
 use std::alloc::{AllocError, Global};
 
 // More bytes of plans than a policy can have.

@@ -12,9 +12,9 @@ use Rattle.objects.specs.Objects.{value_at}
 use Rattle.plancode.specs.Plans.{Judged}
 use Rattle.expressions.specs.Specification.{these}
 use Rattle.policy.specs.Forms.{Text}
-use Rattle.bindings.specs.Objects.{Object, Objects, Held, held, plans_in, all_held, policy_key, HasTrees, HaveTrees}
-use Rattle.bindings.specs.Parameters.{listed}
-use Rattle.bindings.proofs.Standing.{listed-map, value_at-map}
+use Rattle.lookup.specs.Objects.{Object, Objects, Held, held, plans_in, all_held, policy_key, HasTrees, HaveTrees}
+use Rattle.lookup.specs.Listed.{listed}
+use Rattle.lookup.proofs.Standing.{listed-map, value_at-map}
 use Rattle.verdict.specs.Admission.{bindings, bound}
 use Rattle.verdict.specs.Turns.{held_binding}
 

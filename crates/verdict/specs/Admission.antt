@@ -9,8 +9,8 @@ use Rattle.policy.specs.Bindings.{binding_of}
 use Rattle.policy.specs.Policies.{policy_of}
 use Rattle.policy.specs.Spec.{Binding}
 use Rattle.evaluation.specs.Denials.{Denial}
-use Rattle.bindings.specs.Objects.{Object, Objects, policy_key, shown_objects}
-use Rattle.bindings.specs.Parameters.{listed}
+use Rattle.lookup.specs.Objects.{Object, Objects, policy_key, shown_objects}
+use Rattle.lookup.specs.Listed.{listed}
 use Rattle.bindings.specs.Verdict.{denial}
 use Rattle.verdict.specs.Verdict.{Verdict, Finding, verdict_of}
 

@@ -12,7 +12,7 @@
 //!
 //! Each binding is asked, ascending by name, what it says of the write (`bindings`). The first denial by a binding that denies is the
 //! verdict. A denial by a binding that warns becomes a warning. What policies, bindings and parameters there are is asked of a
-//! `bindings::Lookup`, as it stands before the write.
+//! `lookup::Lookup`, as it stands before the write.
 //! `specs/Admission.antt` says the verdict of a list of objects, and [`admit`] gives that of each list which the lookup shows, as
 //! long as each object has the trees of its expressions there.
 #![tactic(auto)]

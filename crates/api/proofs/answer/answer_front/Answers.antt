@@ -4,7 +4,7 @@ use Rattle.requests.specs.RequestOf.{request_of}
 use Rattle.history.specs.Reply.{Reply}
 use Rattle.requests.specs.declared.refusal.Refusal.TheVariants.{StorageFailed}
 use Rattle.names.specs.declared.format.Rules.{Rules}
-use Rattle.apicore.specs.Standing.{View}
+use Rattle.recovery.specs.Standing.{View}
 use Rattle.durable.specs.Settled.{ServesAt, HasServed}
 use Rattle.httpmsg.specs.Flow.{TookSome}
 use Rattle.httpmsg.specs.Stream.{Message}

@@ -2,7 +2,7 @@ use Rattle.std.proofs.Common.{◌≡◌, Bool, true, false, List, [], ◌∷◌,
 use Rattle.celtree.specs.Tree.{Expr}
 use Rattle.requests.specs.declared.refusal.Refusal.TheVariants.{OutOfMemory}
 use Rattle.expressions.specs.Specification.{Specification}
-use Rattle.apicore.specs.Standing.{Write, View}
+use Rattle.recovery.specs.Standing.{Write, View}
 use Rattle.apicore.specs.Step.{Asked, writes, reply, accepted, replies}
 use Rattle.history.specs.Reply.{status}
 use Rattle.history.specs.View.{view, after_all}

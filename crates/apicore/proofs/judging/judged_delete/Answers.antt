@@ -5,7 +5,7 @@ use Rattle.history.specs.History.{delete}
 use Rattle.history.specs.Mapped.{mapped_write}
 use Rattle.history.specs.Reply.{showing}
 use Rattle.verdict.specs.Seen.{verdict_seen}
-use Rattle.apicore.specs.Prepared.{plans_held}
+use Rattle.recovery.specs.Shown.{plans_held}
 use Rattle.apicore.proofs.Deciding.{admitted_judged, denied_judged, stored_found}
 use Rattle.apicore.proofs.judging.judged_delete.Goals as goal
 

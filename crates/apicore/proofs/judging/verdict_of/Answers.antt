@@ -1,4 +1,4 @@
-use Rattle.apicore.specs.Standing.{objects_of}
+use Rattle.apicore.specs.Admitted.{objects_of}
 use Rattle.apicore.proofs.Finding.{sees_shown, have_trees}
 use Rattle.apicore.proofs.judging.verdict_of.Goals as goal
 

@@ -1,6 +1,6 @@
 use Rattle.std.proofs.Common.{rules, ◌∙◌, sym, inl, inr}
 use Rattle.requests.specs.Request.{create}
-use Rattle.apicore.proofs.Over.{over_kept}
+use Rattle.recovery.proofs.Over.{over_kept}
 use Rattle.apicore.proofs.Deciding.{prepared_of, create_there, there_found, none_found}
 use Rattle.apicore.proofs.preparing.prepare_create.Goals as goal
 

@@ -1,7 +1,7 @@
 use Rattle.std.proofs.Common.{◌∙◌, sym, option_map, string_bytes}
 use Rattle.requests.specs.Request.{delete}
 use Rattle.expressions.specs.Specification.{bad_spec}
-use Rattle.apicore.proofs.Over.{over_kept}
+use Rattle.recovery.proofs.Over.{over_kept}
 use Rattle.apicore.proofs.Deciding.{prepared_of, delete_missing}
 use Rattle.apicore.proofs.preparing.prepare_delete.Goals as goal
 

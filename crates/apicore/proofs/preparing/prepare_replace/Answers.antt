@@ -1,6 +1,6 @@
 use Rattle.std.proofs.Common.{rules, ◌∙◌, sym, inl, inr}
 use Rattle.requests.specs.Request.{replace}
-use Rattle.apicore.proofs.Over.{over_kept}
+use Rattle.recovery.proofs.Over.{over_kept}
 use Rattle.apicore.proofs.Deciding.{prepared_of, replace_missing}
 use Rattle.apicore.proofs.preparing.prepare_replace.Goals as goal
 

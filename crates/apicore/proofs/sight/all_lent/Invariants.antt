@@ -1,6 +1,6 @@
 use Rattle.std.proofs.Common.{◌≡◌, ◌++◌, map, drop}
 use Rattle.apicore.specs.Sights.{entry_held}
-use Rattle.bindings.specs.Seen.{listed_seen}
+use Rattle.lookup.specs.Seen.{listed_seen}
 use Rattle.apicore.proofs.sight.all_lent.Given as goal
 
 -- those lent, and then those that are left

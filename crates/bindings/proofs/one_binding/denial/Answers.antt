@@ -4,7 +4,7 @@ use Rattle.matching.specs.Rules.{attempt_seen}
 use Rattle.policy.specs.Spec.{policy_seen, binding_seen}
 use Rattle.expressions.specs.Specification.{these}
 use Rattle.evaluation.specs.Ready.{AreReady}
-use Rattle.bindings.specs.Objects.{shown_objects}
+use Rattle.lookup.specs.Objects.{shown_objects}
 use Rattle.bindings.proofs.Turns.{said}
 use Rattle.bindings.proofs.one_binding.denial.Goals as goal
 

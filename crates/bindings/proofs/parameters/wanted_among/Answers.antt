@@ -2,7 +2,7 @@ use Rattle.std.proofs.Common.{◌≡◌, map, ◌∙◌, rules}
 use Rattle.std.proofs.lemmas.Grind.{common_steps}
 use Rattle.std.specs.List.{filter_map}
 use Rattle.policy.specs.Spec.{wanted_seen}
-use Rattle.bindings.specs.Seen.{listed_seen}
+use Rattle.lookup.specs.Seen.{listed_seen}
 use Rattle.bindings.specs.Turns.{if_wanted}
 use Rattle.bindings.proofs.Standing.{wanted_held}
 use Rattle.bindings.proofs.parameters.wanted_among.Goals as goal

@@ -1,7 +1,7 @@
 use Rattle.std.proofs.Common.{◌≡◌, ◌++◌, map, drop}
 use Rattle.std.specs.List.{filter_map}
 use Rattle.policy.specs.Spec.{wanted_seen}
-use Rattle.bindings.specs.Seen.{listed_seen}
+use Rattle.lookup.specs.Seen.{listed_seen}
 use Rattle.bindings.specs.Turns.{if_wanted}
 use Rattle.bindings.proofs.parameters.wanted_among.Given as goal
 

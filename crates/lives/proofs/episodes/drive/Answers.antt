@@ -2,7 +2,7 @@ use Rattle.std.proofs.Common.{arith, ◌∙◌, sym, ap, subst, ◌+◌, ◌++�
 use Rattle.std.proofs.lemmas.List.{append-nil, append_assoc, length-append, take_all}
 use Rattle.std.proofs.lemmas.Grind.{take_at_read}
 use Rattle.device.specs.Memory.{memory_content}
-use Rattle.apicore.specs.Standing.{History}
+use Rattle.recovery.specs.Standing.{History}
 use Rattle.lives.specs.declared.episodes.Episode.{Episode}
 use Rattle.lives.specs.declared.episodes.Found.{Found}
 use Rattle.durable.specs.Stands.{StandsFor}

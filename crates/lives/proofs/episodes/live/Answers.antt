@@ -2,7 +2,7 @@ use Rattle.std.proofs.Common.{sym, subst, ◌++◌, [], ℕ, List}
 use Rattle.std.proofs.lemmas.List.{append-nil}
 use Rattle.device.specs.declared.memory.MemDevice.{MemDevice}
 use Rattle.device.specs.Memory.{memory_content, memory_left}
-use Rattle.apicore.specs.Standing.{History}
+use Rattle.recovery.specs.Standing.{History}
 use Rattle.durable.specs.Stands.{StandsFor}
 use Rattle.lives.proofs.episodes.live.Goals as goal
 

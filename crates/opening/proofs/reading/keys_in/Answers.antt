@@ -1,6 +1,6 @@
 use Rattle.std.proofs.Common.{rules, map, IsErrOf}
-use Rattle.apicore.proofs.Written.{none_without_group}
-use Rattle.apicore.specs.declared.fault.RecoveryFault.TheVariants as RecoveryFault
+use Rattle.recovery.proofs.Written.{none_without_group}
+use Rattle.recovery.specs.declared.fault.RecoveryFault.TheVariants as RecoveryFault
 use Rattle.durable.specs.Rules.{first_rules}
 use Rattle.opening.proofs.reading.keys_in.Goals as goal
 

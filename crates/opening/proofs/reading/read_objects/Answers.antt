@@ -8,12 +8,12 @@ use Rattle.history.specs.declared.stored.Stored.{Stored}
 use Rattle.shelf.specs.declared.shelf.Shelf.{Shelf}
 use Rattle.snapshots.specs.Keeping.{IsHeld}
 use Rattle.snapshots.proofs.Shown.{held_as_it_is}
-use Rattle.apicore.specs.Beside.{Beside}
-use Rattle.apicore.specs.Known.{AllKnown}
-use Rattle.apicore.specs.Prepared.{plans_held}
-use Rattle.apicore.specs.Standing.{with_plans}
-use Rattle.apicore.specs.Taken.{HasReplayed}
-use Rattle.apicore.specs.Written.{IsWritten}
+use Rattle.recovery.specs.Beside.{Beside}
+use Rattle.recovery.specs.Known.{AllKnown}
+use Rattle.recovery.specs.Shown.{plans_held}
+use Rattle.recovery.specs.Standing.{with_plans}
+use Rattle.recovery.specs.Taken.{HasReplayed}
+use Rattle.recovery.specs.Written.{IsWritten}
 use Rattle.paged.specs.Lying.{base_of, LiesBelow}
 use Rattle.durable.specs.Rules.{first_rules}
 use Rattle.durable.specs.declared.fault.Fault.TheVariants as Fault

@@ -7,10 +7,10 @@ use Rattle.history.specs.View.{view}
 use Rattle.records.specs.Payload.{writes_in}
 use Rattle.roots.specs.declared.root.Root.{Root}
 use Rattle.snapshots.proofs.Shown.{held_as_it_is}
-use Rattle.apicore.specs.Beside.{Beside}
-use Rattle.apicore.specs.Standing.{write_with_plans, with_plans}
-use Rattle.apicore.specs.Taken.{HasReplayed}
-use Rattle.apicore.specs.Written.{Write, IsWritten}
+use Rattle.recovery.specs.Beside.{Beside}
+use Rattle.recovery.specs.Standing.{write_with_plans, with_plans}
+use Rattle.recovery.specs.Taken.{HasReplayed}
+use Rattle.recovery.specs.Written.{Write, IsWritten}
 use Rattle.paged.specs.Lying.{base_of}
 use Rattle.paged.proofs.Staying.{below_free}
 use Rattle.durable.specs.declared.fault.Fault.TheVariants as Fault

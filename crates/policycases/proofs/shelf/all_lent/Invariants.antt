@@ -1,6 +1,6 @@
 use Rattle.std.proofs.Common.{◌≡◌, ◌++◌, map, drop}
 use Rattle.policycases.specs.Stored.{entry_held}
-use Rattle.bindings.specs.Seen.{listed_seen}
+use Rattle.lookup.specs.Seen.{listed_seen}
 use Rattle.policycases.proofs.shelf.all_lent.Given as goal
 
 -- those lent, and then those that are left

@@ -1,7 +1,7 @@
 use Rattle.std.proofs.Common.{◌≡◌, ◌∙◌, ap, subst}
 use Rattle.names.specs.Key.{Key}
 use Rattle.history.specs.declared.stored.Stored.{Stored}
-use Rattle.apicore.specs.Beside.{Beside}
+use Rattle.recovery.specs.Beside.{Beside}
 use Rattle.snapshots.specs.Restoring.{HasTaken}
 use Rattle.snapshots.proofs.Held.{Kept}
 use Rattle.snapshots.proofs.restoring.restore.Goals as goal

@@ -9,7 +9,7 @@ use Rattle.policy.specs.Spec.{Policy, Binding, policy_seen, binding_seen}
 use Rattle.expressions.specs.Plans.{plans_of}
 use Rattle.evaluation.specs.Ready.{AreReady}
 use Rattle.evaluation.specs.Seen.{denial_seen}
-use Rattle.bindings.specs.Objects.{Held, plans_in, shown_objects}
+use Rattle.lookup.specs.Objects.{Held, plans_in, shown_objects}
 use Rattle.bindings.specs.Verdict.{denial}
 use Rattle.verdict.specs.Turns.{denial_by_policy}
 use Rattle.verdict.proofs.admission.denial_of.Goals as goal

@@ -2,7 +2,7 @@ use Rattle.std.proofs.Common.{map, ap, ◌∙◌}
 use Rattle.policy.specs.Spec.{wanted_seen}
 use Rattle.apicore.specs.Sights.{entry_held}
 use Rattle.apicore.proofs.Finding.{parameters_found}
-use Rattle.bindings.specs.Seen.{listed_seen}
+use Rattle.lookup.specs.Seen.{listed_seen}
 use Rattle.apicore.proofs.sight.SightLookup.parameters.Goals as goal
 
 pub returns-clause-found : goal.returns-clause-found

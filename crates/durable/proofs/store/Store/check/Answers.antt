@@ -1,8 +1,8 @@
 use Rattle.std.proofs.Common.{◌∙◌, sym, ap, subst}
 use Rattle.roots.specs.declared.root.Root.{Root}
 use Rattle.holdings.specs.Holdings.{State, Shows}
-use Rattle.apicore.specs.Beside.{Beside}
-use Rattle.apicore.specs.Prepared.{ShowsOver}
+use Rattle.recovery.specs.Beside.{Beside}
+use Rattle.recovery.specs.Shown.{ShowsOver}
 use Rattle.paged.proofs.Owning.{below_own}
 use Rattle.durable.specs.Settled.{root_of}
 use Rattle.durable.proofs.Keeping.{root_is}

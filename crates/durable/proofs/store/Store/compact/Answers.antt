@@ -4,7 +4,7 @@ use Rattle.checkpoint.specs.EntryList.{entries_of as in_list}
 use Rattle.names.specs.declared.format.Rules.{Rules}
 use Rattle.snapshots.specs.Keeping.{entries_of, IsKeepable}
 use Rattle.history.specs.View.{view}
-use Rattle.apicore.proofs.Histories.{on_ok_to}
+use Rattle.recovery.proofs.Histories.{on_ok_to}
 use Rattle.durable.specs.declared.fault.Fault.TheVariants as Fault
 use Rattle.durable.specs.Settled.{root_of, revision_of}
 use Rattle.durable.proofs.Answering.{held}

@@ -8,8 +8,8 @@ use Rattle.snapshots.specs.Keeping.{entries_of}
 use Rattle.snapshots.proofs.Alone.{kept_held}
 use Rattle.snapshots.proofs.Kept.{entries_ascend}
 use Rattle.snapshots.proofs.Shown.{held_as_it_is, entries_shown}
-use Rattle.apicore.specs.Beside.{Beside}
-use Rattle.apicore.specs.Standing.{with_plans}
+use Rattle.recovery.specs.Beside.{Beside}
+use Rattle.recovery.specs.Standing.{with_plans}
 use Rattle.durable.specs.Settled.{root_of, kept_rules}
 use Rattle.durable.proofs.Answering.{Small, holds_shown}
 use Rattle.durable.proofs.Compacting.{still_ready}

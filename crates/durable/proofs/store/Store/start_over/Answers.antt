@@ -3,7 +3,7 @@ use Rattle.std.proofs.Math.Logic.{∥∥₁_elim, ∥∥₁_prop}
 use Rattle.std.proofs.lemmas.Grind.{merely}
 use Rattle.roots.specs.declared.root.Root.{Root}
 use Rattle.holdings.specs.Holdings.{State}
-use Rattle.apicore.specs.Beside.{Beside}
+use Rattle.recovery.specs.Beside.{Beside}
 use Rattle.durable.specs.Ready.{IsReady}
 use Rattle.durable.proofs.Compacting.{ready_anew}
 use Rattle.durable.proofs.store.Store.start_over.Goals as goal

@@ -9,7 +9,7 @@ use Rattle.holdings.specs.Holdings.{Shows}
 use Rattle.holdings.specs.Prepared.{writes_of}
 use Rattle.shelf.specs.declared.shelf.Shelf.{Shelf}
 use Rattle.shelf.specs.Shelf as shelf
-use Rattle.apicore.specs.Beside.{Beside}
+use Rattle.recovery.specs.Beside.{Beside}
 use Rattle.paged.specs.Lying.{LiesBelow}
 use Rattle.durable.specs.declared.fault.Fault.TheVariants as Faults
 use Rattle.durable.specs.Ready.{IsReady}

@@ -12,7 +12,7 @@ use Rattle.names.specs.declared.format.Rules.{Rules}
 use Rattle.snapshots.proofs.Alone.{kept_held}
 use Rattle.snapshots.proofs.Kept.{entries_fit}
 use Rattle.history.specs.View.{view}
-use Rattle.apicore.specs.Standing.{with_plans}
+use Rattle.recovery.specs.Standing.{with_plans}
 use Rattle.durable.specs.Stands.{StandsFor}
 use Rattle.checkpoint.specs.EntryList.{entries_of as in_list}
 use Rattle.durable.specs.declared.fault.Fault.TheVariants as Fault

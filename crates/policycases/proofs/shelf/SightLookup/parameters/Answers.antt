@@ -4,7 +4,7 @@ use Rattle.policy.specs.Spec.{wanted_seen}
 use Rattle.policycases.specs.declared.shelf.Stored.{Stored}
 use Rattle.policycases.specs.Stored.{entry_held}
 use Rattle.policycases.proofs.Finding.{parameters_found}
-use Rattle.bindings.specs.Seen.{listed_seen}
+use Rattle.lookup.specs.Seen.{listed_seen}
 use Rattle.policycases.proofs.shelf.SightLookup.parameters.Goals as goal
 
 pub returns-clause-found : goal.returns-clause-found

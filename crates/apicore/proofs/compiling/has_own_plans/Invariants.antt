@@ -1,7 +1,0 @@
-use Rattle.std.proofs.Common.{take}
-use Rattle.std.specs.List.{AllByRecursion}
-use Rattle.apicore.specs.Compiled.{PutsOwnPlans}
-use Rattle.apicore.proofs.compiling.has_own_plans.Given as goal
-
-abbrev pub invariant-loop-change : goal.invariant-loop-change
-invariant-loop-change l = AllByRecursion PutsOwnPlans (take l.change-index l.change-items)

@@ -1,7 +1,0 @@
-use Rattle.std.proofs.Common.{refl}
-use Rattle.history.specs.View.{empty}
-use Rattle.history.proofs.ViewLemmas.{objects_ascend}
-use Rattle.apicore.proofs.laws.objects_ascend.Goals as goal
-
-pub returns : goal.returns
-returns c = λ rules h. objects_ascend rules empty h refl

@@ -1,5 +1,0 @@
-use Rattle.apicore.proofs.Histories.{one_list}
-use Rattle.apicore.proofs.laws.payloads_have_one_list.Goals as goal
-
-pub returns : goal.returns
-returns c = one_list

@@ -1,7 +1,0 @@
-use Rattle.std.proofs.Common.{arith}
-use Rattle.history.specs.View.{empty}
-use Rattle.history.proofs.ViewLemmas.{revision-after_all}
-use Rattle.apicore.proofs.laws.revision_counts.Goals as goal
-
-pub returns : goal.returns
-returns c = λ rules h. let e = revision-after_all rules empty h in omega (arith, e)

@@ -1,0 +1,24 @@
+-- What a core shows over a source, as looks and prepared writes leave it.
+use Rattle.std.proofs.Common.{List}
+use Rattle.names.specs.Key.{Key}
+use Rattle.history.specs.declared.stored.Stored.{Stored}
+use Rattle.history.specs.View as seen
+use Rattle.holdings.specs.Holdings.{State}
+use Rattle.recovery.specs.Beside.{Beside}
+use Rattle.recovery.specs.Shown.{IsOver}
+use Rattle.recovery.specs.Standing.{View}
+
+abbrev Base : Type 0
+Base = List (Key × Stored Beside)
+
+-- over another source, or the same behind looks, which holds what the first one does
+pub over_kept : (first second : Base → Type 0) (core : State Beside) (held : seen.View Beside) (v : View) → ((base : Base) → first base → second base) → IsOver first core held v
+    → IsOver second core held v
+over_kept first second core held v kept over = record {
+  base = over.base;
+  below = kept over.base over.below;
+  shows = over.shows;
+  plans = over.plans;
+  free = over.free;
+  seen = over.seen;
+}

@@ -1,0 +1,52 @@
+-- Each object of a history's view has the trees of its document.
+use Rattle.std.proofs.Common.{◌≡◌, subst, refl, List, [], ◌∷◌, true, false, cond, not, Less, Equal, Greater}
+use Rattle.std.specs.List.{AllByRecursion}
+use Rattle.std.specs.Ordering.{eq_by_cmp}
+use Rattle.std.specs.FinMap.Entries.{by_order}
+use Rattle.names.specs.declared.format.Rules.{Rules}
+use Rattle.names.specs.Key.{Key, key_cmp}
+use Rattle.names.proofs.KeyOrder.{key_cmp-IsAntisymmetric}
+use Rattle.objects.specs.Objects.{with_value, without_key}
+use Rattle.history.specs.declared.stored.Stored.{Stored}
+use Rattle.history.specs.History.{put, delete}
+use Rattle.history.specs.View.{after, after_all, empty}
+use Rattle.history.proofs.ViewLemmas.{objects_ascend}
+use Rattle.recovery.specs.Laws.{HistoriesShow}
+use Rattle.celtree.specs.Tree.{Expr}
+use Rattle.recovery.specs.Standing.{Write, View, HasTrees, MayFollow, AllMayFollow}
+
+module _ {X : Type 0} (P : Key → X → Type 0) where
+  abbrev All : List (Key × X) → Type 0
+  All os = AllByRecursion (λ o. P o.0 o.1) os
+
+  all_with : (k : Key) (x : X) (os : List (Key × X)) → P k x → All os → All (with_value k x os)
+  all_with k x [] holds all = (holds, tt)
+  all_with k x (o ∷ os) holds all =
+      elim (key_cmp k o.0) as (λ r. key_cmp k o.0 ≡ r → All (by_order r ((k, x) ∷ o ∷ os) ((o.0, x) ∷ os) (o ∷ with_value k x os))) [
+        | Less ↦ λ is. (holds, all)
+        | Equal ↦ λ is. (subst (λ l. P l x) (key_cmp-IsAntisymmetric k o.0 is) holds, all.1)
+        | Greater ↦ λ is. (all.0, all_with k x os holds all.1)
+      ] refl
+
+  all_without : (k : Key) (os : List (Key × X)) → All os → All (without_key k os)
+  all_without k [] all = tt
+  all_without k (o ∷ os) all =
+      elim (not (eq_by_cmp key_cmp k o.0)) as (λ b. All (cond b (o ∷ without_key k os) (without_key k os))) [
+        | true ↦ (all.0, all_without k os all.1)
+        | false ↦ all_without k os all.1
+      ]
+
+abbrev Has : Key → Stored (List Expr) → Type 0
+Has k s = HasTrees k.resource s.document.json s.beside
+
+stay_one : (rules : Rules) (v : View) (w : Write) → All Has v.objects → MayFollow rules v w → All Has (after rules v w).objects
+stay_one rules v (put k d trees) have may = all_with Has k _ v.objects may.1 have
+stay_one rules v (delete k) have may = all_without Has k v.objects have
+
+pub trees_stay : (rules : Rules) (v : View) (ws : List Write) → All Has v.objects → AllMayFollow rules v ws → All Has (after_all rules v ws).objects
+trees_stay rules v [] have may = have
+trees_stay rules v (w ∷ ws) have may = trees_stay rules (after rules v w) ws (stay_one rules v w have may.0) may.1
+
+-- the view of a history is one as histories have it
+pub histories_show : HistoriesShow
+histories_show rules h history = record { ascends = objects_ascend rules empty h refl; trees = trees_stay rules empty h tt history }

@@ -1,0 +1,31 @@
+-- What memory knows of the keys that a log writes.
+use Rattle.std.specs.Prelude.{◌≡◌, ℕ, List, map, Contains}
+use Rattle.std.specs.List.{AllByRecursion}
+use Rattle.names.specs.Key.{Key}
+use Rattle.history.specs.declared.stored.Stored.{Stored}
+use Rattle.history.specs.History as plain
+use Rattle.history.specs.History.{put, delete}
+use Rattle.holdings.specs.Holdings.{State}
+use Rattle.holdings.specs.Known.{IsKnown}
+use Rattle.records.specs.Payload as bytes
+use Rattle.recovery.specs.Beside.{Beside}
+
+-- the key that a write writes
+abbrev pub written_key : plain.Write (List ℕ) → Key
+written_key (put k d plans) = k
+written_key (delete k) = k
+
+-- The payload is that of writes which a record can hold, one of which writes the key.
+pub record Writes (payload : List ℕ) (key : Key) : Type 0 where
+  pub writes : List (plain.Write (List ℕ))
+  pub group : bytes.IsGroup writes
+  pub payload_is : bytes.payload writes ≡ payload
+  pub has : Contains (map written_key writes) key
+
+-- Memory knows each key that these payloads write, over the objects that lie below.
+abbrev pub AllKnown : State Beside → List (Key × Stored Beside) → (payloads : List (List ℕ)) → Type 0
+AllKnown core base payloads = (payload : List ℕ) (key : Key) → Contains payloads payload → Writes payload key → IsKnown core base key
+
+-- and each key that these writes write
+abbrev pub KnowsEach : State Beside → List (Key × Stored Beside) → List (plain.Write (List ℕ)) → Type 0
+KnowsEach core base writes = AllByRecursion (λ w. IsKnown core base (written_key w)) writes

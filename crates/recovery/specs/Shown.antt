@@ -1,0 +1,42 @@
+-- What the core shows.
+use Rattle.std.specs.Prelude.{◌≡◌, List, []}
+use Rattle.names.specs.declared.resource.Resource.TheVariants.{ValidatingAdmissionPolicy, ValidatingAdmissionPolicyBinding}
+use Rattle.names.specs.Key.{Key}
+use Rattle.overlay.specs.Covered.{AreCovered}
+use Rattle.documents.specs.Document.{Document}
+use Rattle.history.specs.declared.stored.Stored.{Stored}
+use Rattle.history.specs.Mapped.{mapped}
+use Rattle.history.specs.View as seen
+use Rattle.holdings.specs.Holdings as holdings
+use Rattle.holdings.specs.Holdings.{State}
+use Rattle.recovery.specs.Beside.{Beside}
+use Rattle.recovery.specs.Standing.{View, IsView, with_plans}
+
+-- what the core holds beside a document stands as it is
+abbrev pub plans_held : Document → Beside → Beside
+plans_held d beside = beside
+
+-- What is held is a view's: it has the plans of its trees, and what its documents spell.
+abbrev pub Shows : seen.View Beside → View → Type 0
+Shows held v = mapped plans_held held ≡ with_plans v
+
+-- No policy and no binding lies below: those are held in memory, with what they spell.
+pub record HasNoRules (base : List (Key × Stored Beside)) : Type 0 where
+  pub policies : AreCovered ValidatingAdmissionPolicy [] base
+  pub bindings : AreCovered ValidatingAdmissionPolicyBinding [] base
+
+-- Over the objects that lie below, the core shows a view.
+pub record ShowsOver (core : State Beside) (base : List (Key × Stored Beside)) (v : View) : Type 0 where
+  pub held : seen.View Beside
+  pub shows : holdings.Shows core base held
+  pub plans : Shows held v
+  pub free : HasNoRules base
+
+-- So it does over the objects that a source holds, at a view as histories have it.
+pub record IsOver (holds : List (Key × Stored Beside) → Type 0) (core : State Beside) (held : seen.View Beside) (v : View) : Type 0 where
+  pub base : List (Key × Stored Beside)
+  pub below : holds base
+  pub shows : holdings.Shows core base held
+  pub plans : Shows held v
+  pub free : HasNoRules base
+  pub seen : IsView v

@@ -1,0 +1,76 @@
+-- Histories with trees: what stands in each document.
+use Rattle.std.specs.Prelude.{◌≡◌, ℕ, ◌+◌, ◌*◌, ◌≤◌, List, [], ◌∷◌, length, IsTrue}
+use Rattle.std.specs.FinMap.{is_sorted}
+use Rattle.std.specs.List.{AllByRecursion}
+use Rattle.serde_json.specs.Data.{Data}
+use Rattle.celtree.specs.Tree.{Expr}
+use Rattle.jsondoc.specs.Document.{text}
+use Rattle.names.specs.declared.format.Rules.{Rules}
+use Rattle.names.specs.declared.resource.Resource.{Resource}
+use Rattle.names.specs.Key.{key_cmp}
+use Rattle.documents.specs.Document.{Document}
+use Rattle.history.specs.History as plain
+use Rattle.history.specs.History.{put, delete}
+use Rattle.history.specs.Mapped.{mapped, mapped_write}
+use Rattle.history.specs.View as seen
+use Rattle.history.specs.View.{after, empty}
+use Rattle.expressions.specs.Specification.{IsSpecification, sound, these, plans_in, plans_bytes, MayHavePlans}
+use Rattle.recovery.specs.Beside.{Beside, beside_of}
+
+-- A write puts a document with the trees of its expressions, or deletes.
+abbrev pub Write : Type 0
+Write = plain.Write (List Expr)
+
+abbrev pub History : Type 0
+History = List Write
+
+abbrev pub View : Type 0
+View = seen.View (List Expr)
+
+-- The expressions of the document spell these trees and no others; plans of them can be held, and have few bytes.
+pub record HasTrees (r : Resource) (d : Data) (trees : List Expr) : Type 0 where
+  pub spelled : IsSpecification r d (sound trees)
+  pub alone : (other : List Expr) → IsSpecification r d (sound other) → other ≡ trees
+  pub held : MayHavePlans r d (these (plans_in d trees))
+  pub short : length (plans_bytes r (these (plans_in d trees))) ≤ 2 + 22 * length (text d)
+
+abbrev pub PutsTrees : Write → Type 0
+PutsTrees (put k d trees) = HasTrees k.resource d.json trees
+PutsTrees (delete k) = Unit {0}
+
+-- the write may follow a history of which v is seen, and puts the trees of its document
+abbrev pub MayFollow : Rules → View → Write → Type 0
+MayFollow rules v w = seen.MayFollow rules v w × PutsTrees w
+
+abbrev pub AllMayFollow : Rules → View → List Write → Type 0
+AllMayFollow rules v [] = Unit {0}
+AllMayFollow rules v (w ∷ ws) = MayFollow rules v w × AllMayFollow rules (after rules v w) ws
+
+-- a list of writes that a store may have taken
+abbrev pub IsHistory : Rules → History → Type 0
+IsHistory rules h = AllMayFollow rules empty h
+
+-- each object has the trees of its document
+abbrev pub HaveTrees : View → Type 0
+HaveTrees v = AllByRecursion (λ o. HasTrees o.0.resource o.1.document.json o.1.beside) v.objects
+
+-- A view as histories have it: the keys ascend, and each object has the trees of its document.
+pub record IsView (v : View) : Type 0 where
+  pub ascends : IsTrue (is_sorted key_cmp v.objects)
+  pub trees : HaveTrees v
+
+-- ---- with plans for trees, as the code holds them and as a record does
+
+abbrev pub plans_beside : Document → List Expr → Beside
+plans_beside d trees = beside_of d.json trees
+
+abbrev pub with_plans : View → seen.View Beside
+with_plans v = mapped plans_beside v
+
+abbrev pub write_with_plans : Write → plain.Write Beside
+write_with_plans w = mapped_write plans_beside w
+
+-- a put as a record holds it: with the bytes of its plans
+abbrev pub recorded : plain.Write Beside → plain.Write (List ℕ)
+recorded (put k d b) = put k d (plans_bytes k.resource b.plans)
+recorded (delete k) = delete k

@@ -1,0 +1,89 @@
+//! Whether plans are those of the expressions beside which they stand.
+
+ghost use Rattle.std.specs.Prelude.{◌≡◌, List, Some, false, IsTrue, IfOk};
+ghost use Rattle.std.specs.List.{AllByRecursion};
+ghost use Rattle.celtree.specs.Tree.{Expr};
+ghost use Rattle.names.specs.Key.{Key as KeyData};
+ghost use Rattle.expressions.specs.Specification.{plans_bytes, plans_seen};
+ghost use Rattle.history.specs.declared.stored.Stored.{Stored as StoredData};
+ghost use Rattle.history.specs.View.{View as Held};
+ghost use Rattle.holdings.specs.Holdings.{Shows};
+ghost use Rattle.recovery.specs.Beside.{Beside as BesideData, beside_of};
+ghost use Rattle.recovery.specs.Compiled.{HasOwnPlans, PutsOwnPlans};
+ghost use Rattle.recovery.specs.Shown.{ShowsOver};
+ghost use Rattle.recovery.specs.Standing.{View, IsView, HasTrees};
+
+use crate::beside::{Beside, Core};
+use expressions::{Specification, StoredPlans, plans_bytes, specification_of};
+use history::Stored;
+use names::{Key, Resource};
+use objects::Entry;
+use std::alloc::{AllocError, Global};
+
+// Whether two lists of plans have the same bytes, as those of an object of a resource.
+fn have_same_bytes(
+    alloc: Global,
+    resource: Resource,
+    held: &StoredPlans,
+    own: &StoredPlans,
+) -> Result<bool, AllocError>
+    ensures yes { IfOk result (λ same. IsTrue same → plans_bytes resource (plans_seen held.now) ≡ plans_bytes resource (plans_seen own.now)) }
+    ensures no { IfOk result (λ same. same ≡ false → plans_bytes resource (plans_seen held.now) ≡ plans_bytes resource (plans_seen own.now) → ⊥) }
+{
+    match (
+        plans_bytes(alloc, resource, held),
+        plans_bytes(alloc, resource, own),
+    ) {
+        (Ok(held), Ok(own)) => Ok(held.as_slice() == own.as_slice()),
+        // Plans that may be held are never too long, so memory was wanting.
+        _ => Err(AllocError),
+    }
+}
+
+// Whether the plans of an object are those of its own expressions.
+fn has_own(alloc: Global, key: &Key, stored: &Stored<Beside>) -> Result<bool, AllocError>
+    ensures yes { IfOk result (λ has. IsTrue has → HasOwnPlans (key.now, stored.now)) }
+    ensures no { IfOk result (λ has. has ≡ false → (trees : List Expr) → HasTrees key.now.resource stored.now.document.json trees
+        → stored.now.beside ≡ beside_of stored.now.document.json trees → ⊥) }
+{
+    match specification_of(alloc, key.resource(), stored.document.json())? {
+        Specification::Sound(plans) => have_same_bytes(
+            alloc,
+            key.resource(),
+            stored.beside.plans(),
+            &StoredPlans::Plans(plans),
+        ),
+        Specification::BadSpec | Specification::BadExpression(_) => Ok(false),
+    }
+}
+
+// Whether the plans that a change puts are those of the object's own expressions. A removal puts none.
+fn puts_own(alloc: Global, change: &Entry<Option<Stored<Beside>>>) -> Result<bool, AllocError>
+    ensures yes { IfOk result (λ puts. IsTrue puts → PutsOwnPlans change.now) }
+    ensures no { IfOk result (λ puts. puts ≡ false → (stored : StoredData BesideData) × (change.now.1 ≡ Some stored)
+        × ((trees : List Expr) → HasTrees change.now.0.resource stored.document.json trees → stored.beside ≡ beside_of stored.document.json trees → ⊥)) }
+{
+    match change.value() {
+        Some(stored) => has_own(alloc, change.key(), stored),
+        None => Ok(true),
+    }
+}
+
+/// Whether each object that a core shows has the plans of its own expressions, where each that lies below has: of those that it holds they are read, typed and
+/// compiled again, and the bytes compared.
+///
+/// # Errors
+///
+/// Where there was no memory.
+pub fn has_own_plans(alloc: Global, core: &Core) -> Result<bool, AllocError>
+    ensures yes { (base : List (KeyData × StoredData BesideData)) (held : Held BesideData) → Shows core.now base held → AllByRecursion HasOwnPlans base
+        → IfOk result (λ has. IsTrue has → AllByRecursion HasOwnPlans held.objects) }
+    ensures no { (base : List (KeyData × StoredData BesideData)) (v : View) → ShowsOver core.now base v → IsView v → IfOk result (λ has. has ≡ false → ⊥) }
+{
+    for change in core.changes() {
+        if !puts_own(alloc, change)? {
+            return Ok(false);
+        }
+    }
+    Ok(true)
+}
