@@ -2,3 +2,4 @@ pub mod Beginning
 pub mod Reading
 pub mod Readiness
 pub mod Bases
+pub mod Settling

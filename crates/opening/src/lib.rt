@@ -9,10 +9,10 @@
 //! other device the store that is opened says what it holds, or that what was read is damaged.
 #![tactic(auto)]
 
+mod content;
 mod laws;
 mod new_store;
 mod open_store;
-mod reading;
 
 pub use laws::{new_store_is_empty, one_view, replayed_is_shown};
 pub use new_store::{CreateFault, create};

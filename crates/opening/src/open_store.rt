@@ -10,7 +10,7 @@ ghost use Rattle.durable.specs.Settled.{device_of, root_of, serves, kept_rules, 
 ghost use Rattle.durable.specs.Stands.{StandsFor};
 ghost use Rattle.opening.specs.Opened.{IsReplayed};
 
-use crate::reading::synced_store;
+use crate::content::synced_store;
 use device::Device;
 use durable::{Fault, Store};
 use std::alloc::Global;

@@ -1,6 +1,6 @@
 use Rattle.std.proofs.Common.{sym, subst, List, ℕ}
 use Rattle.durable.specs.Stands.{StandsFor}
-use Rattle.opening.proofs.reading.synced_store.Goals as goal
+use Rattle.opening.proofs.content.synced_store.Goals as goal
 
 pub returns-clause-damaged : goal.returns-clause-damaged
 returns-clause-damaged g c keeps damage is rules h stands =

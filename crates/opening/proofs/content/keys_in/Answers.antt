@@ -2,7 +2,7 @@ use Rattle.std.proofs.Common.{rules, map, IsErrOf}
 use Rattle.recovery.proofs.Written.{none_without_group}
 use Rattle.recovery.specs.declared.fault.RecoveryFault.TheVariants as RecoveryFault
 use Rattle.durable.specs.Rules.{first_rules}
-use Rattle.opening.proofs.reading.keys_in.Goals as goal
+use Rattle.opening.proofs.content.keys_in.Goals as goal
 
 pub returns-in-Err-Damaged-clause-all : goal.returns-in-Err-Damaged-clause-all
 returns-in-Err-Damaged-clause-all c v ws written =

@@ -21,7 +21,7 @@ use Rattle.durable.proofs.Renewing.{err_is}
 use Rattle.opening.proofs.Bases.{base_held, base_entries, page_entry_or_plans, log_or_plans}
 use Rattle.durable.proofs.Numbers.{first_numbers}
 use Rattle.opening.proofs.Reading.{replayed_holds}
-use Rattle.opening.proofs.reading.read_objects.Goals as goal
+use Rattle.opening.proofs.content.read_objects.Goals as goal
 
 pub returns-in_err-paged-clause-damaged : goal.returns-in_err-paged-clause-damaged
 returns-in_err-paged-clause-damaged g c keeps damage told rules base ws numbers history holds written =

@@ -20,7 +20,7 @@ use Rattle.durable.proofs.Renewing.{err_is}
 use Rattle.opening.proofs.Bases.{read_thrice}
 use Rattle.durable.proofs.Numbers.{first_numbers}
 use Rattle.opening.proofs.Reading.{base_is, base_here, no_log_here, written_here, opened_shows}
-use Rattle.opening.proofs.reading.read_store.Goals as goal
+use Rattle.opening.proofs.content.read_store.Goals as goal
 
 pub returns-in_err-paged-in-Ok-clause-damaged : goal.returns-in_err-paged-in-Ok-clause-damaged
 returns-in_err-paged-in-Ok-clause-damaged g c keeps damage told rules h stands =
