@@ -1,10 +1,9 @@
 //! A write, asked of the policies.
 
-ghost use Rattle.std.specs.Prelude.{◌≡◌, ◌+◌, ◌≤◌, ◌<◌, Bool, List, [], ◌∷◌, map, option_map, if◌then◌else◌, Option, Some, None, is_some, IsTrue, IfOk, IsErrOf, string_bytes};
+ghost use Rattle.std.specs.Prelude.{◌≡◌, ◌+◌, ◌≤◌, ◌<◌, List, [], ◌∷◌, map, option_map, if◌then◌else◌, Option, Some, None, is_some, IfOk, IsErrOf, string_bytes};
 ghost use Rattle.celtree.specs.Tree.{Expr};
 ghost use Rattle.serde_json.specs.View.{view};
 ghost use Rattle.names.specs.Key.{Key as KeyData};
-ghost use Rattle.documents.specs.Document.{Document as DocumentData};
 ghost use Rattle.matching.specs.Rules.{attempt_seen};
 ghost use Rattle.matching.specs.declared.rules.Operation.TheVariants.{Create, Update, Delete};
 ghost use Rattle.objects.specs.Failing.{HasGrown};
@@ -15,7 +14,6 @@ ghost use Rattle.history.specs.declared.stored.Stored.{Stored as StoredData};
 ghost use Rattle.history.specs.History.{put, delete};
 ghost use Rattle.history.specs.Reply.{showing};
 ghost use Rattle.history.specs.View.{View as Held, stored_at, exists};
-ghost use Rattle.holdings.specs.Holdings.{Shows, ShowsSame};
 ghost use Rattle.holdings.specs.Prepared.{writes_of, AreNext, HasRoomFor};
 ghost use Rattle.holdings.specs.Sources.{found_in};
 ghost use Rattle.expressions.specs.Specification.{these, plans_in};
@@ -23,6 +21,7 @@ ghost use Rattle.verdict.specs.Admission.{verdict};
 ghost use Rattle.verdict.specs.Seen.{verdict_seen};
 ghost use Rattle.recovery.specs.Beside.{Beside as BesideData, spelled};
 ghost use Rattle.apicore.specs.Judged.{IsJudged};
+ghost use Rattle.apicore.specs.Looked.{HasLooked, IsAsBefore};
 ghost use Rattle.recovery.specs.Shown.{IsOver};
 ghost use Rattle.recovery.specs.Standing.{View};
 ghost use Rattle.apicore.specs.Admitted.{objects_of};
@@ -80,9 +79,7 @@ fn admitted_put(
     warnings: Vec<String>,
 ) -> Result<Prepared, AllocError>
     requires { core.old.revision < core.old.rules.greatest_revision }
-    ensures rules { core.new.rules ≡ core.old.rules }
-    ensures revision { core.new.revision ≡ core.old.revision }
-    ensures shows { ShowsSame core.old core.new }
+    ensures same { IsAsBefore core.old core.new }
     ensures reply { IfOk result
         (λ p. p.reply ≡ showing (if stands then 200 else 201) (map string_bytes warnings.items) (document_in manifest.now.body) (core.old.revision + 1)) }
     ensures write { IfOk result (λ p. writes_of p.write ≡ put manifest.now.key (document_in manifest.now.body) (spelled (document_in manifest.now.body).json (these plans.items)) ∷ []) }
@@ -136,9 +133,7 @@ pub(crate) fn judged_put<'x, S: Source<Beside>>(
     old_object: Option<&'x Value>,
 ) -> Result<Prepared, LookupFault>
     requires { core.old.revision < core.old.rules.greatest_revision }
-    ensures rules { core.new.rules ≡ core.old.rules }
-    ensures revision { core.new.revision ≡ core.old.revision }
-    ensures shows { ShowsSame core.old core.new }
+    ensures same { IsAsBefore core.old core.new }
     ensures ready { IfOk result (λ p. HasRoomFor core.new p.write) }
     ensures judged { let old = option_map (λ d. view d.now) old_object.entry in
         (held : Held BesideData) (v : View) (trees : List Expr) → IsOver (S.holds source.old) core.old held v → is_some old ≡ exists held manifest.now.key
@@ -146,11 +141,7 @@ pub(crate) fn judged_put<'x, S: Source<Beside>>(
         → IfOk result (IsJudged held (λ warnings. showing (if is_some old then 200 else 201) warnings (document_in manifest.now.body) (held.revision + 1))
         (put manifest.now.key (document_in manifest.now.body) trees)
         (verdict (objects_of v) (record { operation = if is_some old then Update else Create; key = manifest.now.key; object = Some (document_in manifest.now.body).json; old_object = old }))) }
-    ensures kept { (base : List (KeyData × StoredData BesideData)) → S.holds source.old base → S.holds source.new base }
-    ensures goes { S.goes_to source.old source.new }
-    ensures counts { S.failures source.old ≤ S.failures source.new }
-    ensures device { IsErrOf result LookupFault.Device → HasGrown (S.failures source.old) (S.failures source.new) }
-    ensures damaged { (part : Part) → IsErrOf result (LookupFault.Damaged part) → (held : Held BesideData) (v : View) → IsOver (S.holds source.old) core.old held v → ⊥ }
+    ensures looked { HasLooked S.holds S.goes_to S.failures core.old source.old source.new result }
 {
     let attempt = put_attempt(manifest, old_object);
     match verdict_of(core, alloc, source, &attempt)? {
@@ -180,9 +171,7 @@ fn admitted_delete(
     warnings: Vec<String>,
 ) -> Result<Prepared, AllocError>
     requires { core.old.revision < core.old.rules.greatest_revision }
-    ensures rules { core.new.rules ≡ core.old.rules }
-    ensures revision { core.new.revision ≡ core.old.revision }
-    ensures shows { ShowsSame core.old core.new }
+    ensures same { IsAsBefore core.old core.new }
     ensures reply { IfOk result (λ p. p.reply ≡ showing 200 (map string_bytes warnings.items) document (core.old.revision + 1)) }
     ensures write { IfOk result (λ p. writes_of p.write ≡ delete key.now ∷ []) }
     ensures next { (held : Held BesideData) (s : StoredData BesideData) → stored_at held key.now ≡ Some s → s.document ≡ document → IfOk result (λ p. AreNext held p.write) }
@@ -209,18 +198,12 @@ pub(crate) fn judged_delete<'x, S: Source<Beside>>(
     old_object: &'x Value,
 ) -> Result<Prepared, LookupFault>
     requires { core.old.revision < core.old.rules.greatest_revision }
-    ensures rules { core.new.rules ≡ core.old.rules }
-    ensures revision { core.new.revision ≡ core.old.revision }
-    ensures shows { ShowsSame core.old core.new }
+    ensures same { IsAsBefore core.old core.new }
     ensures ready { IfOk result (λ p. HasRoomFor core.new p.write) }
     ensures judged { (held : Held BesideData) (v : View) → IsOver (S.holds source.old) core.old held v → option_map found_in (stored_at held key.now) ≡ Some found
         → IfOk result (IsJudged held (λ warnings. showing 200 warnings found.document (held.revision + 1)) (delete key.now)
         (verdict (objects_of v) (record { operation = Delete; key = key.now; object = None; old_object = Some (view old_object.now) }))) }
-    ensures kept { (base : List (KeyData × StoredData BesideData)) → S.holds source.old base → S.holds source.new base }
-    ensures goes { S.goes_to source.old source.new }
-    ensures counts { S.failures source.old ≤ S.failures source.new }
-    ensures device { IsErrOf result LookupFault.Device → HasGrown (S.failures source.old) (S.failures source.new) }
-    ensures damaged { (part : Part) → IsErrOf result (LookupFault.Damaged part) → (held : Held BesideData) (v : View) → IsOver (S.holds source.old) core.old held v → ⊥ }
+    ensures looked { HasLooked S.holds S.goes_to S.failures core.old source.old source.new result }
 {
     let deletion = Attempt {
         operation: Operation::Delete,

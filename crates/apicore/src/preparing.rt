@@ -17,6 +17,7 @@ ghost use Rattle.holdings.specs.Sources.{found_in};
 ghost use Rattle.expressions.specs.Specification.{Specification as SpecificationOf, sound, compiled, plans_in, specification_seen};
 ghost use Rattle.recovery.specs.Beside.{Beside as BesideData};
 ghost use Rattle.recovery.specs.Shown.{IsOver};
+ghost use Rattle.apicore.specs.Looked.{HasLooked, IsAsBefore};
 ghost use Rattle.apicore.specs.Prepared.{IsPrepared, IsRead, IsReadOf, IsStepOf};
 ghost use Rattle.recovery.specs.Standing.{View};
 ghost use Rattle.apicore.specs.Step.{first_of, replace_limits, update_conflicts_at, deletion_conflicts_at};
@@ -95,17 +96,11 @@ fn prepare_create<S: Source<Beside>>(
     source: &mut S,
     manifest: &Manifest,
 ) -> Result<Prepared, LookupFault>
-    ensures rules { core.new.rules ≡ core.old.rules }
-    ensures revision { core.new.revision ≡ core.old.revision }
-    ensures shows { ShowsSame core.old core.new }
+    ensures same { IsAsBefore core.old core.new }
     ensures step { IfOk result (IsPrepared (S.holds source.old) core.old (create manifest.now)) }
     ensures ready { IfOk result (λ p. HasRoomFor core.new p.write) }
     ensures form { BodyHasForm manifest.now.key manifest.now.body }
-    ensures kept { (base : List (KeyData × StoredData BesideData)) → S.holds source.old base → S.holds source.new base }
-    ensures goes { S.goes_to source.old source.new }
-    ensures counts { S.failures source.old ≤ S.failures source.new }
-    ensures device { IsErrOf result LookupFault.Device → HasGrown (S.failures source.old) (S.failures source.new) }
-    ensures damaged { (part : Part) → IsErrOf result (LookupFault.Damaged part) → (held : Held BesideData) (v : View) → IsOver (S.holds source.old) core.old held v → ⊥ }
+    ensures looked { HasLooked S.holds S.goes_to S.failures core.old source.old source.new result }
     ensures read { IsErrOf result LookupFault.Device ⊎ ((part : Part) × IsErrOf result (LookupFault.Damaged part)) → (s : SpecificationOf Expr) × IsReadOf (create manifest.now) s }
 {
     // The document, of which the form speaks.
@@ -125,18 +120,12 @@ fn create_free<S: Source<Beside>>(
     manifest: &Manifest,
     specification: Specification,
 ) -> Result<Prepared, LookupFault>
-    ensures rules { core.new.rules ≡ core.old.rules }
-    ensures revision { core.new.revision ≡ core.old.revision }
-    ensures shows { ShowsSame core.old core.new }
+    ensures same { IsAsBefore core.old core.new }
     ensures step { (s : SpecificationOf Expr) → specification_seen specification ≡ compiled (document_in manifest.now.body).json s
         → (held : Held BesideData) (v : View) → IsOver (S.holds source.old) core.old held v → stored_at held manifest.now.key ≡ None
         → IfOk result (IsStepOf core.old.rules held v (record { request = create manifest.now; specification = s })) }
     ensures ready { IfOk result (λ p. HasRoomFor core.new p.write) }
-    ensures kept { (base : List (KeyData × StoredData BesideData)) → S.holds source.old base → S.holds source.new base }
-    ensures goes { S.goes_to source.old source.new }
-    ensures counts { S.failures source.old ≤ S.failures source.new }
-    ensures device { IsErrOf result LookupFault.Device → HasGrown (S.failures source.old) (S.failures source.new) }
-    ensures damaged { (part : Part) → IsErrOf result (LookupFault.Damaged part) → (held : Held BesideData) (v : View) → IsOver (S.holds source.old) core.old held v → ⊥ }
+    ensures looked { HasLooked S.holds S.goes_to S.failures core.old source.old source.new result }
 {
     match specification {
         Specification::Sound(plans) => create_sound(core, alloc, source, manifest, plans),
@@ -153,18 +142,12 @@ fn create_sound<S: Source<Beside>>(
     manifest: &Manifest,
     plans: Vec<Verified>,
 ) -> Result<Prepared, LookupFault>
-    ensures rules { core.new.rules ≡ core.old.rules }
-    ensures revision { core.new.revision ≡ core.old.revision }
-    ensures shows { ShowsSame core.old core.new }
+    ensures same { IsAsBefore core.old core.new }
     ensures step { (trees : List Expr) → plans.items ≡ plans_in (document_in manifest.now.body).json trees
         → (held : Held BesideData) (v : View) → IsOver (S.holds source.old) core.old held v → stored_at held manifest.now.key ≡ None
         → IfOk result (IsStepOf core.old.rules held v (record { request = create manifest.now; specification = sound trees })) }
     ensures ready { IfOk result (λ p. HasRoomFor core.new p.write) }
-    ensures kept { (base : List (KeyData × StoredData BesideData)) → S.holds source.old base → S.holds source.new base }
-    ensures goes { S.goes_to source.old source.new }
-    ensures counts { S.failures source.old ≤ S.failures source.new }
-    ensures device { IsErrOf result LookupFault.Device → HasGrown (S.failures source.old) (S.failures source.new) }
-    ensures damaged { (part : Part) → IsErrOf result (LookupFault.Damaged part) → (held : Held BesideData) (v : View) → IsOver (S.holds source.old) core.old held v → ⊥ }
+    ensures looked { HasLooked S.holds S.goes_to S.failures core.old source.old source.new result }
 {
     match create_limit(core, manifest) {
         Some(refusal) => Ok(refused(alloc, refusal)?),
@@ -179,17 +162,11 @@ fn prepare_replace<S: Source<Beside>>(
     source: &mut S,
     manifest: &Manifest,
 ) -> Result<Prepared, LookupFault>
-    ensures rules { core.new.rules ≡ core.old.rules }
-    ensures revision { core.new.revision ≡ core.old.revision }
-    ensures shows { ShowsSame core.old core.new }
+    ensures same { IsAsBefore core.old core.new }
     ensures step { IfOk result (IsPrepared (S.holds source.old) core.old (replace manifest.now)) }
     ensures ready { IfOk result (λ p. HasRoomFor core.new p.write) }
     ensures form { BodyHasForm manifest.now.key manifest.now.body }
-    ensures kept { (base : List (KeyData × StoredData BesideData)) → S.holds source.old base → S.holds source.new base }
-    ensures goes { S.goes_to source.old source.new }
-    ensures counts { S.failures source.old ≤ S.failures source.new }
-    ensures device { IsErrOf result LookupFault.Device → HasGrown (S.failures source.old) (S.failures source.new) }
-    ensures damaged { (part : Part) → IsErrOf result (LookupFault.Damaged part) → (held : Held BesideData) (v : View) → IsOver (S.holds source.old) core.old held v → ⊥ }
+    ensures looked { HasLooked S.holds S.goes_to S.failures core.old source.old source.new result }
     ensures read { IsErrOf result LookupFault.Device ⊎ ((part : Part) × IsErrOf result (LookupFault.Damaged part)) → (s : SpecificationOf Expr) × IsReadOf (replace manifest.now) s }
 {
     // The document, of which the form speaks.
@@ -210,19 +187,13 @@ fn replace_of<S: Source<Beside>>(
     specification: Specification,
     found: &Found,
 ) -> Result<Prepared, LookupFault>
-    ensures rules { core.new.rules ≡ core.old.rules }
-    ensures revision { core.new.revision ≡ core.old.revision }
-    ensures shows { ShowsSame core.old core.new }
+    ensures same { IsAsBefore core.old core.new }
     ensures step { (s : SpecificationOf Expr) → specification_seen specification ≡ compiled (document_in manifest.now.body).json s
         → (held : Held BesideData) (v : View) → IsOver (S.holds source.old) core.old held v
         → option_map found_in (stored_at held manifest.now.key) ≡ Some found.now
         → IfOk result (IsStepOf core.old.rules held v (record { request = replace manifest.now; specification = s })) }
     ensures ready { IfOk result (λ p. HasRoomFor core.new p.write) }
-    ensures kept { (base : List (KeyData × StoredData BesideData)) → S.holds source.old base → S.holds source.new base }
-    ensures goes { S.goes_to source.old source.new }
-    ensures counts { S.failures source.old ≤ S.failures source.new }
-    ensures device { IsErrOf result LookupFault.Device → HasGrown (S.failures source.old) (S.failures source.new) }
-    ensures damaged { (part : Part) → IsErrOf result (LookupFault.Damaged part) → (held : Held BesideData) (v : View) → IsOver (S.holds source.old) core.old held v → ⊥ }
+    ensures looked { HasLooked S.holds S.goes_to S.failures core.old source.old source.new result }
 {
     if update_conflicts(alloc, manifest, found.revision)? {
         return Ok(refused(alloc, Refusal::VersionNotCurrent)?);
@@ -240,19 +211,13 @@ fn replace_as<S: Source<Beside>>(
     found: &Found,
 ) -> Result<Prepared, LookupFault>
     requires { update_conflicts_at found.now.revision manifest.now.version ≡ false }
-    ensures rules { core.new.rules ≡ core.old.rules }
-    ensures revision { core.new.revision ≡ core.old.revision }
-    ensures shows { ShowsSame core.old core.new }
+    ensures same { IsAsBefore core.old core.new }
     ensures step { (s : SpecificationOf Expr) → specification_seen specification ≡ compiled (document_in manifest.now.body).json s
         → (held : Held BesideData) (v : View) → IsOver (S.holds source.old) core.old held v
         → option_map found_in (stored_at held manifest.now.key) ≡ Some found.now
         → IfOk result (IsStepOf core.old.rules held v (record { request = replace manifest.now; specification = s })) }
     ensures ready { IfOk result (λ p. HasRoomFor core.new p.write) }
-    ensures kept { (base : List (KeyData × StoredData BesideData)) → S.holds source.old base → S.holds source.new base }
-    ensures goes { S.goes_to source.old source.new }
-    ensures counts { S.failures source.old ≤ S.failures source.new }
-    ensures device { IsErrOf result LookupFault.Device → HasGrown (S.failures source.old) (S.failures source.new) }
-    ensures damaged { (part : Part) → IsErrOf result (LookupFault.Damaged part) → (held : Held BesideData) (v : View) → IsOver (S.holds source.old) core.old held v → ⊥ }
+    ensures looked { HasLooked S.holds S.goes_to S.failures core.old source.old source.new result }
 {
     match specification {
         Specification::Sound(plans) => replace_sound(core, alloc, source, manifest, plans, found),
@@ -271,19 +236,13 @@ fn replace_sound<S: Source<Beside>>(
     found: &Found,
 ) -> Result<Prepared, LookupFault>
     requires { update_conflicts_at found.now.revision manifest.now.version ≡ false }
-    ensures rules { core.new.rules ≡ core.old.rules }
-    ensures revision { core.new.revision ≡ core.old.revision }
-    ensures shows { ShowsSame core.old core.new }
+    ensures same { IsAsBefore core.old core.new }
     ensures step { (trees : List Expr) → plans.items ≡ plans_in (document_in manifest.now.body).json trees
         → (held : Held BesideData) (v : View) → IsOver (S.holds source.old) core.old held v
         → option_map found_in (stored_at held manifest.now.key) ≡ Some found.now
         → IfOk result (IsStepOf core.old.rules held v (record { request = replace manifest.now; specification = sound trees })) }
     ensures ready { IfOk result (λ p. HasRoomFor core.new p.write) }
-    ensures kept { (base : List (KeyData × StoredData BesideData)) → S.holds source.old base → S.holds source.new base }
-    ensures goes { S.goes_to source.old source.new }
-    ensures counts { S.failures source.old ≤ S.failures source.new }
-    ensures device { IsErrOf result LookupFault.Device → HasGrown (S.failures source.old) (S.failures source.new) }
-    ensures damaged { (part : Part) → IsErrOf result (LookupFault.Damaged part) → (held : Held BesideData) (v : View) → IsOver (S.holds source.old) core.old held v → ⊥ }
+    ensures looked { HasLooked S.holds S.goes_to S.failures core.old source.old source.new result }
 {
     match replace_limit(core, manifest) {
         Some(refusal) => Ok(refused(alloc, refusal)?),
@@ -302,19 +261,13 @@ fn replace_there<S: Source<Beside>>(
 ) -> Result<Prepared, LookupFault>
     requires conflicts { update_conflicts_at found.now.revision manifest.now.version ≡ false }
     requires room { core.old.revision < core.old.rules.greatest_revision }
-    ensures rules { core.new.rules ≡ core.old.rules }
-    ensures revision { core.new.revision ≡ core.old.revision }
-    ensures shows { ShowsSame core.old core.new }
+    ensures same { IsAsBefore core.old core.new }
     ensures step { (trees : List Expr) → plans.items ≡ plans_in (document_in manifest.now.body).json trees
         → (held : Held BesideData) (v : View) → IsOver (S.holds source.old) core.old held v
         → option_map found_in (stored_at held manifest.now.key) ≡ Some found.now → first_of (replace_limits core.old.rules held (document_in manifest.now.body)) ≡ None
         → IfOk result (IsStepOf core.old.rules held v (record { request = replace manifest.now; specification = sound trees })) }
     ensures ready { IfOk result (λ p. HasRoomFor core.new p.write) }
-    ensures kept { (base : List (KeyData × StoredData BesideData)) → S.holds source.old base → S.holds source.new base }
-    ensures goes { S.goes_to source.old source.new }
-    ensures counts { S.failures source.old ≤ S.failures source.new }
-    ensures device { IsErrOf result LookupFault.Device → HasGrown (S.failures source.old) (S.failures source.new) }
-    ensures damaged { (part : Part) → IsErrOf result (LookupFault.Damaged part) → (held : Held BesideData) (v : View) → IsOver (S.holds source.old) core.old held v → ⊥ }
+    ensures looked { HasLooked S.holds S.goes_to S.failures core.old source.old source.new result }
 {
     let old = shown_document(alloc, &found.document, found.revision)?;
     let old_object = Some(old.value());
@@ -329,17 +282,11 @@ fn prepare_delete<S: Source<Beside>>(
     key: &Key,
     version: &Option<String>,
 ) -> Result<Prepared, LookupFault>
-    ensures rules { core.new.rules ≡ core.old.rules }
-    ensures revision { core.new.revision ≡ core.old.revision }
-    ensures shows { ShowsSame core.old core.new }
+    ensures same { IsAsBefore core.old core.new }
     ensures step { IfOk result (IsPrepared (S.holds source.old) core.old (delete key.now (option_map string_bytes version.now))) }
     ensures ready { IfOk result (λ p. HasRoomFor core.new p.write) }
     ensures form { IsTrue (is_key key.now) }
-    ensures kept { (base : List (KeyData × StoredData BesideData)) → S.holds source.old base → S.holds source.new base }
-    ensures goes { S.goes_to source.old source.new }
-    ensures counts { S.failures source.old ≤ S.failures source.new }
-    ensures device { IsErrOf result LookupFault.Device → HasGrown (S.failures source.old) (S.failures source.new) }
-    ensures damaged { (part : Part) → IsErrOf result (LookupFault.Damaged part) → (held : Held BesideData) (v : View) → IsOver (S.holds source.old) core.old held v → ⊥ }
+    ensures looked { HasLooked S.holds S.goes_to S.failures core.old source.old source.new result }
 {
     // A name of the key, which is well-formed.
     let _name = key.name();
@@ -358,17 +305,11 @@ fn delete_found<S: Source<Beside>>(
     version: &Option<String>,
     found: Found,
 ) -> Result<Prepared, LookupFault>
-    ensures rules { core.new.rules ≡ core.old.rules }
-    ensures revision { core.new.revision ≡ core.old.revision }
-    ensures shows { ShowsSame core.old core.new }
+    ensures same { IsAsBefore core.old core.new }
     ensures step { (held : Held BesideData) (v : View) → IsOver (S.holds source.old) core.old held v → option_map found_in (stored_at held key.now) ≡ Some found
         → (s : SpecificationOf Expr) → IfOk result (IsStepOf core.old.rules held v (record { request = delete key.now (option_map string_bytes version.now); specification = s })) }
     ensures ready { IfOk result (λ p. HasRoomFor core.new p.write) }
-    ensures kept { (base : List (KeyData × StoredData BesideData)) → S.holds source.old base → S.holds source.new base }
-    ensures goes { S.goes_to source.old source.new }
-    ensures counts { S.failures source.old ≤ S.failures source.new }
-    ensures device { IsErrOf result LookupFault.Device → HasGrown (S.failures source.old) (S.failures source.new) }
-    ensures damaged { (part : Part) → IsErrOf result (LookupFault.Damaged part) → (held : Held BesideData) (v : View) → IsOver (S.holds source.old) core.old held v → ⊥ }
+    ensures looked { HasLooked S.holds S.goes_to S.failures core.old source.old source.new result }
 {
     if deletion_conflicts(alloc, version, found.revision)? {
         return Ok(refused(alloc, Refusal::VersionNotCurrent)?);
@@ -390,17 +331,11 @@ fn delete_there<S: Source<Beside>>(
 ) -> Result<Prepared, LookupFault>
     requires conflicts { deletion_conflicts_at found.revision (option_map string_bytes version.now) ≡ false }
     requires room { core.old.revision < core.old.rules.greatest_revision }
-    ensures rules { core.new.rules ≡ core.old.rules }
-    ensures revision { core.new.revision ≡ core.old.revision }
-    ensures shows { ShowsSame core.old core.new }
+    ensures same { IsAsBefore core.old core.new }
     ensures step { (held : Held BesideData) (v : View) → IsOver (S.holds source.old) core.old held v → option_map found_in (stored_at held key.now) ≡ Some found
         → (s : SpecificationOf Expr) → IfOk result (IsStepOf core.old.rules held v (record { request = delete key.now (option_map string_bytes version.now); specification = s })) }
     ensures ready { IfOk result (λ p. HasRoomFor core.new p.write) }
-    ensures kept { (base : List (KeyData × StoredData BesideData)) → S.holds source.old base → S.holds source.new base }
-    ensures goes { S.goes_to source.old source.new }
-    ensures counts { S.failures source.old ≤ S.failures source.new }
-    ensures device { IsErrOf result LookupFault.Device → HasGrown (S.failures source.old) (S.failures source.new) }
-    ensures damaged { (part : Part) → IsErrOf result (LookupFault.Damaged part) → (held : Held BesideData) (v : View) → IsOver (S.holds source.old) core.old held v → ⊥ }
+    ensures looked { HasLooked S.holds S.goes_to S.failures core.old source.old source.new result }
 {
     let old = shown_document(alloc, &found.document, found.revision)?;
     judged_delete(core, alloc, source, key, found, old.value())

@@ -1,6 +1,6 @@
 //! The steps of requests that write nothing.
 
-ghost use Rattle.std.specs.Prelude.{◌≡◌, ◌≤◌, List, [], None, IfOk, IsErrOf};
+ghost use Rattle.std.specs.Prelude.{◌≡◌, List, [], None, IfOk};
 ghost use Rattle.std.specs.Option.{option_map_or};
 ghost use Rattle.names.specs.Key.{Key as KeyData};
 ghost use Rattle.requests.specs.Collection.{collection_of};
@@ -8,9 +8,6 @@ ghost use Rattle.requests.specs.Refusal.{first_of};
 ghost use Rattle.requests.specs.Request.{get, list};
 ghost use Rattle.requests.specs.Selector.{selector_seen};
 ghost use Rattle.requests.specs.declared.refusal.Refusal.TheVariants.{NotFound};
-ghost use Rattle.objects.specs.Failing.{HasGrown};
-ghost use Rattle.objects.specs.declared.fault.Part.{Part};
-ghost use Rattle.objects.specs.declared.fault.LookupFault.TheVariants as LookupFault;
 ghost use Rattle.history.specs.declared.stored.Stored.{Stored as StoredData};
 ghost use Rattle.history.specs.Listing.{listing, watch_conditions, watching};
 ghost use Rattle.history.specs.Reply.{showing, status};
@@ -18,6 +15,7 @@ ghost use Rattle.history.specs.View.{View as Held, stored_at};
 ghost use Rattle.holdings.specs.Holdings.{Shows};
 ghost use Rattle.recovery.specs.Beside.{Beside as BesideData};
 ghost use Rattle.recovery.specs.Shown.{IsOver};
+ghost use Rattle.apicore.specs.Looked.{HasLooked};
 ghost use Rattle.apicore.specs.Prepared.{IsPrepared};
 ghost use Rattle.recovery.specs.Standing.{View};
 
@@ -52,11 +50,7 @@ fn shown<S: Source<Beside>>(
 ) -> Result<Reply, LookupFault>
     ensures reply { (held : Held BesideData) (v : View) → IsOver (S.holds source.old) core.now held v → IfOk result
         (λ r. r ≡ option_map_or (λ s. showing 200 [] s.document s.revision) (stored_at held key.now) (status NotFound)) }
-    ensures kept { (base : List (KeyData × StoredData BesideData)) → S.holds source.old base → S.holds source.new base }
-    ensures goes { S.goes_to source.old source.new }
-    ensures counts { S.failures source.old ≤ S.failures source.new }
-    ensures device { IsErrOf result LookupFault.Device → HasGrown (S.failures source.old) (S.failures source.new) }
-    ensures damaged { (part : Part) → IsErrOf result (LookupFault.Damaged part) → S.is_damaged source.new }
+    ensures looked { HasLooked S.holds S.goes_to S.failures core.now source.old source.new result }
 {
     let found = core.find(alloc, source, key)?;
     Ok(reply_of(alloc, found.as_ref())?)
@@ -71,11 +65,7 @@ pub(crate) fn get<S: Source<Beside>>(
 ) -> Result<Prepared, LookupFault>
     ensures step { IfOk result (IsPrepared (S.holds source.old) core.now (get key.now)) }
     ensures ready { IfOk result (λ p. p.write ≡ None) }
-    ensures kept { (base : List (KeyData × StoredData BesideData)) → S.holds source.old base → S.holds source.new base }
-    ensures goes { S.goes_to source.old source.new }
-    ensures counts { S.failures source.old ≤ S.failures source.new }
-    ensures device { IsErrOf result LookupFault.Device → HasGrown (S.failures source.old) (S.failures source.new) }
-    ensures damaged { (part : Part) → IsErrOf result (LookupFault.Damaged part) → S.is_damaged source.new }
+    ensures looked { HasLooked S.holds S.goes_to S.failures core.now source.old source.new result }
 {
     Ok(Prepared::replying(shown(core, alloc, source, key)?))
 }
@@ -90,11 +80,7 @@ fn listed<S: Source<Beside>>(
 ) -> Result<Reply, LookupFault>
     ensures reply { (held : Held BesideData) (v : View) → IsOver (S.holds source.old) core.now held v
         → IfOk result (λ r. r ≡ listing held (collection_of collection.now) (selector_seen selector.now)) }
-    ensures kept { (base : List (KeyData × StoredData BesideData)) → S.holds source.old base → S.holds source.new base }
-    ensures goes { S.goes_to source.old source.new }
-    ensures counts { S.failures source.old ≤ S.failures source.new }
-    ensures device { IsErrOf result LookupFault.Device → HasGrown (S.failures source.old) (S.failures source.new) }
-    ensures damaged { (part : Part) → IsErrOf result (LookupFault.Damaged part) → S.is_damaged source.new }
+    ensures looked { HasLooked S.holds S.goes_to S.failures core.now source.old source.new result }
 {
     let below = source.list(alloc, collection.resource, collection.namespace())?;
     Ok(core.listed(alloc, collection, selector, &below)?)
@@ -110,11 +96,7 @@ pub(crate) fn list<S: Source<Beside>>(
 ) -> Result<Prepared, LookupFault>
     ensures step { IfOk result (IsPrepared (S.holds source.old) core.now (list (collection_of collection.now) (selector_seen selector.now))) }
     ensures ready { IfOk result (λ p. p.write ≡ None) }
-    ensures kept { (base : List (KeyData × StoredData BesideData)) → S.holds source.old base → S.holds source.new base }
-    ensures goes { S.goes_to source.old source.new }
-    ensures counts { S.failures source.old ≤ S.failures source.new }
-    ensures device { IsErrOf result LookupFault.Device → HasGrown (S.failures source.old) (S.failures source.new) }
-    ensures damaged { (part : Part) → IsErrOf result (LookupFault.Damaged part) → S.is_damaged source.new }
+    ensures looked { HasLooked S.holds S.goes_to S.failures core.now source.old source.new result }
 {
     let reply = listed(core, alloc, source, collection, selector)?;
     Ok(Prepared::replying(reply))

@@ -28,7 +28,11 @@ returns-in_ok-denied-in-Denied-clause-judged g c = λ held v over found.
     denied_judged held (λ ws. showing 200 ws d (held.revision + 1)) (delete c.args.key.now) _ (string_bytes c.in-Denied.policy) (string_bytes c.in-Denied.binding) c.in-Denied.reason (string_bytes c.in-Denied.message) c.in_ok-denied-in-Denied.field-0 is
     c.in_ok-denied-in-Denied.ensures
 
-pub returns-in_err-warnings-clause-damaged : goal.returns-in_err-warnings-clause-damaged
-returns-in_err-warnings-clause-damaged g c = λ part told held v over.
-    let damaged : IsErrOf c.verdict_of.result (LookupFault.Damaged part) = search rules in
-    c.verdict_of.ensures.damaged part damaged held v over
+pub returns-in_err-warnings-clause-looked : goal.returns-in_err-warnings-clause-looked
+returns-in_err-warnings-clause-looked g c = record {
+  kept = c.verdict_of.ensures.kept;
+  goes = c.verdict_of.ensures.goes;
+  counts = c.verdict_of.ensures.counts;
+  device = λ told. let device : IsErrOf c.verdict_of.result LookupFault.Device = search rules in c.verdict_of.ensures.device device;
+  damaged = λ part told held v over. let damaged : IsErrOf c.verdict_of.result (LookupFault.Damaged part) = search rules in c.verdict_of.ensures.damaged part damaged held v over;
+}

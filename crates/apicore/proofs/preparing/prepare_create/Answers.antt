@@ -1,6 +1,7 @@
 use Rattle.std.proofs.Common.{rules, ◌∙◌, sym, inl, inr}
 use Rattle.requests.specs.Request.{create}
 use Rattle.recovery.proofs.Over.{over_kept}
+use Rattle.apicore.proofs.Looking.{looked_on}
 use Rattle.apicore.proofs.Deciding.{prepared_of, create_there, there_found, none_found}
 use Rattle.apicore.proofs.preparing.prepare_create.Goals as goal
 
@@ -40,5 +41,8 @@ returns-in_ok-refused-in-Some-clause-read g c = λ _. (c.in_ok-specification.ens
 pub returns-in-None-clause-read : goal.returns-in-None-clause-read
 returns-in-None-clause-read g c = λ _. (c.in_ok-specification.ensures.0, c.in_ok-specification.ensures.1)
 
-pub returns-in-None-clause-damaged : goal.returns-in-None-clause-damaged
-returns-in-None-clause-damaged g c = λ part told held v over. c.create_free.ensures.damaged part told held v (over_kept _ _ c.args.core.now held v c.in_ok-find.ensures.kept over)
+pub returns-in-None-clause-looked : goal.returns-in-None-clause-looked
+returns-in-None-clause-looked g c =
+    looked_on g.S.Source.holds g.S.Source.goes_to g.S.Source.failures c.args.core.now c.args.source.now c.find.new.source c.create_free.new.source c.create_free.result
+    c.in_ok-find.ensures.kept c.in_ok-find.ensures.counts
+    (g.met.S.Source.goes_on c.args.source.now c.find.new.source c.create_free.new.source c.in_ok-find.ensures.goes c.create_free.ensures.looked.goes) c.create_free.ensures.looked

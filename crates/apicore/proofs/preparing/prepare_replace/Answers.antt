@@ -1,6 +1,7 @@
 use Rattle.std.proofs.Common.{rules, ◌∙◌, sym, inl, inr}
 use Rattle.requests.specs.Request.{replace}
 use Rattle.recovery.proofs.Over.{over_kept}
+use Rattle.apicore.proofs.Looking.{looked_on}
 use Rattle.apicore.proofs.Deciding.{prepared_of, replace_missing}
 use Rattle.apicore.proofs.preparing.prepare_replace.Goals as goal
 
@@ -40,5 +41,8 @@ returns-in_err-refused-in-None-clause-read g c = λ _. (c.in_ok-specification.en
 pub returns-in_ok-refused-in-None-clause-read : goal.returns-in_ok-refused-in-None-clause-read
 returns-in_ok-refused-in-None-clause-read g c = λ _. (c.in_ok-specification.ensures.0, c.in_ok-specification.ensures.1)
 
-pub returns-in-Some-clause-damaged : goal.returns-in-Some-clause-damaged
-returns-in-Some-clause-damaged g c = λ part told held v over. c.replace_of.ensures.damaged part told held v (over_kept _ _ c.args.core.now held v c.in_ok-found.ensures.kept over)
+pub returns-in-Some-clause-looked : goal.returns-in-Some-clause-looked
+returns-in-Some-clause-looked g c =
+    looked_on g.S.Source.holds g.S.Source.goes_to g.S.Source.failures c.args.core.now c.args.source.now c.find.new.source c.replace_of.new.source c.replace_of.result
+    c.in_ok-found.ensures.kept c.in_ok-found.ensures.counts
+    (g.met.S.Source.goes_on c.args.source.now c.find.new.source c.replace_of.new.source c.in_ok-found.ensures.goes c.replace_of.ensures.looked.goes) c.replace_of.ensures.looked

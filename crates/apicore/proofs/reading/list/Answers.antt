@@ -1,7 +1,12 @@
-use Rattle.std.proofs.Common.{◌∙◌, ap}
+use Rattle.std.proofs.Common.{rules, ◌∙◌, ap}
+use Rattle.apicore.proofs.Looking.{looked_as}
 use Rattle.apicore.proofs.Deciding.{list_prepared}
 use Rattle.apicore.proofs.reading.list.Goals as goal
 
 pub returns-clause-step : goal.returns-clause-step
 returns-clause-step g c =
     list_prepared _ c.args.core.now _ _ _ (λ held v over. ap (λ p. p.reply) c.replying.ensures ∙ c.in_ok-reply.ensures.reply held v over) (ap (λ p. p.write) c.replying.ensures)
+
+pub returns-in_err-reply-clause-looked : goal.returns-in_err-reply-clause-looked
+returns-in_err-reply-clause-looked g c =
+    looked_as g.S.Source.holds g.S.Source.goes_to g.S.Source.failures c.args.core.now c.args.source.now c.listed.new.source c.listed.result _ (λ fault told. search rules) c.listed.ensures.looked

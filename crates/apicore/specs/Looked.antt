@@ -1,0 +1,31 @@
+-- What a step leaves where it is prepared, whatever it answers.
+use Rattle.std.specs.Prelude.{◌≡◌, ◌≤◌, ℕ, List, Result, IsErrOf}
+use Rattle.names.specs.Key.{Key}
+use Rattle.objects.specs.Failing.{HasGrown}
+use Rattle.objects.specs.declared.fault.Part.{Part}
+use Rattle.objects.specs.declared.fault.LookupFault.{LookupFault}
+use Rattle.objects.specs.declared.fault.LookupFault.TheVariants.{Device, Damaged}
+use Rattle.history.specs.declared.stored.Stored.{Stored}
+use Rattle.history.specs.View as seen
+use Rattle.holdings.specs.Holdings.{State, ShowsSame}
+use Rattle.recovery.specs.Beside.{Beside}
+use Rattle.recovery.specs.Shown.{IsOver}
+use Rattle.recovery.specs.Standing.{View}
+
+abbrev Base : Type 0
+Base = List (Key × Stored Beside)
+
+-- What is seen of the core stays.
+pub record IsAsBefore (before after : State Beside) : Type 0 where
+  pub rules : after.rules ≡ before.rules
+  pub revision : after.revision ≡ before.revision
+  pub shows : ShowsSame before after
+
+-- What the source holds stays, and it has become what it may become; a failure of the device is told only where its count of failures grew, damage only where
+-- the core shows no view over what it holds.
+pub record HasLooked {S A : Type 0} (holds : S → Base → Type 0) (goes_to : S → S → Type 0) (failures : S → ℕ) (core : State Beside) (before after : S) (result : Result A LookupFault) : Type 0 where
+  pub kept : (base : Base) → holds before base → holds after base
+  pub goes : goes_to before after
+  pub counts : failures before ≤ failures after
+  pub device : IsErrOf result Device → HasGrown (failures before) (failures after)
+  pub damaged : (part : Part) → IsErrOf result (Damaged part) → (held : seen.View Beside) (v : View) → IsOver (holds before) core held v → ⊥
