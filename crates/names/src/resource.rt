@@ -26,10 +26,15 @@ struct Row {
     number: u8,
     plural: &'static str,
     kind: &'static str,
-    group: &'static str,
+    scope: Scope,
+}
+
+/// An API group with its version, apart and as `apiVersion` has them.
+#[derive(Clone, Copy)]
+struct Group {
+    name: &'static str,
     version: &'static str,
     api_version: &'static str,
-    scope: Scope,
 }
 
 impl Resource {
@@ -37,9 +42,6 @@ impl Resource {
         ensures number { result.number ≡ (row self).number }
         ensures plural { result.plural.now ≡ (row self).plural }
         ensures kind { result.kind.now ≡ (row self).kind }
-        ensures group { result.group.now ≡ (row self).group }
-        ensures version { result.version.now ≡ (row self).version }
-        ensures api_version { result.api_version.now ≡ api_version self }
         ensures scope { result.scope ≡ (row self).scope }
     {
         match self {
@@ -47,65 +49,70 @@ impl Resource {
                 number: 1,
                 plural: "configmaps",
                 kind: "ConfigMap",
-                group: "",
-                version: "v1",
-                api_version: "v1",
                 scope: Scope::Namespaced,
             },
             Resource::Node => Row {
                 number: 2,
                 plural: "nodes",
                 kind: "Node",
-                group: "",
-                version: "v1",
-                api_version: "v1",
                 scope: Scope::Cluster,
             },
             Resource::Pod => Row {
                 number: 3,
                 plural: "pods",
                 kind: "Pod",
-                group: "",
-                version: "v1",
-                api_version: "v1",
                 scope: Scope::Namespaced,
             },
             Resource::Service => Row {
                 number: 4,
                 plural: "services",
                 kind: "Service",
-                group: "",
-                version: "v1",
-                api_version: "v1",
                 scope: Scope::Namespaced,
             },
             Resource::Deployment => Row {
                 number: 5,
                 plural: "deployments",
                 kind: "Deployment",
-                group: "apps",
-                version: "v1",
-                api_version: "apps/v1",
                 scope: Scope::Namespaced,
             },
             Resource::ValidatingAdmissionPolicy => Row {
                 number: 6,
                 plural: "validatingadmissionpolicies",
                 kind: "ValidatingAdmissionPolicy",
-                group: "admissionregistration.k8s.io",
-                version: "v1",
-                api_version: "admissionregistration.k8s.io/v1",
                 scope: Scope::Cluster,
             },
             Resource::ValidatingAdmissionPolicyBinding => Row {
                 number: 7,
                 plural: "validatingadmissionpolicybindings",
                 kind: "ValidatingAdmissionPolicyBinding",
-                group: "admissionregistration.k8s.io",
-                version: "v1",
-                api_version: "admissionregistration.k8s.io/v1",
                 scope: Scope::Cluster,
             },
+        }
+    }
+
+    fn in_group(self) -> Group
+        ensures name { result.name.now ≡ (row self).group }
+        ensures version { result.version.now ≡ (row self).version }
+        ensures api_version { result.api_version.now ≡ api_version self }
+    {
+        match self {
+            Resource::ConfigMap | Resource::Node | Resource::Pod | Resource::Service => Group {
+                name: "",
+                version: "v1",
+                api_version: "v1",
+            },
+            Resource::Deployment => Group {
+                name: "apps",
+                version: "v1",
+                api_version: "apps/v1",
+            },
+            Resource::ValidatingAdmissionPolicy | Resource::ValidatingAdmissionPolicyBinding => {
+                Group {
+                    name: "admissionregistration.k8s.io",
+                    version: "v1",
+                    api_version: "admissionregistration.k8s.io/v1",
+                }
+            }
         }
     }
 
@@ -134,21 +141,21 @@ impl Resource {
     pub fn group(self) -> &'static str
         ensures { result.now ≡ (row self).group }
     {
-        self.row().group
+        self.in_group().name
     }
 
     /// Its version within the group.
     pub fn version(self) -> &'static str
         ensures { result.now ≡ (row self).version }
     {
-        self.row().version
+        self.in_group().version
     }
 
     /// The `apiVersion` of its objects: `GROUP/VERSION`, or `VERSION` alone in the core group.
     pub fn api_version(self) -> &'static str
         ensures { result.now ≡ api_version self }
     {
-        self.row().api_version
+        self.in_group().api_version
     }
 
     /// Whether its objects stand in a namespace.
