@@ -210,6 +210,16 @@ fn manifest_asked(
     Manifest::read(alloc, resource, namespace, name, message.body())
 }
 
+// What a message asks for whose body is at fault.
+fn refused_for(fault: BodyFault) -> Result<Request, AllocError>
+    ensures { IfOk result (λ request. (r : RefusalData) × (fault ≡ BodyFault.Refused r) × (request_of request ≡ refused r)) }
+{
+    match fault {
+        BodyFault::Refused(refusal) => Ok(Request::Refused(refusal)),
+        BodyFault::Memory => Err(AllocError),
+    }
+}
+
 // POST to a collection.
 fn created(
     alloc: Global,
@@ -223,8 +233,7 @@ fn created(
 {
     match manifest_asked(alloc, message, target, None, query) {
         Ok(manifest) => Ok(Request::Create(manifest)),
-        Err(BodyFault::Refused(refusal)) => Ok(Request::Refused(refusal)),
-        Err(BodyFault::Memory) => Err(AllocError),
+        Err(fault) => refused_for(fault),
     }
 }
 
@@ -242,8 +251,7 @@ fn replaced(
 {
     match manifest_asked(alloc, message, target, Some(name), query) {
         Ok(manifest) => Ok(Request::Replace(manifest)),
-        Err(BodyFault::Refused(refusal)) => Ok(Request::Refused(refusal)),
-        Err(BodyFault::Memory) => Err(AllocError),
+        Err(fault) => refused_for(fault),
     }
 }
 
@@ -275,7 +283,6 @@ fn deletion(alloc: Global, key: Key, body: &[u8]) -> Result<Request, AllocError>
 {
     match read_delete_options(alloc, body) {
         Ok(version) => Ok(Request::Delete(key, version)),
-        Err(BodyFault::Refused(refusal)) => Ok(Request::Refused(refusal)),
-        Err(BodyFault::Memory) => Err(AllocError),
+        Err(fault) => refused_for(fault),
     }
 }
