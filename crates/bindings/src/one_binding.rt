@@ -1,11 +1,12 @@
 //! What one binding of a policy says of a write.
 
-ghost use Rattle.std.specs.Prelude.{◌≡◌, ◌≤◌, ◌++◌, List, map, option_map, Some, None, IfOk, OnOk, IfSome, IsErrOf, string_bytes};
+ghost use Rattle.std.specs.Prelude.{◌≡◌, ◌≤◌, ◌++◌, ℕ, List, map, option_map, Some, None, IfOk, OnOk, IfSome, IsErrOf, IsTrue, string_bytes};
 ghost use Rattle.serde_json.specs.View.{view};
 ghost use Rattle.celtree.specs.Tree.{Expr};
 ghost use Rattle.matching.specs.Rules.{attempt_seen};
+ghost use Rattle.matching.specs.Matching.{is_matched};
 ghost use Rattle.plancode.specs.Plans.{Judged};
-ghost use Rattle.expressions.specs.Specification.{these, plans_seen};
+ghost use Rattle.expressions.specs.Specification.{these, spoiled, plans_seen};
 ghost use Rattle.policy.specs.Spec.{policy_seen, binding_seen, param_ref_seen};
 ghost use Rattle.evaluation.specs.Environment.{request_of, seen};
 ghost use Rattle.evaluation.specs.Denials.{first_denial, evaluate, failure};
@@ -17,6 +18,7 @@ ghost use Rattle.bindings.specs.Turns.{asked};
 ghost use Rattle.bindings.specs.Seen.{parameters_seen};
 ghost use Rattle.objects.specs.Failing.{HasGrown};
 ghost use Rattle.objects.specs.declared.fault.Part.{Part};
+ghost use Rattle.objects.specs.declared.fault.Part.TheVariants as Part;
 ghost use Rattle.objects.specs.declared.fault.LookupFault.TheVariants as LookupFault;
 
 use crate::parameters::{Parameters, parameters_of};
@@ -205,6 +207,10 @@ pub fn denial<'a, L: Lookup<'a>>(
     ensures goes { L.goes_to lookup.old lookup.new }
     ensures counts { L.failures lookup.old ≤ L.failures lookup.new }
     ensures device { IsErrOf result LookupFault.Device → HasGrown (L.failures lookup.old) (L.failures lookup.new) }
+
+    // A policy whose plans are spoiled lets no write pass that it is for.
+    ensures never_passed { (bytes : List ℕ) → plans_seen plans.now ≡ spoiled bytes
+        → IsTrue (is_matched (policy_seen policy.now).constraints (binding_seen binding.now).resources (attempt_seen attempt.now)) → IsErrOf result (LookupFault.Damaged Part.Plans) }
     ensures damaged { (part : Part) → IsErrOf result (LookupFault.Damaged part) → (ready : List Judged) → plans_seen plans.now ≡ these ready → L.is_damaged lookup.new }
 {
     if !matches(&policy.constraints, &binding.resources, attempt) {
