@@ -1,7 +1,7 @@
 ghost use Rattle.std.specs.Prelude.{◌≡◌, ◌<◌, ◌≤◌, ◌+◌, ◌*◌, ◌^◌, ◌++◌, ◌∷◌, [], ℕ, List, true, false, not, is_ok, length, take, replicate, IsTrue, IfOk, OnOk, OnErr, IsErrOf, ◌⊎◌, ◌↔◌, map};
 
+use crate::reading::{last_gate_of, payloads_of};
 use crate::record::SECTOR;
-use crate::recovery::{last_gate_of, payloads_of};
 use crate::write_record::write_record;
 use crate::{Body, LogFault};
 use device::Device;

@@ -17,8 +17,8 @@
 
 mod fault;
 mod gate_log;
+mod reading;
 mod record;
-mod recovery;
 mod write_record;
 
 pub use fault::LogFault;

@@ -1,6 +1,6 @@
 //! Exchanges over a connection, and questions, by their words.
 
-use crate::replies::{message, short, spelled_out};
+use crate::sent::{message, short, spelled_out};
 use cases::{Bench, TextBuilder, Wrong, compare, first_word, number, shown};
 use std::alloc::Global;
 

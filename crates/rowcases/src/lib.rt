@@ -13,9 +13,9 @@ mod events;
 mod exchange;
 mod messages;
 mod names_asked;
-mod replies;
 mod requested;
 mod responses;
+mod sent;
 mod stored;
 mod streams;
 mod texts;
@@ -26,9 +26,9 @@ use httpmsg::one_stream;
 use jsondoc::text_escapes;
 pub use messages::fault_word;
 pub use names_asked::{key_of, resource, rules_text};
-pub use replies::{message, short};
 pub use requested::push_key;
 use requests::{parts_are_spelled, stored_is_read};
+pub use sent::{message, short};
 pub use streams::{messages_of, routed_first};
 
 /// The laws of what the rows are asked of.

@@ -1,6 +1,6 @@
 //! What a message asks for.
 
-use crate::replies::message;
+use crate::sent::message;
 use crate::streams::routed_first;
 use cases::{TextBuilder, Wrong, wanted};
 use labels::Requirement;

@@ -3,7 +3,7 @@ use Rattle.std.specs.Prelude.{IsErrOf}
 use Rattle.gatelog.specs.declared.fault.LogFault.TheVariants as LogFault
 use Rattle.gatelog.specs.Walk.{HoldsRecord}
 use Rattle.gatelog.proofs.Walking.{leads-next, found-closed, no_log-body, no_log-end, gate-byte, same_then}
-use Rattle.gatelog.proofs.recovery.last_gate_of.Goals as goal
+use Rattle.gatelog.proofs.reading.last_gate_of.Goals as goal
 
 pub returns-then-sector-clause-found : goal.returns-then-sector-clause-found
 returns-then-sector-clause-found g c keeps =

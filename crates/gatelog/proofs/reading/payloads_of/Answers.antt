@@ -5,7 +5,7 @@ use Rattle.gatelog.specs.declared.fault.LogFault.TheVariants as LogFault
 use Rattle.gatelog.specs.Walk.{HoldsRecord}
 use Rattle.gatelog.proofs.Logs.{inside}
 use Rattle.gatelog.proofs.Walking.{same_then, no_log-record, passes-next, passes-end}
-use Rattle.gatelog.proofs.recovery.payloads_of.Goals as goal
+use Rattle.gatelog.proofs.reading.payloads_of.Goals as goal
 
 pub returns-then-gate-end-clause-damaged : goal.returns-then-gate-end-clause-damaged
 returns-then-gate-end-clause-damaged g c keeps is_damaged payloads log =

@@ -3,7 +3,7 @@ use Rattle.std.proofs.lemmas.List.{take_at}
 use Rattle.byteorder.specs.Endian.{big_number}
 use Rattle.gatelog.specs.Record.{part, sectors}
 use Rattle.gatelog.proofs.Walking.{same_then, one_record, payload-read}
-use Rattle.gatelog.proofs.recovery.read_payload.Goals as goal
+use Rattle.gatelog.proofs.reading.read_payload.Goals as goal
 
 pub returns-then-payload_length-gt-MOST_PAYLOAD-clause-ran : goal.returns-then-payload_length-gt-MOST_PAYLOAD-clause-ran
 returns-then-payload_length-gt-MOST_PAYLOAD-clause-ran g c =

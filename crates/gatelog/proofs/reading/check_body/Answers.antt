@@ -3,9 +3,9 @@ use Rattle.std.specs.Prelude.{IsTrue, EachIndex, ◌↔◌}
 use Rattle.gatelog.specs.Record.{part, body_sectors}
 use Rattle.gatelog.proofs.Parts.{length-part}
 use Rattle.gatelog.proofs.Checking.{body-found, body-size, body-zeros, all-zeros, slice-tail}
-use Rattle.gatelog.proofs.recovery.check_body.Given.{Over}
-use Rattle.gatelog.proofs.recovery.check_body.Goals.{After-is_zero}
-use Rattle.gatelog.proofs.recovery.check_body.Goals as goal
+use Rattle.gatelog.proofs.reading.check_body.Given.{Over}
+use Rattle.gatelog.proofs.reading.check_body.Goals.{After-is_zero}
+use Rattle.gatelog.proofs.reading.check_body.Goals as goal
 
 AllZeros : List ℕ → Type 0
 AllZeros bytes = EachIndex bytes (λ k. slice_index bytes k ≡ 0)
