@@ -9,14 +9,14 @@ use Rattle.names.specs.declared.resource.Resource.{Resource}
 use Rattle.names.specs.declared.resource.Resource.TheVariants.{ConfigMap, Node, Pod, Service, Deployment, ValidatingAdmissionPolicy, ValidatingAdmissionPolicyBinding}
 use Rattle.names.specs.Key.{Key}
 use Rattle.documents.specs.Document.{Document, shown}
-use Rattle.matching.specs.Rules.{Attempt}
-use Rattle.matching.specs.declared.rules.Operation.TheVariants.{Create, Update, Delete}
+use Rattle.policy.specs.Rules.{Attempt}
+use Rattle.policy.specs.declared.match_rules.Operation.TheVariants.{Create, Update, Delete}
 use Rattle.requests.specs.Codes.{document_in}
 use Rattle.requests.specs.Collection.{Collection}
 use Rattle.requests.specs.Manifest.{Manifest}
 use Rattle.requests.specs.Refusal as table
 use Rattle.requests.specs.Request.{Request, get, list, watch, create, replace, delete, refused}
-use Rattle.labels.specs.Requirement.{Requirement}
+use Rattle.documents.specs.Requirement.{Requirement}
 use Rattle.requests.specs.declared.refusal.Refusal as code_refusal
 use Rattle.requests.specs.declared.refusal.Refusal.TheVariants.{AlreadyExists, NotFound, VersionNotCurrent, BadSpec, RevisionExhausted}
 use Rattle.history.specs.History as write

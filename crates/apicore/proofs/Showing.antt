@@ -12,7 +12,7 @@ use Rattle.objects.specs.Objects.{value_at}
 use Rattle.documents.specs.Document.{Document, shown}
 use Rattle.requests.specs.Collection.{Collection, has_key}
 use Rattle.requests.specs.Refusal as table
-use Rattle.labels.specs.Requirement.{Requirement}
+use Rattle.documents.specs.Requirement.{Requirement}
 use Rattle.requests.specs.Selector.{selects}
 use Rattle.requests.specs.declared.refusal.Refusal.TheVariants.{NotFound, VersionNotCurrent, ObjectTooLarge, TooManyObjects, RevisionExhausted}
 use Rattle.history.specs.declared.stored.Stored.{Stored}

@@ -9,8 +9,8 @@ use Rattle.history.specs.History.{put, delete}
 use Rattle.history.specs.declared.stored.Stored.{Stored}
 use Rattle.history.specs.View as seen
 use Rattle.history.specs.View.{stored_at, exists, after}
-use Rattle.matching.specs.Rules.{Attempt}
-use Rattle.matching.specs.declared.rules.Operation.TheVariants.{Create, Update, Delete}
+use Rattle.policy.specs.Rules.{Attempt}
+use Rattle.policy.specs.declared.match_rules.Operation.TheVariants.{Create, Update, Delete}
 use Rattle.lookup.specs.Objects.{Object, Objects}
 use Rattle.verdict.specs.Admission.{verdict}
 use Rattle.verdict.specs.Verdict.{Verdict, admitted, denied}

@@ -1,3 +1,8 @@
+mod Prefixes
+mod Faults
+pub mod Holding
+pub mod Views
+pub mod Sieving
 mod Objects
 mod Looking
 pub mod Lying

@@ -15,8 +15,8 @@ use Rattle.roots.specs.declared.root.Root.{Root}
 use Rattle.roots.specs.Root.{log_start}
 use Rattle.shelf.specs.declared.shelf.Shelf.{Shelf}
 use Rattle.shelf.specs.Shelf.{root_of, Shelves}
-use Rattle.stock.specs.declared.stocked.Stocked.{Stocked}
-use Rattle.stock.specs.Stock.{Stocks}
+use Rattle.base.specs.declared.stocked.Stocked.{Stocked}
+use Rattle.base.specs.Stock.{Stocks}
 use Rattle.base.specs.Whole.{whole}
 use Rattle.base.specs.declared.base.Base.{Base}
 use Rattle.base.specs.Base.{not_held, HoldsBase, GoesTo}

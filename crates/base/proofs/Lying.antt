@@ -18,9 +18,9 @@ use Rattle.history.specs.declared.stored.Stored.{Stored}
 use Rattle.shelf.specs.declared.shelf.Shelf.{Shelf}
 use Rattle.shelf.specs.Shelf.{root_of}
 use Rattle.shelf.proofs.Staying.{HoldsAsBefore}
-use Rattle.stock.specs.declared.stocked.Stocked.{Stocked}
-use Rattle.stock.specs.Stock.{plain, Stocks}
-use Rattle.stock.proofs.Holding.{stocks_stay, stocks_ran}
+use Rattle.base.specs.declared.stocked.Stocked.{Stocked}
+use Rattle.base.specs.Stock.{plain, Stocks}
+use Rattle.base.proofs.Holding.{stocks_stay, stocks_ran}
 use Rattle.base.specs.Whole.{whole}
 use Rattle.base.specs.Base.{not_held, Lies}
 use Rattle.base.proofs.Objects.{resource_is, none_lies, AreMade, whole_again}

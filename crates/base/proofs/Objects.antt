@@ -15,8 +15,8 @@ use Rattle.objects.specs.Objects.{value_at, is_of}
 use Rattle.overlay.proofs.Changing.{find-filter}
 use Rattle.history.specs.declared.stored.Stored.{Stored}
 use Rattle.holdings.specs.Sources.{found_in}
-use Rattle.stock.specs.declared.stocked.Stocked.{Stocked}
-use Rattle.stock.specs.Stock.{plain}
+use Rattle.base.specs.declared.stocked.Stocked.{Stocked}
+use Rattle.base.specs.Stock.{plain}
 use Rattle.base.specs.Whole.{found_of, stored_of, whole}
 use Rattle.base.specs.Base.{not_held}
 

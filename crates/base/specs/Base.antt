@@ -13,8 +13,8 @@ use Rattle.history.specs.declared.stored.Stored.{Stored}
 use Rattle.pages.specs.Page.{Entry}
 use Rattle.shelf.specs.declared.shelf.Shelf.{Shelf}
 use Rattle.shelf.specs.Shelf.{root_of, Shelves}
-use Rattle.stock.specs.declared.stocked.Stocked.{Stocked}
-use Rattle.stock.specs.Stock.{Stocks}
+use Rattle.base.specs.declared.stocked.Stocked.{Stocked}
+use Rattle.base.specs.Stock.{Stocks}
 use Rattle.base.specs.Whole.{whole}
 use Rattle.base.specs.declared.base.Base.{Base}
 

@@ -1,6 +1,6 @@
 -- What a fault of the pages is to what is held over them.
-use Rattle.stock.specs.declared.fault.StockFault.{StockFault}
-use Rattle.stock.specs.declared.fault.StockFault.TheVariants as below
+use Rattle.base.specs.declared.fault.StockFault.{StockFault}
+use Rattle.base.specs.declared.fault.StockFault.TheVariants as below
 use Rattle.objects.specs.declared.fault.Part.TheVariants.{Entry}
 use Rattle.objects.specs.declared.fault.LookupFault.{LookupFault}
 use Rattle.objects.specs.declared.fault.LookupFault.TheVariants.{Device, Damaged, Memory}

@@ -3,7 +3,7 @@ use Rattle.names.specs.Key.{Key}
 use Rattle.documents.specs.Document.{Document}
 use Rattle.history.specs.declared.stored.Stored.{Stored}
 use Rattle.holdings.specs.declared.source.Found.{Found}
-use Rattle.stock.specs.declared.stocked.Stocked.{Stocked}
+use Rattle.base.specs.declared.stocked.Stocked.{Stocked}
 
 -- what is found of what is stored
 abbrev pub found_of : Stocked → Found

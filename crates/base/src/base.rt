@@ -11,9 +11,12 @@ ghost use Rattle.roots.specs.Root.{log_start};
 ghost use Rattle.shelf.specs.Shelf.{root_of};
 ghost use Rattle.base.specs.Faults.{of_stock_fault};
 ghost use Rattle.base.specs.Whole.{found_of, stored_of, whole};
-ghost use Rattle.stock.specs.declared.fault.StockFault.TheVariants as StockFault;
+ghost use Rattle.base.specs.declared.fault.StockFault.TheVariants as StockFault;
 
+use crate::fault::StockFault;
+use crate::looking::{find, list, list_all};
 use crate::making::FromDocument;
+use crate::stocked::Stocked;
 use device::Device;
 use history::Stored;
 use holdings::{Found, Source};
@@ -21,7 +24,6 @@ use names::{Key, Resource};
 use objects::{LookupFault, Part};
 use shelf::{Reading, Shelf};
 use std::alloc::{AllocError, Global};
-use stock::{StockFault, Stocked, find, list, list_all};
 
 /// The objects of a shelf, on the device that its pages stand on, without those that are held in memory; and how what stands beside each is made.
 #[derive(Drop)]

@@ -11,7 +11,19 @@
 #![tactic(auto)]
 
 mod base;
+mod fault;
+mod keys;
+mod laws;
+mod listed;
+mod looking;
 mod making;
+mod sieve;
+mod stocked;
 
 pub use base::Base;
+pub use fault::StockFault;
+pub use laws::{kept_are_of_a_view, views_hold_objects};
+pub use looking::{find, list, list_all};
 pub use making::FromDocument;
+pub use sieve::{Choice, Sieve};
+pub use stocked::Stocked;

@@ -1,8 +1,8 @@
 -- A write that is matched.
 use Rattle.std.proofs.Common.{◌≡◌, List, Bool, true, None, if◌then◌else◌, sym, ap}
 use Rattle.celtree.specs.Tree.{Expr}
-use Rattle.matching.specs.Rules.{Attempt}
-use Rattle.matching.specs.Matching.{is_matched}
+use Rattle.policy.specs.Rules.{Attempt}
+use Rattle.policy.specs.Matching.{is_matched}
 use Rattle.policy.specs.Spec as spec
 use Rattle.lookup.specs.Listed.{Shown}
 use Rattle.bindings.specs.Verdict.{denial}

@@ -5,7 +5,7 @@ use Rattle.names.specs.Resource.{row}
 use Rattle.names.specs.declared.resource.Resource.{Resource}
 use Rattle.names.specs.declared.resource.Scope.{Scope}
 use Rattle.names.specs.declared.resource.Scope.TheVariants.{Namespaced, Cluster}
-use Rattle.matching.specs.Rules.{Attempt}
+use Rattle.policy.specs.Rules.{Attempt}
 use Rattle.policy.specs.Forms.{Text}
 use Rattle.policy.specs.Spec.{Wanted, ParamRef}
 use Rattle.lookup.specs.Listed.{Shown, listed, wanted_of}

@@ -3,7 +3,7 @@ use Rattle.std.specs.Prelude.{List, Option, Some, None, if◌then◌else◌}
 use Rattle.serde_json.specs.Data.{Data}
 use Rattle.celtree.specs.Tree.{Expr}
 use Rattle.names.specs.Key.{Key}
-use Rattle.matching.specs.Rules.{Attempt}
+use Rattle.policy.specs.Rules.{Attempt}
 use Rattle.evaluation.specs.Trees.{conditions_of}
 use Rattle.evaluation.specs.Environment.{seen}
 use Rattle.evaluation.specs.Denials.{Denial, conditions}

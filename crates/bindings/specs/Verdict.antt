@@ -2,8 +2,8 @@
 use Rattle.std.specs.Prelude.{ℕ, ◌∷◌, ◌++◌, ◌==◌, ◌&&◌, ◌||◌, List, [], map, take, nat_le, if◌then◌else◌, codes, chars, Option, Some, None}
 use Rattle.std.specs.List.{flat_map}
 use Rattle.celtree.specs.Tree.{Expr}
-use Rattle.matching.specs.Rules.{Attempt}
-use Rattle.matching.specs.Matching.{is_matched}
+use Rattle.policy.specs.Rules.{Attempt}
+use Rattle.policy.specs.Matching.{is_matched}
 use Rattle.policy.specs.Forms.{Text}
 use Rattle.policy.specs.Spec as spec
 use Rattle.policy.specs.declared.params.NotFound.{NotFound}

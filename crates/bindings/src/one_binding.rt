@@ -1,10 +1,10 @@
 //! What one binding of a policy says of a write.
 
-ghost use Rattle.std.specs.Prelude.{◌≡◌, ◌≤◌, ◌++◌, ℕ, List, map, option_map, Some, None, IfOk, OnOk, IfSome, IsErrOf, IsTrue, string_bytes};
+ghost use Rattle.std.specs.Prelude.{◌≡◌, ◌≤◌, ◌++◌, ℕ, List, map, option_map, Some, None, false, IfOk, OnOk, OnErr, IfSome, IsErrOf, IsTrue, string_bytes};
 ghost use Rattle.serde_json.specs.View.{view};
 ghost use Rattle.celtree.specs.Tree.{Expr};
-ghost use Rattle.matching.specs.Rules.{attempt_seen};
-ghost use Rattle.matching.specs.Matching.{is_matched};
+ghost use Rattle.policy.specs.Rules.{attempt_seen};
+ghost use Rattle.policy.specs.Matching.{is_matched};
 ghost use Rattle.plancode.specs.Plans.{Judged};
 ghost use Rattle.expressions.specs.Specification.{these, spoiled, plans_seen};
 ghost use Rattle.policy.specs.Spec.{policy_seen, binding_seen, param_ref_seen};
@@ -26,10 +26,9 @@ use evaluation::{Conditions, Denial, conditions, evaluate, failure, request_docu
 use expressions::StoredPlans;
 use jsondoc::Doc;
 use lookup::Lookup;
-use matching::{Attempt, matches};
 use objects::{LookupFault, Part};
 use plancode::Verified;
-use policy::{Binding, NotFound, Policy};
+use policy::{Attempt, Binding, NotFound, Policy, matches};
 use serde_json::Value as Json;
 use std::alloc::{AllocError, Global};
 
@@ -212,6 +211,10 @@ pub fn denial<'a, L: Lookup<'a>>(
     ensures never_passed { (bytes : List ℕ) → plans_seen plans.now ≡ spoiled bytes
         → IsTrue (is_matched (policy_seen policy.now).constraints (binding_seen binding.now).resources (attempt_seen attempt.now)) → IsErrOf result (LookupFault.Damaged Part.Plans) }
     ensures damaged { (part : Part) → IsErrOf result (LookupFault.Damaged part) → (ready : List Judged) → plans_seen plans.now ≡ these ready → L.is_damaged lookup.new }
+
+    // A write that the policy and the binding are not for is not denied, whatever the plans are.
+    ensures unasked { is_matched (policy_seen policy.now).constraints (binding_seen binding.now).resources (attempt_seen attempt.now) ≡ false
+        → IfOk result (λ o. o ≡ None) × OnErr result ⊥ }
 {
     if !matches(&policy.constraints, &binding.resources, attempt) {
         return Ok(None);

@@ -4,7 +4,7 @@ ghost use Rattle.std.specs.Prelude.{◌≡◌, ◌≤◌, ◌++◌, List, map, o
 ghost use Rattle.std.specs.List.{cons_option, filter_map};
 ghost use Rattle.names.specs.Resource.{row};
 ghost use Rattle.documents.specs.Document.{shown};
-ghost use Rattle.matching.specs.Rules.{attempt_seen};
+ghost use Rattle.policy.specs.Rules.{attempt_seen};
 ghost use Rattle.policy.specs.Spec.{binding_seen, param_ref_seen, wanted_seen};
 ghost use Rattle.lookup.specs.Objects.{Objects, shown_objects};
 ghost use Rattle.bindings.specs.Parameters.{found_or_not, namespace_of, looked_up, parameters};
@@ -16,14 +16,12 @@ ghost use Rattle.objects.specs.Failing.{HasGrown};
 ghost use Rattle.objects.specs.declared.fault.Part.{Part};
 ghost use Rattle.objects.specs.declared.fault.LookupFault.TheVariants as LookupFault;
 
-use documents::shown_document;
+use documents::{selects, shown_document};
 use jsondoc::Doc;
-use labels::selects;
 use lookup::{Listed, Lookup};
-use matching::Attempt;
 use names::{Resource, Scope};
 use objects::LookupFault;
-use policy::{Binding, ParamRef, Wanted};
+use policy::{Attempt, Binding, ParamRef, Wanted};
 use std::alloc::{AllocError, Global};
 
 /// The parameters that a policy is evaluated with, each in turn.

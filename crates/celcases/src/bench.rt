@@ -2,7 +2,7 @@
 
 use crate::bytes::decoding_text;
 use crate::codes::code_text;
-use crate::documents::{Documents, nest_document, write_document};
+use crate::given::{Documents, nest_document, write_document};
 use crate::notation::Notation;
 use crate::outcomes::{meaning_text, plan_text, value_text};
 use crate::scope::{variable_names, variables};

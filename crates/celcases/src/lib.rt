@@ -7,7 +7,7 @@
 mod bench;
 mod bytes;
 mod codes;
-mod documents;
+mod given;
 mod notation;
 mod outcomes;
 mod scope;

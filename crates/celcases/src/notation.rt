@@ -1,6 +1,6 @@
 //! How rows write their texts.
 
-use crate::documents::document;
+use crate::given::document;
 use crate::texts::put;
 use cases::{TextBuilder, Wrong, text};
 use std::alloc::Global;

@@ -1,7 +1,7 @@
 //! What expressions give, in two ways: by the plain program of the meaning, over the tree, and by the compiled plan.
 
 use crate::codes::compiled;
-use crate::documents::Documents;
+use crate::given::Documents;
 use crate::texts::put_other;
 use crate::values::shown_outcome;
 use cases::Wrong;

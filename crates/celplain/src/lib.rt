@@ -6,7 +6,7 @@
 #![tactic(auto)]
 
 mod environment;
-mod evaluation;
+mod meaning;
 
 pub use environment::{Binding, Environment};
-pub use evaluation::evaluate;
+pub use meaning::evaluate;

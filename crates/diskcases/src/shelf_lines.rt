@@ -6,11 +6,11 @@ ghost use Rattle.diskcases.specs.Inside.{LiesInside};
 use crate::line::Line;
 use crate::scan_lines::{Listing, push_entries, read_pages, root_at};
 use crate::stock_lines::{Beginning, find_object, list_all_objects, list_objects};
+use base::Sieve;
 use cases::Wrong;
 use device::MemDevice;
 use shelf::{Reading, Shelf, ShelfFault};
 use std::alloc::Global;
-use stock::Sieve;
 
 fn fault_text(fault: ShelfFault) -> &'static str {
     match fault {

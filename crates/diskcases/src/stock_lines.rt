@@ -4,11 +4,11 @@ ghost use Rattle.diskcases.specs.Inside.{LiesInside};
 
 use crate::line::Line;
 use crate::scan_lines::{read_pages, root_at};
+use base::{Choice, Sieve, StockFault, Stocked, find, list, list_all};
 use device::MemDevice;
 use names::Key;
 use shelf::{Reading, Shelf};
 use std::alloc::Global;
-use stock::{Choice, Sieve, StockFault, Stocked, find, list, list_all};
 
 fn fault_text(fault: StockFault) -> &'static str {
     match fault {

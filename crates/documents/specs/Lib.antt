@@ -1,2 +1,4 @@
+pub mod Requirement
+pub mod Selecting
 pub mod Document
 pub mod DocumentCode

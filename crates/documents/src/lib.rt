@@ -11,9 +11,13 @@
 #![tactic(auto)]
 
 mod metadata;
+mod requirement;
+mod selecting;
 mod shown;
 mod stored;
 
 pub use metadata::{has_kind, has_metadata, metadata_copy, metadata_text};
+pub use requirement::Requirement;
+pub use selecting::{is_among, selects};
 pub use shown::shown_document;
 pub use stored::Document;

@@ -8,7 +8,7 @@ use Rattle.std.proofs.lemmas.Bool.Decides.{nat_tests}
 use Rattle.celtree.specs.Tree.{Expr}
 use Rattle.celtree.specs.Nesting.{nests_within}
 use Rattle.serde_json.specs.Data.{Data}
-use Rattle.matching.specs.Rules.{Attempt}
+use Rattle.policy.specs.Rules.{Attempt}
 use Rattle.celmean.specs.Value.{Outcome, Gives}
 use Rattle.celvalues.specs.Documents.{json_value}
 use Rattle.instructions.specs.declared.instruction.Name.TheVariants as name_of

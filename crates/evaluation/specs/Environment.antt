@@ -4,9 +4,9 @@ use Rattle.std.specs.Option.{option_map_or}
 use Rattle.serde_json.specs.Data.{Data, string}
 use Rattle.names.specs.Resource.{row}
 use Rattle.names.specs.declared.resource.Resource.{Resource}
-use Rattle.matching.specs.declared.rules.Operation.{Operation}
-use Rattle.matching.specs.declared.rules.Operation.TheVariants.{Create, Update, Delete}
-use Rattle.matching.specs.Rules.{Attempt}
+use Rattle.policy.specs.declared.match_rules.Operation.{Operation}
+use Rattle.policy.specs.declared.match_rules.Operation.TheVariants.{Create, Update, Delete}
+use Rattle.policy.specs.Rules.{Attempt}
 use Rattle.celmean.specs.Value.{Value, Null, Gives}
 use Rattle.celmean.specs.Meaning.{Environment}
 use Rattle.celvalues.specs.Documents.{json_value}

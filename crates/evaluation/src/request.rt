@@ -3,11 +3,11 @@
 ghost use Rattle.std.specs.Prelude.{◌≡◌, IfOk, OnOk};
 ghost use Rattle.serde_json.specs.Data.{put, string};
 ghost use Rattle.serde_json.specs.View.{view, members_view};
-ghost use Rattle.matching.specs.Rules.{attempt_seen};
+ghost use Rattle.policy.specs.Rules.{attempt_seen};
 ghost use Rattle.evaluation.specs.Environment.{operation_name, kind_of, resource_of, request_of};
 
-use matching::{Attempt, Operation};
 use names::Resource;
+use policy::{Attempt, Operation};
 use serde_json::{Map, Value as Json};
 use std::alloc::{AllocError, Global};
 

@@ -3,7 +3,7 @@
 ghost use Rattle.std.specs.Prelude.{◌≡◌, [], map, List, None, IfOk};
 ghost use Rattle.serde_json.specs.View.{view};
 ghost use Rattle.celtree.specs.Tree.{Expr};
-ghost use Rattle.matching.specs.Rules.{attempt_seen};
+ghost use Rattle.policy.specs.Rules.{attempt_seen};
 ghost use Rattle.policy.specs.Spec.{named_seen, policy_seen};
 ghost use Rattle.evaluation.specs.Environment.{request_of, seen};
 ghost use Rattle.evaluation.specs.Trees.{conditions_of};
@@ -16,9 +16,8 @@ use crate::answers::Conditions;
 use crate::outcomes::given_by;
 use crate::scene::{Scene, or_null};
 use celmean::{is_false, is_true};
-use matching::Attempt;
 use plancode::Verified;
-use policy::{Named, Policy};
+use policy::{Attempt, Named, Policy};
 use serde_json::Value as Json;
 use std::alloc::{AllocError, Global};
 

@@ -3,7 +3,7 @@
 ghost use Rattle.std.specs.Prelude.{◌≡◌, List, map, option_map, string_bytes, IfOk};
 ghost use Rattle.serde_json.specs.View.{view};
 ghost use Rattle.celtree.specs.Tree.{Expr};
-ghost use Rattle.matching.specs.Rules.{attempt_seen};
+ghost use Rattle.policy.specs.Rules.{attempt_seen};
 ghost use Rattle.policy.specs.Spec.{policy_seen, validation_seen};
 ghost use Rattle.evaluation.specs.Environment.{request_of, seen};
 ghost use Rattle.evaluation.specs.Denials.{evaluate};
@@ -16,9 +16,8 @@ use crate::messages::{failure, line_of, prefixed, said};
 use crate::outcomes::{given_by, outcomes_by, split};
 use crate::scene::{Scene, or_null};
 use celmean::{Outcome, is_false, is_true};
-use matching::Attempt;
 use plancode::Verified;
-use policy::{FailurePolicy, Policy, Validation};
+use policy::{Attempt, FailurePolicy, Policy, Validation};
 use serde_json::Value as Json;
 use std::alloc::{AllocError, Global};
 

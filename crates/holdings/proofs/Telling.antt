@@ -7,7 +7,7 @@ use Rattle.serde_json.specs.View.{items_of}
 use Rattle.jsondoc.specs.Document.{text}
 use Rattle.names.specs.Key.{Key}
 use Rattle.objects.specs.Objects.{is_of}
-use Rattle.labels.specs.Requirement.{Requirement}
+use Rattle.documents.specs.Requirement.{Requirement}
 use Rattle.requests.specs.declared.refusal.Refusal.{Refusal}
 use Rattle.requests.specs.declared.refusal.Refusal.TheVariants.{BadVersion, Expired}
 use Rattle.requests.specs.Collection.{Collection}

@@ -4,7 +4,7 @@ use Rattle.std.specs.Prelude.{IfSome}
 use Rattle.serde_json.specs.Data.{Data}
 use Rattle.serde_json.specs.Find.{get, as_str}
 use Rattle.names.specs.Name.{is_name}
-use Rattle.matching.specs.Rules.{MatchRules}
+use Rattle.policy.specs.Rules.{MatchRules}
 use Rattle.policy.specs.declared.binding.Action.{Action}
 use Rattle.policy.specs.Forms.{Text, given, provided, has_only, field, perhaps, optional, list_of, only}
 use Rattle.policy.specs.MatchRules.{match_rules_of, no_rules}

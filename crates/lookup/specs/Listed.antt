@@ -6,7 +6,7 @@ use Rattle.serde_json.specs.Data.{Data}
 use Rattle.names.specs.Key.{Key}
 use Rattle.names.specs.declared.resource.Resource.{Resource}
 use Rattle.objects.specs.Objects.{is_of}
-use Rattle.labels.specs.Selecting.{selects}
+use Rattle.documents.specs.Selecting.{selects}
 use Rattle.policy.specs.Forms.{Text}
 use Rattle.policy.specs.Spec.{Wanted, by_name, by_selector}
 

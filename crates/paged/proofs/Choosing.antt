@@ -20,8 +20,8 @@ use Rattle.history.specs.declared.stored.Stored.{Stored}
 use Rattle.history.specs.View as seen
 use Rattle.pages.specs.Page.{Entry, bytes_cmp}
 use Rattle.entries.specs.Entries.{plan_entry, plan_entries, event_entry, stored_entry, plans_among}
-use Rattle.stock.specs.Sieve.{chosen_of, objects_among}
-use Rattle.stock.proofs.Sieving.{objects_of_view}
+use Rattle.base.specs.Sieve.{chosen_of, objects_among}
+use Rattle.base.proofs.Sieving.{objects_of_view}
 use Rattle.snapshots.specs.LyingBelow.{AreChosen}
 use Rattle.snapshots.specs.Keeping.{held_plans, held_entries}
 use Rattle.recovery.specs.Beside.{Beside}

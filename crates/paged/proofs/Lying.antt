@@ -16,8 +16,8 @@ use Rattle.pages.specs.Page.{bytes_cmp}
 use Rattle.entries.proofs.Ascending as ascending
 use Rattle.shelf.specs.declared.shelf.Shelf.{Shelf}
 use Rattle.shelf.specs.Shelf.{Shelves}
-use Rattle.stock.specs.Stock.{plain, HoldObjects}
-use Rattle.stock.proofs.Views.{view_holds}
+use Rattle.base.specs.Stock.{plain, HoldObjects}
+use Rattle.base.proofs.Views.{view_holds}
 use Rattle.base.proofs.Lying.{lies_of}
 use Rattle.snapshots.specs.Keeping.{held_plans, held_entries, IsHeldObject, IsHeld}
 use Rattle.snapshots.proofs.Parts.{wide, holdable_held}

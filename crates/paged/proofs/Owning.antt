@@ -9,7 +9,7 @@ use Rattle.names.specs.declared.resource.Resource.TheVariants.{ConfigMap, Node, 
 use Rattle.names.specs.Key.{Key}
 use Rattle.history.specs.declared.stored.Stored.{Stored}
 use Rattle.expressions.specs.Specification.{IsSpecification, sound, Plans, these, plans_in, plans_bytes}
-use Rattle.stock.specs.declared.stocked.Stocked.{Stocked}
+use Rattle.base.specs.declared.stocked.Stocked.{Stocked}
 use Rattle.base.specs.Whole.{whole}
 use Rattle.base.specs.Base.{not_held}
 use Rattle.recovery.specs.Beside.{Beside}

@@ -20,8 +20,8 @@ use Rattle.checkpoint.specs.Pages.{pages_at, pages_of_root, joined, first_key, A
 use Rattle.checkpoint.specs.declared.scanning.ScanFault.{ScanFault}
 use Rattle.checkpoint.specs.declared.scanning.ScanFault.TheVariants as scan_fault
 use Rattle.entries.specs.Entries.{stored_entry}
-use Rattle.stock.specs.declared.sieve.Sieve.{Sieve}
-use Rattle.stock.specs.Sieve.{is_object, kept_of, objects_among, chosen_of, IsSieved}
+use Rattle.base.specs.declared.sieve.Sieve.{Sieve}
+use Rattle.base.specs.Sieve.{is_object, kept_of, objects_among, chosen_of, IsSieved}
 use Rattle.snapshots.specs.declared.fault.SnapshotFault.{SnapshotFault}
 use Rattle.snapshots.specs.declared.fault.SnapshotFault.TheVariants as snapshot_fault
 use Rattle.snapshots.specs.LyingBelow.{HasThoseBelow}

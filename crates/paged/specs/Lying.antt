@@ -6,7 +6,7 @@ use Rattle.names.specs.Key.{Key}
 use Rattle.documents.specs.Document.{Document}
 use Rattle.history.specs.declared.stored.Stored.{Stored}
 use Rattle.history.specs.View as seen
-use Rattle.matching.specs.Matching.{is_guarded}
+use Rattle.policy.specs.Matching.{is_guarded}
 use Rattle.shelf.specs.declared.shelf.Shelf.{Shelf}
 use Rattle.base.specs.Base.{Lies}
 use Rattle.snapshots.specs.LyingBelow as snapshots

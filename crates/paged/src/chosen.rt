@@ -4,12 +4,12 @@ ghost use Rattle.std.specs.Prelude.{◌≡◌, ◌∷◌, true, Contains, IfOk};
 ghost use Rattle.names.specs.Key.{Key as KeyData, key_bytes};
 ghost use Rattle.paged.specs.Chosen.{is_rule_number, is_rule_key, rules_among, is_chosen};
 
+use base::Choice;
 use entries::Entry;
-use matching::is_guarded;
 use names::{Key, ResourceTable};
+use policy::is_guarded;
 use std::alloc::{AllocError, Global};
 use std::collections::BTreeSet;
-use stock::Choice;
 
 // The first byte of the key of an object's entry.
 const OBJECT: u8 = 1;

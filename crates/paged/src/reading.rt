@@ -10,7 +10,7 @@ ghost use Rattle.roots.specs.Root.{log_start};
 ghost use Rattle.checkpoint.specs.Index.{keys_of};
 ghost use Rattle.checkpoint.specs.Pages.{pages_of_root, HoldsEntries, IsIndex};
 ghost use Rattle.shelf.specs.Shelf as shelves;
-ghost use Rattle.stock.specs.Sieve.{chosen_of, objects_among};
+ghost use Rattle.base.specs.Sieve.{chosen_of, objects_among};
 ghost use Rattle.history.specs.declared.stored.Stored.{Stored as StoredData};
 ghost use Rattle.history.specs.View as seen;
 ghost use Rattle.history.specs.Mapped.{mapped};
@@ -33,6 +33,7 @@ use crate::bare::Bare;
 use crate::chosen::{Chosen, rules_among};
 use crate::fault::ReadFault;
 use crate::state::Paged;
+use base::Sieve;
 use checkpoint::scan;
 use device::Device;
 use entries::Entry;
@@ -42,7 +43,6 @@ use roots::Root;
 use shelf::Shelf;
 use snapshots::{SnapshotFault, restored};
 use std::alloc::Global;
-use stock::Sieve;
 
 // How many of so many objects lie below, where these entries were kept: all but the policies and the bindings.
 fn count_below(kept: &[Entry], objects: u64) -> usize

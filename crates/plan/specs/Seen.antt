@@ -6,7 +6,7 @@ use Rattle.celtree.specs.Size.{nodes, text_bytes}
 use Rattle.celtypes.specs.declared.scope.Variable.{Variable}
 use Rattle.celtypes.specs.Types.{ValueType}
 use Rattle.celtypes.specs.Typing.{Scope, HasType}
-use Rattle.plan.specs.declared.names.Names as program
+use Rattle.plan.specs.declared.scope.Names as program
 use Rattle.plan.specs.Names.{Names}
 
 abbrev pub variable_names : List Variable → List (List ℕ)

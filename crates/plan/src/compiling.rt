@@ -15,8 +15,8 @@ ghost use Rattle.plan.specs.Correct.{names_of};
 ghost use Rattle.plan.specs.Values.{HasValues, HaveValues, PairsHaveValues};
 
 use crate::code::{alone, conditional_code, followed, gathered, infix_code, joined, macro_code};
-use crate::names::{Names, bind, name_instruction, place_of};
 use crate::operations::{function_named, method_named, steps_between};
+use crate::scope::{Names, bind, name_instruction, place_of};
 use celtree::{Macro, Operator, Prefix, Tree, is_variables};
 use celtypes::Env;
 use instructions::{Instruction, Plan};

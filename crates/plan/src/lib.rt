@@ -8,8 +8,8 @@
 mod code;
 mod compiling;
 mod laws;
-mod names;
 mod operations;
+mod scope;
 
 pub use compiling::compile;
 pub use laws::runs_as_meant;

@@ -2,8 +2,8 @@
 use Rattle.std.specs.Prelude.{List, [], ◌∷◌}
 use Rattle.celmean.specs.Value.{Value}
 use Rattle.celmean.specs.Seen.{value_of}
-use Rattle.planrun.specs.declared.bindings.Slots.{Slots}
-use Rattle.planrun.specs.declared.bindings.Slots.TheVariants as slots
+use Rattle.planrun.specs.declared.bound.Slots.{Slots}
+use Rattle.planrun.specs.declared.bound.Slots.TheVariants as slots
 
 -- the outermost first
 abbrev pub slots_seen : Slots → List Value

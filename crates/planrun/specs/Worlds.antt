@@ -6,7 +6,7 @@ use Rattle.celmean.specs.Value.{Outcome, Gives}
 use Rattle.celmean.specs.Seen.{outcomes_seen}
 use Rattle.celvalues.specs.Documents.{json_value}
 use Rattle.plan.specs.Machine.{World}
-use Rattle.planrun.specs.declared.bindings.Bindings.{Bindings}
+use Rattle.planrun.specs.declared.bound.Bindings.{Bindings}
 
 -- a declared name stands for its document
 abbrev pub name_seen : Bindings → Name → Outcome

@@ -8,8 +8,8 @@
 //! macros `all` and `exists` run no item behind the one that decides them.
 #![tactic(auto)]
 
-mod bindings;
+mod bound;
 mod machine;
 
-pub use bindings::Bindings;
+pub use bound::Bindings;
 pub use machine::run;

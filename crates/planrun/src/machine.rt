@@ -16,7 +16,7 @@ ghost use Rattle.planrun.specs.Results.{IsRunOf};
 ghost use Rattle.planrun.specs.Deciding.{decides};
 ghost use Rattle.planrun.specs.Running.{items_of, world, ops, vars, depth, next_of, IsReady, IsAt, IsAtOp, BeginsBody, Leads};
 
-use crate::bindings::{Bindings, Slots, item_of, named, variable, with_item};
+use crate::bound::{Bindings, Slots, item_of, named, variable, with_item};
 use celmean::{LONGEST_RANGE, Outcome, Value, list_items, range_of, reduced};
 use celtree::Macro;
 use instructions::Instruction;

@@ -4,7 +4,7 @@ use Rattle.std.specs.Option.{option_map_or}
 use Rattle.std.specs.Str.{bytes_eq}
 use Rattle.serde_json.specs.Data.{Data, Items, no_items, item, Members, no_members, member}
 use Rattle.serde_json.specs.Find.{get, as_str, as_array, as_object}
-use Rattle.labels.specs.Selecting.{is_among}
+use Rattle.documents.specs.Selecting.{is_among}
 
 -- a text, as its bytes in UTF-8
 abbrev pub Text : Type 0

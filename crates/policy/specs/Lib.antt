@@ -1,3 +1,5 @@
+pub mod Matching
+pub mod Rules
 pub mod Bindings
 pub mod Forms
 pub mod MatchRules

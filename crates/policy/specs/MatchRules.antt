@@ -4,13 +4,13 @@ use Rattle.std.specs.List.{list_all}
 use Rattle.std.specs.Str.{bytes_eq}
 use Rattle.serde_json.specs.Data.{Data, Members, no_members, member}
 use Rattle.serde_json.specs.Find.{as_str, as_object}
-use Rattle.labels.specs.Requirement.{Requirement, is_one_of, is_none_of, is_there, is_absent}
-use Rattle.matching.specs.Rules.{Entry, any, exactly, Rule, MatchRules}
-use Rattle.matching.specs.declared.rules.Operation.TheVariants.{Create, Update, Delete}
-use Rattle.matching.specs.declared.rules.OperationEntry.{OperationEntry}
-use Rattle.matching.specs.declared.rules.OperationEntry.TheVariants as operation
-use Rattle.matching.specs.declared.rules.RuleScope.{RuleScope}
-use Rattle.matching.specs.declared.rules.RuleScope.TheVariants.{Cluster, Namespaced, Every}
+use Rattle.documents.specs.Requirement.{Requirement, is_one_of, is_none_of, is_there, is_absent}
+use Rattle.policy.specs.Rules.{Entry, any, exactly, Rule, MatchRules}
+use Rattle.policy.specs.declared.match_rules.Operation.TheVariants.{Create, Update, Delete}
+use Rattle.policy.specs.declared.match_rules.OperationEntry.{OperationEntry}
+use Rattle.policy.specs.declared.match_rules.OperationEntry.TheVariants as operation
+use Rattle.policy.specs.declared.match_rules.RuleScope.{RuleScope}
+use Rattle.policy.specs.declared.match_rules.RuleScope.TheVariants.{Cluster, Namespaced, Every}
 use Rattle.policy.specs.declared.selector.Operator.{Operator}
 use Rattle.policy.specs.declared.selector.Operator.TheVariants.{In, NotIn, Exists, DoesNotExist}
 use Rattle.policy.specs.Forms.{Text, given, provided, has_only, field, perhaps, list_of, filled_list_of, choice}

@@ -6,8 +6,8 @@ use Rattle.serde_json.specs.Find.{as_str}
 use Rattle.names.specs.Resource.{with_kind}
 use Rattle.names.specs.declared.resource.Resource.{Resource}
 use Rattle.celtokens.specs.Word.{is_identifier}
-use Rattle.matching.specs.Matching.{is_guarded}
-use Rattle.matching.specs.Rules.{MatchRules}
+use Rattle.policy.specs.Matching.{is_guarded}
+use Rattle.policy.specs.Rules.{MatchRules}
 use Rattle.policy.specs.declared.policy.FailurePolicy.{FailurePolicy}
 use Rattle.policy.specs.declared.policy.FailurePolicy.TheVariants.{Fail, Ignore}
 use Rattle.policy.specs.declared.validation.Reason.{Reason}

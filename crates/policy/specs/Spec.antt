@@ -1,8 +1,8 @@
 -- What policies and bindings ask for (Kubernetes, admissionregistration.k8s.io/v1: ValidatingAdmissionPolicySpec and ValidatingAdmissionPolicyBindingSpec).
 use Rattle.std.specs.Prelude.{List, Option, map, option_map, string_bytes}
 use Rattle.names.specs.declared.resource.Resource.{Resource}
-use Rattle.labels.specs.Requirement.{Requirement, requirement_seen}
-use Rattle.matching.specs.Rules.{MatchRules, match_rules_seen}
+use Rattle.documents.specs.Requirement.{Requirement, requirement_seen}
+use Rattle.policy.specs.Rules.{MatchRules, match_rules_seen}
 use Rattle.policy.specs.declared.binding.Action.{Action}
 use Rattle.policy.specs.declared.binding.Binding as code_binding
 use Rattle.policy.specs.declared.params.NotFound.{NotFound}

@@ -9,8 +9,8 @@ ghost use Rattle.policy.specs.Spec.{binding_seen};
 use crate::form::{
     Form, FormFault, has_only, optional, optional_or, required, required_list, spec_of,
 };
+use crate::match_rules::MatchRules;
 use crate::params::ParamRef;
-use matching::MatchRules;
 use names::check_name;
 use serde_json::Value as Json;
 use std::alloc::{AllocError, Global};

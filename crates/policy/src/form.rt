@@ -4,7 +4,7 @@ ghost use Rattle.std.specs.Prelude.{◌≡◌, [], List, Option, None, Some, map
 ghost use Rattle.serde_json.specs.Data.{Data};
 ghost use Rattle.serde_json.specs.Find.{as_str};
 ghost use Rattle.serde_json.specs.View.{view, items_view, members_view};
-ghost use Rattle.labels.specs.Selecting.{is_among};
+ghost use Rattle.documents.specs.Selecting.{is_among};
 ghost use Rattle.policy.specs.Forms.{has_only, all_among, field, perhaps, optional, list_of, filled_list_of, each, spec_of};
 ghost use Rattle.policy.specs.declared.form.FormFault.TheVariants as FormFault;
 

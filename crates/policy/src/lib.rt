@@ -13,8 +13,10 @@
 //! none. An unknown member, anywhere, is no form. Expressions are texts here and are not looked into.
 #![tactic(auto)]
 
+mod attempt;
 mod binding;
 mod form;
+mod match_rules;
 mod named;
 mod params;
 mod policy;
@@ -22,7 +24,9 @@ mod rules;
 mod selector;
 mod validation;
 
+pub use attempt::{Attempt, is_guarded, matches};
 pub use binding::{Action, Binding};
+pub use match_rules::{Entry, MatchRules, Operation, OperationEntry, Rule, RuleScope};
 pub use named::Named;
 pub use params::{NotFound, ParamRef, Wanted};
 pub use policy::{FailurePolicy, Policy};

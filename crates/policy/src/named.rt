@@ -3,7 +3,7 @@
 ghost use Rattle.std.specs.Prelude.{◌≡◌, map};
 ghost use Rattle.std.specs.List.{list_all};
 ghost use Rattle.celtokens.specs.Word.{is_identifier};
-ghost use Rattle.labels.specs.Selecting.{is_among};
+ghost use Rattle.documents.specs.Selecting.{is_among};
 ghost use Rattle.policy.specs.Forms.{are_distinct};
 ghost use Rattle.policy.specs.Policies.{names_of, are_conditions, are_variables, is_filled};
 ghost use Rattle.policy.specs.Spec.{named_seen};

@@ -8,7 +8,7 @@ ghost use Rattle.policy.specs.declared.form.FormFault.TheVariants as FormFault;
 
 use crate::form::{Form, FormFault, has_only, optional, required};
 use crate::selector::Selector;
-use labels::Requirement;
+use documents::Requirement;
 use serde_json::Value as Json;
 use std::alloc::Global;
 

@@ -5,13 +5,14 @@ ghost use Rattle.serde_json.specs.View.{view};
 ghost use Rattle.policy.specs.Policies.{policy_of};
 ghost use Rattle.policy.specs.Spec.{policy_seen};
 
+use crate::attempt::is_guarded;
 use crate::form::{
     Form, FormFault, has_only, optional, optional_list, optional_or, required,
     required_filled_list, spec_of,
 };
+use crate::match_rules::MatchRules;
 use crate::named::{Named, are_conditions, are_variables};
 use crate::validation::Validation;
-use matching::{MatchRules, is_guarded};
 use names::{Resource, ResourceTable};
 use serde_json::Value as Json;
 use std::alloc::{AllocError, Global};

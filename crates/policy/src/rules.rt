@@ -10,8 +10,8 @@ ghost use Rattle.policy.specs.declared.form.FormFault.TheVariants as FormFault;
 use crate::form::{
     Form, FormFault, has_only, list, optional_list, optional_or, required_filled_list,
 };
+use crate::match_rules::{Entry, MatchRules, Operation, OperationEntry, Rule, RuleScope};
 use crate::selector::Selector;
-use matching::{Entry, MatchRules, Operation, OperationEntry, Rule, RuleScope};
 use serde_json::Value as Json;
 use std::alloc::Global;
 
@@ -30,8 +30,8 @@ fn is_entry(text: &str) -> bool
 }
 
 impl Form for Entry {
-    ghost use Rattle.matching.specs.Rules as rules;
-    ghost use Rattle.matching.specs.Rules.{entry_seen};
+    ghost use Rattle.policy.specs.Rules as rules;
+    ghost use Rattle.policy.specs.Rules.{entry_seen};
     ghost use Rattle.policy.specs.MatchRules.{entry_of};
 
     ghost Spelled = { rules.Entry };
@@ -53,7 +53,7 @@ impl Form for Entry {
 }
 
 impl Form for OperationEntry {
-    ghost use Rattle.matching.specs.declared.rules.OperationEntry.{OperationEntry};
+    ghost use Rattle.policy.specs.declared.match_rules.OperationEntry.{OperationEntry};
     ghost use Rattle.policy.specs.MatchRules.{operation_of};
 
     ghost Spelled = { OperationEntry };
@@ -79,7 +79,7 @@ impl Form for OperationEntry {
 }
 
 impl Form for RuleScope {
-    ghost use Rattle.matching.specs.declared.rules.RuleScope.{RuleScope};
+    ghost use Rattle.policy.specs.declared.match_rules.RuleScope.{RuleScope};
     ghost use Rattle.policy.specs.MatchRules.{scope_of};
 
     ghost Spelled = { RuleScope };
@@ -132,8 +132,8 @@ fn are_entries(names: &[String]) -> bool
 }
 
 impl Form for Rule {
-    ghost use Rattle.matching.specs.Rules as rules;
-    ghost use Rattle.matching.specs.Rules.{rule_seen};
+    ghost use Rattle.policy.specs.Rules as rules;
+    ghost use Rattle.policy.specs.Rules.{rule_seen};
     ghost use Rattle.policy.specs.MatchRules.{rule_of};
 
     ghost Spelled = { rules.Rule };
@@ -168,8 +168,8 @@ impl Form for Rule {
 }
 
 impl Form for MatchRules {
-    ghost use Rattle.matching.specs.Rules as rules;
-    ghost use Rattle.matching.specs.Rules.{match_rules_seen};
+    ghost use Rattle.policy.specs.Rules as rules;
+    ghost use Rattle.policy.specs.Rules.{match_rules_seen};
     ghost use Rattle.policy.specs.MatchRules.{match_rules_of};
 
     ghost Spelled = { rules.MatchRules };

@@ -3,13 +3,13 @@
 ghost use Rattle.std.specs.Prelude.{◌≡◌, None, Some, map, IfOk, OnOk, IsErrOf};
 ghost use Rattle.serde_json.specs.Data.{Members, member};
 ghost use Rattle.serde_json.specs.View.{view, members_view};
-ghost use Rattle.labels.specs.Requirement.{requirement_seen};
+ghost use Rattle.documents.specs.Requirement.{requirement_seen};
 ghost use Rattle.policy.specs.Forms.{after};
 ghost use Rattle.policy.specs.MatchRules.{labels_of};
 ghost use Rattle.policy.specs.declared.form.FormFault.TheVariants as FormFault;
 
 use crate::form::{Form, FormFault, has_only, optional_list, optional_or, required};
-use labels::Requirement;
+use documents::Requirement;
 use serde_json::{Map, Value as Json};
 use std::alloc::Global;
 
@@ -49,8 +49,8 @@ impl Form for Operator {
 }
 
 impl Form for Requirement {
-    ghost use Rattle.labels.specs.Requirement as labels;
-    ghost use Rattle.labels.specs.Requirement.{requirement_seen};
+    ghost use Rattle.documents.specs.Requirement as labels;
+    ghost use Rattle.documents.specs.Requirement.{requirement_seen};
     ghost use Rattle.policy.specs.MatchRules.{requirement_of};
 
     ghost Spelled = { labels.Requirement };
@@ -88,8 +88,8 @@ pub struct Labels {
 
 impl Form for Labels {
     ghost use Rattle.std.specs.Prelude.{List, map};
-    ghost use Rattle.labels.specs.Requirement as labels;
-    ghost use Rattle.labels.specs.Requirement.{requirement_seen};
+    ghost use Rattle.documents.specs.Requirement as labels;
+    ghost use Rattle.documents.specs.Requirement.{requirement_seen};
     ghost use Rattle.policy.specs.MatchRules.{match_labels_of};
 
     ghost Spelled = { List labels.Requirement };
@@ -150,8 +150,8 @@ pub struct Selector {
 
 impl Form for Selector {
     ghost use Rattle.std.specs.Prelude.{List, map};
-    ghost use Rattle.labels.specs.Requirement as labels;
-    ghost use Rattle.labels.specs.Requirement.{requirement_seen};
+    ghost use Rattle.documents.specs.Requirement as labels;
+    ghost use Rattle.documents.specs.Requirement.{requirement_seen};
     ghost use Rattle.policy.specs.MatchRules.{selector_of};
 
     ghost Spelled = { List labels.Requirement };

@@ -9,7 +9,7 @@ use Rattle.names.specs.declared.resource.Resource.{Resource}
 use Rattle.objects.specs.Objects.{value_at, with_value}
 use Rattle.policy.specs.Forms.{Text}
 use Rattle.policy.specs.Spec.{Wanted}
-use Rattle.policycases.specs.declared.shelf.Stored.{Stored}
+use Rattle.policycases.specs.declared.held.Stored.{Stored}
 use Rattle.policycases.specs.Stored.{held, entry_held}
 use Rattle.lookup.specs.Objects.{Held, Objects, all_held, shown_objects}
 use Rattle.lookup.specs.Listed.{listed, wanted_of}

@@ -5,8 +5,8 @@ use Rattle.std.specs.FinMap.Entries.{below_all}
 use Rattle.std.specs.Ordering.{is_lt}
 use Rattle.std.proofs.Common.{sym, ap, ◌∙◌, subst}
 use Rattle.names.specs.Key.{Key, key_cmp}
-use Rattle.policycases.specs.declared.shelf.Shelf.{Shelf}
-use Rattle.policycases.specs.declared.shelf.Sight.{Sight}
+use Rattle.policycases.specs.declared.held.Shelf.{Shelf}
+use Rattle.policycases.specs.declared.held.Sight.{Sight}
 use Rattle.policycases.specs.Stored as stored
 use Rattle.lookup.specs.Objects.{Held, Objects, held, all_held}
 

@@ -1,7 +1,7 @@
 -- Objects in memory, as a lookup finds them.
 use Rattle.names.specs.Key.{Key}
 use Rattle.recovery.specs.Beside.{found_with}
-use Rattle.policycases.specs.declared.shelf.Stored.{Stored}
+use Rattle.policycases.specs.declared.held.Stored.{Stored}
 use Rattle.lookup.specs.Objects.{Held}
 
 abbrev pub held : Stored → Held

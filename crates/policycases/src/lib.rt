@@ -7,10 +7,10 @@
 mod bytes;
 mod expressed;
 mod forms;
+mod held;
 mod line;
 mod policies;
 mod refusals;
-mod shelf;
 mod texts;
 mod verdicts;
 mod view;

@@ -2,16 +2,16 @@
 
 use crate::bytes::{field_answer, plans_answer};
 use crate::forms::form_answer;
+use crate::held::{Shelf, Sight};
 use crate::line::{Frames, split_line};
-use crate::shelf::{Shelf, Sight};
 use crate::verdicts::{
     evaluation_answer, failure_answer, put, put_spec, refusal_answer, request_answer,
 };
 use crate::writes::{Write, document, guarded_answer, match_answer, rules, selector_answer};
 use cases::{Bench, Wrong, compare, first_word, text, wanted};
 use jsondoc::Doc;
-use matching::MatchRules;
 use names::Resource;
+use policy::MatchRules;
 use rowcases::resource;
 use std::alloc::Global;
 use verdict::{Verdict, admit};

@@ -1,7 +1,7 @@
 //! What policies say of writes.
 
 use crate::expressed::plans_in;
-use crate::shelf::{Shelf, Stored};
+use crate::held::{Shelf, Stored};
 use crate::texts::told;
 use crate::writes::{Write, document, key, value_of};
 use bindings::denial_text;

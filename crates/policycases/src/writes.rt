@@ -1,11 +1,10 @@
 //! The write that is asked about, and which rules match it.
 
 use cases::{Wrong, first_word, yes_or_no};
+use documents::selects;
 use jsondoc::{Doc, ReadFault};
-use labels::selects;
-use matching::{Attempt, MatchRules, Operation, is_guarded, matches};
 use names::{Key, Resource};
-use policy::Binding;
+use policy::{Attempt, Binding, MatchRules, Operation, is_guarded, matches};
 use rowcases::{key_of, resource};
 use serde_json::Value;
 use std::alloc::Global;

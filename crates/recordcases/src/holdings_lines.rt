@@ -3,8 +3,8 @@
 ghost use Rattle.std.specs.Prelude.{◌<◌, ◌+◌, ◌^◌};
 
 use crate::entry_lines::change_word;
+use crate::in_a_page::{PagedObjects, Zero, paged};
 use crate::in_memory::InMemory;
-use crate::paged::{PagedObjects, Zero, paged};
 use cases::Wrong;
 use diskcases::Line;
 use history::Stored;

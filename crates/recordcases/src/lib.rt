@@ -6,12 +6,13 @@
 mod bench;
 mod entry_lines;
 mod holdings_lines;
+mod in_a_page;
 mod in_memory;
 mod overlay_lines;
-mod paged;
 mod record_lines;
 mod view_lines;
 
+use base::{kept_are_of_a_view, views_hold_objects};
 pub use bench::Records;
 use overlay::{
     change_counts, change_is_one_more, found_over, found_where_covered, listed_over,
@@ -19,7 +20,6 @@ use overlay::{
 };
 use records::payload_has_one_group;
 use recovery::payloads_have_one_list;
-use stock::{kept_are_of_a_view, views_hold_objects};
 
 /// The laws of records, of changes over entries, and of objects in pages.
 pub fn laws_of_records() {

@@ -1,6 +1,6 @@
 -- Reading selectors part by part.
 use Rattle.std.proofs.Common.{◌≡◌, ◌≢◌, ℕ, Bool, true, false, cond, List, [], ◌∷◌, ◌++◌, append_assoc, Option, Some, None, MatchOption, Bor, option_map, option_and_then, ◌==◌, refl, sym, ap, ◌∙◌, eq-eqb, eqb-true}
-use Rattle.labels.specs.Requirement.{Requirement}
+use Rattle.documents.specs.Requirement.{Requirement}
 use Rattle.requests.specs.Selector.{behind}
 
 begins_otherwise : (v : Bool) (byte b : ℕ) (bs : List ℕ) → (b == byte) ≡ v → ((rest : List ℕ) → b ∷ bs ≢ byte ∷ rest)

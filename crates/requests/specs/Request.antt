@@ -3,7 +3,7 @@ use Rattle.std.specs.Prelude.{ℕ, List, IsTrue, Option}
 use Rattle.requests.specs.declared.refusal.Refusal.{Refusal}
 use Rattle.requests.specs.Collection.{Collection}
 use Rattle.requests.specs.Manifest.{Manifest, BodyHasForm}
-use Rattle.labels.specs.Requirement.{Requirement}
+use Rattle.documents.specs.Requirement.{Requirement}
 use Rattle.names.specs.Key.{Key, is_key}
 
 pub data Request : Type 0 where

@@ -4,8 +4,8 @@ use Rattle.std.specs.Char.{is_ascii_digit, is_ascii_lowercase, is_ascii_uppercas
 use Rattle.std.specs.List.{list_all, slice_split, position_or_len, before_first, after_first}
 use Rattle.std.specs.Option.{option_map_or}
 use Rattle.documents.specs.Document.{Document}
-use Rattle.labels.specs.Requirement.{Requirement, is_one_of, is_none_of, is_there, is_absent, requirement_seen}
-use Rattle.labels.specs.Selecting as labels
+use Rattle.documents.specs.Requirement.{Requirement, is_one_of, is_none_of, is_there, is_absent, requirement_seen}
+use Rattle.documents.specs.Selecting as labels
 use Rattle.requests.specs.declared.selector.Selector as code_selector
 
 -- the label has this value

@@ -1,6 +1,6 @@
 -- How the parts of a selector are spelled, and what the reading of parts says of it.
 use Rattle.std.specs.Prelude.{◌≡◌, ◌⊎◌, ◌↔◌, List, [], ◌∷◌, ◌++◌, ℕ, codes, Some, IsTrue}
-use Rattle.labels.specs.Requirement.{Requirement, is_one_of, is_none_of, is_there, is_absent}
+use Rattle.documents.specs.Requirement.{Requirement, is_one_of, is_none_of, is_there, is_absent}
 use Rattle.requests.specs.Selector.{is_label, is_value, requirement_of}
 
 -- there is one value, and it is such

@@ -1,11 +1,10 @@
 // The text of a selector, and the documents that it selects.
 ghost use Rattle.std.specs.Prelude.{◌≡◌, ◌==◌, ◌∷◌, [], map, string_bytes, IfOk, option_map};
 ghost use Rattle.std.specs.List.{list_all, slice_split};
-ghost use Rattle.labels.specs.Requirement.{is_there, is_absent, requirement_seen};
+ghost use Rattle.documents.specs.Requirement.{is_there, is_absent, requirement_seen};
 ghost use Rattle.requests.specs.Selector.{equals, differs, exclamation_mark, equals_sign, comma, is_value_byte, is_value, is_label_byte, is_label, parted, behind, on_label, on_pair, negated, equated, affirmed, requirement_of, requirements_of, selector_of, selects, selector_seen};
 
-use documents::Document;
-use labels::Requirement;
+use documents::{Document, Requirement};
 use std::alloc::{AllocError, Global};
 
 /// A label selector of equality-based requirements (Kubernetes, "Labels and Selectors"), each of which must be met.
@@ -37,7 +36,7 @@ impl Selector {
     pub fn selects(&self, document: &Document) -> bool
         ensures { result ≡ selects (selector_seen self.now) document.now }
     {
-        labels::selects(&self.requirements, document.json().value())
+        documents::selects(&self.requirements, document.json().value())
     }
 }
 

@@ -6,7 +6,7 @@ use Rattle.std.specs.Str.{bytes_eq, all_ascii_digits}
 use Rattle.std.specs.Str.Lossy.{utf8_lossy}
 use Rattle.std.specs.Str.Parse.{digits_value}
 use Rattle.form_urlencoded.specs.Form.{raw_pairs, decode}
-use Rattle.labels.specs.Requirement.{Requirement}
+use Rattle.documents.specs.Requirement.{Requirement}
 use Rattle.requests.specs.Selector.{selector_of}
 
 -- ---- the pairs of a query

@@ -3,7 +3,7 @@
 use crate::sent::message;
 use crate::streams::routed_first;
 use cases::{TextBuilder, Wrong, wanted};
-use labels::Requirement;
+use documents::Requirement;
 use names::Key;
 use requests::{Collection, Manifest, Refusal, Request, Selector};
 use routes::Routes;

@@ -14,8 +14,8 @@ use Rattle.holdings.specs.Holdings as holdings
 use Rattle.holdings.proofs.Showing.{shown_alone}
 use Rattle.pages.specs.Page.{Entry}
 use Rattle.entries.specs.Holding.{IsStorableEvent, CanHoldObject, CanHoldEvent, HasFewPlans}
-use Rattle.stock.specs.Sieve.{kept_of, chosen_of}
-use Rattle.stock.proofs.Sieving.{kept_of_view}
+use Rattle.base.specs.Sieve.{kept_of, chosen_of}
+use Rattle.base.proofs.Sieving.{kept_of_view}
 use Rattle.recovery.specs.Shown.{Shows}
 use Rattle.recovery.specs.Standing.{View, HasTrees, plans_beside, with_plans}
 use Rattle.snapshots.specs.LyingBelow.{base_of, AreChosen, HasThoseBelow}

@@ -7,7 +7,7 @@ use Rattle.objects.specs.Objects.{value_at}
 use Rattle.overlay.specs.Merged.{merged}
 use Rattle.holdings.specs.Holdings.{Shows}
 use Rattle.holdings.specs.Known.{IsKnown}
-use Rattle.stock.specs.Sieve.{chosen_of}
+use Rattle.base.specs.Sieve.{chosen_of}
 use Rattle.snapshots.specs.LyingBelow.{puts_of, base_of, AreChosen, HasThoseBelow, MayLieBelow}
 use Rattle.snapshots.specs.Keeping.{held_plans, IsHeld}
 use Rattle.snapshots.specs.Restoring.{view_in_bytes, AreHeldOf}

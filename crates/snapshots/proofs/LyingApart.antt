@@ -9,7 +9,7 @@ use Rattle.names.specs.Resource.{numbered}
 use Rattle.names.proofs.KeyOrder.{numbered-number}
 use Rattle.history.specs.declared.stored.Stored.{Stored}
 use Rattle.history.specs.View.{View}
-use Rattle.stock.specs.Sieve.{chosen_of}
+use Rattle.base.specs.Sieve.{chosen_of}
 use Rattle.recovery.specs.Beside.{Beside}
 use Rattle.snapshots.specs.Keeping.{held_entries}
 use Rattle.snapshots.specs.LyingBelow.{apart_of, AreChosen}

@@ -9,7 +9,7 @@ use Rattle.documents.specs.Document.{Document}
 use Rattle.history.specs.View.{View}
 use Rattle.entries.specs.Holding.{IsStorableEvent, CanHoldObject, CanHoldEvent, HasFewPlans, IsHoldable}
 use Rattle.entries.specs.Laws.{bytes_beside}
-use Rattle.stock.specs.Sieve.{chosen_of}
+use Rattle.base.specs.Sieve.{chosen_of}
 use Rattle.recovery.specs.Beside.{Beside}
 use Rattle.snapshots.specs.Keeping.{held_plans, IsHeldObject, HasLastEvents, IsHeld}
 use Rattle.snapshots.specs.Restoring.{view_in_bytes, IsSpelled, AreHeldOf}

@@ -9,7 +9,7 @@ ghost use Rattle.history.specs.declared.stored.Stored.{Stored as StoredData};
 ghost use Rattle.history.specs.View.{View};
 ghost use Rattle.holdings.specs.Holdings.{Shows};
 ghost use Rattle.holdings.specs.Known.{IsKnown};
-ghost use Rattle.stock.specs.Sieve.{chosen_of};
+ghost use Rattle.base.specs.Sieve.{chosen_of};
 ghost use Rattle.recovery.specs.Beside.{Beside as BesideData};
 ghost use Rattle.snapshots.specs.LyingBelow.{base_of, AreChosen};
 ghost use Rattle.snapshots.specs.Keeping.{held_entries, HasLastEvents, IsHeld};

@@ -3,7 +3,7 @@ use Rattle.std.specs.Prelude.{List, map, filter_map, Option, None, option_map, o
 use Rattle.names.specs.Key.{Key}
 use Rattle.names.specs.declared.resource.Resource.TheVariants.{ValidatingAdmissionPolicyBinding}
 use Rattle.objects.specs.Objects.{value_at}
-use Rattle.matching.specs.Rules.{Attempt}
+use Rattle.policy.specs.Rules.{Attempt}
 use Rattle.policy.specs.Forms.{Text}
 use Rattle.policy.specs.Bindings.{binding_of}
 use Rattle.policy.specs.Policies.{policy_of}

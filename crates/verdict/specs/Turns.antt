@@ -1,7 +1,7 @@
 -- One binding and one policy as they are held, and a verdict behind warnings.
 use Rattle.std.specs.Prelude.{◌++◌, List, option_map, option_and_then, Option}
 use Rattle.names.specs.Key.{Key}
-use Rattle.matching.specs.Rules.{Attempt}
+use Rattle.policy.specs.Rules.{Attempt}
 use Rattle.policy.specs.Policies.{policy_of}
 use Rattle.evaluation.specs.Denials.{Denial}
 use Rattle.policy.specs.Forms.{Text}

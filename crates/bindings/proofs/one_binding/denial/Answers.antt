@@ -1,6 +1,6 @@
 use Rattle.std.proofs.Common.{rules, ◌≡◌, List, subst, sym, ◌∙◌}
 use Rattle.plancode.specs.Plans.{Judged}
-use Rattle.matching.specs.Rules.{attempt_seen}
+use Rattle.policy.specs.Rules.{attempt_seen}
 use Rattle.policy.specs.Spec.{policy_seen, binding_seen}
 use Rattle.expressions.specs.Specification.{these}
 use Rattle.evaluation.specs.Ready.{AreReady}

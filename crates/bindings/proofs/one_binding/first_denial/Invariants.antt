@@ -1,6 +1,6 @@
 use Rattle.std.proofs.Common.{◌≡◌, List, Some, map, drop}
 use Rattle.celtree.specs.Tree.{Expr}
-use Rattle.matching.specs.Rules.{attempt_seen}
+use Rattle.policy.specs.Rules.{attempt_seen}
 use Rattle.policy.specs.Spec.{policy_seen}
 use Rattle.evaluation.specs.Environment.{seen}
 use Rattle.evaluation.specs.Denials.{first_denial, evaluate}

@@ -2,7 +2,7 @@ use Rattle.std.proofs.Common.{◌≡◌, ℕ, List, length, drop, option_map, re
 use Rattle.std.proofs.lemmas.List.{length-map}
 use Rattle.std.proofs.lemmas.Result.{IfOk-weaker}
 use Rattle.serde_json.specs.View.{view}
-use Rattle.matching.specs.Rules.{attempt_seen}
+use Rattle.policy.specs.Rules.{attempt_seen}
 use Rattle.plancode.specs.Plans.{Judged}
 use Rattle.policy.specs.Spec.{policy_seen, named_seen}
 use Rattle.evaluation.specs.Environment.{seen}

@@ -1,5 +1,5 @@
 use Rattle.std.proofs.Common.{◌≡◌, map, drop}
-use Rattle.labels.specs.Selecting.{is_among}
+use Rattle.documents.specs.Selecting.{is_among}
 use Rattle.policy.proofs.form.is_among.Given as goal
 
 -- what is left decides

@@ -1,5 +1,5 @@
 use Rattle.std.proofs.Common.{◌≡◌, map, drop}
-use Rattle.labels.specs.Selecting.{is_among}
+use Rattle.documents.specs.Selecting.{is_among}
 use Rattle.policy.specs.Policies.{names_of}
 use Rattle.policy.specs.Spec.{named_seen}
 use Rattle.policy.proofs.named.has_name.Given as goal

@@ -1,6 +1,6 @@
 use Rattle.std.proofs.Common.{◌≡◌, map}
 use Rattle.serde_json.specs.View.{members_view}
-use Rattle.labels.specs.Requirement.{requirement_seen}
+use Rattle.documents.specs.Requirement.{requirement_seen}
 use Rattle.policy.specs.MatchRules.{labels_of}
 use Rattle.policy.specs.Forms.{after}
 use Rattle.policy.proofs.selector.requirements_of_labels.Given as goal

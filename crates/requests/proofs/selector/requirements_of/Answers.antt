@@ -1,6 +1,6 @@
 use Rattle.std.proofs.Common.{map, drop, ap, sym, ◌∙◌, get_or, List, [], ◌∷◌, ℕ, ◌+◌, Bor, option_map, refl}
 use Rattle.std.proofs.lemmas.List.{map-append}
-use Rattle.labels.specs.Requirement.{Requirement, requirement_seen}
+use Rattle.documents.specs.Requirement.{Requirement, requirement_seen}
 use Rattle.requests.specs.Selector.{requirement_of, requirements_of}
 use Rattle.requests.proofs.Lists.{drop-next}
 use Rattle.requests.proofs.Selecting.{followed_by, followed_by-nil, followed_by-more, followed_by-none}

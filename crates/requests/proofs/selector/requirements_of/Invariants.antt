@@ -1,5 +1,5 @@
 use Rattle.std.proofs.Common.{◌≡◌, map, drop}
-use Rattle.labels.specs.Requirement.{requirement_seen}
+use Rattle.documents.specs.Requirement.{requirement_seen}
 use Rattle.requests.specs.Selector.{requirements_of}
 use Rattle.requests.proofs.Selecting.{followed_by}
 use Rattle.requests.proofs.selector.requirements_of.Given as goal

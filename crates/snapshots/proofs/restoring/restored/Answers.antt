@@ -7,7 +7,7 @@ use Rattle.overlay.specs.Merged.{merged}
 use Rattle.history.specs.declared.stored.Stored.{Stored}
 use Rattle.holdings.specs.Holdings.{Shows}
 use Rattle.entries.specs.declared.fault.EntryFault.{EntryFault}
-use Rattle.stock.specs.Sieve.{chosen_of}
+use Rattle.base.specs.Sieve.{chosen_of}
 use Rattle.recovery.specs.Beside.{Beside}
 use Rattle.snapshots.specs.declared.fault.SnapshotFault.TheVariants as SnapshotFault
 use Rattle.snapshots.specs.LyingBelow.{puts_of}

@@ -3,7 +3,7 @@ use Rattle.std.specs.Prelude.{option_and_then}
 use Rattle.std.proofs.lemmas.Result.{IfOk-weaker}
 use Rattle.names.specs.Key.{Key}
 use Rattle.objects.specs.Objects.{value_at}
-use Rattle.matching.specs.Rules.{attempt_seen}
+use Rattle.policy.specs.Rules.{attempt_seen}
 use Rattle.evaluation.specs.Seen.{denial_seen}
 use Rattle.lookup.specs.Objects.{Object, all_held, policy_key}
 use Rattle.lookup.specs.Seen.{held_by}

@@ -2,7 +2,7 @@ use Rattle.std.proofs.Common.{◌≡◌, List, [], Option, Some, option_map, sym
 use Rattle.std.specs.Prelude.{option_and_then}
 use Rattle.std.specs.Option.{option_map_or}
 use Rattle.std.proofs.lemmas.Result.{IfOk-weaker}
-use Rattle.matching.specs.Rules.{attempt_seen}
+use Rattle.policy.specs.Rules.{attempt_seen}
 use Rattle.plancode.specs.Plans.{Judged}
 use Rattle.policy.specs.Policies.{policy_of}
 use Rattle.policy.specs.Spec.{Policy, Binding, policy_seen, binding_seen}

@@ -1,7 +1,7 @@
 use Rattle.std.proofs.Common.{◌≡◌, ◌≤◌, map, drop, string_bytes}
 use Rattle.std.specs.Prelude.{IfSome}
 use Rattle.serde_json.specs.View.{view}
-use Rattle.matching.specs.Rules.{attempt_seen}
+use Rattle.policy.specs.Rules.{attempt_seen}
 use Rattle.evaluation.specs.Environment.{request_of}
 use Rattle.verdict.specs.Admission.{finding}
 use Rattle.lookup.specs.Objects.{Objects, HaveTrees}

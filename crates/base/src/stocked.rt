@@ -1,0 +1,36 @@
+ghost use Rattle.std.specs.Prelude.{◌≡◌, ◌≢◌, IfOk, IsErrOf};
+ghost use Rattle.names.specs.Key.{Key as KeyData};
+ghost use Rattle.entries.specs.declared.fault.EntryFault.TheVariants as EntryFault;
+ghost use Rattle.base.specs.declared.stocked.Stocked.{Stocked as StockedData};
+ghost use Rattle.base.specs.Stock.{stocked_entry, IsStorable};
+
+use documents::Document;
+use entries::{EntryFault, read_object};
+use names::Key;
+use std::alloc::Global;
+
+/// What is stored under a key.
+#[derive(Drop)]
+pub struct Stocked {
+    pub document: Document,
+    /// That of its last write.
+    pub revision: u64,
+}
+
+/// Reads an object from its entry: a key, and the cell that stands under it. `Damaged` where no well-formed object has this entry.
+pub(crate) fn read_entry(
+    alloc: Global,
+    key: &[u8],
+    cell: &[u8],
+) -> Result<(Key, Stocked), EntryFault>
+    ensures entry { IfOk result (λ object. stocked_entry object ≡ (key.now, cell.now)) }
+    ensures storable { IfOk result IsStorable }
+    ensures damaged { IsErrOf result EntryFault.Damaged → (object : KeyData × StockedData) → IsStorable object → stocked_entry object ≢ (key.now, cell.now) }
+{
+    let object = read_object(alloc, key, cell)?;
+    let stocked = Stocked {
+        document: object.manifest.document().clone()?,
+        revision: object.revision,
+    };
+    Ok((object.manifest.key().clone()?, stocked))
+}

@@ -1,2 +1,0 @@
-pub mod Requirement
-pub mod Selecting

@@ -1,2 +1,0 @@
-pub mod Matching
-pub mod Rules

@@ -1,0 +1,157 @@
+//! A write that asks for admission, and whether rules match it.
+
+ghost use Rattle.std.specs.Prelude.{◌≡◌, map, option_map, string_bytes, false};
+ghost use Rattle.std.specs.List.{list_any};
+ghost use Rattle.std.specs.Option.{option_map_or};
+ghost use Rattle.serde_json.specs.View.{view};
+ghost use Rattle.policy.specs.Matching.{is_guarded, holds_operation, holds_text, is_text, allows_name, fits, has_resource, has_object, meets_rule, selects_either, takes, is_constrained, is_bound, is_matched};
+ghost use Rattle.policy.specs.Rules.{attempt_seen, entry_seen, match_rules_seen, rule_seen};
+ghost use Rattle.documents.specs.Requirement.{requirement_seen};
+ghost use Rattle.documents.specs.Selecting.{selects};
+
+use crate::match_rules::{Entry, MatchRules, Operation, OperationEntry, Rule, RuleScope};
+use documents::{Requirement, is_among, selects};
+use names::{Key, Resource, Scope};
+use serde_json::Value;
+
+/// A write that asks for admission.
+#[derive(Clone, Copy)]
+pub struct Attempt<'a> {
+    /// What it does.
+    pub operation: Operation,
+    /// The key of its object.
+    pub key: &'a Key,
+    /// The document that is to be stored; a deletion has none.
+    pub object: Option<&'a Value>,
+    /// The document as it was shown before; a creation has none.
+    pub old_object: Option<&'a Value>,
+}
+
+/// Whether policies are asked for writes to the resource: those to policies and bindings are never matched.
+pub fn is_guarded(resource: Resource) -> bool
+    ensures { result ≡ is_guarded resource }
+{
+    !matches!(
+        resource,
+        Resource::ValidatingAdmissionPolicy | Resource::ValidatingAdmissionPolicyBinding
+    )
+}
+
+/// Whether a policy with these constraints, bound for these resources, is asked for the write.
+pub fn matches(constraints: &MatchRules, resources: &MatchRules, attempt: &Attempt<'_>) -> bool
+    ensures { result ≡ is_matched (match_rules_seen constraints.now) (match_rules_seen resources.now) (attempt_seen attempt.now) }
+{
+    is_guarded(attempt.key.resource())
+        && is_constrained(constraints, attempt)
+        && is_bound(resources, attempt)
+}
+
+// Whether the policy's constraints are for the write.
+fn is_constrained(constraints: &MatchRules, attempt: &Attempt<'_>) -> bool
+    ensures { result ≡ is_constrained (match_rules_seen constraints.now) (attempt_seen attempt.now) }
+{
+    meets_some(&constraints.rules, attempt) && takes(constraints, attempt)
+}
+
+// Whether the binding's resources have the write.
+fn is_bound(resources: &MatchRules, attempt: &Attempt<'_>) -> bool
+    ensures { result ≡ is_bound (match_rules_seen resources.now) (attempt_seen attempt.now) }
+{
+    (resources.rules.is_empty() || meets_some(&resources.rules, attempt))
+        && takes(resources, attempt)
+}
+
+// Whether no rule excludes the write, and the selector takes it.
+fn takes(rules: &MatchRules, attempt: &Attempt<'_>) -> bool
+    ensures { result ≡ takes (match_rules_seen rules.now) (attempt_seen attempt.now) }
+{
+    !meets_some(&rules.excluded, attempt) && selects_either(&rules.objects, attempt)
+}
+
+// Whether the write meets some of the rules.
+fn meets_some(rules: &[Rule], attempt: &Attempt<'_>) -> bool
+    ensures { result ≡ list_any (meets_rule (attempt_seen attempt.now)) (map rule_seen rules.now) }
+{
+    rules.iter().any(|rule| meets_rule(attempt, rule))
+}
+
+fn meets_rule(attempt: &Attempt<'_>, rule: &Rule) -> bool
+    ensures { result ≡ meets_rule (attempt_seen attempt.now) (rule_seen rule.now) }
+{
+    holds_operation(&rule.operations, attempt.operation) && has_object(rule, attempt.key)
+}
+
+// Whether the rule is for the object with this key.
+fn has_object(rule: &Rule, key: &Key) -> bool
+    ensures { result ≡ has_object (rule_seen rule.now) key.now }
+{
+    has_resource(rule, key.resource()) && allows_name(&rule.names, key.name())
+}
+
+// Whether the rule is for the resource.
+fn has_resource(rule: &Rule, resource: Resource) -> bool
+    ensures { result ≡ has_resource (rule_seen rule.now) resource }
+{
+    holds_text(&rule.groups, resource.group())
+        && holds_text(&rule.versions, resource.version())
+        && holds_text(&rule.resources, resource.plural())
+        && fits(rule.scope, resource.scope())
+}
+
+// Whether the list holds the operation, or `*`.
+fn holds_operation(entries: &[OperationEntry], operation: Operation) -> bool
+    ensures { result ≡ holds_operation entries.now operation }
+{
+    entries.iter().any(|entry| match *entry {
+        OperationEntry::Any => true,
+        OperationEntry::Exactly(wanted) => operation == wanted,
+    })
+}
+
+// Whether the list holds the text, or `*`.
+fn holds_text(entries: &[Entry], text: &str) -> bool
+    ensures { result ≡ holds_text (map entry_seen entries.now) text.now }
+{
+    entries.iter().any(|entry| is_text(entry, text))
+}
+
+// Whether the entry is the text, or `*`.
+fn is_text(entry: &Entry, text: &str) -> bool
+    ensures { result ≡ is_text text.now (entry_seen entry.now) }
+{
+    match entry {
+        Entry::Any => true,
+        Entry::Exactly(wanted) => text == wanted.as_str(),
+    }
+}
+
+// Whether the name is one of these, or there are none.
+fn allows_name(names: &[String], name: &str) -> bool
+    ensures { result ≡ allows_name (map string_bytes names.now) name.now }
+{
+    names.is_empty() || is_among(names, name)
+}
+
+fn fits(scope: RuleScope, of_resource: Scope) -> bool
+    ensures { result ≡ fits scope of_resource }
+{
+    match scope {
+        RuleScope::Every => true,
+        RuleScope::Cluster => of_resource == Scope::Cluster,
+        RuleScope::Namespaced => of_resource == Scope::Namespaced,
+    }
+}
+
+// Whether the object, or the one before the write, is there and selected.
+fn selects_either(requirements: &[Requirement], attempt: &Attempt<'_>) -> bool
+    ensures { result ≡ selects_either (map requirement_seen requirements.now) (attempt_seen attempt.now) }
+{
+    is_selected(requirements, attempt.object) || is_selected(requirements, attempt.old_object)
+}
+
+// Whether the object is there and selected.
+fn is_selected(requirements: &[Requirement], object: Option<&Value>) -> bool
+    ensures { result ≡ option_map_or (selects (map requirement_seen requirements.now)) (option_map (λ d. view d.now) object.entry) false }
+{
+    object.is_some_and(|object| selects(requirements, object))
+}

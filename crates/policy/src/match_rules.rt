@@ -1,0 +1,69 @@
+//! What rules ask of a write.
+
+use documents::Requirement;
+
+/// What a write does to its object.
+#[derive(Clone, Copy, Debug, PartialEq, Eq)]
+pub enum Operation {
+    Create,
+    Update,
+    Delete,
+}
+
+/// The operations that an entry of a rule stands for.
+#[derive(Clone, Copy, Debug)]
+pub enum OperationEntry {
+    /// Every operation, written `*`.
+    Any,
+    /// This one.
+    Exactly(Operation),
+}
+
+/// The texts that an entry of a rule stands for.
+#[derive(Debug, Drop)]
+pub enum Entry {
+    /// Every text, written `*`.
+    Any,
+    /// This one.
+    Exactly(String),
+}
+
+/// The resources that a rule is for.
+#[derive(Clone, Copy, Debug)]
+pub enum RuleScope {
+    /// Those whose objects stand in no namespace.
+    Cluster,
+    /// Those whose objects stand in a namespace.
+    Namespaced,
+    /// All of them, written `*`.
+    Every,
+}
+
+/// A rule on writes: each part of it must be met.
+#[derive(Debug, Drop)]
+pub struct Rule {
+    /// What the write does is one of these.
+    pub operations: Vec<OperationEntry>,
+    /// The API group of the resource is one of these. The core group's name is empty.
+    pub groups: Vec<Entry>,
+    /// The version of the resource is one of these.
+    pub versions: Vec<Entry>,
+    /// The plural of the resource is one of these.
+    pub resources: Vec<Entry>,
+    /// The name of the object is one of these; where there are none, it may have any.
+    pub names: Vec<String>,
+    /// The scope of the resource.
+    pub scope: RuleScope,
+}
+
+/// The writes that a policy, or a binding, is for. A policy without rules is for none, a binding without rules for all that the
+/// other members leave.
+#[derive(Debug, Drop)]
+pub struct MatchRules {
+    /// One of these rules is met.
+    pub rules: Vec<Rule>,
+    /// None of these rules is met.
+    pub excluded: Vec<Rule>,
+    /// The object, or the one before the write, is there and meets all of these.
+    pub objects: Vec<Requirement>,
+}

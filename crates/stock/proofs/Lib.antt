@@ -1,5 +1,0 @@
-mod Prefixes
-mod Faults
-pub mod Holding
-pub mod Views
-pub mod Sieving

@@ -1,5 +1,0 @@
-pub mod Stock
-pub mod Faults
-pub mod Listed
-pub mod Laws
-pub mod Sieve
