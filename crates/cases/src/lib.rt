@@ -1,7 +1,7 @@
-//! What is done with each file of cases: it is read line by line, its comparisons are counted, and those that fail are told by file and
-//! line.
+//! What is done with each file of cases: its lines are given to a bench, its comparisons are counted, and those that fail are told by file
+//! and line.
 //!
-//! A [`Bench`] does what the lines of a file say, and [`run_file`] gives them to it. A file holds rows, each by itself, or cases: a line
+//! A [`Bench`] does what the lines of a file say, and [`run_text`] gives them to it. A file holds rows, each by itself, or cases: a line
 //! `case NAME` begins one on a new bench, and behind a line that cannot be done the rest of its case is passed over. An empty
 //! line, or one that begins with `#`, says nothing.
 #![tactic(auto)]
@@ -13,8 +13,8 @@ mod word_reader;
 mod words;
 mod wrong;
 
-pub use report::Report;
-pub use run::{Bench, paths, run_file};
+pub use report::{Report, Told};
+pub use run::{Bench, paths, run_text};
 pub use text_builder::TextBuilder;
 pub use word_reader::WordReader;
 pub use words::{bytes, first_word, number, shown, spelled, text, yes_or_no};

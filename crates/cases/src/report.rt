@@ -1,8 +1,38 @@
 //! How many comparisons hold.
 
 use crate::wrong::Wrong;
+use std::alloc::Global;
 use std::io;
 use std::process::ExitCode;
+
+/// What the lines of a file have come to: how many comparisons hold, and which lines fail.
+#[derive(Drop)]
+pub struct Told {
+    passed: u64,
+    // the numbers of the lines, and why they fail
+    failed: Vec<(u64, Wrong)>,
+    // whether memory was wanting for one of these
+    has_lost: bool,
+}
+
+impl Told {
+    /// No line yet.
+    pub fn new(alloc: Global) -> Told {
+        Told {
+            passed: 0,
+            failed: Vec::new(alloc),
+            has_lost: false,
+        }
+    }
+
+    /// Adds the comparisons of a line, or why it fails.
+    pub fn note(&mut self, line: u64, done: Result<u64, Wrong>) {
+        match done {
+            Ok(comparisons) => self.passed = self.passed.saturating_add(comparisons),
+            Err(wrong) => self.has_lost = self.failed.push((line, wrong)).is_err() || self.has_lost,
+        }
+    }
+}
 
 /// How many comparisons hold, and how many lines fail.
 #[derive(Clone, Copy)]
@@ -22,27 +52,32 @@ impl Report {
         }
     }
 
-    /// Adds the comparisons of a line, or tells why it fails.
-    pub fn note<R: Print>(
+    /// Tells why a line fails.
+    pub fn fail<R: Print>(
         &mut self,
         rt: &R,
         file: &str,
         line: u64,
-        done: Result<u64, Wrong>,
+        wrong: Wrong,
     ) -> io::Result<()> {
-        let wrong = match done {
-            Ok(comparisons) => {
-                self.passed = self.passed.saturating_add(comparisons);
-                return Ok(());
-            }
-            Err(wrong) => wrong,
-        };
         self.failed = self.failed.saturating_add(1);
         match wrong {
             Wrong::Memory => println!(rt; "{file}:{line}: out of memory"),
             Wrong::Told(why) => println!(rt; "{file}:{line}: {why}"),
             Wrong::Found(found) => println!(rt; "{file}:{line}: it is: {found}"),
         }
+    }
+
+    /// Adds what the lines of a file have come to, and tells why those fail that do.
+    pub fn add<R: Print>(&mut self, rt: &R, file: &str, told: Told) -> io::Result<()> {
+        self.passed = self.passed.saturating_add(told.passed);
+        if told.has_lost {
+            self.fail(rt, file, 0, Wrong::Memory)?;
+        }
+        for (line, wrong) in told.failed {
+            self.fail(rt, file, line, wrong)?;
+        }
+        Ok(())
     }
 
     /// Prints how many comparisons hold and how many lines fail. The program then ends with 0 where each comparison holds and there was

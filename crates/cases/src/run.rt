@@ -1,6 +1,6 @@
 //! Files of cases, line by line.
 
-use crate::report::Report;
+use crate::report::Told;
 use crate::wrong::{Wrong, wanted};
 use std::alloc::Global;
 use std::rt::{Env, Files};
@@ -78,14 +78,9 @@ impl<B: Bench> Reading<B> {
     }
 }
 
-// Runs the lines of a text.
-fn run_text<B: Bench, R: Print>(
-    rt: &R,
-    alloc: Global,
-    file: &str,
-    text: &str,
-    report: &mut Report,
-) -> io::Result<()> {
+/// What the lines of a text come to on a bench, that of a file with this name.
+pub fn run_text<B: Bench>(alloc: Global, file: &str, text: &str) -> Told {
+    let mut told = Told::new(alloc);
     let mut reading: Reading<B> = Reading {
         bench: None,
         is_case: false,
@@ -100,29 +95,14 @@ fn run_text<B: Bench, R: Print>(
         }
         last = number;
         let done = reading.step(alloc, file, line);
-        report.note(rt, file, number, done)?;
+        told.note(number, done);
     }
-    if last == 0 {
-        return report.note(rt, file, 1, Err(Wrong::Told("the file is empty")));
-    }
-    let done = reading.end(alloc);
-    report.note(rt, file, last, done)
-}
-
-/// Runs the lines of a file on a bench, and notes each in the report. A file that cannot be read is a line that fails.
-pub fn run_file<B: Bench, R: Files + Print + Alloc<A = Global> + Clone + Drop>(
-    rt: &R,
-    alloc: Global,
-    name: &str,
-    report: &mut Report,
-) -> io::Result<()> {
-    match fs::read_to_string(rt, name) {
-        Ok(text) => run_text::<B, R>(rt, alloc, name, text.as_str(), report),
-        Err(_) => {
-            let wrong = Wrong::Told("the file cannot be read");
-            report.note(rt, name, 1, Err(wrong))
-        }
-    }
+    let done = match last {
+        0 => Err(Wrong::Told("the file is empty")),
+        _ => reading.end(alloc),
+    };
+    told.note(last, done);
+    told
 }
 
 // Adds the path of a file of a folder, unless it tells of the others.

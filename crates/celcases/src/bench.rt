@@ -9,15 +9,15 @@ use crate::scope::{variable_names, variables};
 use crate::tokens::tokens_text;
 use crate::trees::tree_text;
 use crate::types::type_text;
-use cases::{Bench, Wrong, compare, first_word};
+use cases::{Bench, Told, Wrong, compare, first_word, run_text};
 use celtokens::is_identifier;
 use celtypes::Env;
 use instructions::Name;
 use std::alloc::Global;
 
-/// What the rows of a file ask, and what the lines above a row settle.
+// What the rows of a file ask, and what the lines above a row settle.
 #[derive(Drop)]
-pub struct Expressions {
+struct Expressions {
     // the ending of the file's name, which says what its rows ask
     asked: &'static str,
     texts: Notation,
@@ -51,6 +51,11 @@ fn ending_of(file: &str) -> &'static str {
         }
     }
     ""
+}
+
+/// What the rows of a file of expressions come to; the ending of its name says what they ask.
+pub fn run_expressions(alloc: Global, file: &str, text: &str) -> Told {
+    run_text::<Expressions>(alloc, file, text)
 }
 
 impl Bench for Expressions {

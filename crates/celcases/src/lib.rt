@@ -1,6 +1,6 @@
 //! The rows of the Common Expression Language (CEL): lines `TEXT => RESULT`.
 //!
-//! [`Expressions`] is the bench of their files. A file's ending says what its rows ask; `README.md` beside the files has the endings and
+//! [`run_expressions`] runs their files. A file's ending says what its rows ask; `README.md` beside the files has the endings and
 //! the format.
 #![tactic(auto)]
 
@@ -17,7 +17,7 @@ mod trees;
 mod types;
 mod values;
 
-pub use bench::Expressions;
+pub use bench::run_expressions;
 use celtokens::one_reading;
 
 /// The law of what the rows are asked of.

@@ -11,17 +11,22 @@ use crate::scan_lines::{lay, scan_pages};
 use crate::shelf_lines::shelf;
 use crate::stock_lines::sift_pages;
 use crate::writing_lines::write_entries;
-use cases::{Bench, Wrong};
+use cases::{Bench, Told, Wrong, run_text};
 use device::MemDevice;
 use std::alloc::Global;
 
 const ROOM_SECTORS: u64 = 32;
 
-/// A device in memory, and the log that a case opened on it.
+// A device in memory, and the log that a case opened on it.
 #[derive(Drop)]
-pub struct Disk {
+struct Disk {
     device: MemDevice,
     log: LogLines,
+}
+
+/// What the cases of a file of what lies on a disk come to.
+pub fn run_disk(alloc: Global, file: &str, text: &str) -> Told {
+    run_text::<Disk>(alloc, file, text)
 }
 
 impl Bench for Disk {

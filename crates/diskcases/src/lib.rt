@@ -1,6 +1,6 @@
 //! The cases of devices, logs, roots and pages.
 //!
-//! [`Disk`] is the bench of their files; `README.md` beside the files has their lines. [`check_files`] looks at devices over files of the
+//! [`run_disk`] runs their files; `README.md` beside the files has their lines. [`check_files`] looks at devices over files of the
 //! operating system. How a [`Line`] is read and answered, and a shelf opened, serves the bench of records too.
 #![tactic(auto)]
 
@@ -19,7 +19,7 @@ mod shelf_lines;
 mod stock_lines;
 mod writing_lines;
 
-pub use bench::Disk;
+pub use bench::run_disk;
 pub use file_devices::check_files;
 pub use line::Line;
 pub use shelf_lines::shelf_at;

@@ -2,10 +2,9 @@
 
 use crate::line::Line;
 use cases::{Wrong, bytes, number};
-use documents::Document;
 use entries::Entry;
 use names::{Key, KeyFault, Resource, ResourceTable};
-use std::alloc::Global;
+use std::alloc::{AllocError, Global};
 
 // Adds bytes in hex, or `BYTES xN`, so many times those bytes.
 fn add_bytes(alloc: Global, payload: &mut Vec<u8>, part: &str) -> Result<(), Wrong> {
@@ -114,8 +113,8 @@ impl Line<'_> {
     }
 
     /// Adds the text of a document, as a word.
-    pub fn show_document(&mut self, alloc: Global, document: &Document) {
-        match document.json().text(alloc) {
+    pub fn show_text(&mut self, text: Result<String, AllocError>) {
+        match text {
             Ok(text) => self.answer.word(text.as_str()),
             Err(_) => self.fail(Wrong::Memory),
         }

@@ -37,7 +37,7 @@ pub(crate) fn find_object(
     };
     match find(alloc, shelf, device, &key) {
         Ok(Some(stocked)) => {
-            line.show_document(alloc, &stocked.document);
+            line.show_text(stocked.document.json().text(alloc));
             line.show(&stocked.revision);
         }
         Ok(None) => line.answer.word("none"),

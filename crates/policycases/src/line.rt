@@ -7,7 +7,7 @@ use std::alloc::Global;
 fn parts_of(word: &str) -> (u8, bool) {
     match word {
         "admit" | "request" => (0, false),
-        "evaluate" | "guarded" | "short-field" | "long-field" => (1, false),
+        "evaluate" | "guarded" | "short-field" | "long-field" | "status" => (1, false),
         "plans" => (2, false),
         "policy" | "binding" | "failure" | "specification" => (1, true),
         "object" | "denial" | "stored-plans" => (2, true),

@@ -4,11 +4,12 @@ use crate::bytes::{field_answer, plans_answer};
 use crate::forms::form_answer;
 use crate::held::{Shelf, Sight};
 use crate::line::{Frames, split_line};
+use crate::refusals::status;
 use crate::verdicts::{
     evaluation_answer, failure_answer, put, put_spec, refusal_answer, request_answer,
 };
 use crate::writes::{Write, document, guarded_answer, match_answer, rules, selector_answer};
-use cases::{Bench, Wrong, compare, first_word, text, wanted};
+use cases::{Bench, Told, Wrong, compare, first_word, run_text, text, wanted};
 use jsondoc::Doc;
 use names::Resource;
 use policy::MatchRules;
@@ -18,9 +19,9 @@ use verdict::{Verdict, admit};
 
 const NO_WRITE: &str = "no write is asked about";
 
-/// What a case has put down.
+// What a case has put down.
 #[derive(Drop)]
-pub struct Policies {
+struct Policies {
     frames: Frames,
     shelf: Shelf,
     write: Option<Write>,
@@ -37,6 +38,11 @@ fn compared(alloc: Global, found: &str, wanted: &str) -> Result<u64, Wrong> {
         Ok(()) => Ok(1),
         Err(wrong) => Err(wrong),
     }
+}
+
+/// What the cases of a file of policies come to.
+pub fn run_policies(alloc: Global, file: &str, text: &str) -> Told {
+    run_text::<Policies>(alloc, file, text)
 }
 
 impl Bench for Policies {
@@ -240,6 +246,7 @@ fn text_answer(alloc: Global, word: &str, words: &str, text: &str) -> Result<Str
         }
         "plans" => plans_answer(alloc, words),
         "guarded" => guarded_answer(alloc, words),
+        "status" => status(alloc, words),
         "short-field" | "long-field" => field_answer(alloc, word, words),
         _ => Err(Wrong::Told("no such question")),
     }

@@ -1,17 +1,23 @@
 //! The lines of a case, by their words.
 
+use crate::core_lines::{answered, prepares, replay};
 use crate::entry_lines::{pieces, reads_event, reads_object, reads_piece};
 use crate::holdings_lines::{held, held_over_pages, lies};
 use crate::overlay_lines::over;
-use crate::record_lines::{answered, cuts, keys, reads, replay, tell_fault};
+use crate::record_lines::{cuts, keys, reads, tell_fault};
 use crate::view_lines::reads_view;
-use cases::{Bench, Wrong};
+use cases::{Bench, Told, Wrong, run_text};
 use diskcases::Line;
 use std::alloc::Global;
 
-/// What a case of bytes works on: nothing but its lines.
+// What a case of bytes works on: nothing but its lines.
 #[derive(Drop)]
-pub struct Records;
+struct Records;
+
+/// What the cases of a file of records, entries and changes come to.
+pub fn run_records(alloc: Global, file: &str, text: &str) -> Told {
+    run_text::<Records>(alloc, file, text)
+}
 
 impl Bench for Records {
     fn new(_alloc: Global, _file: &str) -> Result<Records, Wrong> {
@@ -39,6 +45,7 @@ fn answer(alloc: Global, line: &mut Line<'_>) {
         "cuts" => cuts(alloc, line),
         "replay" => replay(alloc, line),
         "answered" => answered(alloc, line),
+        "prepares" => prepares(alloc, line),
         "keys" => keys(alloc, line),
         "told" => tell_fault(line),
         "over" => over(alloc, line),

@@ -57,7 +57,7 @@ fn show_event(alloc: Global, event: &Event<Document>, entry: &Entry, line: &mut 
     line.show(&event.revision);
     line.answer.word(change_word(event.change));
     line.show_key(&event.key);
-    line.show_document(alloc, &event.document);
+    line.show_text(event.document.json().text(alloc));
 }
 
 /// `reads-event KEY ; CELL`: the event whose entry this is, and that it is written in the same bytes.

@@ -1,9 +1,11 @@
-//! The cases of what is stored as bytes: records and the stores that they spell, entries and the views that they keep, changes over entries.
+//! The cases of what is stored as bytes: records and the stores that they spell, under limits of their own, entries and the views that they keep, changes
+//! over entries.
 //!
-//! [`Records`] is the bench of their files; `README.md` beside the files has their lines.
+//! [`run_records`] runs their files; `README.md` beside the files has their lines.
 #![tactic(auto)]
 
 mod bench;
+mod core_lines;
 mod entry_lines;
 mod holdings_lines;
 mod in_a_page;
@@ -12,14 +14,18 @@ mod overlay_lines;
 mod record_lines;
 mod view_lines;
 
+use apicore::{accepted_are_admitted, runs_are_steps, view_decides, writes_follow};
 use base::{kept_are_of_a_view, views_hold_objects};
-pub use bench::Records;
+pub use bench::run_records;
 use overlay::{
     change_counts, change_is_one_more, found_over, found_where_covered, listed_over,
     listed_where_covered, same_is_nothing,
 };
 use records::payload_has_one_group;
-use recovery::payloads_have_one_list;
+use recovery::{
+    events_are_last, histories_show, key_has_last_write, objects_ascend, payloads_have_one_list,
+    revision_counts,
+};
 
 /// The laws of records, of changes over entries, and of objects in pages.
 pub fn laws_of_records() {
@@ -34,4 +40,17 @@ pub fn laws_of_records() {
     listed_where_covered();
     views_hold_objects();
     kept_are_of_a_view();
+}
+
+/// The laws of histories, of what they show, and of the requests that they answer.
+pub fn laws_of_histories() {
+    revision_counts();
+    key_has_last_write();
+    events_are_last();
+    objects_ascend();
+    histories_show();
+    writes_follow();
+    accepted_are_admitted();
+    runs_are_steps();
+    view_decides();
 }

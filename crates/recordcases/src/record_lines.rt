@@ -1,13 +1,10 @@
-//! Lines on the payloads of records, and on the stores that they spell.
+//! Lines on the payloads of records.
 
-use apicore::prepare;
 use cases::Wrong;
 use diskcases::Line;
-use holdings::Nothing;
-use names::{Format, Resource, Rules};
 use records::{RecordFault, StoredWrite, read_writes};
-use recovery::{Core, RecoveryFault, replayed, written_keys};
-use requests::{Manifest, Request};
+use recovery::{RecoveryFault, written_keys};
+use requests::Manifest;
 use std::alloc::Global;
 
 // What a put says: the key, the text, and the plans where there are any.
@@ -59,30 +56,6 @@ pub fn cuts(alloc: Global, line: &mut Line<'_>) {
     line.show(&bytes.len());
 }
 
-// The store of a log: `LIMIT PAYLOAD ; ..`, with this limit on the text of a document.
-fn store(alloc: Global, line: &mut Line<'_>) -> Result<Core, RecoveryFault> {
-    let rules = Rules {
-        text_limit_bytes: line.number() as usize,
-        ..Format::First.rules()
-    };
-    let log = line.payloads(alloc);
-    match Core::over(alloc, rules, 1, 0) {
-        Ok(empty) => replayed(alloc, empty, &log),
-        Err(_) => Err(RecoveryFault::Memory),
-    }
-}
-
-/// `replay LIMIT PAYLOAD ; ..`: the revision and the number of objects of the store.
-pub fn replay(alloc: Global, line: &mut Line<'_>) {
-    match store(alloc, line) {
-        Ok(core) => {
-            line.show(&core.revision());
-            line.show(&core.object_count());
-        }
-        Err(fault) => line.show(&fault),
-    }
-}
-
 /// `keys PAYLOAD ; ..`: the keys that the writes of the log write.
 pub fn keys(alloc: Global, line: &mut Line<'_>) {
     let log = line.payloads(alloc);
@@ -93,34 +66,6 @@ pub fn keys(alloc: Global, line: &mut Line<'_>) {
             }
         }
         Err(fault) => line.show(&fault),
-    }
-}
-
-fn show_reply(alloc: Global, core: &mut Core, request: &Request, line: &mut Line<'_>) {
-    match prepare(core, alloc, &mut Nothing, request) {
-        Ok(prepared) => {
-            line.show(&prepared.reply.code());
-            line.answer.word(prepared.reply.body());
-            drop(prepared);
-        }
-        Err(_) => line.fail(Wrong::Memory),
-    }
-}
-
-// The reply to a GET of the configmap.
-fn show_reply_to_get(alloc: Global, core: &mut Core, line: &mut Line<'_>) {
-    if let Some(key) = line.key(alloc, Resource::ConfigMap, "default", "a") {
-        let request = Request::Get(key);
-        show_reply(alloc, core, &request, line);
-        drop(request);
-    }
-}
-
-/// `answered LIMIT PAYLOAD ; ..`: the code and the body that a GET of the configmap is answered by.
-pub fn answered(alloc: Global, line: &mut Line<'_>) {
-    match store(alloc, line) {
-        Ok(mut core) => show_reply_to_get(alloc, &mut core, line),
-        Err(_) => line.refuse("there is no store"),
     }
 }
 

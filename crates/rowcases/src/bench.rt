@@ -4,7 +4,7 @@ use crate::texts::push_times;
 use crate::{
     bodies, documents_asked, edits, events, messages, names_asked, requested, responses, stored,
 };
-use cases::{Bench, TextBuilder, Wrong, compare, first_word, number, shown};
+use cases::{Bench, TextBuilder, Told, Wrong, compare, first_word, number, run_text, shown};
 use jsondoc::Doc;
 use names::Format;
 use objects::Objects;
@@ -12,13 +12,18 @@ use routes::Routes;
 use std::alloc::Global;
 use window::Window;
 
-/// A document, objects and a window, which the rows change one after the other, and the paths that are served.
+// A document, objects and a window, which the rows change one after the other, and the paths that are served.
 #[derive(Drop)]
-pub struct Rows {
+struct Rows {
     window: Window<u64>,
     routes: Routes,
     document: Doc,
     objects: Objects<u64>,
+}
+
+/// What the rows of a file come to.
+pub fn run_rows(alloc: Global, file: &str, text: &str) -> Told {
+    run_text::<Rows>(alloc, file, text)
 }
 
 impl Bench for Rows {

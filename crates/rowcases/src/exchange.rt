@@ -122,16 +122,8 @@ impl<S: Service> Exchange<S> {
         short(alloc, answer.as_str())
     }
 
-    // One of `times`: the reply to a message that is accepted, or `ok` where a write of a log is taken again.
+    // One of `times`: the reply to a message that is accepted.
     fn one_of(&mut self, alloc: Global, question: &str) -> Result<String, Wrong> {
-        let (word, rest) = first_word(question);
-        if word == "replay" {
-            let taken = self.service.answer(alloc, word, rest)?;
-            if taken.as_str() == "ok" {
-                return Ok(taken);
-            }
-            return Err(Wrong::Told("one of them is not allowed"));
-        }
         let reply = self.request(alloc, question)?;
         if reply.starts_with("20") {
             Ok(reply)
@@ -140,7 +132,7 @@ impl<S: Service> Exchange<S> {
         }
     }
 
-    // `times N METHOD ..`, `times N replay ..`: so many of these, in which `%` stands for their number; the last answer.
+    // `times N METHOD ..`: so many of these, in which `%` stands for their number; the last answer.
     fn times(&mut self, alloc: Global, rest: &str) -> Result<String, Wrong> {
         let (count, question) = first_word(rest);
         let mut answer = String::new(alloc);

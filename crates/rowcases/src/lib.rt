@@ -1,6 +1,6 @@
 //! The rows of what needs no policy and no device: keys, documents, objects, events, and messages, what they ask for and their responses.
 //!
-//! [`Rows`] is the bench of their files, lines `QUESTION => ANSWER`; the questions are told in `README.md` beside the files. Beside it stands
+//! [`run_rows`] runs their files, lines `QUESTION => ANSWER`; the questions are told in `README.md` beside the files. Beside it stands
 //! what the benches of requests and replies do alike: [`Exchange`] is the bench of exchanges over a connection, line by line, with a
 //! [`Service`] that serves the connection and is asked beside.
 #![tactic(auto)]
@@ -20,7 +20,7 @@ mod stored;
 mod streams;
 mod texts;
 
-pub use bench::Rows;
+pub use bench::run_rows;
 pub use exchange::{Exchange, Service};
 use httpmsg::one_stream;
 use jsondoc::text_escapes;

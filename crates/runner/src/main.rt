@@ -25,17 +25,17 @@ mod trials;
 
 use api::answers_are_runs;
 use bench::Stand;
-use cases::{Report, Wrong, paths, run_file};
-use celcases::{Expressions, laws_of_expressions};
-use diskcases::{Disk, check_files};
+use cases::{Report, Told, Wrong, paths, run_text};
+use celcases::{laws_of_expressions, run_expressions};
+use diskcases::{check_files, run_disk};
 use opening::one_view;
-use policycases::{Policies, View, laws_of_policies, laws_of_views};
-use recordcases::{Records, laws_of_records};
-use rowcases::{Exchange, Rows, laws_of_requests};
+use policycases::{laws_of_policies, run_policies};
+use recordcases::{laws_of_histories, laws_of_records, run_records};
+use rowcases::{Exchange, laws_of_requests, run_rows};
 use std::alloc::Global;
-use std::io;
 use std::process::ExitCode;
 use std::rt::{Env, Files};
+use std::{fs, io};
 
 const FOLDERS: [&str; 7] = [
     "rows",
@@ -56,22 +56,33 @@ fn folder_of(path: &str) -> &str {
     }
 }
 
-// Runs a file on the bench of its folder.
+// What the lines of a file come to on the bench of its folder.
+fn told(alloc: Global, path: &str, text: &str) -> Told {
+    match folder_of(path) {
+        "rows" => run_rows(alloc, path, text),
+        "expressions" => run_expressions(alloc, path, text),
+        "policies" => run_policies(alloc, path, text),
+        "disk" => run_disk(alloc, path, text),
+        "records" => run_records(alloc, path, text),
+        "views" | "store" => run_text::<Exchange<Stand>>(alloc, path, text),
+        _ => {
+            let mut told = Told::new(alloc);
+            told.note(1, Err(Wrong::Told("no bench has this folder")));
+            told
+        }
+    }
+}
+
+// Runs a file. One that cannot be read is a line that fails.
 fn run<R: Files + Print + Alloc<A = Global> + Clone + Drop>(
     rt: &R,
     alloc: Global,
     path: &str,
     report: &mut Report,
 ) -> io::Result<()> {
-    match folder_of(path) {
-        "rows" => run_file::<Rows, R>(rt, alloc, path, report),
-        "expressions" => run_file::<Expressions, R>(rt, alloc, path, report),
-        "policies" => run_file::<Policies, R>(rt, alloc, path, report),
-        "views" => run_file::<Exchange<View>, R>(rt, alloc, path, report),
-        "disk" => run_file::<Disk, R>(rt, alloc, path, report),
-        "records" => run_file::<Records, R>(rt, alloc, path, report),
-        "store" => run_file::<Exchange<Stand>, R>(rt, alloc, path, report),
-        _ => report.note(rt, path, 1, Err(Wrong::Told("no bench has this folder"))),
+    match fs::read_to_string(rt, path) {
+        Ok(text) => report.add(rt, path, told(alloc, path, text.as_str())),
+        Err(_) => report.fail(rt, path, 1, Wrong::Told("the file cannot be read")),
     }
 }
 
@@ -90,8 +101,8 @@ fn main(rt: HostRuntime) -> ExitCode {
     laws_of_requests();
     laws_of_expressions();
     laws_of_policies();
-    laws_of_views();
     laws_of_records();
+    laws_of_histories();
     // the laws of a store and of what it is served by
     one_view();
     answers_are_runs();

@@ -1,0 +1,157 @@
+//! Lines on cores: the stores of logs, under limits of their own, and what requests are answered by.
+
+ghost use Rattle.std.specs.Prelude.{IfOk};
+ghost use Rattle.holdings.specs.Prepared.{HasRoomFor};
+
+use apicore::{Prepared, prepare};
+use cases::Wrong;
+use diskcases::Line;
+use holdings::{Nothing, PreparedWrite, Put};
+use names::{Format, Rules};
+use recovery::{Beside, Core, RecoveryFault, replayed};
+use requests::Request;
+use routes::Routes;
+use rowcases::{message, routed_first};
+use std::alloc::Global;
+
+// The limits in front of a line: `first`, those of the first format, or the events of the window, the bytes of a text and of a body, the objects, and
+// the greatest revision.
+fn rules_of(line: &mut Line<'_>) -> Rules {
+    let rules = Format::First.rules();
+    let word = line.word();
+    if word == "first" {
+        return rules;
+    }
+    Rules {
+        window_events: line.number_of(word) as usize,
+        text_limit_bytes: line.number() as usize,
+        body_limit_bytes: line.number() as usize,
+        object_limit: line.number() as usize,
+        greatest_revision: line.number(),
+    }
+}
+
+// The store of the log that the rest spells: `PAYLOAD ; ..`.
+fn store(alloc: Global, rules: Rules, line: &mut Line<'_>) -> Result<Core, RecoveryFault> {
+    let log = line.payloads(alloc);
+    match Core::over(alloc, rules, 1, 0) {
+        Ok(empty) => replayed(alloc, empty, &log),
+        Err(_) => Err(RecoveryFault::Memory),
+    }
+}
+
+// The revision of a store, and its number of objects.
+fn show_counts(core: &Core, line: &mut Line<'_>) {
+    line.show(&core.revision());
+    line.show(&core.object_count());
+}
+
+/// `replay LIMITS PAYLOAD ; ..`: the revision and the number of objects of the store.
+pub fn replay(alloc: Global, line: &mut Line<'_>) {
+    let rules = rules_of(line);
+    match store(alloc, rules, line) {
+        Ok(core) => show_counts(&core, line),
+        Err(fault) => line.show(&fault),
+    }
+}
+
+// What a message asks for.
+fn request(alloc: Global, routes: &Routes, text: &str) -> Result<Request, Wrong> {
+    let sent = message(alloc, text)?;
+    Ok(routed_first(alloc, routes, sent.as_str())?.request)
+}
+
+fn prepared(core: &mut Core, alloc: Global, request: &Request) -> Result<Prepared, Wrong>
+    ensures { IfOk result (λ p. HasRoomFor core.new p.write) }
+{
+    match prepare(core, alloc, &mut Nothing, request) {
+        Ok(prepared) => Ok(prepared),
+        Err(_) => Err(Wrong::Memory),
+    }
+}
+
+// The step that a message asks for. Its request is dropped here, and so in no function that drops the step too.
+fn step(core: &mut Core, alloc: Global, routes: &Routes, text: &str) -> Result<Prepared, Wrong>
+    ensures { IfOk result (λ p. HasRoomFor core.new p.write) }
+{
+    let request = request(alloc, routes, text)?;
+    let prepared = prepared(core, alloc, &request);
+    drop(request);
+    prepared
+}
+
+// Takes the step that a message asks for, and shows the code and the body of its reply.
+fn answer(core: &mut Core, alloc: Global, routes: &Routes, text: &str, line: &mut Line<'_>) {
+    match step(core, alloc, routes, text) {
+        Ok(prepared) => {
+            core.take(prepared.write);
+            line.show(&prepared.reply.code());
+            line.answer.word(prepared.reply.body());
+        }
+        Err(wrong) => line.fail(wrong),
+    }
+}
+
+fn answer_all(core: &mut Core, alloc: Global, asked: &str, line: &mut Line<'_>) {
+    let Ok(routes) = Routes::new(alloc) else {
+        return line.fail(Wrong::Memory);
+    };
+    for (at, text) in asked.split(" | ").enumerate() {
+        if at > 0 {
+            line.answer.word("|");
+        }
+        answer(core, alloc, &routes, text, line);
+    }
+}
+
+/// `answered LIMITS PAYLOAD ; .. | METHOD TARGET [BODY] | ..`: the codes and the bodies that these messages are answered by, in turn, over the store of a log.
+pub fn answered(alloc: Global, line: &mut Line<'_>) {
+    let rules = rules_of(line);
+    let (log, asked) = line.rest.split_once("| ").unwrap_or((line.rest, ""));
+    line.rest = log.trim_end();
+    match store(alloc, rules, line) {
+        Ok(mut core) => answer_all(&mut core, alloc, asked, line),
+        Err(_) => line.refuse("there is no store"),
+    }
+}
+
+// What is put, under which key.
+fn show_put(alloc: Global, put: &Put<Beside>, line: &mut Line<'_>) {
+    line.answer.word("put");
+    line.show_key(put.key());
+    line.answer.word(put.text());
+    match put.document().json().text(alloc) {
+        Ok(own) => {
+            if own.as_str() != put.text() {
+                line.refuse("its text is another document's");
+            }
+        }
+        Err(_) => line.fail(Wrong::Memory),
+    }
+}
+
+// A write that is prepared: what is put under which key, or what is deleted.
+fn show_write(alloc: Global, write: &Option<PreparedWrite<Beside>>, line: &mut Line<'_>) {
+    match write {
+        Some(PreparedWrite::Put(put)) => show_put(alloc, put, line),
+        Some(PreparedWrite::Delete(deletion)) => {
+            line.answer.word("delete");
+            line.show_key(deletion.key());
+        }
+        None => line.answer.word("no write"),
+    }
+}
+
+/// `prepares LIMITS METHOD TARGET [BODY]`: the write that a message prepares over an empty store, which is not taken, and the store's revision and number
+/// of objects then.
+pub fn prepares(alloc: Global, line: &mut Line<'_>) {
+    let rules = rules_of(line);
+    let (Ok(mut core), Ok(routes)) = (Core::over(alloc, rules, 1, 0), Routes::new(alloc)) else {
+        return line.fail(Wrong::Memory);
+    };
+    match step(&mut core, alloc, &routes, line.rest) {
+        Ok(prepared) => show_write(alloc, &prepared.write, line),
+        Err(wrong) => line.fail(wrong),
+    }
+    show_counts(&core, line);
+}
