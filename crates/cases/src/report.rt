@@ -58,7 +58,7 @@ impl Report {
         rt: &R,
         file: &str,
         line: u64,
-        wrong: Wrong,
+        wrong: &Wrong,
     ) -> io::Result<()> {
         self.failed = self.failed.saturating_add(1);
         match wrong {
@@ -69,13 +69,13 @@ impl Report {
     }
 
     /// Adds what the lines of a file have come to, and tells why those fail that do.
-    pub fn add<R: Print>(&mut self, rt: &R, file: &str, told: Told) -> io::Result<()> {
+    pub fn add<R: Print>(&mut self, rt: &R, file: &str, told: &Told) -> io::Result<()> {
         self.passed = self.passed.saturating_add(told.passed);
         if told.has_lost {
-            self.fail(rt, file, 0, Wrong::Memory)?;
+            self.fail(rt, file, 0, &Wrong::Memory)?;
         }
-        for (line, wrong) in told.failed {
-            self.fail(rt, file, line, wrong)?;
+        for (line, wrong) in &told.failed {
+            self.fail(rt, file, *line, wrong)?;
         }
         Ok(())
     }

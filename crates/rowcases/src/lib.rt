@@ -25,11 +25,10 @@ pub use exchange::{Exchange, Service};
 use httpmsg::one_stream;
 use jsondoc::text_escapes;
 pub use messages::fault_word;
-pub use names_asked::{key_of, resource, rules_text};
-pub use requested::push_key;
+pub use names_asked::{key_of, resource};
 use requests::{parts_are_spelled, stored_is_read};
 pub use sent::{message, short};
-pub use streams::{messages_of, routed_first};
+pub use streams::routed_first;
 
 /// The laws of what the rows are asked of.
 pub fn laws_of_requests() {

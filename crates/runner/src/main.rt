@@ -81,8 +81,8 @@ fn run<R: Files + Print + Alloc<A = Global> + Clone + Drop>(
     report: &mut Report,
 ) -> io::Result<()> {
     match fs::read_to_string(rt, path) {
-        Ok(text) => report.add(rt, path, told(alloc, path, text.as_str())),
-        Err(_) => report.fail(rt, path, 1, Wrong::Told("the file cannot be read")),
+        Ok(text) => report.add(rt, path, &told(alloc, path, text.as_str())),
+        Err(_) => report.fail(rt, path, 1, &Wrong::Told("the file cannot be read")),
     }
 }
 
