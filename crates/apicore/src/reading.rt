@@ -29,14 +29,11 @@ use requests::{Collection, Refusal, Selector};
 use std::alloc::{AllocError, Global};
 
 // The reply that shows what was found, if anything was.
-fn reply_of(alloc: Global, found: Option<&Found>) -> Result<Reply, AllocError>
-    ensures { IfOk result (λ r. r ≡ option_map_or (λ f. showing 200 [] f.now.document f.now.revision) found.entry (status NotFound)) }
+fn reply_of(alloc: Global, found: Option<Found>) -> Result<Reply, AllocError>
+    ensures { IfOk result (λ r. r ≡ option_map_or (λ f. showing 200 [] f.document f.revision) found (status NotFound)) }
 {
     match found {
-        Some(found) => {
-            let warnings = Vec::new(alloc);
-            Reply::showing(alloc, 200, warnings, &found.document, found.revision)
-        }
+        Some(Found { document, revision }) => Reply::showing_found(alloc, document, revision),
         None => Reply::status(alloc, Refusal::NotFound),
     }
 }
@@ -53,7 +50,7 @@ fn shown<S: Source<Beside>>(
     ensures looked { HasLooked S.holds S.goes_to S.failures core.now source.old source.new result }
 {
     let found = core.find(alloc, source, key)?;
-    Ok(reply_of(alloc, found.as_ref())?)
+    Ok(reply_of(alloc, found)?)
 }
 
 /// The step of a GET.

@@ -5,7 +5,7 @@ ghost use Rattle.base.specs.declared.stocked.Stocked.{Stocked as StockedData};
 ghost use Rattle.base.specs.Stock.{stocked_entry, IsStorable};
 
 use documents::Document;
-use entries::{EntryFault, read_object};
+use entries::{EntryFault, StoredObject, read_object};
 use names::Key;
 use std::alloc::Global;
 
@@ -27,10 +27,7 @@ pub(crate) fn read_entry(
     ensures storable { IfOk result IsStorable }
     ensures damaged { IsErrOf result EntryFault.Damaged → (object : KeyData × StockedData) → IsStorable object → stocked_entry object ≢ (key.now, cell.now) }
 {
-    let object = read_object(alloc, key, cell)?;
-    let stocked = Stocked {
-        document: object.manifest.document().clone()?,
-        revision: object.revision,
-    };
-    Ok((object.manifest.key().clone()?, stocked))
+    let StoredObject { manifest, revision } = read_object(alloc, key, cell)?;
+    let (key, document) = manifest.into_parts();
+    Ok((key, Stocked { document, revision }))
 }

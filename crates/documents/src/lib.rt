@@ -19,5 +19,5 @@ mod stored;
 pub use metadata::{has_kind, has_metadata, metadata_copy, metadata_text};
 pub use requirement::Requirement;
 pub use selecting::{is_among, selects};
-pub use shown::shown_document;
+pub use shown::{shown_document, shown_from};
 pub use stored::Document;

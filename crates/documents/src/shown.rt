@@ -11,10 +11,17 @@ use std::alloc::{AllocError, Global};
 pub fn shown_document(alloc: Global, document: &Document, revision: u64) -> Result<Doc, AllocError>
     ensures { IfOk result (λ d. d ≡ shown document.now revision) }
 {
+    shown_from(alloc, document.clone()?, revision)
+}
+
+/// The object as it is shown, made of the stored document itself. `AllocError` where there is no memory for it.
+pub fn shown_from(alloc: Global, document: Document, revision: u64) -> Result<Doc, AllocError>
+    ensures { IfOk result (λ d. d ≡ shown document revision) }
+{
     let mut metadata = metadata_copy(document.json())?;
     let text = format!(in alloc; "{revision}")?;
     metadata.put(alloc, "resourceVersion", Doc::from(text))?;
-    let mut shown = document.json().clone()?;
+    let mut shown = document.into_json();
     shown.put(alloc, "metadata", metadata)?;
     Ok(shown)
 }

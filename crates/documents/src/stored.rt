@@ -35,6 +35,14 @@ impl Document {
     {
         &self.json
     }
+
+    /// The object's JSON, taken out.
+    pub fn into_json(self) -> Doc
+        ensures { result ≡ self.json }
+    {
+        let Document { json } = self;
+        json
+    }
 }
 
 impl Clone for Document {

@@ -4,7 +4,7 @@ ghost use Rattle.jsondoc.specs.Document.{with_member};
 ghost use Rattle.history.specs.Listing.{served};
 ghost use Rattle.history.specs.Reply.{saying, status, showing, status_document};
 
-use documents::{Document, shown_document};
+use documents::{Document, shown_document, shown_from};
 use jsondoc::Doc;
 use requests::Refusal;
 use std::alloc::{AllocError, Global};
@@ -81,6 +81,22 @@ impl Reply {
             code,
             warnings,
             body: shown_document(alloc, document, revision)?.text(alloc)?,
+        })
+    }
+
+    /// The reply that shows an object that was found, made of the stored document itself, with the revision of its last write.
+    pub fn showing_found(
+        alloc: Global,
+        document: Document,
+        revision: u64,
+    ) -> Result<Reply, AllocError>
+        ensures { IfOk result (λ r. r ≡ showing 200 [] document revision) }
+    {
+        let body = shown_from(alloc, document, revision)?.text(alloc)?;
+        Ok(Reply {
+            code: 200,
+            warnings: Vec::new(alloc),
+            body,
         })
     }
 

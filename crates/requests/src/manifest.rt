@@ -137,6 +137,16 @@ impl Manifest {
         &self.document
     }
 
+    /// The key of the object, and the document to be stored, taken out.
+    pub fn into_parts(self) -> (Key, Document)
+        ensures key { result.0 ≡ self.key }
+        ensures body { self.body ≡ sound result.1 }
+        ensures form { HasForm self.key result.1 }
+    {
+        let Manifest { key, document, .. } = self;
+        (key, document)
+    }
+
     /// The text of the document to be stored.
     pub fn text(&self) -> &str
         ensures { (d : DocumentData) → self.now.body ≡ sound d → result.now ≡ text d.json }
