@@ -93,11 +93,7 @@ impl Reply {
         ensures { IfOk result (λ r. r ≡ showing 200 [] document revision) }
     {
         let body = shown_from(alloc, document, revision)?.text(alloc)?;
-        Ok(Reply {
-            code: 200,
-            warnings: Vec::new(alloc),
-            body,
-        })
+        Ok(Reply::served(alloc, body))
     }
 
     /// The reply with this body to a request that is served.
