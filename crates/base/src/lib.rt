@@ -1,10 +1,17 @@
-//! The objects in the pages of a shelf, as what lies below [`holdings::Holdings`].
+//! The objects in the pages of a checkpoint: looked up by key, listed by resource and namespace, and listed all; and as what lies below
+//! [`holdings::Holdings`].
 //!
 //! ```text
+//! let stocked = find(alloc, &mut shelf, &mut device, &key)?;                           // reads one page, or none
+//! let pods = list(alloc, &mut shelf, &mut device, Resource::Pod, Some("default"), Reading::Passing)?;
 //! let mut base = Base::new(&mut device, &mut shelf, making);
 //! let found = holdings.find(alloc, &mut base, &key)?;
-//! let all = base.all(alloc)?;
 //! ```
+//!
+//! A shelf holds objects where their entries stand in front in its pages, as `entries` makes them, and no entry behind them has an object's key. `find`
+//! answers what is stored under a key, `list` the objects of a resource, in one namespace or in all, and `list_all` all objects, as a map in memory
+//! would. What the shelf holds stays, and damage is answered only where it does not hold objects so. The entries of a view hold its objects
+//! ([`views_hold_objects`]).
 //!
 //! A page has documents. What stands beside a document in memory is made of it when it is listed: a [`FromDocument`] says how. It says too of which
 //! resources all objects are held in memory: of these none lies below, also where the pages have some, and no page is read for one.

@@ -8,6 +8,10 @@
 //!
 //! A document is an object's JSON as it is stored, without a revision. `has_kind` and `has_metadata` decide whether JSON is that
 //! of an object, `metadata_text` and `metadata_copy` read its metadata, and `shown_document` adds the revision of its last write.
+//!
+//! Label selectors (Kubernetes, "Labels and Selectors"): a [`Requirement`] is what one of their parts asks, and `selects` answers exactly
+//! where an object meets each. Its labels are the texts among the members of `metadata.labels`. How selectors are spelled is said where
+//! they are read: in queries (`requests`) and in policies (`policy`).
 #![tactic(auto)]
 
 mod metadata;
