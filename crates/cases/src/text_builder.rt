@@ -4,12 +4,12 @@ use crate::wrong::Wrong;
 use std::alloc::Global;
 use std::fmt::Display;
 
-/// A text that is gathered piece by piece. Whether memory was wanting is asked once, at its end.
+/// A text that is gathered piece by piece. Whether something was wrong, and what it was first, is asked once, at its end.
 #[derive(Drop)]
 pub struct TextBuilder {
     text: String,
-    // whether a piece is missing
-    has_failed: bool,
+    // what was wrong first
+    wrong: Option<Wrong>,
 }
 
 impl TextBuilder {
@@ -17,14 +17,26 @@ impl TextBuilder {
     pub fn new(alloc: Global) -> TextBuilder {
         TextBuilder {
             text: String::new(alloc),
-            has_failed: false,
+            wrong: None,
         }
+    }
+
+    /// Keeps why there is no text, unless something was wrong before.
+    pub fn fail(&mut self, wrong: Wrong) {
+        if self.wrong.is_none() {
+            self.wrong = Some(wrong);
+        }
+    }
+
+    /// Keeps what is against the text.
+    pub fn refuse(&mut self, why: &'static str) {
+        self.fail(Wrong::Told(why));
     }
 
     /// Adds a piece.
     pub fn push(&mut self, piece: &str) {
         if self.text.push_str(piece).is_err() {
-            self.has_failed = true;
+            self.fail(Wrong::Memory);
         }
     }
 
@@ -39,7 +51,7 @@ impl TextBuilder {
     /// Adds what a value shows.
     pub fn show<T: Display>(&mut self, value: &T) {
         if write!(self.text, "{value}").is_err() {
-            self.has_failed = true;
+            self.fail(Wrong::Memory);
         }
     }
 
@@ -47,12 +59,12 @@ impl TextBuilder {
     ///
     /// # Errors
     ///
-    /// Where memory was wanting for a piece.
+    /// What was wrong first.
     pub fn end(self) -> Result<String, Wrong> {
-        if self.has_failed {
-            Err(Wrong::Memory)
-        } else {
-            Ok(self.text)
+        let TextBuilder { text, wrong } = self;
+        match wrong {
+            Some(wrong) => Err(wrong),
+            None => Ok(text),
         }
     }
 }

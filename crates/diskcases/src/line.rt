@@ -9,8 +9,6 @@ use std::fmt::Display;
 pub struct Line<'a> {
     pub rest: &'a str,
     pub answer: TextBuilder,
-    // what was wrong first
-    wrong: Option<Wrong>,
 }
 
 impl<'a> Line<'a> {
@@ -19,15 +17,12 @@ impl<'a> Line<'a> {
         Line {
             rest: text,
             answer: TextBuilder::new(alloc),
-            wrong: None,
         }
     }
 
     /// Keeps why the line fails, unless something was wrong before.
     pub fn fail(&mut self, wrong: Wrong) {
-        if self.wrong.is_none() {
-            self.wrong = Some(wrong);
-        }
+        self.answer.fail(wrong);
     }
 
     /// Keeps what is against the line.
@@ -115,10 +110,7 @@ impl<'a> Line<'a> {
     ///
     /// What was wrong first, or the answer, where it is another.
     pub fn compare(self, alloc: Global, wanted: &str) -> Result<u64, Wrong> {
-        let Line { answer, wrong, .. } = self;
-        if let Some(wrong) = wrong {
-            return Err(wrong);
-        }
+        let Line { answer, .. } = self;
         let found = answer.end()?;
         match compare(alloc, found.as_str(), wanted) {
             Ok(()) => Ok(1),
