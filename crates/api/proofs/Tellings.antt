@@ -7,8 +7,8 @@ use Rattle.names.specs.declared.format.Rules.{Rules}
 use Rattle.recovery.specs.Standing.{View}
 use Rattle.durable.specs.declared.store.Store.{Store}
 use Rattle.durable.specs.Settled.{device_of}
-use Rattle.httpmsg.specs.declared.cutter.CutFault.{CutFault}
-use Rattle.httpmsg.specs.declared.cutter.CutFault.TheVariants.{Broken as CutBroken, Memory as CutMemory}
+use Rattle.cutter.specs.declared.cutting.CutFault.{CutFault}
+use Rattle.cutter.specs.declared.cutting.CutFault.TheVariants.{Broken as CutBroken, Memory as CutMemory}
 use Rattle.httpmsg.specs.declared.head.BrokenMessage.{BrokenMessage}
 use Rattle.httpmsg.specs.declared.head.End.{End}
 use Rattle.httpmsg.specs.declared.head.End.TheVariants.{Closed, Broken}

@@ -17,9 +17,10 @@ ghost use Rattle.api.specs.Piece.{Tells, Breaks, Steps, StepsWrong, Finishes, Fi
 
 use crate::answer::answer_all;
 use crate::fault::ServeFault;
+use cutter::{CutFault, Cutter};
 use device::Device;
 use durable::Store;
-use httpmsg::{CutFault, Cutter, End, Input, Message, Output, Sheet};
+use httpmsg::{End, Input, Message, Output, Sheet};
 use replies::{write_fault, write_no_more};
 use routes::Routes;
 use std::alloc::{AllocError, Global};

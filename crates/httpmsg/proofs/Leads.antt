@@ -1,13 +1,10 @@
--- Messages cut one after another, and a stream fed in pieces.
-use Rattle.std.proofs.Common.{◌≡◌, ◌≢◌, ℕ, inl, List, [], ◌∷◌, ◌++◌, length, refl, ap, sym, ◌∙◌, arith, append_assoc, subst, Option, Some, None, Bool, true, false, MatchOption, unwrap_or, Result, Ok, Err, IfOk}
-use Rattle.std.specs.Bool.{MatchBool, ◌==◌}
-use Rattle.std.proofs.lemmas.Bool.Decides.{nat_tests}
-use Rattle.httpmsg.specs.declared.head.MessageFault.TheVariants as Fault
+-- Messages cut one after another, and what further bytes give.
+use Rattle.std.proofs.Common.{◌≡◌, ℕ, inl, List, [], ◌∷◌, ◌++◌, refl, ap, sym, ◌∙◌, append_assoc, subst, Option, Some, None, Bool, true, false, MatchOption, unwrap_or}
+use Rattle.std.specs.Bool.{MatchBool}
 use Rattle.std.proofs.lemmas.List.{append-nil}
 use Rattle.httparse.proofs.GrammarLemmas.{ReadsRequest-append}
-use Rattle.httpmsg.specs.declared.head.BrokenMessage.{BrokenMessage}
 use Rattle.httpmsg.specs.declared.head.End.{End}
-use Rattle.httpmsg.specs.declared.head.End.TheVariants.{Clean, Closed, Broken}
+use Rattle.httpmsg.specs.declared.head.End.TheVariants.{Closed}
 use Rattle.httpmsg.specs.Stream.{Message, BeginsWith, Takes, IsUnfinished, EndsAt, EndsAtOnce, IsStream, Progress, Stops, IsCut}
 use Rattle.httpmsg.specs.Cut.{Leads, end_at, end_of}
 
@@ -110,55 +107,3 @@ cut_stream all (m ∷ ms) p (rest, takes, closing) = (rest, takes, on m.closes c
         → MatchBool b ((ms ≡ []) × (end_of p ≡ Closed)) (IsStream rest ms (end_of p))
     on true closed go = (closed.0, end_known p Closed closed.1)
     on false cut go = go cut
-
--- no bytes are left
-pub nothing_left : (p : Progress) → p.end ≡ None → (length p.pending == 0) ≡ true → end_of p ≡ Clean
-nothing_left p is none = ap (λ o. unwrap_or o (end_at p.pending)) is ∙ empty p.pending none
-  where
-    empty : (bytes : List ℕ) → (length bytes == 0) ≡ true → end_at bytes ≡ Clean
-    empty [] e = refl
-    empty (b ∷ bytes) e = grind (arith, nat_tests)
-
--- some bytes are left
-pub something_left : (p : Progress) → p.end ≡ None → (length p.pending == 0) ≡ false
-    → end_of p ≡ Broken (record { fault = Fault.Malformed; is_head = false })
-something_left p is some = ap (λ o. unwrap_or o (end_at p.pending)) is ∙ left p.pending some
-  where
-    left : (bytes : List ℕ) → (length bytes == 0) ≡ false → end_at bytes ≡ Broken (record { fault = Fault.Malformed; is_head = false })
-    left [] e = cc
-    left (b ∷ bytes) e = refl
-
--- behind the end: what is cut stays, and nothing more comes
-pub fed_ended : {R E : Type 0} (items : R → List Message) (r : Result R E) (all : List ℕ) (ms : List Message) (p : Progress) (more : List ℕ) (end : End)
-    → p.end ≡ Some end → IfOk r (λ x. (items x ≡ []) × ((b : BrokenMessage) → end ≢ Broken b)) → IsCut all ms p
-    → IfOk r (λ x. IsCut (all ++ more) (ms ++ items x) p)
-fed_ended items (Ok x) all ms p more end ended none cut =
-    let Cut : List Message → Type 0 = λ xs. IsCut (all ++ more) xs p in
-    subst Cut (sym (ap (λ xs. ms ++ xs) none.0 ∙ append-nil ms)) (cut_ended all ms p more end ended cut)
-fed_ended items (Err e) all ms p more end ended none cut = tt
-
--- before the end: what a piece gives follows what was cut
-pub fed_on : {R E : Type 0} (items : R → List Message) (r : Result R E) (all : List ℕ) (ms : List Message) (old : Progress) (more : List ℕ)
-    (ns : List Message) (new : Progress) → old.end ≡ None → IfOk r (λ x. items x ≡ ns) → IsCut all ms old → IsCut (old.pending ++ more) ns new
-    → IfOk r (λ x. IsCut (all ++ more) (ms ++ items x) new)
-fed_on items (Ok x) all ms old more ns new is_open same cut next =
-    let Cut : List Message → Type 0 = λ xs. IsCut (all ++ more) xs new in
-    subst Cut (ap (λ xs. ms ++ xs) (sym same)) (cut_on all ms old more ns new is_open cut next)
-fed_on items (Err e) all ms old more ns new is_open same cut next = tt
-
--- a piece that gives nothing leaves what was cut
-pub fed_nothing : (all : List ℕ) (ms : List Message) (old : Progress) (more : List ℕ) (ns : List Message) (new : Progress)
-    → old.end ≡ None → ns ≡ [] → IsCut all ms old → IsCut (old.pending ++ more) ns new → IsCut (all ++ more) ms new
-fed_nothing all ms old more ns new is_open none cut next =
-    let Cut : List Message → Type 0 = λ xs. IsCut (all ++ more) xs new in
-    subst Cut (ap (λ xs. ms ++ xs) none ∙ append-nil ms) (cut_on all ms old more ns new is_open cut next)
-
--- a piece that leaves fewer bytes than are awaited
-pub fed_idle : (all : List ℕ) (ms : List Message) (old : Progress) (more : List ℕ) (ns : List Message) (new : Progress)
-    → old.end ≡ None → new.end ≡ None → new.pending ≡ old.pending ++ more → IsUnfinished new.pending → ns ≡ [] → IsCut all ms old
-    → IsCut (all ++ more) (ms ++ ns) new
-fed_idle all ms old more ns new was_open is_open joined unfinished none cut =
-    let Unfinished : List ℕ → Type 0 = λ x. IsUnfinished x in
-    let Stop : Option End → Type 0 = λ e. MatchOption e ((new.pending ≡ old.pending ++ more) × IsUnfinished (old.pending ++ more)) (EndsAtOnce (old.pending ++ more)) in
-    let Cut : List Message → Type 0 = λ xs. IsCut (old.pending ++ more) xs new in
-    cut_on all ms old more ns new was_open cut (subst Cut (sym none) (subst Stop (sym is_open) (joined, subst Unfinished joined unfinished)))

@@ -1,5 +1,5 @@
 -- What may follow a place in a head, one byte after the other.
-use Rattle.std.proofs.Common.{◌≡◌, ℕ, ◌+◌, ◌<◌, ◌≤◌, true, List, [], ◌∷◌, ◌++◌, length, drop, refl, arith, ap, sym, subst, ◌∙◌, append_assoc, length-append, codes, All, inl, inr, get_or, ◌-◌}
+use Rattle.std.proofs.Common.{◌≡◌, ℕ, ◌+◌, ◌<◌, ◌≤◌, true, List, [], ◌∷◌, ◌++◌, length, drop, refl, arith, ap, sym, subst, ◌∙◌, append_assoc, length-append, codes, All, inl, get_or, ◌-◌}
 use Rattle.std.specs.List.{flat_map}
 use Rattle.std.proofs.lemmas.List.{append-nil, drop_more, drop_all}
 use Rattle.std.proofs.lemmas.List.Elements.{All-nil, All-cons}
@@ -11,11 +11,7 @@ use Rattle.httparse.proofs.GrammarLemmas.{cons-append, print_request-append, req
 use Rattle.httparse.proofs.OpenLemmas.{letter_is_token}
 use Rattle.httpmsg.specs.declared.place.Place.{Place}
 use Rattle.httpmsg.specs.declared.place.Place.TheVariants.{BeforeRequest, InEmptyLine, InMethod, BeforeTarget, InTarget, InVersion, BehindVersion, BehindReturn, BeforeLine, InLastLine, InName, InValue}
-use Rattle.httpmsg.specs.declared.cutter.Awaited.{Awaited}
-use Rattle.httpmsg.specs.declared.cutter.Awaited.TheVariants.{Bytes, Head}
 use Rattle.httpmsg.specs.Stream.{BeginsWith}
-use Rattle.httpmsg.specs.Cut.{Awaits, IsAwaited}
-use Rattle.httpmsg.proofs.Cuts.{awaits_head}
 use Rattle.httpmsg.specs.Place.{IsHead, IsSection, IsLineEnd, IsValue, IsWord, IsVersion, IsTokenByte, IsTargetByte, IsTarget, IsBehind, Follows, IsAt}
 
 -- one more byte of a word
@@ -172,11 +168,3 @@ at_waits place bytes at =
           in
           omega (arith, some.1, ap length same.1, length-append rest some.0),
     )
-
--- ---- what is awaited
-
--- whatever is awaited is so many bytes
-pub awaited_bytes : (bytes : List ℕ) (a : Awaited) → IsAwaited bytes a → (need : ℕ) × Awaits bytes need
-awaited_bytes bytes (Bytes need) awaits = (need, awaits)
-awaited_bytes bytes (Head place) (few, at) =
-    let waits = at_waits place bytes at in (length bytes + 1, awaits_head bytes few (inr (inl (few, waits.0))) waits.1)

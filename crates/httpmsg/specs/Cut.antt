@@ -1,15 +1,12 @@
 -- The first message of some bytes.
 use Rattle.std.specs.Prelude.{◌≡◌, ℕ, ◌+◌, ◌<◌, ◌≤◌, ◌⊎◌, List, ◌++◌, [], ◌∷◌, length, drop, unwrap_or, false}
 use Rattle.httparse.specs.Grammar.{print_request}
-use Rattle.httpmsg.specs.declared.cutter.Next.{Next}
-use Rattle.httpmsg.specs.declared.cutter.Next.TheVariants.{Whole, Unfinished, Fails}
-use Rattle.httpmsg.specs.declared.cutter.Awaited.{Awaited}
-use Rattle.httpmsg.specs.declared.cutter.Awaited.TheVariants.{Bytes, Head}
+use Rattle.httpmsg.specs.declared.cut.Next.{Next}
+use Rattle.httpmsg.specs.declared.cut.Next.TheVariants.{Whole, Unfinished, Fails}
 use Rattle.httpmsg.specs.declared.head.MessageFault.TheVariants as Fault
 use Rattle.httpmsg.specs.declared.head.End.{End}
 use Rattle.httpmsg.specs.declared.head.End.TheVariants.{Clean, Broken}
 use Rattle.httpmsg.specs.Head.{head_of, content_length}
-use Rattle.httpmsg.specs.Place.{IsAt}
 use Rattle.httpmsg.specs.Stream.{Message, Takes, LacksBody, Waits, IsUnfinished, EndsAtOnce, Progress, IsCut}
 
 -- the fewest bytes of which more can be told: all of a message whose body is not there in full, and else one more than there are
@@ -24,11 +21,6 @@ pub record Awaits (bytes : List ℕ) (need : ℕ) : Type 0 where
   pub few : need ≤ 24576
   pub stays : (more : List ℕ) → length (bytes ++ more) < need → Waits (bytes ++ more) × IsUnfinished (bytes ++ more)
   pub least : IsLeast bytes need
-
--- what is awaited behind these bytes: so many in all, or the next one of a head that they begin
-abbrev pub IsAwaited : List ℕ → Awaited → Type 0
-IsAwaited bytes (Bytes need) = Awaits bytes need
-IsAwaited bytes (Head place) = (length bytes < 8192) × IsAt place bytes
 
 -- the bytes begin with a message of so many bytes, or with none before so many are there, or end the stream whatever follows
 abbrev pub IsNext : List ℕ → Next → Type 0

@@ -7,7 +7,7 @@ use httparse::{is_header_name_token, is_header_value_token, is_method_token, is_
 
 /// Where in a head its bytes end.
 #[derive(Clone, Copy)]
-pub(crate) enum Place {
+pub enum Place {
     /// Before the request line, and behind the empty lines before it.
     BeforeRequest,
     /// Behind the CR of an empty line before it.
@@ -180,7 +180,7 @@ impl Place {
     }
 
     /// The place behind these further bytes, where they neither end the head nor may break it.
-    pub(crate) fn behind(self, bytes: &[u8]) -> Option<Place>
+    pub fn behind(self, bytes: &[u8]) -> Option<Place>
         ensures { IfSome result (λ place. (text : List ℕ) → Follows place text → Follows self (bytes.now ++ text)) }
     {
         let mut place = self;

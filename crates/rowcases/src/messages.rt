@@ -1,7 +1,8 @@
 //! Questions on the messages of a stream.
 
 use cases::{TextBuilder, Wrong};
-use httpmsg::{CutFault, Cutter, Message, MessageFault, Method};
+use cutter::{CutFault, Cutter};
+use httpmsg::{Message, MessageFault, Method};
 use std::alloc::Global;
 
 fn method_word(method: Method) -> &'static str {

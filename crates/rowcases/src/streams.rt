@@ -1,7 +1,8 @@
 //! The messages of a stream, and what they ask for.
 
 use cases::Wrong;
-use httpmsg::{Cutter, Message};
+use cutter::Cutter;
+use httpmsg::Message;
 use routes::{Routed, Routes, route};
 use std::alloc::Global;
 

@@ -1,0 +1,211 @@
+//! Messages cut from the bytes of a connection as they come.
+
+ghost use Rattle.std.specs.Prelude.{◌≡◌, ◌≢◌, ◌+◌, ◌<◌, ◌≤◌, ◌⊎◌, ℕ, List, [], ◌++◌, length, vec_len, drop, IfOk, OnOk, IfSome, MatchResult, IsTrue, ◌↔◌, Some, None};
+ghost use Rattle.httpmsg.specs.Stream.{Message as MessageData, IsStream, IsCut, Waits};
+ghost use Rattle.httpmsg.specs.declared.head.BrokenMessage.{BrokenMessage};
+ghost use Rattle.httpmsg.specs.Cut.{Awaits, end_of};
+ghost use Rattle.cutter.specs.Awaited.{IsAwaited};
+
+use httparse::spans::{EMPTY_HEADER_SPAN, HeaderSpan};
+use httpmsg::{BrokenMessage, End, FIELD_ROOM, HEAD_LIMIT, Message, MessageFault, Place, cut_all};
+use std::alloc::{AllocError, Global};
+use std::marker::Model;
+
+// Moves what follows so many bytes to the front.
+fn remove_front(bytes: &mut Vec<u8>, count: usize)
+    requires { count ≤ vec_len bytes.old }
+    ensures { bytes.new.items ≡ drop count bytes.old.items }
+{
+    if count == 0 {
+        return;
+    }
+    let len = bytes.len();
+    bytes.copy_within(count..len, 0);
+    bytes.truncate(len - count);
+}
+
+/// What must come before more can be told of the bytes that are pending.
+#[derive(Clone, Copy)]
+pub(crate) enum Awaited {
+    /// So many bytes in all.
+    Bytes(usize),
+    /// The next byte of the head that they begin, which is read up to here.
+    Head(Place),
+}
+
+impl Awaited {
+    // What is awaited behind these bytes, of which so many must be there.
+    fn behind(bytes: &[u8], need: usize) -> Awaited
+        ensures { Awaits bytes.now need → IsAwaited bytes.now result }
+    {
+        if bytes.is_empty() || bytes.len() >= HEAD_LIMIT || bytes.len() + 1 < need {
+            return Awaited::Bytes(need);
+        }
+        match Place::BeforeRequest.behind(bytes) {
+            Some(place) => Awaited::Head(place),
+            None => Awaited::Bytes(need),
+        }
+    }
+
+    // What is awaited once these bytes have come, so many with those before them, where they tell nothing.
+    fn after(self, bytes: &[u8], len: usize) -> Option<Awaited>
+        ensures { IfSome result (λ awaited. (pending : List ℕ) → length (pending ++ bytes.now) ≡ len → IsAwaited pending self
+            → IsAwaited (pending ++ bytes.now) awaited) }
+    {
+        match self {
+            Awaited::Bytes(need) if len < need => Some(self),
+            Awaited::Head(place) if len < HEAD_LIMIT => place.behind(bytes).map(Awaited::Head),
+            _ => None,
+        }
+    }
+}
+
+/// Why the bytes fed give no messages.
+#[derive(Clone, Copy)]
+pub enum CutFault {
+    /// The stream ends at a message with this fault; every later call answers so too.
+    Broken(BrokenMessage),
+    /// Memory was refused; nothing changed.
+    Memory,
+}
+
+impl From<AllocError> for CutFault {
+    ghost use Rattle.cutter.specs.declared.cutting.CutFault.TheVariants.{Memory};
+
+    ghost from_gives = { λ _ fault. fault ≡ Memory };
+
+    fn from(_: AllocError) -> CutFault {
+        CutFault::Memory
+    }
+}
+
+// The messages, or the fault where there are none before it.
+fn told(messages: Vec<Message>, end: Option<End>) -> Result<Vec<Message>, CutFault>
+    ensures ok { IfOk result (λ more. more.items ≡ messages.items) }
+    ensures once { IfOk result (λ more. more.items ≡ [] → (b : BrokenMessage) → end ≡ Some (End.Broken b) → ⊥) }
+    ensures broken { (b : BrokenMessage) → result ≡ Err (CutFault.Broken b) → (messages.items ≡ []) × (end ≡ Some (End.Broken b)) }
+    ensures memory { result ≢ Err CutFault.Memory }
+{
+    match end {
+        Some(End::Broken(broken)) if messages.is_empty() => Err(CutFault::Broken(broken)),
+        _ => Ok(messages),
+    }
+}
+
+// What is cut from bytes behind the end: nothing, or the fault again.
+fn after_end(alloc: Global, end: End) -> Result<Vec<Message>, CutFault>
+    ensures ok { IfOk result (λ more. (more.items ≡ []) × ((b : BrokenMessage) → end ≢ End.Broken b)) }
+    ensures broken { (b : BrokenMessage) → result ≡ Err (CutFault.Broken b) → end ≡ End.Broken b }
+    ensures memory { result ≢ Err CutFault.Memory }
+{
+    match end {
+        End::Broken(broken) => Err(CutFault::Broken(broken)),
+        End::Closed | End::Clean => Ok(Vec::new(alloc)),
+    }
+}
+
+/// Cuts the bytes of a connection into messages, in pieces of any size.
+#[derive(Drop)]
+pub struct Cutter {
+    pending: Vec<u8>,
+    awaited: Awaited,
+    room: Vec<HeaderSpan>,
+    end: Option<End>,
+}
+
+impl Model for Cutter {
+    ghost use Rattle.httpmsg.specs.Stream.{Progress};
+
+    ghost Value = { Progress };
+
+    ghost use Rattle.std.specs.Prelude.{◌≡◌, ◌<◌, None, length};
+
+    ghost view = { λ c. record { pending = c.pending.items; end = c.end } };
+
+    ghost use Rattle.cutter.specs.Awaited.{IsAwaited};
+
+    ghost invariant = { λ c. (length c.room.items ≡ 2731) × (c.end ≡ None → IsAwaited c.pending.items c.awaited) };
+}
+
+impl Cutter {
+    /// A cutter that was fed nothing. All the memory that a head needs is taken here.
+    pub fn new(alloc: Global) -> Result<Cutter, AllocError>
+        ensures { IfOk result (λ cutter. cutter ≡ record { pending = []; end = None }) }
+    {
+        let room = vec![in alloc; EMPTY_HEADER_SPAN; FIELD_ROOM]?;
+        Ok(Cutter {
+            pending: Vec::new(alloc),
+            awaited: Awaited::Bytes(1),
+            room,
+            end: None,
+        })
+    }
+
+    /// The whole messages that these further bytes give, oldest first.
+    ///
+    /// A fault of the stream is answered by the call after the messages before it, which may be fed nothing, and by
+    /// every later one. After a message that closes nothing more is cut.
+    pub fn feed(&mut self, alloc: Global, bytes: &[u8]) -> Result<Vec<Message>, CutFault>
+        ensures ok { (all : List ℕ) (ms : List MessageData) → IsCut all ms self.old
+            → IfOk result (λ more. IsCut (all ++ bytes.now) (ms ++ more.items) self.new) }
+        ensures broken { (all : List ℕ) (ms : List MessageData) → IsCut all ms self.old
+            → (b : BrokenMessage) → result ≡ Err (CutFault.Broken b)
+            → IsCut (all ++ bytes.now) ms self.new × (self.new.end ≡ Some (End.Broken b)) }
+        ensures told { IfOk result (λ more. more.items ≡ [] → (b : BrokenMessage) → self.new.end ≡ Some (End.Broken b) → ⊥) }
+        ensures bounded { self.new.end ≡ None → length self.new.pending < 24576 }
+
+        // A fault is told as soon as the parse fails, or as many bytes as a head may have hold none: else more bytes may help.
+        ensures waits { OnOk result (self.new.end ≡ None → Waits self.new.pending) }
+        ensures memory { result ≡ Err CutFault.Memory → self.new ≡ self.old }
+    {
+        if let Some(end) = self.end {
+            return after_end(alloc, end);
+        }
+        let before = self.pending.len();
+        self.pending.extend_from_slice(bytes)?;
+        if let Some(awaited) = self.awaited.after(bytes, self.pending.len()) {
+            self.awaited = awaited;
+            return Ok(Vec::new(alloc));
+        }
+        match cut_all(alloc, &self.pending, &mut self.room) {
+            Ok(run) => {
+                remove_front(&mut self.pending, run.at);
+                self.awaited = Awaited::behind(&self.pending, run.awaited);
+                self.end = run.end;
+                told(run.messages, run.end)
+            }
+            Err(AllocError) => {
+                self.pending.truncate(before);
+                Err(CutFault::Memory)
+            }
+        }
+    }
+
+    /// Whether a message said that the connection ends after its reply.
+    pub fn has_closed(&self) -> bool
+        ensures { IsTrue result ↔ (self.now.end ≡ Some End.Closed) }
+    {
+        matches!(self.end, Some(End::Closed))
+    }
+
+    /// The end of the stream, if no more bytes come: an error where it is a fault.
+    pub fn finish(self) -> Result<(), BrokenMessage>
+        ensures stream { (all : List ℕ) (ms : List MessageData) → IsCut all ms self → IsStream all ms (end_of self) }
+        ensures end { MatchResult result (λ _. (end_of self ≡ End.Clean) ⊎ (end_of self ≡ End.Closed)) (λ b. end_of self ≡ End.Broken b) }
+    {
+        match self.end {
+            Some(End::Broken(broken)) => Err(broken),
+            Some(End::Closed) | Some(End::Clean) => Ok(()),
+            None => {
+                if self.pending.as_slice().is_empty() {
+                    Ok(())
+                } else {
+                    Err(BrokenMessage {
+                        fault: MessageFault::Malformed,
+                        is_head: false,
+                    })
+                }
+            }
+        }
+    }
+}

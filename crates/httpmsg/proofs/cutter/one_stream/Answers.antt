@@ -1,5 +1,0 @@
-use Rattle.httpmsg.proofs.Unique.{stream_unique}
-use Rattle.httpmsg.proofs.cutter.one_stream.Goals as goal
-
-pub returns : goal.returns
-returns c = stream_unique
