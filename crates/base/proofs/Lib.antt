@@ -4,5 +4,5 @@ pub mod Holding
 pub mod Views
 pub mod Sieving
 mod Objects
-mod Looking
+mod Lookups
 pub mod Lying

@@ -4,7 +4,7 @@ use Rattle.names.specs.Key.{Key}
 use Rattle.history.specs.declared.stored.Stored.{Stored}
 use Rattle.base.specs.Whole.{whole}
 use Rattle.base.specs.Base.{not_held, HoldsBase}
-use Rattle.base.proofs.Looking.{held_still, goes}
+use Rattle.base.proofs.Lookups.{held_still, goes}
 use Rattle.base.proofs.base.Base.all.Goals as goal
 
 pub returns-in_ok-all_of-in-Ok : goal.returns-in_ok-all_of-in-Ok

@@ -4,7 +4,7 @@ use Rattle.objects.specs.Objects.{value_at}
 use Rattle.holdings.specs.Sources.{found_in}
 use Rattle.base.specs.Whole.{found_of}
 use Rattle.base.proofs.Objects.{found_lying, none_lies}
-use Rattle.base.proofs.Looking.{held_still, goes}
+use Rattle.base.proofs.Lookups.{held_still, goes}
 use Rattle.base.proofs.base.BaseSource.find.Goals as goal
 
 pub returns-then-is_held-clause-found : goal.returns-then-is_held-clause-found

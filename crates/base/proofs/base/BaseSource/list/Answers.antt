@@ -7,7 +7,7 @@ use Rattle.history.specs.declared.stored.Stored.{Stored}
 use Rattle.base.specs.Base.{HoldsBase}
 use Rattle.base.specs.Whole.{whole}
 use Rattle.base.proofs.Objects.{listed_lying, none_listed}
-use Rattle.base.proofs.Looking.{held_still, goes}
+use Rattle.base.proofs.Lookups.{held_still, goes}
 use Rattle.base.proofs.base.BaseSource.list.Goals as goal
 
 pub returns-then-is_held-clause-listed : goal.returns-then-is_held-clause-listed
