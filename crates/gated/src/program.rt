@@ -73,7 +73,9 @@ fn replay<R: Files<File = File>, I: Input, O: Output>(
     ensures no_file_made { IsErrOf result Problem.FileExists → ⊥ }
 {
     let mut store = open_store(files, alloc, file)?;
-    serve(alloc, input, output, &mut store)?;
+    let served = serve(alloc, input, output, &mut store);
+    drop(store);
+    served?;
     Ok(())
 }
 
@@ -88,7 +90,28 @@ fn listen<R: Net<Stream = TcpStream, Listener = TcpListener>>(
     }
 }
 
-// Listens, says so, and serves so many connections against the store in a file.
+// Listens, says so, and serves so many connections against a store.
+fn serve_store<R: Net<Stream = TcpStream, Listener = TcpListener>, O: Output>(
+    net: &R,
+    alloc: Global,
+    address: &str,
+    connections: u16,
+    idle_seconds: u32,
+    store: &mut Store<FileDevice>,
+    output: &mut O,
+) -> Result<(), Problem> {
+    let listener = listen(net, address)?;
+    if write_all(output, b"ready\n").is_err() {
+        return Err(Problem::StreamFailed);
+    }
+    let idle = match idle_seconds {
+        0 => None,
+        seconds => Some(Duration::from_secs(u64::from(seconds))),
+    };
+    serve_connections(alloc, &listener, connections, idle, store)
+}
+
+// The same against the store in a file.
 fn serve_file<R: Files<File = File> + Net<Stream = TcpStream, Listener = TcpListener>, O: Output>(
     runtime: &R,
     alloc: Global,
@@ -99,15 +122,17 @@ fn serve_file<R: Files<File = File> + Net<Stream = TcpStream, Listener = TcpList
     output: &mut O,
 ) -> Result<(), Problem> {
     let mut store = open_store(runtime, alloc, file)?;
-    let listener = listen(runtime, address)?;
-    if write_all(output, b"ready\n").is_err() {
-        return Err(Problem::StreamFailed);
-    }
-    let idle = match idle_seconds {
-        0 => None,
-        seconds => Some(Duration::from_secs(u64::from(seconds))),
-    };
-    serve_connections(alloc, &listener, connections, idle, &mut store)
+    let served = serve_store(
+        runtime,
+        alloc,
+        address,
+        connections,
+        idle_seconds,
+        &mut store,
+        output,
+    );
+    drop(store);
+    served
 }
 
 // Tells of a generation that was written.
@@ -142,7 +167,9 @@ fn write_anew<R: Files<File = File>, P: Output + Drop>(
 {
     let device = FileDevice::open(files, file)?;
     let mut store = store_on(alloc, Watched::new(device, Progress::new(alloc, progress)))?;
-    Ok(store.compact(alloc)?)
+    let written = store.compact(alloc);
+    drop(store);
+    Ok(written?)
 }
 
 // Writes what the store in a file shows as its next generation, and tells of it on the output.
@@ -166,7 +193,9 @@ fn look<R: Files<File = File>>(files: &R, alloc: Global, file: &str) -> Result<C
     ensures no_stream { IsErrOf result Problem.StreamFailed → ⊥ }
 {
     let mut store = open_store(files, alloc, file)?;
-    Ok(store.check(alloc)?)
+    let checked = store.check(alloc);
+    drop(store);
+    Ok(checked?)
 }
 
 // Tells of a store that is whole.

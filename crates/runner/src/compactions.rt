@@ -93,13 +93,11 @@ pub fn compaction_failed(
 // How many sectors a compacted store has.
 fn sectors(alloc: Global, writes: &[String]) -> Result<u64, Wrong> {
     let mut place = begun(alloc, writes, 1, &mut Vec::new(alloc));
-    match place.device() {
-        Some(device) => {
-            let sectors = device.len().unwrap_or(0);
-            place.end(sectors)
-        }
-        None => place.end(0),
-    }
+    let sectors = match place.device() {
+        Some(device) => device.len().unwrap_or(0),
+        None => 0,
+    };
+    place.end(sectors)
 }
 
 // Overwrites a sector of a compacted store: how many open, and then show what they showed before; else damage must be told.

@@ -125,12 +125,14 @@ impl Place {
         replace(&mut self.told, String::new(self.alloc))
     }
 
-    /// What was counted, where nothing was wrong.
-    pub fn end(&self, count: u64) -> Result<u64, Wrong> {
-        if self.wrong.is_empty() {
+    /// What was counted, where nothing was wrong. The place is let go here, and so in no function that has one.
+    pub fn end(self, count: u64) -> Result<u64, Wrong> {
+        let wrong = self.wrong;
+        drop(self);
+        if wrong.is_empty() {
             Ok(count)
         } else {
-            Err(Wrong::Told(self.wrong))
+            Err(Wrong::Told(wrong))
         }
     }
 
@@ -174,7 +176,7 @@ impl Place {
     }
 
     fn shut(&mut self, device: MemDevice) {
-        self.ground = Ground::Shut(device);
+        drop(replace(&mut self.ground, Ground::Shut(device)));
     }
 
     /// The device, with the store shut.
@@ -221,7 +223,7 @@ impl Place {
         };
         let told = match open(self.alloc, device) {
             Ok(store) => {
-                self.ground = Ground::Open(store);
+                drop(replace(&mut self.ground, Ground::Open(store)));
                 text(self.alloc, "ok")
             }
             Err((fault, device)) => {

@@ -200,7 +200,10 @@ pub fn driven(alloc: Global, words: &[String], line: &str) -> Result<String, Wro
         stop,
         false,
     )?;
-    match Place::new(alloc, room).live(&steps) {
+    let mut place = Place::new(alloc, room);
+    let lived = place.live(&steps);
+    drop(place);
+    match lived {
         Ok(found) => found_text(alloc, &found),
         Err(fault) => shown(alloc, &fault),
     }

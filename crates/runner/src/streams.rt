@@ -87,7 +87,9 @@ fn served(alloc: Global, reader: Parted<'_>, writer: Taker) -> Result<String, Wr
     let mut place = Place::new(alloc, ROOM_SECTORS);
     place.open();
     place.serve(reader, writer);
-    place.answer()
+    let answer = place.answer();
+    drop(place);
+    answer
 }
 
 // Asks that this is written, with its end behind it, where a reader gets on.
