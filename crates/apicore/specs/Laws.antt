@@ -3,8 +3,8 @@ use Rattle.std.specs.Prelude.{◌≡◌, ◌≤◌, ◌^◌, List, ◌∷◌}
 use Rattle.names.specs.declared.format.Rules.{Rules}
 use Rattle.requests.specs.Request.{RequestHasForm}
 use Rattle.history.specs.View.{view}
-use Rattle.apicore.specs.Prepared.{IsReadOf}
 use Rattle.recovery.specs.Standing.{View, History, IsHistory}
+use Rattle.apicore.specs.Prepared.{IsReadOf}
 use Rattle.apicore.specs.Admitted.{AreAdmitted}
 use Rattle.apicore.specs.Step.{Asked, accepted, step, runs}
 

@@ -1,10 +1,7 @@
 -- A step of a request that has all its memory.
-use Rattle.std.specs.Prelude.{◌≡◌, ◌+◌, ◌*◌, ◌≤◌, ◌^◌, List, map, length}
-use Rattle.serde_json.specs.Data.{Data}
+use Rattle.std.specs.Prelude.{◌≡◌, List, map}
 use Rattle.celtree.specs.Tree.{Expr}
-use Rattle.jsondoc.specs.Document.{text}
 use Rattle.names.specs.declared.format.Rules.{Rules}
-use Rattle.names.specs.declared.resource.Resource.{Resource}
 use Rattle.names.specs.Key.{Key}
 use Rattle.requests.specs.Codes.{document_in}
 use Rattle.requests.specs.Request.{Request, get, list, watch, create, replace, delete, refused}
@@ -13,28 +10,15 @@ use Rattle.history.specs.Mapped.{mapped_write}
 use Rattle.history.specs.View as seen
 use Rattle.holdings.specs.Holdings.{State}
 use Rattle.holdings.specs.Prepared.{writes_of, AreNext}
-use Rattle.expressions.specs.Specification.{Specification, IsSpecification, sound, bad_spec, bad_expression, these, plans_in, plans_bytes, MayHavePlans}
+use Rattle.expressions.specs.Specification.{Specification}
 use Rattle.recovery.specs.Beside.{Beside}
 use Rattle.recovery.specs.Shown.{plans_held, IsOver}
 use Rattle.recovery.specs.Standing.{View, write_with_plans}
+use Rattle.findings.specs.Read.{IsRead}
 use Rattle.apicore.specs.Step.{Asked, reply, writes}
 use Rattle.apicore.specs.declared.prepared.Prepared.{Prepared}
 
--- ---- what stands in a document
-
-abbrev pub AreHeld : Resource → Data → Specification Expr → Type 0
-AreHeld r d (sound trees) =
-    (length (text d) ≤ 2 ^ 24 → MayHavePlans r d (these (plans_in d trees))) × (length (plans_bytes r (these (plans_in d trees))) ≤ 2 + 22 * length (text d))
-AreHeld r d bad_spec = Unit {0}
-AreHeld r d (bad_expression t) = Unit {0}
-
--- This stands in the document, and no other trees; plans of them can be held, and have few bytes.
-pub record IsRead (r : Resource) (d : Data) (s : Specification Expr) : Type 0 where
-  pub stands : IsSpecification r d s
-  pub alone : (trees other : List Expr) → s ≡ sound trees → IsSpecification r d (sound other) → other ≡ trees
-  pub held : AreHeld r d s
-
--- so is that of the document which a request asks to be stored, if it asks for one
+-- What stands in the document that a request asks to be stored, if it asks for one.
 abbrev pub IsReadOf : Request → Specification Expr → Type 0
 IsReadOf (get k) s = Unit {0}
 IsReadOf (list c selector) s = Unit {0}
@@ -43,8 +27,6 @@ IsReadOf (create m) s = IsRead m.key.resource (document_in m.body).json s
 IsReadOf (replace m) s = IsRead m.key.resource (document_in m.body).json s
 IsReadOf (delete k asked) s = Unit {0}
 IsReadOf (refused r) s = Unit {0}
-
--- ---- a step
 
 -- The prepared step is that of a request at a view, and its write, if it makes one, the next one of what is held.
 pub record IsStepOf (rules : Rules) (held : seen.View Beside) (v : View) (a : Asked) (p : Prepared) : Type 0 where

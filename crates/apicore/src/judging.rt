@@ -1,6 +1,6 @@
 //! A write, asked of the policies.
 
-ghost use Rattle.std.specs.Prelude.{◌≡◌, ◌+◌, ◌≤◌, ◌<◌, List, [], ◌∷◌, map, option_map, if◌then◌else◌, Option, Some, None, is_some, IfOk, IsErrOf, string_bytes};
+ghost use Rattle.std.specs.Prelude.{◌≡◌, ◌+◌, ◌≤◌, ◌<◌, List, [], ◌∷◌, map, option_map, if◌then◌else◌, Option, Some, None, is_some, IfOk, OnErr, IsErrOf, string_bytes};
 ghost use Rattle.celtree.specs.Tree.{Expr};
 ghost use Rattle.serde_json.specs.View.{view};
 ghost use Rattle.names.specs.Key.{Key as KeyData};
@@ -21,16 +21,16 @@ ghost use Rattle.verdict.specs.Admission.{verdict};
 ghost use Rattle.verdict.specs.Seen.{verdict_seen};
 ghost use Rattle.recovery.specs.Beside.{Beside as BesideData, spelled};
 ghost use Rattle.apicore.specs.Judged.{IsJudged};
-ghost use Rattle.apicore.specs.Looked.{HasLooked, IsAsBefore};
+ghost use Rattle.findings.specs.Looked.{HasLooked, IsAsBefore};
 ghost use Rattle.recovery.specs.Shown.{IsOver};
 ghost use Rattle.recovery.specs.Standing.{View};
-ghost use Rattle.apicore.specs.Admitted.{objects_of};
+ghost use Rattle.findings.specs.Attempts.{objects_of};
 
 use crate::prepared::Prepared;
 use crate::refusing::denied;
-use crate::sight::Sight;
 use documents::Document;
 use expressions::StoredPlans;
+use findings::{Sight, put_attempt};
 use history::Reply;
 use holdings::{Found, PreparedWrite, Source};
 use names::Key;
@@ -40,7 +40,7 @@ use policy::{Attempt, Operation};
 use recovery::{Beside, Core};
 use requests::Manifest;
 use serde_json::Value;
-use std::alloc::{AllocError, Global};
+use std::alloc::Global;
 use verdict::{Verdict, admit};
 
 // The verdict of what the core shows on a write.
@@ -77,7 +77,7 @@ fn admitted_put(
     plans: Vec<Verified>,
     stands: bool,
     warnings: Vec<String>,
-) -> Result<Prepared, AllocError>
+) -> Result<Prepared, LookupFault>
     requires { core.old.revision < core.old.rules.greatest_revision }
     ensures same { IsAsBefore core.old core.new }
     ensures reply { IfOk result
@@ -85,6 +85,7 @@ fn admitted_put(
     ensures write { IfOk result (λ p. writes_of p.write ≡ put manifest.now.key (document_in manifest.now.body) (spelled (document_in manifest.now.body).json (these plans.items)) ∷ []) }
     ensures next { (held : Held BesideData) → core.old.revision ≡ held.revision → stands ≡ exists held manifest.now.key → IfOk result (λ p. AreNext held p.write) }
     ensures ready { IfOk result (λ p. HasRoomFor core.new p.write) }
+    ensures memory { OnErr result (IsErrOf result LookupFault.Memory) }
 {
     // The revision is below the greatest one, so that the next one fits.
     let _greatest = core.rules().greatest_revision;
@@ -97,30 +98,6 @@ fn admitted_put(
         reply,
         write: Some(PreparedWrite::Put(put)),
     })
-}
-
-// What a put does to an object: it updates one that stands there, or creates one.
-fn put_operation(stands: bool) -> Operation
-    ensures { result ≡ if stands then Update else Create }
-{
-    if stands {
-        Operation::Update
-    } else {
-        Operation::Create
-    }
-}
-
-// What a put attempts, with the object at its key as it is shown, if one stands there.
-fn put_attempt<'x>(manifest: &'x Manifest, old_object: Option<&'x Value>) -> Attempt<'x>
-    ensures { let old = option_map (λ d. view d.now) old_object.entry in attempt_seen result
-        ≡ record { operation = if is_some old then Update else Create; key = manifest.now.key; object = Some (document_in manifest.now.body).json; old_object = old } }
-{
-    Attempt {
-        operation: put_operation(old_object.is_some()),
-        key: manifest.key(),
-        object: Some(manifest.document().json().value()),
-        old_object,
-    }
 }
 
 /// The put of a document that nothing but the policies may refuse, with the object at its key as it is shown, if one stands there.
@@ -145,20 +122,20 @@ pub(crate) fn judged_put<'x, S: Source<Beside>>(
 {
     let attempt = put_attempt(manifest, old_object);
     match verdict_of(core, alloc, source, &attempt)? {
-        Verdict::Admitted(warnings) => Ok(admitted_put(
+        Verdict::Admitted(warnings) => admitted_put(
             core,
             alloc,
             manifest,
             plans,
             old_object.is_some(),
             warnings,
-        )?),
+        ),
         Verdict::Denied {
             policy,
             binding,
             reason,
             message,
-        } => Ok(denied(alloc, policy, binding, reason, message)?),
+        } => denied(alloc, policy, binding, reason, message),
     }
 }
 
@@ -169,13 +146,14 @@ fn admitted_delete(
     key: &Key,
     document: Document,
     warnings: Vec<String>,
-) -> Result<Prepared, AllocError>
+) -> Result<Prepared, LookupFault>
     requires { core.old.revision < core.old.rules.greatest_revision }
     ensures same { IsAsBefore core.old core.new }
     ensures reply { IfOk result (λ p. p.reply ≡ showing 200 (map string_bytes warnings.items) document (core.old.revision + 1)) }
     ensures write { IfOk result (λ p. writes_of p.write ≡ delete key.now ∷ []) }
     ensures next { (held : Held BesideData) (s : StoredData BesideData) → stored_at held key.now ≡ Some s → s.document ≡ document → IfOk result (λ p. AreNext held p.write) }
     ensures ready { IfOk result (λ p. HasRoomFor core.new p.write) }
+    ensures memory { OnErr result (IsErrOf result LookupFault.Memory) }
 {
     // The revision is below the greatest one, so that the next one fits.
     let _greatest = core.rules().greatest_revision;
@@ -213,13 +191,13 @@ pub(crate) fn judged_delete<'x, S: Source<Beside>>(
     };
     match verdict_of(core, alloc, source, &deletion)? {
         Verdict::Admitted(warnings) => {
-            Ok(admitted_delete(core, alloc, key, found.document, warnings)?)
+            admitted_delete(core, alloc, key, found.document, warnings)
         }
         Verdict::Denied {
             policy,
             binding,
             reason,
             message,
-        } => Ok(denied(alloc, policy, binding, reason, message)?),
+        } => denied(alloc, policy, binding, reason, message),
     }
 }

@@ -19,7 +19,6 @@ mod prepared;
 mod preparing;
 mod reading;
 mod refusing;
-mod sight;
 
 pub use laws::{accepted_are_admitted, runs_are_steps, view_decides, writes_follow};
 pub use prepared::Prepared;

@@ -17,25 +17,26 @@ ghost use Rattle.holdings.specs.Sources.{found_in};
 ghost use Rattle.expressions.specs.Specification.{Specification as SpecificationOf, sound, compiled, plans_in, specification_seen};
 ghost use Rattle.recovery.specs.Beside.{Beside as BesideData};
 ghost use Rattle.recovery.specs.Shown.{IsOver};
-ghost use Rattle.apicore.specs.Looked.{HasLooked, IsAsBefore};
-ghost use Rattle.apicore.specs.Prepared.{IsPrepared, IsRead, IsReadOf, IsStepOf};
+ghost use Rattle.findings.specs.Looked.{HasLooked, IsAsBefore};
+ghost use Rattle.apicore.specs.Prepared.{IsReadOf, IsPrepared, IsStepOf};
 ghost use Rattle.recovery.specs.Standing.{View};
-ghost use Rattle.apicore.specs.Step.{first_of, replace_limits, update_conflicts_at, deletion_conflicts_at};
+ghost use Rattle.findings.specs.Conditions.{first_of, replace_limits, update_conflicts_at, deletion_conflicts_at};
 
 use crate::conflicts::{deletion_conflicts, update_conflicts};
 use crate::judging::{judged_delete, judged_put};
 use crate::prepared::Prepared;
 use crate::reading::{get, list, refuse, watch};
-use crate::refusing::{bad_expression, create_limit, refused, replace_limit};
+use crate::refusing::{bad_expression, refused};
 use documents::shown_document;
-use expressions::{Specification, specification_of};
+use expressions::Specification;
+use findings::{create_limit, replace_limit, specified};
 use holdings::{Found, Source};
 use names::Key;
 use objects::LookupFault;
 use plancode::Verified;
 use recovery::{Beside, Core};
 use requests::{Manifest, Refusal, Request};
-use std::alloc::{AllocError, Global};
+use std::alloc::Global;
 
 /// Prepares the step of a request over the objects that a source holds: takes all its memory, and leaves what is seen as it was, also where there is
 /// none. What stands under the request's key is looked up once; of the objects below, a verdict reads the parameters alone.
@@ -79,16 +80,6 @@ pub fn prepare<S: Source<Beside>>(
     }
 }
 
-// What stands in the document of a manifest.
-#[tactic(auto, using(crate::proofs::Deciding::found_of))]
-fn specified(alloc: Global, manifest: &Manifest) -> Result<Specification, AllocError>
-    ensures { IfOk result (λ found. (s : SpecificationOf Expr) × IsRead manifest.now.key.resource (document_in manifest.now.body).json s
-        × (specification_seen found ≡ compiled (document_in manifest.now.body).json s)) }
-{
-    let document = manifest.document().json();
-    specification_of(alloc, manifest.key().resource(), document)
-}
-
 // The creation of an object.
 fn prepare_create<S: Source<Beside>>(
     core: &mut Core,
@@ -107,7 +98,7 @@ fn prepare_create<S: Source<Beside>>(
     let _document = manifest.document();
     let specification = specified(alloc, manifest)?;
     match core.find(alloc, source, manifest.key())? {
-        Some(_) => Ok(refused(alloc, Refusal::AlreadyExists)?),
+        Some(_) => refused(alloc, Refusal::AlreadyExists),
         None => create_free(core, alloc, source, manifest, specification),
     }
 }
@@ -129,8 +120,8 @@ fn create_free<S: Source<Beside>>(
 {
     match specification {
         Specification::Sound(plans) => create_sound(core, alloc, source, manifest, plans),
-        Specification::BadSpec => Ok(refused(alloc, Refusal::BadSpec)?),
-        Specification::BadExpression(text) => Ok(bad_expression(alloc, text.as_str())?),
+        Specification::BadSpec => refused(alloc, Refusal::BadSpec),
+        Specification::BadExpression(text) => bad_expression(alloc, text.as_str()),
     }
 }
 
@@ -150,7 +141,7 @@ fn create_sound<S: Source<Beside>>(
     ensures looked { HasLooked S.holds S.goes_to S.failures core.old source.old source.new result }
 {
     match create_limit(core, manifest) {
-        Some(refusal) => Ok(refused(alloc, refusal)?),
+        Some(refusal) => refused(alloc, refusal),
         None => judged_put(core, alloc, source, manifest, plans, None),
     }
 }
@@ -174,7 +165,7 @@ fn prepare_replace<S: Source<Beside>>(
     let specification = specified(alloc, manifest)?;
     match core.find(alloc, source, manifest.key())? {
         Some(found) => replace_of(core, alloc, source, manifest, specification, &found),
-        None => Ok(refused(alloc, Refusal::NotFound)?),
+        None => refused(alloc, Refusal::NotFound),
     }
 }
 
@@ -196,7 +187,7 @@ fn replace_of<S: Source<Beside>>(
     ensures looked { HasLooked S.holds S.goes_to S.failures core.old source.old source.new result }
 {
     if update_conflicts(alloc, manifest, found.revision)? {
-        return Ok(refused(alloc, Refusal::VersionNotCurrent)?);
+        return refused(alloc, Refusal::VersionNotCurrent);
     }
     replace_as(core, alloc, source, manifest, specification, found)
 }
@@ -221,8 +212,8 @@ fn replace_as<S: Source<Beside>>(
 {
     match specification {
         Specification::Sound(plans) => replace_sound(core, alloc, source, manifest, plans, found),
-        Specification::BadSpec => Ok(refused(alloc, Refusal::BadSpec)?),
-        Specification::BadExpression(text) => Ok(bad_expression(alloc, text.as_str())?),
+        Specification::BadSpec => refused(alloc, Refusal::BadSpec),
+        Specification::BadExpression(text) => bad_expression(alloc, text.as_str()),
     }
 }
 
@@ -245,7 +236,7 @@ fn replace_sound<S: Source<Beside>>(
     ensures looked { HasLooked S.holds S.goes_to S.failures core.old source.old source.new result }
 {
     match replace_limit(core, manifest) {
-        Some(refusal) => Ok(refused(alloc, refusal)?),
+        Some(refusal) => refused(alloc, refusal),
         None => replace_there(core, alloc, source, manifest, plans, found),
     }
 }
@@ -292,7 +283,7 @@ fn prepare_delete<S: Source<Beside>>(
     let _name = key.name();
     match core.find(alloc, source, key)? {
         Some(found) => delete_found(core, alloc, source, key, version, found),
-        None => Ok(refused(alloc, Refusal::NotFound)?),
+        None => refused(alloc, Refusal::NotFound),
     }
 }
 
@@ -312,10 +303,10 @@ fn delete_found<S: Source<Beside>>(
     ensures looked { HasLooked S.holds S.goes_to S.failures core.old source.old source.new result }
 {
     if deletion_conflicts(alloc, version, found.revision)? {
-        return Ok(refused(alloc, Refusal::VersionNotCurrent)?);
+        return refused(alloc, Refusal::VersionNotCurrent);
     }
     if core.is_exhausted() {
-        return Ok(refused(alloc, Refusal::RevisionExhausted)?);
+        return refused(alloc, Refusal::RevisionExhausted);
     }
     delete_there(core, alloc, source, key, version, found)
 }

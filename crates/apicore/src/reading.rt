@@ -1,57 +1,30 @@
 //! The steps of requests that write nothing.
 
-ghost use Rattle.std.specs.Prelude.{◌≡◌, List, [], None, IfOk};
+ghost use Rattle.std.specs.Prelude.{◌≡◌, List, None, IfOk};
 ghost use Rattle.std.specs.Option.{option_map_or};
 ghost use Rattle.names.specs.Key.{Key as KeyData};
 ghost use Rattle.requests.specs.Collection.{collection_of};
 ghost use Rattle.requests.specs.Refusal.{first_of};
 ghost use Rattle.requests.specs.Request.{get, list};
 ghost use Rattle.requests.specs.Selector.{selector_seen};
-ghost use Rattle.requests.specs.declared.refusal.Refusal.TheVariants.{NotFound};
 ghost use Rattle.history.specs.declared.stored.Stored.{Stored as StoredData};
-ghost use Rattle.history.specs.Listing.{listing, watch_conditions, watching};
-ghost use Rattle.history.specs.Reply.{showing, status};
-ghost use Rattle.history.specs.View.{View as Held, stored_at};
+ghost use Rattle.history.specs.Listing.{watch_conditions, watching};
+ghost use Rattle.history.specs.Reply.{status};
+ghost use Rattle.history.specs.View.{View as Held};
 ghost use Rattle.holdings.specs.Holdings.{Shows};
 ghost use Rattle.recovery.specs.Beside.{Beside as BesideData};
-ghost use Rattle.recovery.specs.Shown.{IsOver};
-ghost use Rattle.apicore.specs.Looked.{HasLooked};
+ghost use Rattle.findings.specs.Looked.{HasLooked};
 ghost use Rattle.apicore.specs.Prepared.{IsPrepared};
-ghost use Rattle.recovery.specs.Standing.{View};
 
 use crate::prepared::Prepared;
+use findings::{listed, shown};
 use history::Reply;
-use holdings::{Found, Source};
+use holdings::Source;
 use names::Key;
 use objects::LookupFault;
 use recovery::{Beside, Core};
 use requests::{Collection, Refusal, Selector};
 use std::alloc::{AllocError, Global};
-
-// The reply that shows what was found, if anything was.
-fn reply_of(alloc: Global, found: Option<Found>) -> Result<Reply, AllocError>
-    ensures { IfOk result (λ r. r ≡ option_map_or (λ f. showing 200 [] f.document f.revision) found (status NotFound)) }
-{
-    match found {
-        Some(Found { document, revision }) => Reply::showing_found(alloc, document, revision),
-        None => Reply::status(alloc, Refusal::NotFound),
-    }
-}
-
-// The reply to a GET.
-fn shown<S: Source<Beside>>(
-    core: &Core,
-    alloc: Global,
-    source: &mut S,
-    key: &Key,
-) -> Result<Reply, LookupFault>
-    ensures reply { (held : Held BesideData) (v : View) → IsOver (S.holds source.old) core.now held v → IfOk result
-        (λ r. r ≡ option_map_or (λ s. showing 200 [] s.document s.revision) (stored_at held key.now) (status NotFound)) }
-    ensures looked { HasLooked S.holds S.goes_to S.failures core.now source.old source.new result }
-{
-    let found = core.find(alloc, source, key)?;
-    Ok(reply_of(alloc, found)?)
-}
 
 /// The step of a GET.
 pub(crate) fn get<S: Source<Beside>>(
@@ -65,22 +38,6 @@ pub(crate) fn get<S: Source<Beside>>(
     ensures looked { HasLooked S.holds S.goes_to S.failures core.now source.old source.new result }
 {
     Ok(Prepared::replying(shown(core, alloc, source, key)?))
-}
-
-// The reply to a list.
-fn listed<S: Source<Beside>>(
-    core: &Core,
-    alloc: Global,
-    source: &mut S,
-    collection: &Collection,
-    selector: &Selector,
-) -> Result<Reply, LookupFault>
-    ensures reply { (held : Held BesideData) (v : View) → IsOver (S.holds source.old) core.now held v
-        → IfOk result (λ r. r ≡ listing held (collection_of collection.now) (selector_seen selector.now)) }
-    ensures looked { HasLooked S.holds S.goes_to S.failures core.now source.old source.new result }
-{
-    let below = source.list(alloc, collection.resource, collection.namespace())?;
-    Ok(core.listed(alloc, collection, selector, &below)?)
 }
 
 /// The step of a list.

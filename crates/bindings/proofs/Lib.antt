@@ -1,3 +1,2 @@
-pub mod Standing
 pub mod Turns
 pub mod Lists

@@ -18,5 +18,4 @@ mod parameters;
 mod texts;
 
 pub use one_binding::denial;
-pub use parameters::wanted_among;
 pub use texts::{denial_text, warning};

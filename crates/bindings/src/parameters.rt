@@ -1,28 +1,22 @@
 //! The parameters of a policy, as a binding asks for them.
 
-ghost use Rattle.std.specs.Prelude.{◌≡◌, ◌≤◌, ◌++◌, List, map, option_map, Some, None, IfOk, OnOk, IsErrOf, if◌then◌else◌};
-ghost use Rattle.std.specs.List.{cons_option, filter_map};
+ghost use Rattle.std.specs.Prelude.{◌≡◌, ◌≤◌, map, option_map, Some, IfOk, IsErrOf};
 ghost use Rattle.names.specs.Resource.{row};
-ghost use Rattle.documents.specs.Document.{shown};
 ghost use Rattle.policy.specs.Rules.{attempt_seen};
 ghost use Rattle.policy.specs.Spec.{binding_seen, param_ref_seen, wanted_seen};
 ghost use Rattle.lookup.specs.Objects.{Objects, shown_objects};
 ghost use Rattle.bindings.specs.Parameters.{found_or_not, namespace_of, looked_up, parameters};
-ghost use Rattle.lookup.specs.Listed.{wanted_of};
-ghost use Rattle.lookup.specs.Seen.{listed_seen, shown_held};
 ghost use Rattle.bindings.specs.Seen.{parameters_seen};
-ghost use Rattle.bindings.specs.Turns.{if_wanted};
 ghost use Rattle.objects.specs.Failing.{HasGrown};
 ghost use Rattle.objects.specs.declared.fault.Part.{Part};
 ghost use Rattle.objects.specs.declared.fault.LookupFault.TheVariants as LookupFault;
 
-use documents::{selects, shown_document};
 use jsondoc::Doc;
-use lookup::{Listed, Lookup};
+use lookup::Lookup;
 use names::{Resource, Scope};
 use objects::LookupFault;
 use policy::{Attempt, Binding, ParamRef, Wanted};
-use std::alloc::{AllocError, Global};
+use std::alloc::Global;
 
 /// The parameters that a policy is evaluated with, each in turn.
 #[derive(Drop)]
@@ -35,61 +29,6 @@ pub(crate) enum Parameters {
     Misconfigured,
     /// There is no such object.
     NotFound,
-}
-
-/// Adds an item, if there is one.
-pub(crate) fn add<T: Drop>(items: &mut Vec<T>, item: Option<T>) -> Result<(), AllocError>
-    ensures { (rest : List T) → OnOk result (items.new.items ++ rest ≡ items.old.items ++ cons_option item rest) }
-{
-    if let Some(item) = item {
-        items.push(item)?;
-    }
-    Ok(())
-}
-
-// The object as it is shown, if it is wanted.
-fn if_wanted(alloc: Global, wanted: &Wanted, listed: &Listed<'_>) -> Result<Option<Doc>, AllocError>
-    ensures { IfOk result (λ o. o ≡ if_wanted (wanted_seen wanted.now) (listed_seen listed.now)) }
-{
-    let found = &listed.found;
-    match wanted {
-        Wanted::ByName(name) => {
-            if listed.key.name() == name.as_str() {
-                Ok(Some(shown_document(alloc, found.document, found.revision)?))
-            } else {
-                Ok(None)
-            }
-        }
-        Wanted::BySelector(requirements) => {
-            let document = shown_document(alloc, found.document, found.revision)?;
-            if selects(requirements, document.value()) {
-                Ok(Some(document))
-            } else {
-                Ok(None)
-            }
-        }
-    }
-}
-
-/// The objects that are wanted among those listed, as they are shown: what a lookup that has all objects at hand answers for
-/// parameters.
-///
-/// # Errors
-///
-/// Where no memory is left.
-pub fn wanted_among(
-    alloc: Global,
-    wanted: &Wanted,
-    listed: &[Listed<'_>],
-) -> Result<Vec<Doc>, AllocError>
-    ensures { IfOk result (λ v. v.items ≡ wanted_of (wanted_seen wanted.now) (map shown_held (map listed_seen listed.now))) }
-{
-    let mut documents = Vec::new(alloc);
-    for entry in listed {
-        let document = if_wanted(alloc, wanted, entry)?;
-        add(&mut documents, document)?;
-    }
-    Ok(documents)
 }
 
 // Where parameters of the resource are looked for, if that is a place.

@@ -6,8 +6,8 @@ ghost use Rattle.names.specs.Key.{key_cmp};
 ghost use Rattle.lookup.specs.Seen.{listed_seen};
 ghost use Rattle.policycases.specs.Stored.{entry_held};
 
-use bindings::wanted_among;
 use documents::Document;
+use findings::wanted_among;
 use jsondoc::Doc;
 use lookup::{Found, Listed, Lookup};
 use names::{Key, Resource};

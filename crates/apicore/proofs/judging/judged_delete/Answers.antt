@@ -1,4 +1,4 @@
-use Rattle.std.proofs.Common.{rules, ◌∙◌, ◌+◌, sym, ap, string_bytes, map}
+use Rattle.std.proofs.Common.{rules, ◌≡◌, ◌∙◌, ◌+◌, sym, ap, subst, IfOk, string_bytes, map}
 use Rattle.std.specs.Prelude.{IsErrOf}
 use Rattle.objects.specs.declared.fault.LookupFault.TheVariants as LookupFault
 use Rattle.history.specs.History.{delete}
@@ -6,27 +6,39 @@ use Rattle.history.specs.Mapped.{mapped_write}
 use Rattle.history.specs.Reply.{showing}
 use Rattle.verdict.specs.Seen.{verdict_seen}
 use Rattle.recovery.specs.Shown.{plans_held}
-use Rattle.apicore.proofs.Deciding.{admitted_judged, denied_judged, stored_found}
+use Rattle.findings.proofs.Found.{stored_found}
+use Rattle.findings.proofs.Looking.{looked_behind}
+use Rattle.apicore.proofs.Deciding.{if_ok, admitted_judged, denied_judged}
 use Rattle.apicore.proofs.judging.judged_delete.Goals as goal
 
-pub returns-in_ok-admitted_delete-in-Admitted-clause-judged : goal.returns-in_ok-admitted_delete-in-Admitted-clause-judged
-returns-in_ok-admitted_delete-in-Admitted-clause-judged g c = λ held v over found.
-    let p = c.in_ok-admitted_delete-in-Admitted.field-0 in
+pub returns-in-Admitted-clause-judged : goal.returns-in-Admitted-clause-judged
+returns-in-Admitted-clause-judged g c = λ held v over found.
     let d = c.args.found.document in
+    let made = c.admitted_delete.result in
     let warnings = map string_bytes c.in-Admitted.warnings.items in
     let is = sym (c.in_ok-warnings.ensures.verdict held v over) ∙ ap verdict_seen c.in-Admitted.is in
     let stored = stored_found _ _ found in
-    admitted_judged held (λ ws. showing 200 ws d (held.revision + 1)) (delete c.args.key.now) _ warnings p is
-    (c.in_ok-admitted_delete-in-Admitted.ensures.reply ∙ ap (λ n. showing 200 warnings d (n + 1)) over.shows.revision)
-    (ap (map (mapped_write plans_held)) c.in_ok-admitted_delete-in-Admitted.ensures.write)
-    (c.in_ok-admitted_delete-in-Admitted.ensures.next held stored.0 stored.1 stored.2)
+    admitted_judged held (λ ws. showing 200 ws d (held.revision + 1)) (delete c.args.key.now) _ warnings made is
+    (subst (λ n. IfOk made (λ p. p.reply ≡ showing 200 warnings d (n + 1))) over.shows.revision c.admitted_delete.ensures.reply)
+    (if_ok made _ _ (λ p is. ap (map (mapped_write plans_held)) is) c.admitted_delete.ensures.write)
+    (c.admitted_delete.ensures.next held stored.0 stored.1 stored.2)
 
-pub returns-in_ok-denied-in-Denied-clause-judged : goal.returns-in_ok-denied-in-Denied-clause-judged
-returns-in_ok-denied-in-Denied-clause-judged g c = λ held v over found.
+pub returns-in-Denied-clause-judged : goal.returns-in-Denied-clause-judged
+returns-in-Denied-clause-judged g c = λ held v over found.
     let d = c.args.found.document in
     let is = sym (c.in_ok-warnings.ensures.verdict held v over) ∙ ap verdict_seen c.in-Denied.is in
-    denied_judged held (λ ws. showing 200 ws d (held.revision + 1)) (delete c.args.key.now) _ (string_bytes c.in-Denied.policy) (string_bytes c.in-Denied.binding) c.in-Denied.reason (string_bytes c.in-Denied.message) c.in_ok-denied-in-Denied.field-0 is
-    c.in_ok-denied-in-Denied.ensures
+    denied_judged held (λ ws. showing 200 ws d (held.revision + 1)) (delete c.args.key.now) _ (string_bytes c.in-Denied.policy) (string_bytes c.in-Denied.binding) c.in-Denied.reason
+    (string_bytes c.in-Denied.message) c.denied.result is c.denied.ensures.step
+
+pub returns-in-Admitted-clause-looked : goal.returns-in-Admitted-clause-looked
+returns-in-Admitted-clause-looked g c =
+    looked_behind g.S.Source.holds g.S.Source.goes_to g.S.Source.failures c.args.core.now c.args.source.now c.verdict_of.new.source c.admitted_delete.result
+    c.in_ok-warnings.ensures.kept c.in_ok-warnings.ensures.goes c.in_ok-warnings.ensures.counts c.admitted_delete.ensures.memory
+
+pub returns-in-Denied-clause-looked : goal.returns-in-Denied-clause-looked
+returns-in-Denied-clause-looked g c =
+    looked_behind g.S.Source.holds g.S.Source.goes_to g.S.Source.failures c.args.core.now c.args.source.now c.verdict_of.new.source c.denied.result
+    c.in_ok-warnings.ensures.kept c.in_ok-warnings.ensures.goes c.in_ok-warnings.ensures.counts c.denied.ensures.memory
 
 pub returns-in_err-warnings-clause-looked : goal.returns-in_err-warnings-clause-looked
 returns-in_err-warnings-clause-looked g c = record {

@@ -1,12 +1,17 @@
 use Rattle.std.proofs.Common.{◌∙◌, sym, ap, is_some, option_map}
-use Rattle.apicore.specs.Step.{known}
-use Rattle.apicore.proofs.Deciding.{if_ok, create_limited, create_judged}
+use Rattle.requests.specs.Request.{create}
+use Rattle.expressions.specs.Specification.{sound}
+use Rattle.findings.specs.Conditions.{known}
+use Rattle.findings.proofs.Looking.{looked_not}
+use Rattle.findings.proofs.Own.{create_limited}
+use Rattle.apicore.proofs.Deciding.{refused_own, if_ok, create_judged}
 use Rattle.apicore.proofs.preparing.create_sound.Goals as goal
 
-pub returns-in_ok-refused-in-Some-clause-step : goal.returns-in_ok-refused-in-Some-clause-step
-returns-in_ok-refused-in-Some-clause-step g c = λ trees same held v over none.
-    create_limited c.args.core.now.rules held c.args.manifest.now v over.plans c.in_ok-refused-in-Some.field-0 trees c.in-Some.refusal (ap is_some none)
-    (sym (ap (option_map known) c.in-Some.is) ∙ c.create_limit.ensures.shown over.base held over.shows) c.in_ok-refused-in-Some.ensures
+pub returns-in-Some-clause-step : goal.returns-in-Some-clause-step
+returns-in-Some-clause-step g c = λ trees same held v over none.
+    refused_own c.args.core.now.rules held v (create c.args.manifest.now) (sound trees) c.refused.result _
+    (create_limited c.args.core.now.rules held c.args.manifest.now v over.plans trees c.in-Some.refusal (ap is_some none)
+    (sym (ap (option_map known) c.in-Some.is) ∙ c.create_limit.ensures.shown over.base held over.shows)) c.refused.ensures.step
 
 pub returns-in-None-clause-step : goal.returns-in-None-clause-step
 returns-in-None-clause-step g c = λ trees same held v over none.
@@ -14,3 +19,7 @@ returns-in-None-clause-step g c = λ trees same held v over none.
     (λ p judged. create_judged c.args.core.now.rules held c.args.manifest.now v over.plans p trees (ap is_some none)
     (sym (ap (option_map known) c.in-None.is) ∙ c.create_limit.ensures.shown over.base held over.shows) judged)
     (c.judged_put.ensures.judged held v trees over (sym (ap is_some none)) same)
+
+pub returns-in-Some-clause-looked : goal.returns-in-Some-clause-looked
+returns-in-Some-clause-looked g c =
+    looked_not g.S.Source.holds g.S.Source.goes_to g.S.Source.failures c.args.core.now c.args.source.now c.refused.result (g.met.S.Source.stays c.args.source.now) c.refused.ensures.memory

@@ -1,20 +1,20 @@
 use Rattle.std.proofs.Common.{rules, ◌∙◌, sym, inl, inr}
 use Rattle.requests.specs.Request.{create}
 use Rattle.recovery.proofs.Over.{over_kept}
-use Rattle.apicore.proofs.Looking.{looked_on}
-use Rattle.apicore.proofs.Deciding.{prepared_of, create_there, there_found, none_found}
+use Rattle.findings.proofs.Looking.{looked_on, looked_behind}
+use Rattle.findings.proofs.Found.{there_found, none_found}
+use Rattle.findings.proofs.Own.{create_there}
+use Rattle.apicore.proofs.Deciding.{refused_own, prepared_of}
 use Rattle.apicore.proofs.preparing.prepare_create.Goals as goal
 
-pub returns-in_ok-refused-in-Some-clause-step : goal.returns-in_ok-refused-in-Some-clause-step
-returns-in_ok-refused-in-Some-clause-step g c =
+pub returns-in-Some-clause-step : goal.returns-in-Some-clause-step
+returns-in-Some-clause-step g c =
     let read = c.in_ok-specification.ensures in
-    record {
-      specification = read.0;
-      read = read.1;
-      step = λ held v over.
-          let found = sym (rw c.key.ensures at c.in_ok-find.ensures.found over.base held over.below over.shows) ∙ c.in-Some.is in
-          create_there c.args.core.now.rules held c.args.manifest.now v over.plans c.in_ok-refused-in-Some.field-0 read.0 (there_found _ _ found) c.in_ok-refused-in-Some.ensures;
-    }
+    prepared_of _ c.args.core.now (create c.args.manifest.now) read.0 read.1 c.refused.result
+    (λ held v over.
+    let found = sym (rw c.key.ensures at c.in_ok-find.ensures.found over.base held over.below over.shows) ∙ c.in-Some.is in
+    refused_own c.args.core.now.rules held v (create c.args.manifest.now) read.0 c.refused.result _
+    (create_there c.args.core.now.rules held c.args.manifest.now v over.plans read.0 (there_found _ _ found)) c.refused.ensures.step)
 
 pub returns-in-None-clause-step : goal.returns-in-None-clause-step
 returns-in-None-clause-step g c =
@@ -32,11 +32,8 @@ returns-in_err-specification-clause-read g c = λ told.
 pub returns-in_err-find-clause-read : goal.returns-in_err-find-clause-read
 returns-in_err-find-clause-read g c = λ _. (c.in_ok-specification.ensures.0, c.in_ok-specification.ensures.1)
 
-pub returns-in_err-refused-in-Some-clause-read : goal.returns-in_err-refused-in-Some-clause-read
-returns-in_err-refused-in-Some-clause-read g c = λ _. (c.in_ok-specification.ensures.0, c.in_ok-specification.ensures.1)
-
-pub returns-in_ok-refused-in-Some-clause-read : goal.returns-in_ok-refused-in-Some-clause-read
-returns-in_ok-refused-in-Some-clause-read g c = λ _. (c.in_ok-specification.ensures.0, c.in_ok-specification.ensures.1)
+pub returns-in-Some-clause-read : goal.returns-in-Some-clause-read
+returns-in-Some-clause-read g c = λ _. (c.in_ok-specification.ensures.0, c.in_ok-specification.ensures.1)
 
 pub returns-in-None-clause-read : goal.returns-in-None-clause-read
 returns-in-None-clause-read g c = λ _. (c.in_ok-specification.ensures.0, c.in_ok-specification.ensures.1)
@@ -46,3 +43,8 @@ returns-in-None-clause-looked g c =
     looked_on g.S.Source.holds g.S.Source.goes_to g.S.Source.failures c.args.core.now c.args.source.now c.find.new.source c.create_free.new.source c.create_free.result
     c.in_ok-find.ensures.kept c.in_ok-find.ensures.counts
     (g.met.S.Source.goes_on c.args.source.now c.find.new.source c.create_free.new.source c.in_ok-find.ensures.goes c.create_free.ensures.looked.goes) c.create_free.ensures.looked
+
+pub returns-in-Some-clause-looked : goal.returns-in-Some-clause-looked
+returns-in-Some-clause-looked g c =
+    looked_behind g.S.Source.holds g.S.Source.goes_to g.S.Source.failures c.args.core.now c.args.source.now c.find.new.source c.refused.result
+    c.in_ok-find.ensures.kept c.in_ok-find.ensures.goes c.in_ok-find.ensures.counts c.refused.ensures.memory

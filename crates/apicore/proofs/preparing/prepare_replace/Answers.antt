@@ -1,8 +1,9 @@
 use Rattle.std.proofs.Common.{rules, ◌∙◌, sym, inl, inr}
 use Rattle.requests.specs.Request.{replace}
 use Rattle.recovery.proofs.Over.{over_kept}
-use Rattle.apicore.proofs.Looking.{looked_on}
-use Rattle.apicore.proofs.Deciding.{prepared_of, replace_missing}
+use Rattle.findings.proofs.Looking.{looked_on, looked_behind}
+use Rattle.findings.proofs.Own.{replace_missing}
+use Rattle.apicore.proofs.Deciding.{refused_own, prepared_of}
 use Rattle.apicore.proofs.preparing.prepare_replace.Goals as goal
 
 pub returns-in-Some-clause-step : goal.returns-in-Some-clause-step
@@ -13,16 +14,14 @@ returns-in-Some-clause-step g c =
     let found = sym (rw c.key.ensures at c.in_ok-found.ensures.found over.base held over.below over.shows) ∙ c.in-Some.is in
     c.replace_of.ensures.step read.0 read.2 held v (over_kept _ _ c.args.core.now held v c.in_ok-found.ensures.kept over) found)
 
-pub returns-in_ok-refused-in-None-clause-step : goal.returns-in_ok-refused-in-None-clause-step
-returns-in_ok-refused-in-None-clause-step g c =
+pub returns-in-None-clause-step : goal.returns-in-None-clause-step
+returns-in-None-clause-step g c =
     let read = c.in_ok-specification.ensures in
-    record {
-      specification = read.0;
-      read = read.1;
-      step = λ held v over.
-          let none = sym (rw c.key.ensures at c.in_ok-found.ensures.found over.base held over.below over.shows) ∙ c.in-None.is in
-          replace_missing c.args.core.now.rules held c.args.manifest.now v over.plans c.in_ok-refused-in-None.field-0 read.0 none c.in_ok-refused-in-None.ensures;
-    }
+    prepared_of _ c.args.core.now (replace c.args.manifest.now) read.0 read.1 c.refused.result
+    (λ held v over.
+    let none = sym (rw c.key.ensures at c.in_ok-found.ensures.found over.base held over.below over.shows) ∙ c.in-None.is in
+    refused_own c.args.core.now.rules held v (replace c.args.manifest.now) read.0 c.refused.result _
+    (replace_missing c.args.core.now.rules held c.args.manifest.now v over.plans read.0 none) c.refused.ensures.step)
 
 pub returns-in_err-specification-clause-read : goal.returns-in_err-specification-clause-read
 returns-in_err-specification-clause-read g c = λ told.
@@ -35,14 +34,16 @@ returns-in_err-found-clause-read g c = λ _. (c.in_ok-specification.ensures.0, c
 pub returns-in-Some-clause-read : goal.returns-in-Some-clause-read
 returns-in-Some-clause-read g c = λ _. (c.in_ok-specification.ensures.0, c.in_ok-specification.ensures.1)
 
-pub returns-in_err-refused-in-None-clause-read : goal.returns-in_err-refused-in-None-clause-read
-returns-in_err-refused-in-None-clause-read g c = λ _. (c.in_ok-specification.ensures.0, c.in_ok-specification.ensures.1)
-
-pub returns-in_ok-refused-in-None-clause-read : goal.returns-in_ok-refused-in-None-clause-read
-returns-in_ok-refused-in-None-clause-read g c = λ _. (c.in_ok-specification.ensures.0, c.in_ok-specification.ensures.1)
+pub returns-in-None-clause-read : goal.returns-in-None-clause-read
+returns-in-None-clause-read g c = λ _. (c.in_ok-specification.ensures.0, c.in_ok-specification.ensures.1)
 
 pub returns-in-Some-clause-looked : goal.returns-in-Some-clause-looked
 returns-in-Some-clause-looked g c =
     looked_on g.S.Source.holds g.S.Source.goes_to g.S.Source.failures c.args.core.now c.args.source.now c.find.new.source c.replace_of.new.source c.replace_of.result
     c.in_ok-found.ensures.kept c.in_ok-found.ensures.counts
     (g.met.S.Source.goes_on c.args.source.now c.find.new.source c.replace_of.new.source c.in_ok-found.ensures.goes c.replace_of.ensures.looked.goes) c.replace_of.ensures.looked
+
+pub returns-in-None-clause-looked : goal.returns-in-None-clause-looked
+returns-in-None-clause-looked g c =
+    looked_behind g.S.Source.holds g.S.Source.goes_to g.S.Source.failures c.args.core.now c.args.source.now c.find.new.source c.refused.result
+    c.in_ok-found.ensures.kept c.in_ok-found.ensures.goes c.in_ok-found.ensures.counts c.refused.ensures.memory
