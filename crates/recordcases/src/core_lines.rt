@@ -142,16 +142,25 @@ fn show_write(alloc: Global, write: &Option<PreparedWrite<Beside>>, line: &mut L
     }
 }
 
+// Shows the write that the rest prepares, and what the core counts then.
+fn show_prepared(core: &mut Core, alloc: Global, line: &mut Line<'_>) {
+    let Ok(routes) = Routes::new(alloc) else {
+        return line.fail(Wrong::Memory);
+    };
+    match step(core, alloc, &routes, line.rest) {
+        Ok(prepared) => show_write(alloc, &prepared.write, line),
+        Err(wrong) => line.fail(wrong),
+    }
+    drop(routes);
+    show_counts(core, line);
+}
+
 /// `prepares LIMITS METHOD TARGET [BODY]`: the write that a message prepares over an empty store, which is not taken, and the store's revision and number
 /// of objects then.
 pub fn prepares(alloc: Global, line: &mut Line<'_>) {
     let rules = rules_of(line);
-    let (Ok(mut core), Ok(routes)) = (Core::over(alloc, rules, 1, 0), Routes::new(alloc)) else {
-        return line.fail(Wrong::Memory);
-    };
-    match step(&mut core, alloc, &routes, line.rest) {
-        Ok(prepared) => show_write(alloc, &prepared.write, line),
-        Err(wrong) => line.fail(wrong),
+    match Core::over(alloc, rules, 1, 0) {
+        Ok(mut core) => show_prepared(&mut core, alloc, line),
+        Err(_) => line.fail(Wrong::Memory),
     }
-    show_counts(&core, line);
 }
