@@ -4,7 +4,7 @@ ghost use Rattle.std.specs.Prelude.{IfOk};
 ghost use Rattle.holdings.specs.Prepared.{HasRoomFor};
 
 use apicore::{Prepared, prepare};
-use cases::Wrong;
+use cases::{Wrong, first_word, shown};
 use diskcases::Line;
 use holdings::{Nothing, PreparedWrite, Put};
 use names::{Format, Rules};
@@ -31,9 +31,44 @@ fn rules_of(line: &mut Line<'_>) -> Rules {
     }
 }
 
-// The store of the log that the rest spells: `PAYLOAD ; ..`.
+// A payload's spelling, in which a number of six digits, from 100001 on, stands for `%`.
+fn numbered(alloc: Global, spelled: &str, number: u64) -> Result<String, Wrong> {
+    let number = shown(alloc, &number.saturating_add(100_000))?;
+    Ok(spelled.replace(alloc, "%", number.as_str())?)
+}
+
+// So many payloads, as they are numbered.
+fn numbered_log(alloc: Global, count: u64, spelled: &str, line: &mut Line<'_>) -> Vec<Vec<u8>> {
+    let mut log = Vec::new(alloc);
+    for number in 1..=count {
+        match numbered(alloc, spelled, number) {
+            Ok(text) => {
+                let payload = line.payload(alloc, text.as_str());
+                if log.push(payload).is_err() {
+                    line.fail(Wrong::Memory);
+                }
+            }
+            Err(wrong) => line.fail(wrong),
+        }
+    }
+    log
+}
+
+// The payloads of the log that the rest spells: `PAYLOAD ; ..`, or `times N PAYLOAD`.
+fn log_of(alloc: Global, line: &mut Line<'_>) -> Vec<Vec<u8>> {
+    match line.rest.strip_prefix("times ") {
+        Some(rest) => {
+            let (count, spelled) = first_word(rest);
+            let count = line.number_of(count);
+            numbered_log(alloc, count, spelled, line)
+        }
+        None => line.payloads(alloc),
+    }
+}
+
+// The store of the log that the rest spells.
 fn store(alloc: Global, rules: Rules, line: &mut Line<'_>) -> Result<Core, RecoveryFault> {
-    let log = line.payloads(alloc);
+    let log = log_of(alloc, line);
     match Core::over(alloc, rules, 1, 0) {
         Ok(empty) => replayed(alloc, empty, &log),
         Err(_) => Err(RecoveryFault::Memory),
