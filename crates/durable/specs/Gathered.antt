@@ -1,7 +1,12 @@
 -- A store that has taken the writes of a group of requests, before they are on its device.
-use Rattle.std.specs.Prelude.{◌≡◌, ◌≤◌, ◌+◌, ◌⊎◌, ℕ, List, [], ◌++◌, length, map, take, Option, Some, None}
+use Rattle.std.specs.Prelude.{◌≡◌, ◌≤◌, ◌+◌, ◌⊎◌, ℕ, List, [], ◌++◌, length, map, take, true, false, Option, Some, None, IfSome, vec_capacity}
+use Rattle.std.specs.declared.alloc.Global.{Global}
+use Rattle.std.specs.declared.vec.Vec.{Vec}
 use Rattle.std.specs.List.{AllByRecursion}
 use Rattle.device.specs.declared.device.Device.{Ghosts}
+use Rattle.device.specs.Disk.{HasFailed}
+use Rattle.device.specs.Run.{Ran}
+use Rattle.device.specs.Step.{Same}
 use Rattle.names.specs.declared.format.Rules.{Rules}
 use Rattle.requests.specs.Request.{Request}
 use Rattle.history.specs.History as plain
@@ -20,10 +25,12 @@ use Rattle.apicore.specs.Prepared.{IsReadOf}
 use Rattle.recovery.specs.Shown.{plans_held}
 use Rattle.recovery.specs.Standing.{Write, View, AllMayFollow, write_with_plans, recorded}
 use Rattle.apicore.specs.Step.{Asked, writes, reply, accepted, replies}
+use Rattle.durable.specs.declared.fault.Damage.{Damage}
 use Rattle.durable.specs.declared.fault.Fault.{Fault}
 use Rattle.durable.specs.declared.fault.Fault.TheVariants as Faults
 use Rattle.durable.specs.declared.store.Store.{Store}
-use Rattle.durable.specs.Settled.{AreAsked, ServesAt, HasServed, HasStopped}
+use Rattle.durable.specs.Faults.{MayBeMet}
+use Rattle.durable.specs.Settled.{device_of, serves, AreAsked, ServesAt, HasServed, HasStopped}
 
 -- what a record says of writes
 abbrev pub in_record : List Write → List (plain.Write (List ℕ))
@@ -103,3 +110,17 @@ pub record HasAnswered {D : Type 0} {g : Ghosts D} (old new : Store D g) (reques
   pub all : stop ≡ None → (length more ≡ length requests)
   pub served : (stop ≡ None) ⊎ (stop ≡ Some Faults.Memory) → HasServed old new (take (length more) requests) more
   pub stopped : stop ≡ Some Faults.Device → (stopped : HasStopped old new requests more) × (length more + length stopped.failing ≤ length requests)
+
+-- A group of so many requests has met this fault or none, and its replies stand behind others. The store serves on unless its device fails, or damage is
+-- found. That is only where no view is shown, and nothing is written then.
+pub record HasMet {D : Type 0} {g : Ghosts D} (old new : Store D g) (asked : ℕ) (before now : Vec Reply Global) (stop : Option Fault) : Type 0 where
+  pub damaged : (damage : Damage) → stop ≡ Some (Faults.Damaged damage) → (rules : Rules) (v : View) → ServesAt rules old v → ⊥
+  pub damaged_ran : (damage : Damage) → stop ≡ Some (Faults.Damaged damage) → Ran g.disk (device_of old) (device_of new) Same
+  pub all : stop ≡ None → length now.items ≡ length before.items + asked
+  pub room : vec_capacity now ≡ vec_capacity before
+  pub goes_on : (stop ≡ None) ⊎ (stop ≡ Some Faults.Memory) → serves new ≡ true
+  pub stops : stop ≡ Some Faults.Device → serves new ≡ false
+  pub damaged_stops : (damage : Damage) → stop ≡ Some (Faults.Damaged damage) → serves new ≡ false
+  pub refusal : IfSome stop MayBeMet
+  pub cause : stop ≡ Some Faults.Device → HasFailed g.disk (device_of old) (device_of new)
+  pub count : g.disk.failures (device_of old) ≤ g.disk.failures (device_of new)

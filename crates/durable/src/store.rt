@@ -74,7 +74,7 @@ impl<D: Device> Store<D> {
     ghost use Rattle.durable.specs.Faults.{MayBeMet};
     ghost use Rattle.durable.specs.Compacted.{IsToldOf, IsCheckOf};
     ghost use Rattle.durable.specs.Recorded.{payload, IsGroup};
-    ghost use Rattle.durable.specs.Gathered.{in_record, CanBeAppended, HasStepped, StaysAs, HasGatheredMore, HasServedMore, HasStoppedIn, HasAnswered};
+    ghost use Rattle.durable.specs.Gathered.{in_record, CanBeAppended, HasStepped, StaysAs, HasGatheredMore, HasServedMore, HasStoppedIn, HasAnswered, HasMet};
     ghost use Rattle.durable.specs.Ready.{IsReadyAt, HoldsHistory};
     ghost use Rattle.durable.specs.Stands.{StandsFor};
     ghost use Rattle.durable.specs.Settled.{device_of, paged_of, root_of, log_of, serves, kept_rules, revision_of, LiesUnder, LiesStill, Holds, IsShown, ServesAt, IsFound, IsSettledAt, IsLeftAt, LeavesSome, HasReplied, HasFailedAt, HasServed, HasStopped};
@@ -303,17 +303,8 @@ impl<D: Device> Store<D> {
         requires room { length replies.old.items + length requests.now ≤ vec_capacity replies.old }
         ensures served { serves self.new ≡ true → HasServedMore self.old self.new (map request_of requests.now) replies.old.items replies.new.items }
         ensures stopped { result ≡ Some Fault.Device → HasStoppedIn self.old self.new (map request_of requests.now) }
-        ensures damaged { (damage : Damage) → result ≡ Some (Fault.Damaged damage) → (rules : Rules) (v : View) → ServesAt rules self.old v → ⊥ }
-        ensures damaged_ran { (damage : Damage) → result ≡ Some (Fault.Damaged damage) → Ran D.disk (device_of self.old) (device_of self.new) Same }
         ensures front { take (length replies.old.items) replies.new.items ≡ replies.old.items }
-        ensures all { result ≡ None → length replies.new.items ≡ length replies.old.items + length requests.now }
-        ensures room { vec_capacity replies.new ≡ vec_capacity replies.old }
-        ensures goes_on { (result ≡ None) ⊎ (result ≡ Some Fault.Memory) → serves self.new ≡ true }
-        ensures stops { result ≡ Some Fault.Device → serves self.new ≡ false }
-        ensures damaged_stops { (damage : Damage) → result ≡ Some (Fault.Damaged damage) → serves self.new ≡ false }
-        ensures refusal { IfSome result MayBeMet }
-        ensures cause { result ≡ Some Fault.Device → HasFailed D.disk (device_of self.old) (device_of self.new) }
-        ensures count { D.disk.failures (device_of self.old) ≤ D.disk.failures (device_of self.new) }
+        ensures met { HasMet self.old self.new (length requests.now) replies.old replies.new result }
     {
         let mut group = match Group::new(alloc) {
             Ok(group) => group,
@@ -340,16 +331,7 @@ impl<D: Device> Store<D> {
         requires few { length requests.now ≤ group_limit }
         requires room { length replies.old.items + length requests.now ≤ vec_capacity replies.old }
         ensures answered { HasAnswered self.old self.new (map request_of requests.now) replies.old.items replies.new.items result }
-        ensures damaged { (damage : Damage) → result ≡ Some (Fault.Damaged damage) → (rules : Rules) (v : View) → ServesAt rules self.old v → ⊥ }
-        ensures damaged_ran { (damage : Damage) → result ≡ Some (Fault.Damaged damage) → Ran D.disk (device_of self.old) (device_of self.new) Same }
-        ensures all { result ≡ None → length replies.new.items ≡ length replies.old.items + length requests.now }
-        ensures room { vec_capacity replies.new ≡ vec_capacity replies.old }
-        ensures goes_on { (result ≡ None) ⊎ (result ≡ Some Fault.Memory) → serves self.new ≡ true }
-        ensures stops { result ≡ Some Fault.Device → serves self.new ≡ false }
-        ensures damaged_stops { (damage : Damage) → result ≡ Some (Fault.Damaged damage) → serves self.new ≡ false }
-        ensures refusal { IfSome result MayBeMet }
-        ensures cause { result ≡ Some Fault.Device → HasFailed D.disk (device_of self.old) (device_of self.new) }
-        ensures count { D.disk.failures (device_of self.old) ≤ D.disk.failures (device_of self.new) }
+        ensures met { HasMet self.old self.new (length requests.now) replies.old replies.new result }
     {
         let before = replies.len();
         let stop = self.take_group(alloc, requests, replies);

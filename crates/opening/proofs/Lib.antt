@@ -3,3 +3,4 @@ pub mod Reading
 pub mod Readiness
 pub mod Bases
 pub mod Settling
+pub mod Found

@@ -1,17 +1,28 @@
 -- What is found on a device that is opened.
-use Rattle.std.specs.Prelude.{◌≡◌, ℕ, List}
+use Rattle.std.specs.Prelude.{◌≡◌, ◌≢◌, ◌≤◌, ℕ, List, false, Result, Err, IfOk, IsErrOf}
+use Rattle.device.specs.Disk.{Disk, HasFailed}
+use Rattle.device.specs.Run.{Ran}
+use Rattle.device.specs.Step.{Same}
 use Rattle.names.specs.declared.format.Rules.{Rules}
 use Rattle.history.specs.Mapped.{mapped}
 use Rattle.history.specs.View as seen
-use Rattle.history.specs.View.{AllMayFollow, after_all}
+use Rattle.history.specs.View.{AllMayFollow, after_all, view}
 use Rattle.recovery.specs.Beside.{Beside}
 use Rattle.recovery.specs.Shown.{plans_held}
+use Rattle.recovery.specs.Standing.{History}
 use Rattle.recovery.specs.Written.{Write, AllStorable}
 use Rattle.snapshots.specs.Keeping.{IsHeld}
+use Rattle.paged.specs.Paged.{Holds, IsShown, root_of}
+use Rattle.durable.specs.declared.fault.Damage.{Damage}
+use Rattle.durable.specs.declared.fault.Fault.{Fault}
+use Rattle.durable.specs.declared.fault.Fault.TheVariants as Faults
+use Rattle.durable.specs.Rules.{first_rules}
+use Rattle.durable.specs.Stands.{StandsFor}
 use Rattle.gatelog.specs.declared.gate_log.Log.{Log}
 use Rattle.roots.specs.declared.root.Root.{Root}
 use Rattle.roots.specs.Root.{log_start, HoldsRoot}
 use Rattle.gatelog.specs.Log.{HoldsLog}
+use Rattle.opening.specs.declared.content.Opened.{Opened}
 
 -- The root counts, and the log is the one behind its pages, with these payloads.
 pub record IsLogOf (content : List ℕ) (root : Root) (log : Log) : Type 0 where
@@ -28,3 +39,20 @@ pub record IsReplayed (rules : Rules) (held : seen.View Beside) : Type 0 where
   pub storable : AllStorable writes
   pub follow : AllMayFollow rules base writes
   pub shows : mapped plans_held held ≡ after_all rules base writes
+
+-- A device has been read, and nothing was written. What is found is what is shown of the history that its content stands for, and the log behind the pages;
+-- damage is found only where it stands for none.
+pub record HasRead {D : Type 0} (disk : Disk D) (old new : D) (result : Result Opened Fault) : Type 0 where
+  pub rules : IfOk result (λ opened. opened.paged.core.rules ≡ first_rules)
+  pub works : IfOk result (λ opened. opened.log.failed ≡ false)
+  pub in_data : IfOk result (λ opened. 8 ≤ opened.log.start)
+  pub found : disk.keeps old → (rules : Rules) (h : History) → StandsFor rules (disk.content old) h
+      → IfOk result (λ opened. (opened.paged.core.rules ≡ rules) × IsShown disk new opened.paged (view rules h))
+  pub replayed : IfOk result (λ opened. (root_of opened.paged).pages ≡ 0
+      → (held : seen.View Beside) × Holds disk new opened.paged held × IsReplayed opened.paged.core.rules held)
+  pub log : disk.keeps old → IfOk result (λ opened. IsLogOf (disk.content old) (root_of opened.paged) opened.log)
+  pub damaged : disk.keeps old → (damage : Damage) → IsErrOf result (Faults.Damaged damage)
+      → (rules : Rules) (h : History) → StandsFor rules (disk.content old) h → ⊥
+  pub ran : Ran disk old new Same
+  pub refusal : (result ≢ Err Faults.Failed) × (result ≢ Err Faults.Exhausted)
+  pub cause : IsErrOf result Faults.Device → HasFailed disk old new

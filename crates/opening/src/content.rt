@@ -14,15 +14,15 @@ ghost use Rattle.recovery.specs.Taken.{HasReplayed};
 ghost use Rattle.recovery.specs.Written.{Write, IsWritten};
 ghost use Rattle.durable.specs.declared.fault.Damage.{Damage as DamageData};
 ghost use Rattle.durable.specs.declared.fault.Fault.TheVariants as Fault;
-ghost use Rattle.opening.specs.Opened.{IsLogOf, IsReplayed};
+ghost use Rattle.opening.specs.Opened.{HasRead, IsReplayed};
 ghost use Rattle.recovery.specs.Beside.{Beside as BesideData};
 ghost use Rattle.history.specs.View as seen;
 ghost use Rattle.history.specs.View.{view};
 ghost use Rattle.holdings.specs.Holdings as holdings;
 ghost use Rattle.paged.specs.Lying.{base_of};
-ghost use Rattle.paged.specs.Paged.{Below, Holds, IsShown, root_of};
+ghost use Rattle.paged.specs.Paged.{Below, root_of};
 ghost use Rattle.durable.specs.Rules.{first_rules, AreOfFormat};
-ghost use Rattle.durable.specs.Stands.{HoldsBase, StandsFor};
+ghost use Rattle.durable.specs.Stands.{HoldsBase};
 
 use device::Device;
 use durable::{Damage, Fault};
@@ -122,19 +122,7 @@ fn read_pages_alone<D: Device>(alloc: Global, device: &mut D, root: &Root, damag
 
 // Reads the store on a device. Nothing is written.
 fn read_store<D: Device>(alloc: Global, device: &mut D) -> Result<Opened, Fault>
-    ensures rules { IfOk result (λ opened. opened.paged.core.rules ≡ first_rules) }
-    ensures works { IfOk result (λ opened. opened.log.failed ≡ false) }
-    ensures in_data { IfOk result (λ opened. 8 ≤ opened.log.start) }
-    ensures found { D.disk.keeps device.old → (rules : Rules) (h : History) → StandsFor rules (D.disk.content device.old) h
-        → IfOk result (λ opened. (opened.paged.core.rules ≡ rules) × IsShown D.disk device.new opened.paged (view rules h)) }
-    ensures replayed { IfOk result (λ opened. (root_of opened.paged).pages ≡ 0
-        → (held : seen.View BesideData) × Holds D.disk device.new opened.paged held × IsReplayed opened.paged.core.rules held) }
-    ensures log { D.disk.keeps device.old → IfOk result (λ opened. IsLogOf (D.disk.content device.old) (root_of opened.paged) opened.log) }
-    ensures damaged { D.disk.keeps device.old → (damage : DamageData) → IsErrOf result (Fault.Damaged damage)
-        → (rules : Rules) (h : History) → StandsFor rules (D.disk.content device.old) h → ⊥ }
-    ensures ran { Ran D.disk device.old device.new Same }
-    ensures refusal { (result ≢ Err Fault.Failed) × (result ≢ Err Fault.Exhausted) }
-    ensures cause { IsErrOf result Fault.Device → HasFailed D.disk device.old device.new }
+    ensures { HasRead D.disk device.old device.new result }
 {
     let root = counted_root(device)?;
     match read_log(alloc, device, root.log_start()) {
@@ -149,20 +137,8 @@ fn read_store<D: Device>(alloc: Global, device: &mut D) -> Result<Opened, Fault>
 
 /// Syncs a device, and reads the store on it. Nothing is written.
 pub(crate) fn synced_store<D: Device>(alloc: Global, device: &mut D) -> Result<Opened, Fault>
-    ensures rules { IfOk result (λ opened. opened.paged.core.rules ≡ first_rules) }
-    ensures works { IfOk result (λ opened. opened.log.failed ≡ false) }
-    ensures in_data { IfOk result (λ opened. 8 ≤ opened.log.start) }
-    ensures found { D.disk.keeps device.old → (rules : Rules) (h : History) → StandsFor rules (D.disk.content device.old) h
-        → IfOk result (λ opened. (opened.paged.core.rules ≡ rules) × IsShown D.disk device.new opened.paged (view rules h)) }
-    ensures replayed { IfOk result (λ opened. (root_of opened.paged).pages ≡ 0
-        → (held : seen.View BesideData) × Holds D.disk device.new opened.paged held × IsReplayed opened.paged.core.rules held) }
-    ensures log { D.disk.keeps device.old → IfOk result (λ opened. IsLogOf (D.disk.content device.old) (root_of opened.paged) opened.log) }
+    ensures read { HasRead D.disk device.old device.new result }
     ensures durable { D.disk.keeps device.old → OnOk result (Only (D.disk.content device.new) (D.disk.left device.new)) }
-    ensures damaged { D.disk.keeps device.old → (damage : DamageData) → IsErrOf result (Fault.Damaged damage)
-        → (rules : Rules) (h : History) → StandsFor rules (D.disk.content device.old) h → ⊥ }
-    ensures ran { Ran D.disk device.old device.new Same }
-    ensures refusal { (result ≢ Err Fault.Failed) × (result ≢ Err Fault.Exhausted) }
-    ensures cause { IsErrOf result Fault.Device → HasFailed D.disk device.old device.new }
 {
     if device.sync().is_err() {
         return Err(Fault::Device);

@@ -1,7 +1,9 @@
-use Rattle.std.proofs.Common.{rules as common, ◌≡◌, ◌∙◌, sym, ap, subst, List, [], ℕ, map, Err, IsErrOf}
+use Rattle.std.proofs.Common.{arith, rules as common, ◌≡◌, ◌∙◌, sym, ap, subst, List, [], ℕ, map, Result, Err, IsErrOf}
+use Rattle.device.specs.Run.{Ran}
+use Rattle.device.specs.Step.{Same}
 use Rattle.names.specs.declared.format.Rules.{Rules}
 use Rattle.gatelog.specs.Log.{HoldsLog}
-use Rattle.roots.specs.Root.{log_start}
+use Rattle.roots.specs.Root.{log_start, HoldsRoot}
 use Rattle.history.specs.View as seen
 use Rattle.history.specs.View.{view}
 use Rattle.records.specs.Payload.{writes_in}
@@ -13,49 +15,49 @@ use Rattle.recovery.specs.Taken.{HasReplayed}
 use Rattle.recovery.specs.Written.{Write, IsWritten}
 use Rattle.paged.specs.Lying.{base_of}
 use Rattle.paged.proofs.Staying.{below_free}
+use Rattle.durable.specs.declared.fault.Damage.{Damage}
+use Rattle.durable.specs.declared.fault.Fault.{Fault as AnyFault}
 use Rattle.durable.specs.declared.fault.Fault.TheVariants as Fault
-use Rattle.opening.specs.Opened.{IsReplayed}
+use Rattle.durable.specs.Faults.{of_root_fault}
 use Rattle.durable.specs.Stands.{HoldsBase}
-use Rattle.durable.proofs.Renewing.{err_is}
-use Rattle.opening.proofs.Bases.{read_thrice}
 use Rattle.durable.proofs.Numbers.{first_numbers}
+use Rattle.durable.proofs.Renewing.{failed_then}
+use Rattle.durable.proofs.Unwritten.{read_then}
+use Rattle.opening.specs.declared.content.Opened.{Opened}
+use Rattle.opening.specs.Opened.{IsReplayed, HasRead}
+use Rattle.opening.proofs.Bases.{read_thrice}
+use Rattle.opening.proofs.Found.{err_of, found_none, found_no_root}
 use Rattle.opening.proofs.Reading.{base_is, base_here, no_log_here, written_here, opened_shows}
 use Rattle.opening.proofs.content.read_store.Goals as goal
 
-pub returns-in_err-paged-in-Ok-clause-damaged : goal.returns-in_err-paged-in-Ok-clause-damaged
-returns-in_err-paged-in-Ok-clause-damaged g c keeps damage told rules h stands =
-    let content = g.D.Device.disk.content c.args.device.now in
-    let root = c.in_ok-root.root in
-    let counts = c.in_ok-root.ensures.found keeps in
-    let kept = c.counted_root.ensures.ran.kept keeps in
-    let root_same : g.D.Device.disk.content c.counted_root.new.device ≡ content = c.counted_root.ensures.ran.seen keeps in
-    let same : g.D.Device.disk.content c.read_log.new.device ≡ content = c.read_log.ensures.ran.seen kept ∙ root_same in
-    let log = c.in-Ok.log in
-    let payloads : List (List ℕ) = map (λ p. p.items) c.in-Ok.payloads.items in
-    let held : seen.View Beside = with_plans (view rules stands.base) in
-    let later : List Write = map write_with_plans (writes_in stands.groups) in
-    let In : List ℕ → Type 0 = λ x. HoldsLog (log_start root) payloads log.last x in
-    let At : ℕ → Type 0 = λ at. HoldsLog at payloads log.last (g.D.Device.disk.content c.counted_root.new.device) in
-    let there : HoldsLog (log_start root) payloads log.last content = subst In root_same (subst At c.log_start.ensures.place (c.in-Ok.ensures.found kept)) in
-    let Keeps : List ℕ → Type 0 = λ x. HoldsBase rules x root stands.base in
-    let By : List (List ℕ) → Type 0 = λ ps. IsWritten rules held later ps in
-    let fault : Fault.Damaged damage ≡ c.in_err-paged-in-Ok.field-0.0 =
-    err_is c.from_residual-in_err-paged-in-Ok.result _ (Fault.Damaged damage) c.from_residual-in_err-paged-in-Ok.ensures.1 told in
-    c.read_objects.ensures.damaged (c.read_log.ensures.ran.kept kept) damage (c.in_err-paged-in-Ok.was ∙ ap Err (sym fault)) rules stands.base later stands.numbers
-    (base_is rules content h stands) (subst Keeps (sym same) (base_here rules content h stands root counts))
-    (subst By (ap (map (λ p. p.items)) (sym c.deref.ensures.value)) (written_here rules content h stands root counts payloads log.last there))
+pub returns-in_err-root : goal.returns-in_err-root
+returns-in_err-root g c =
+    let disk = g.D.Device.disk in
+    let Read : Result Opened AnyFault → Type 0 = λ r. HasRead disk c.args.device.now c.counted_root.new.device r in
+    subst Read (sym (err_of c.from_residual.result (of_root_fault c.in_err-root.field-0.0) c.from_residual.ensures.1))
+    (found_no_root disk c.args.device.now c.counted_root.new.device c.counted_root.ensures.ran c.counted_root.result c.in_err-root.field-0.0 c.in_err-root.was
+    c.counted_root.ensures.cause c.counted_root.ensures.damaged)
 
-pub returns-in_ok-paged-in-Ok-clause-found : goal.returns-in_ok-paged-in-Ok-clause-found
-returns-in_ok-paged-in-Ok-clause-found g c keeps rules h stands =
+pub returns-in_err-paged-in-Ok : goal.returns-in_err-paged-in-Ok
+returns-in_err-paged-in-Ok g c =
     let disk = g.D.Device.disk in
     let content = disk.content c.args.device.now in
     let root = c.in_ok-root.root in
+    let fault = c.in_err-paged-in-Ok.field-0.0 in
+    let first : Ran disk c.args.device.now c.read_log.new.device Same =
+    read_then disk c.args.device.now c.counted_root.new.device c.read_log.new.device c.counted_root.ensures.ran c.read_log.ensures.ran
+    in
+    let Read : Result Opened AnyFault → Type 0 = λ r. HasRead disk c.args.device.now c.read_objects.new.device r in
+    subst Read (sym (err_of c.from_residual-in_err-paged-in-Ok.result fault c.from_residual-in_err-paged-in-Ok.ensures.1))
+    (found_none disk c.args.device.now c.read_objects.new.device
+    (read_then disk c.args.device.now c.read_log.new.device c.read_objects.new.device first c.read_objects.ensures.ran) fault
+    (λ is. c.read_objects.ensures.refusal.0 (c.in_err-paged-in-Ok.was ∙ ap Err is)) (λ is. c.read_objects.ensures.refusal.1 (c.in_err-paged-in-Ok.was ∙ ap Err is))
+    (λ is. failed_then disk c.args.device.now c.read_log.new.device c.read_objects.new.device first (c.read_objects.ensures.cause (c.in_err-paged-in-Ok.was ∙ ap Err is)))
+    (λ keeps damage is rules h stands.
     let counts = c.in_ok-root.ensures.found keeps in
     let kept = c.counted_root.ensures.ran.kept keeps in
     let root_same : disk.content c.counted_root.new.device ≡ content = c.counted_root.ensures.ran.seen keeps in
-    let same : disk.content c.read_log.new.device ≡ content = c.read_log.ensures.ran.seen kept ∙ root_same in
     let log = c.in-Ok.log in
-    let paged = c.in_ok-paged-in-Ok.paged in
     let payloads : List (List ℕ) = map (λ p. p.items) c.in-Ok.payloads.items in
     let held : seen.View Beside = with_plans (view rules stands.base) in
     let later : List Write = map write_with_plans (writes_in stands.groups) in
@@ -64,39 +66,97 @@ returns-in_ok-paged-in-Ok-clause-found g c keeps rules h stands =
     let there : HoldsLog (log_start root) payloads log.last content = subst In root_same (subst At c.log_start.ensures.place (c.in-Ok.ensures.found kept)) in
     let Keeps : List ℕ → Type 0 = λ x. HoldsBase rules x root stands.base in
     let By : List (List ℕ) → Type 0 = λ ps. IsWritten rules held later ps in
-    let Replayed : List (List ℕ) → Type 0 = λ ps. HasReplayed rules (base_of held) held paged.core ps in
-    let found = c.in_ok-paged-in-Ok.ensures.found (c.read_log.ensures.ran.kept kept) rules stands.base later stands.numbers (base_is rules content h stands)
-    (subst Keeps (sym same) (base_here rules content h stands root counts))
-    (subst By (ap (map (λ p. p.items)) (sym c.deref.ensures.value)) (written_here rules content h stands root counts payloads log.last there)) in (
-      c.in_ok-paged-in-Ok.ensures.rules ∙ sym (first_numbers rules stands.numbers),
-      record {
-        base = base_of held;
-        below = found.0;
-        shows = opened_shows rules content h stands root counts payloads log.last held (held_as_it_is held) there (base_of held)
-            (below_free disk paged (base_of held) c.read_objects.new.device found.0) paged.core (subst Replayed (ap (map (λ p. p.items)) c.deref.ensures.value) found.1);
-      },
-    )
+    c.read_objects.ensures.damaged (first.kept keeps) damage (c.in_err-paged-in-Ok.was ∙ ap Err is) rules stands.base later stands.numbers
+    (base_is rules content h stands) (subst Keeps (sym (first.seen keeps)) (base_here rules content h stands root counts))
+    (subst By (ap (map (λ p. p.items)) (sym c.deref.ensures.value)) (written_here rules content h stands root counts payloads log.last there))))
 
-pub returns-in_ok-paged-in-Ok-clause-replayed : goal.returns-in_ok-paged-in-Ok-clause-replayed
-returns-in_ok-paged-in-Ok-clause-replayed g c none =
-    let paged = c.in_ok-paged-in-Ok in
-    let found = paged.ensures.replayed (ap (λ (r : Root). r.pages) (sym paged.ensures.root) ∙ none) in
-    let Replayed : Rules → Type 0 = λ r. IsReplayed r found.1.0 in
-    (found.1.0, record { base = []; below = found.0; shows = found.1.1 }, subst Replayed (sym paged.ensures.rules) found.1.2)
-
-pub returns-in_ok-paged-in-Ok-clause-ran : goal.returns-in_ok-paged-in-Ok-clause-ran
-returns-in_ok-paged-in-Ok-clause-ran g c =
-    read_thrice g.D.Device.disk c.args.device.now c.counted_root.new.device c.read_log.new.device c.read_objects.new.device c.counted_root.ensures.ran c.read_log.ensures.ran
-    c.read_objects.ensures.ran
-
-pub returns-in-Err-Damaged-clause-damaged : goal.returns-in-Err-Damaged-clause-damaged
-returns-in-Err-Damaged-clause-damaged g c keeps damage told rules h stands =
-    let content = g.D.Device.disk.content c.args.device.now in
+pub returns-in_ok-paged-in-Ok : goal.returns-in_ok-paged-in-Ok
+returns-in_ok-paged-in-Ok g c =
+    let disk = g.D.Device.disk in
+    let content = disk.content c.args.device.now in
     let root = c.in_ok-root.root in
-    let root_same : g.D.Device.disk.content c.counted_root.new.device ≡ content = c.counted_root.ensures.ran.seen keeps in
+    let log = c.in-Ok.log in
+    let paged = c.in_ok-paged-in-Ok.paged in
+    let read = c.in_ok-paged-in-Ok.ensures in
+    let payloads : List (List ℕ) = map (λ p. p.items) c.in-Ok.payloads.items in
+    let In : List ℕ → Type 0 = λ x. HoldsLog (log_start root) payloads log.last x in
+    let At : ℕ → Type 0 = λ at. HoldsLog at payloads log.last (disk.content c.counted_root.new.device) in
+    record {
+      rules = read.rules;
+      works = c.in-Ok.ensures.place.1;
+      in_data = omega (arith, c.in-Ok.ensures.place.0, c.log_start.ensures.place, c.in_ok-root.ensures.in_data);
+      found = λ keeps rules h stands.
+          let counts = c.in_ok-root.ensures.found keeps in
+          let kept = c.counted_root.ensures.ran.kept keeps in
+          let root_same : disk.content c.counted_root.new.device ≡ content = c.counted_root.ensures.ran.seen keeps in
+          let same : disk.content c.read_log.new.device ≡ content = c.read_log.ensures.ran.seen kept ∙ root_same in
+          let held : seen.View Beside = with_plans (view rules stands.base) in
+          let later : List Write = map write_with_plans (writes_in stands.groups) in
+          let there : HoldsLog (log_start root) payloads log.last content = subst In root_same (subst At c.log_start.ensures.place (c.in-Ok.ensures.found kept)) in
+          let Keeps : List ℕ → Type 0 = λ x. HoldsBase rules x root stands.base in
+          let By : List (List ℕ) → Type 0 = λ ps. IsWritten rules held later ps in
+          let Replayed : List (List ℕ) → Type 0 = λ ps. HasReplayed rules (base_of held) held paged.core ps in
+          let found = read.found (c.read_log.ensures.ran.kept kept) rules stands.base later stands.numbers (base_is rules content h stands)
+          (subst Keeps (sym same) (base_here rules content h stands root counts))
+          (subst By (ap (map (λ p. p.items)) (sym c.deref.ensures.value)) (written_here rules content h stands root counts payloads log.last there)) in (
+            read.rules ∙ sym (first_numbers rules stands.numbers),
+            record {
+              base = base_of held;
+              below = found.0;
+              shows = opened_shows rules content h stands root counts payloads log.last held (held_as_it_is held) there (base_of held)
+                  (below_free disk paged (base_of held) c.read_objects.new.device found.0) paged.core (subst Replayed (ap (map (λ p. p.items)) c.deref.ensures.value) found.1);
+            },
+          );
+      replayed = λ none.
+          let found = read.replayed (ap (λ (r : Root). r.pages) (sym read.root) ∙ none) in
+          let Replayed : Rules → Type 0 = λ r. IsReplayed r found.1.0 in
+          (found.1.0, record { base = []; below = found.0; shows = found.1.1 }, subst Replayed (sym read.rules) found.1.2);
+      log = λ keeps.
+          let Counts : Root → Type 0 = λ r. HoldsRoot content r in
+          let Of : ℕ → Type 0 = λ start. HoldsLog start payloads log.last content in
+          let there : HoldsLog c.log_start.result payloads log.last (disk.content c.counted_root.new.device) = c.in-Ok.ensures.found (c.counted_root.ensures.ran.kept keeps) in
+          let Log : List ℕ → Type 0 = λ x. HoldsLog c.log_start.result payloads log.last x in
+          record {
+            counts = subst Counts (sym read.root) (c.in_ok-root.ensures.found keeps);
+            start = c.in-Ok.ensures.place.0 ∙ c.log_start.ensures.place ∙ ap log_start (sym read.root);
+            payloads = payloads;
+            holds = subst Of (sym c.in-Ok.ensures.place.0) (subst Log (c.counted_root.ensures.ran.seen keeps) there);
+          };
+      damaged = λ keeps damage is rules h stands. cc;
+      ran = read_thrice disk c.args.device.now c.counted_root.new.device c.read_log.new.device c.read_objects.new.device c.counted_root.ensures.ran c.read_log.ensures.ran
+          c.read_objects.ensures.ran;
+      refusal = ((λ is. cc), (λ is. cc));
+      cause = λ is. cc;
+    }
+
+pub returns-in-Err-Damaged : goal.returns-in-Err-Damaged
+returns-in-Err-Damaged g c =
+    let disk = g.D.Device.disk in
+    let content = disk.content c.args.device.now in
+    let root = c.in_ok-root.root in
+    let told = c.read_pages_alone.ensures in
+    let first : Ran disk c.args.device.now c.read_log.new.device Same =
+    read_then disk c.args.device.now c.counted_root.new.device c.read_log.new.device c.counted_root.ensures.ran c.read_log.ensures.ran
+    in
+    found_none disk c.args.device.now c.read_pages_alone.new.device (read_then disk c.args.device.now c.read_log.new.device c.read_pages_alone.new.device first told.ran)
+    c.read_pages_alone.result told.refusal.0 told.refusal.1
+    (λ is. failed_then disk c.args.device.now c.read_log.new.device c.read_pages_alone.new.device first (told.cause is))
+    (λ keeps damage _ rules h stands.
+    let root_same : disk.content c.counted_root.new.device ≡ content = c.counted_root.ensures.ran.seen keeps in
     let None : ℕ → List ℕ → Type 0 = λ at x. (payloads : List (List ℕ)) (last : ℕ) → HoldsLog at payloads last x → ⊥ in
-    let At : ℕ → Type 0 = λ at. None at (g.D.Device.disk.content c.counted_root.new.device) in
+    let At : ℕ → Type 0 = λ at. None at (disk.content c.counted_root.new.device) in
     let found : IsErrOf c.read_log.result (Fault.Damaged c.in-Err-Damaged.damage) = search common in
     no_log_here rules content h stands root (c.in_ok-root.ensures.found keeps)
     (subst (None (log_start root)) root_same
-    (subst At c.log_start.ensures.place (c.read_log.ensures.damaged (c.counted_root.ensures.ran.kept keeps) c.in-Err-Damaged.damage found)))
+    (subst At c.log_start.ensures.place (c.read_log.ensures.damaged (c.counted_root.ensures.ran.kept keeps) c.in-Err-Damaged.damage found))))
+
+pub returns-in-Err : goal.returns-in-Err
+returns-in-Err g c =
+    let disk = g.D.Device.disk in
+    let told = c.in-Err.ensures in
+    let excluded : (damage : Damage) → c.in-Err.fault ≡ Fault.Damaged damage → ⊥ = λ damage is. search common in
+    found_none disk c.args.device.now c.read_log.new.device
+    (read_then disk c.args.device.now c.counted_root.new.device c.read_log.new.device c.counted_root.ensures.ran c.read_log.ensures.ran) c.in-Err.fault
+    (λ is. told.refusal.0 (ap Err is)) (λ is. told.refusal.1 (ap Err is))
+    (λ is. failed_then disk c.args.device.now c.counted_root.new.device c.read_log.new.device c.counted_root.ensures.ran (told.cause (ap Err is)))
+    (λ keeps damage is. absurd (excluded damage is))

@@ -1,13 +1,11 @@
-use Rattle.std.proofs.Common.{sym, subst, List, ℕ}
-use Rattle.durable.specs.Stands.{StandsFor}
+use Rattle.std.proofs.Common.{◌∙◌, sym}
+use Rattle.opening.proofs.Found.{found_behind, found_no_device}
 use Rattle.opening.proofs.content.synced_store.Goals as goal
 
-pub returns-clause-damaged : goal.returns-clause-damaged
-returns-clause-damaged g c keeps damage is rules h stands =
-    let For : List ℕ → Type 0 = λ x. StandsFor rules x h in
-    c.read_store.ensures.damaged (c.sync.ensures.ran.kept keeps) damage is rules h (subst For (sym (c.sync.ensures.ran.seen keeps)) stands)
+pub returns-then-is_err-clause-read : goal.returns-then-is_err-clause-read
+returns-then-is_err-clause-read g c =
+    found_no_device g.D.Device.disk c.args.device.now c.sync.new.self c.sync.ensures.ran (c.sync.ensures.cause.failed (sym c.is_err.ensures.value ∙ c.if-is_err.true))
 
-pub returns-clause-found : goal.returns-clause-found
-returns-clause-found g c keeps rules h stands =
-    let For : List ℕ → Type 0 = λ x. StandsFor rules x h in
-    c.read_store.ensures.found (c.sync.ensures.ran.kept keeps) rules h (subst For (sym (c.sync.ensures.ran.seen keeps)) stands)
+pub returns-clause-read : goal.returns-clause-read
+returns-clause-read g c =
+    found_behind g.D.Device.disk c.args.device.now c.sync.new.self c.read_store.new.device c.read_store.result c.sync.ensures.ran c.read_store.ensures

@@ -1,4 +1,4 @@
-use Rattle.std.proofs.Common.{arith, ◌≡◌, ◌∙◌, sym, ap, subst, ◌+◌, ℕ, List, length, take, map, true≢false}
+use Rattle.std.proofs.Common.{arith, ◌≡◌, ◌∙◌, sym, ap, subst, ◌+◌, ℕ, List, length, take, map, true≢false, inl}
 use Rattle.std.proofs.lemmas.List.{length-map}
 use Rattle.requests.specs.RequestOf.{request_of}
 use Rattle.history.specs.Reply.{Reply}
@@ -11,8 +11,8 @@ returns-then-self-clause-answered g c =
     let taken = c.take_group-stop.ensures in
     let before : List Reply = c.args.replies.now.items in
     answered_group c.args.self.now c.take_group-stop.new.self (map request_of c.args.requests.now) before c.take_group-stop.result c.take_group-stop.new.replies.items
-    (taken.served c.if-self.true) (λ none. taken.all none ∙ ap (λ (n : ℕ). length before + n) (sym (length-map c.args.requests.now request_of)))
-    (λ device. true≢false (sym c.if-self.true ∙ taken.stops device))
+    (taken.served c.if-self.true) (λ none. taken.met.all none ∙ ap (λ (n : ℕ). length before + n) (sym (length-map c.args.requests.now request_of)))
+    (λ device. true≢false (sym c.if-self.true ∙ taken.met.stops device))
 
 pub returns-clause-answered : goal.returns-clause-answered
 returns-clause-answered g c =
@@ -23,4 +23,20 @@ returns-clause-answered g c =
     let Now : List Reply → Type 0 = λ now. HasAnswered c.args.self.now c.take_group-stop.new.self (map request_of c.args.requests.now) before now c.take_group-stop.result in
     subst Now (sym cut)
     (stopped_group c.args.self.now c.take_group-stop.new.self (map request_of c.args.requests.now) before c.take_group-stop.result
-    (λ is. true≢false (sym (taken.goes_on is) ∙ c.if-self.false)) taken.stopped)
+    (λ is. true≢false (sym (taken.met.goes_on is) ∙ c.if-self.false)) taken.stopped)
+
+pub returns-clause-met : goal.returns-clause-met
+returns-clause-met g c =
+    let met = c.take_group-stop.ensures.met in
+    record {
+      damaged = met.damaged;
+      damaged_ran = met.damaged_ran;
+      all = λ none. absurd (true≢false (sym (met.goes_on (inl none)) ∙ c.if-self.false));
+      room = c.truncate.ensures.capacity ∙ met.room;
+      goes_on = met.goes_on;
+      stops = met.stops;
+      damaged_stops = met.damaged_stops;
+      refusal = met.refusal;
+      cause = met.cause;
+      count = met.count;
+    }

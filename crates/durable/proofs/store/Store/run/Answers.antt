@@ -1,12 +1,20 @@
-use Rattle.std.proofs.Common.{arith, ◌≡◌, ◌∙◌, sym, ap, subst, ◌≤◌, ◌++◌, List, length, take, map, refl, inl, inr}
+use Rattle.std.proofs.Common.{arith, ◌≡◌, ◌∙◌, sym, ap, subst, ◌≤◌, ◌++◌, List, length, take, map, refl, ◌⊎◌, inl, inr, Option, Some, None, IfSome}
 use Rattle.std.proofs.lemmas.List.{length-map}
+use Rattle.device.specs.Disk.{Disk, HasFailed}
 use Rattle.requests.specs.Request.{Request}
 use Rattle.requests.specs.RequestOf.{request_of}
 use Rattle.history.specs.Reply.{Reply}
-use Rattle.durable.specs.Settled.{HasServed}
+use Rattle.durable.specs.declared.fault.Fault.{Fault}
+use Rattle.durable.specs.declared.fault.Fault.TheVariants as Faults
+use Rattle.durable.specs.Faults.{MayBeMet}
+use Rattle.durable.specs.Settled.{device_of, HasServed}
 use Rattle.durable.proofs.Runs.{run_none}
 use Rattle.durable.proofs.Grouping.{in_parts, served_so_far, stopped_so_far, left_behind, still_inside}
 use Rattle.durable.proofs.store.Store.run.Goals as goal
+
+failed_later : {D : Type 0} (disk : Disk D) (old mid new : D) → disk.failures old ≤ disk.failures mid → HasFailed disk mid new → HasFailed disk old new
+failed_later disk old mid new before (inl more) = inl (omega (arith, before, more))
+failed_later disk old mid new before (inr all) = inr all
 
 pub returns-in-Err-clause-memory : goal.returns-in-Err-clause-memory
 returns-in-Err-clause-memory g c is =
@@ -50,10 +58,10 @@ loop-rest-preserved g c =
             c.answer_group.ensures.answered,
         length-map c.args.requests.now request_of,
       ),
-      omega (arith, c.loop-rest.invariant.3, c.answer_group.ensures.room),
-      c.answer_group.ensures.goes_on (inl c.in-None.is),
+      omega (arith, c.loop-rest.invariant.3, c.answer_group.ensures.met.room),
+      c.answer_group.ensures.met.goes_on (inl c.in-None.is),
       c.loop-rest.invariant.5,
-      omega (arith, c.loop-rest.invariant.6, c.answer_group.ensures.count),
+      omega (arith, c.loop-rest.invariant.6, c.answer_group.ensures.met.count),
     )
 
 pub returns-in-Some-clause-memory : goal.returns-in-Some-clause-memory
@@ -85,4 +93,28 @@ returns-in-Some-clause-device g c is =
 pub returns-in-Some-clause-damaged : goal.returns-in-Some-clause-damaged
 returns-in-Some-clause-damaged g c damage is rules v serving =
     let so_far = c.loop-rest.invariant.0.shown rules v serving in
-    c.answer_group.ensures.damaged damage (c.in-Some.is ∙ is) rules _ so_far.serving
+    c.answer_group.ensures.met.damaged damage (c.in-Some.is ∙ is) rules _ so_far.serving
+
+pub returns-in-Some-clause-refusal : goal.returns-in-Some-clause-refusal
+returns-in-Some-clause-refusal g c working =
+    let Met : Option Fault → Type 0 = λ stop. IfSome stop MayBeMet in
+    subst Met c.in-Some.is c.answer_group.ensures.met.refusal
+
+pub returns-in-Some-clause-goes_on : goal.returns-in-Some-clause-goes_on
+returns-in-Some-clause-goes_on g c told =
+    let Served : Option Fault → Type 0 = λ stop. (stop ≡ None) ⊎ (stop ≡ Some Faults.Memory) in
+    c.answer_group.ensures.met.goes_on (subst Served (sym c.in-Some.is) told) ∙ sym c.loop-rest.invariant.5
+
+pub returns-in-Some-clause-stops : goal.returns-in-Some-clause-stops
+returns-in-Some-clause-stops g c is = c.answer_group.ensures.met.stops (c.in-Some.is ∙ is)
+
+pub returns-in-Some-clause-damaged_stops : goal.returns-in-Some-clause-damaged_stops
+returns-in-Some-clause-damaged_stops g c damage is = c.answer_group.ensures.met.damaged_stops damage (c.in-Some.is ∙ is)
+
+pub returns-in-Some-clause-cause : goal.returns-in-Some-clause-cause
+returns-in-Some-clause-cause g c is =
+    failed_later g.D.Device.disk (device_of c.args.self.now) (device_of c.loop-rest.self) (device_of c.answer_group.new.self) c.loop-rest.invariant.6
+    (c.answer_group.ensures.met.cause (c.in-Some.is ∙ is))
+
+pub returns-in-Some-clause-count : goal.returns-in-Some-clause-count
+returns-in-Some-clause-count g c = omega (arith, c.loop-rest.invariant.6, c.answer_group.ensures.met.count)
