@@ -42,7 +42,7 @@ sorted_front (entry ∷ a) b h =
     let parts = and_parts (below_all bytes_cmp entry.0 (a ++ b)) (is_sorted bytes_cmp (a ++ b)) h in
     both (below_all bytes_cmp entry.0 a) (is_sorted bytes_cmp a) (below_front entry.0 a b parts.0) (sorted_front a b parts.1)
 
--- the last key of the front is below the first one behind it
+-- the last key of the front is below the first one after it
 pub last_below : (a : List Entry) (entry : Entry) (b : List Entry) → 1 ≤ length a → is_sorted bytes_cmp (a ++ entry ∷ b) ≡ true
     → bytes_cmp (last_key a) entry.0 ≡ Less
 last_below [] entry b some h = absurd (omega arith)

@@ -74,7 +74,7 @@ fn page_buffer(alloc: Global) -> Result<Vec<u8>, AllocError>
     vec![in alloc; 0; PAGE_BYTES]
 }
 
-// Takes the page that the bytes are, behind those of the index, and tells its entries to a reader that has refused none before; whether
+// Takes the page that the bytes are, after those of the index, and tells its entries to a reader that has refused none before; whether
 // it has refused one now.
 fn take_page<R: Reader>(
     alloc: Global,

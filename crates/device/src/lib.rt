@@ -22,6 +22,7 @@ mod host_file;
 mod memory;
 mod raw_file;
 mod script;
+mod sector;
 mod sector_file;
 
 pub use device::{Device, DeviceFault, write_through};
@@ -30,4 +31,5 @@ pub use host_file::HostFile;
 pub use memory::{MemDevice, Pick};
 pub use raw_file::RawFile;
 pub use script::Counts;
+pub use sector::{SECTOR, is_zero};
 pub use sector_file::SectorFile;

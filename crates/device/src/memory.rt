@@ -1,10 +1,9 @@
 ghost use Rattle.std.specs.Prelude.{◌≡◌, ◌<◌, ◌≤◌, ◌+◌, ◌-◌, ◌*◌, ◌/◌, ◌%◌, ◌^◌, ◌⊎◌, ◌++◌, ◌==◌, ◌&&◌, ◌||◌, ℕ, List, [], Bool, true, false, not, if◌then◌else◌, length, take, drop, replicate, min, max, vec_len, slice_get, slice_index, slice_index_or, nat_le, is_ok, IsTrue, IfOk, OnOk, OnErr};
 
 use crate::script::{Counts, Script};
+use crate::sector::SECTOR;
 use crate::{Device, DeviceFault};
 use std::alloc::{AllocError, Global};
-
-const SECTOR: usize = 512;
 
 const MOST_SECTORS: u64 = 1 << 54;
 

@@ -1,8 +1,8 @@
 ghost use Rattle.std.specs.Prelude.{◌≡◌, ◌*◌, ◌-◌, ◌^◌, min};
 
-use crate::{Device, DeviceFault, RawFile};
+use crate::{Device, DeviceFault, RawFile, sector};
 
-const SECTOR: u64 = 512;
+const SECTOR: u64 = sector::SECTOR as u64;
 
 /// A file of bytes as a device. A rest behind its last whole sector is no part of it.
 #[derive(Drop)]

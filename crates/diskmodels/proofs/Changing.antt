@@ -17,7 +17,7 @@ pub left-none : (P : List ℕ → Type 0) (changes : List Change) (c : List ℕ)
 left-none P [] c here = here
 left-none P (change ∷ changes) c here = left-none (After (step_of change) P) changes c (c, here, idle change c)
 
--- the last change comes behind those before it
+-- the last change comes after those before it
 pub left-last : (P : List ℕ → Type 0) (changes : List Change) (change : Change) (c : List ℕ) → LeftOf P (changes ++ change ∷ []) c → After (step_of change) (LeftOf P changes) c
 left-last P [] change c left = left
 left-last P (first ∷ changes) change c left = left-last (After (step_of first) P) changes change c left

@@ -3,10 +3,8 @@
 ghost use Rattle.std.specs.Prelude.{◌≡◌, ◌<◌, ◌≤◌, ◌+◌, ◌-◌, ◌*◌, ◌/◌, ◌%◌, ◌^◌, ◌⊎◌, ◌++◌, ◌∷◌, [], length, take, drop, map, vec_len, IfOk, OnOk, OnErr, IsErr, Result};
 
 use crate::bytes::written;
-use device::{Device, DeviceFault};
+use device::{Device, DeviceFault, SECTOR};
 use std::alloc::{AllocError, Global};
-
-const SECTOR: usize = 512;
 
 const MOST_BYTES: usize = 1 << 62;
 

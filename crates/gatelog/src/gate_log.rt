@@ -1,10 +1,9 @@
 ghost use Rattle.std.specs.Prelude.{◌≡◌, ◌<◌, ◌≤◌, ◌+◌, ◌*◌, ◌^◌, ◌++◌, ◌∷◌, [], ℕ, List, true, false, not, is_ok, length, take, replicate, IsTrue, IfOk, OnOk, OnErr, IsErrOf, ◌⊎◌, ◌↔◌, map};
 
 use crate::reading::{last_gate_of, payloads_of};
-use crate::record::SECTOR;
 use crate::write_record::write_record;
 use crate::{Body, LogFault};
-use device::Device;
+use device::{Device, SECTOR};
 use std::alloc::Global;
 
 /// A log on a device: it begins at a gate, and its last gate is closed. Places are numbers of sectors.

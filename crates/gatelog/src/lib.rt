@@ -23,5 +23,5 @@ mod write_record;
 
 pub use fault::LogFault;
 pub use gate_log::Log;
-pub use record::{Body, SECTOR};
+pub use record::Body;
 pub use write_record::OPEN;

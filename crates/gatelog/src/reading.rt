@@ -1,4 +1,4 @@
-ghost use Rattle.std.specs.Prelude.{◌≡◌, ◌<◌, ◌≤◌, ◌+◌, ◌*◌, ◌^◌, ◌⊎◌, ◌↔◌, ◌++◌, ◌∷◌, [], ℕ, List, map, length, IsTrue, IfOk, OnOk, OnErr, IsErrOf, slice_index, EachIndex, vec_len};
+ghost use Rattle.std.specs.Prelude.{◌≡◌, ◌<◌, ◌≤◌, ◌+◌, ◌*◌, ◌^◌, ◌⊎◌, ◌++◌, ◌∷◌, [], ℕ, List, map, length, IfOk, OnOk, OnErr, IsErrOf, vec_len};
 ghost use Rattle.byteorder.specs.Endian.{big_number};
 ghost use Rattle.device.specs.Disk.{HasCause, HasFailed};
 ghost use Rattle.device.specs.Step.{Same};
@@ -9,10 +9,10 @@ ghost use Rattle.gatelog.specs.Log.{HoldsLog};
 ghost use Rattle.gatelog.specs.Walk.{HoldsRecord};
 
 use crate::LogFault;
-use crate::record::{LENGTH_BYTES, MOST_PAYLOAD, SECTOR, sectors_of};
+use crate::record::{LENGTH_BYTES, MOST_PAYLOAD, sectors_of};
 use crate::write_record::OPEN;
 use byteorder::{BigEndian, ByteOrder};
-use device::{Device, DeviceFault};
+use device::{Device, DeviceFault, SECTOR, is_zero};
 use std::alloc::{AllocError, Global};
 
 fn read_sector<D: Device>(device: &mut D, at: u64) -> Result<[u8; 512], DeviceFault>
@@ -24,12 +24,6 @@ fn read_sector<D: Device>(device: &mut D, at: u64) -> Result<[u8; 512], DeviceFa
     let mut sector = [0; SECTOR];
     device.read(at, &mut sector)?;
     Ok(sector)
-}
-
-fn is_zero(bytes: &[u8]) -> bool
-    ensures { IsTrue result ↔ EachIndex bytes.now (λ k. slice_index bytes.now k ≡ 0) }
-{
-    bytes.iter().all(|byte| *byte == 0)
 }
 
 // Checks the record's body in this sector and those behind it, of a device of `end` sectors, and gives its number of sectors.

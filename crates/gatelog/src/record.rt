@@ -4,10 +4,8 @@ ghost use Rattle.gatelog.specs.Record.{body_sectors, sectors, IsRecord};
 
 use crate::LogFault;
 use byteorder::{BigEndian, ByteOrder};
+use device::SECTOR;
 use std::alloc::{AllocError, Global};
-
-/// Bytes in a sector.
-pub const SECTOR: usize = 512;
 
 // The bytes of a payload's length, in front of it.
 pub(crate) const LENGTH_BYTES: usize = 4;

@@ -7,8 +7,7 @@ ghost use Rattle.gatelog.specs.Payload.{payload_of};
 ghost use Rattle.gatelog.specs.Log.{HoldsLog, IsBeforeOrAfter};
 
 use crate::Body;
-use crate::record::SECTOR;
-use device::{Device, DeviceFault, write_through};
+use device::{Device, DeviceFault, SECTOR, write_through};
 
 /// The first byte of an open gate. A gate with any other first byte is closed.
 pub const OPEN: u8 = 0xA5;

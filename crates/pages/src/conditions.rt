@@ -1,6 +1,6 @@
 //! The five conditions on a page's bytes.
 
-ghost use Rattle.std.specs.Prelude.{◌≡◌, ◌<◌, ◌≤◌, ◌+◌, ◌*◌, ◌↔◌, ℕ, length, slice_index, EachIndex, IsTrue};
+ghost use Rattle.std.specs.Prelude.{◌≡◌, ◌<◌, ◌≤◌, ◌+◌, ◌*◌, ◌↔◌, ℕ, length, IsTrue};
 ghost use Rattle.std.specs.declared.cmp.Ordering.TheVariants.{Less};
 ghost use Rattle.pages.specs.Page.{number_at, count, offset, size, cell_end, key_size, key_at, bytes_cmp};
 ghost use Rattle.pages.specs.Page.{HasMark, HasSlots, HasCells, HasOrder, HasFreeZeros, IsSlot};
@@ -9,6 +9,7 @@ use crate::cells::{
     HEAD_BYTES, MARK, PAGE_BYTES, SLOT_BYTES, part, read_count, read_end, read_key, read_last,
     read_number, read_offset, read_size,
 };
+use device::is_zero;
 
 /// Whether the bytes are as many as a page has, and begin with its mark.
 pub(crate) fn has_mark(bytes: &[u8]) -> bool
@@ -106,13 +107,6 @@ pub(crate) fn has_order(bytes: &[u8]) -> bool
         }
     }
     true
-}
-
-// Whether the bytes are zero.
-fn is_zero(bytes: &[u8]) -> bool
-    ensures { IsTrue result ↔ EachIndex bytes.now (λ k. slice_index bytes.now k ≡ 0) }
-{
-    bytes.iter().all(|byte| *byte == 0)
 }
 
 /// Whether the bytes between the slots and the last cell are zero.

@@ -11,8 +11,8 @@ ghost use Rattle.roots.specs.Install.{HasAt, IsInUse, IsBefore, IsClear, IsAfter
 
 use crate::root::{Root, Slot};
 use crate::sector::root_bytes;
-use device::{Device, DeviceFault, write_through};
-use gatelog::{OPEN, SECTOR};
+use device::{Device, DeviceFault, SECTOR, write_through};
+use gatelog::OPEN;
 
 // Whether the gate of a slot reads open.
 fn reads_open<D: Device>(device: &mut D, slot: Slot) -> Result<bool, DeviceFault>

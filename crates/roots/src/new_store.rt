@@ -10,8 +10,8 @@ ghost use Rattle.roots.specs.NewStore.{new_content};
 
 use crate::root::{Root, Slot};
 use crate::sector::{header_bytes, put, root_bytes};
-use device::{Device, DeviceFault, write_through};
-use gatelog::{OPEN, SECTOR};
+use device::{Device, DeviceFault, SECTOR, write_through};
+use gatelog::OPEN;
 
 /// Why no new store could be made.
 #[derive(Clone, Copy)]

@@ -1,9 +1,10 @@
 //! A root and its sector.
 
-ghost use Rattle.std.specs.Prelude.{◌≡◌, ◌≤◌, ◌*◌, ℕ, length, take, codes, slice_index, EachIndex, IsTrue, ◌↔◌, IfSome, IfNone};
+ghost use Rattle.std.specs.Prelude.{◌≡◌, ◌≤◌, ◌*◌, ℕ, length, take, codes, IsTrue, ◌↔◌, IfSome, IfNone};
 ghost use Rattle.roots.specs.Root.{IsHeader};
 
 use byteorder::{BigEndian, ByteOrder};
+use device::is_zero;
 
 pub(crate) const ROOT_MARK: &[u8; 8] = b"GATEROOT";
 
@@ -79,12 +80,6 @@ fn has_header_mark(sector: &[u8]) -> bool
     ensures { IsTrue result ↔ (take 8 sector.now ≡ codes "GATESTOR") }
 {
     sector[..8] == HEADER_MARK[..]
-}
-
-fn is_zero(bytes: &[u8]) -> bool
-    ensures { IsTrue result ↔ EachIndex bytes.now (λ k. slice_index bytes.now k ≡ 0) }
-{
-    bytes.iter().all(|byte| *byte == 0)
 }
 
 impl Root {

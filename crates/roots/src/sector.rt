@@ -7,7 +7,7 @@ ghost use Rattle.roots.specs.NewStore.{new_header, root_fields};
 
 use crate::root::{HEADER_MARK, ROOT_MARK, Root};
 use byteorder::{BigEndian, ByteOrder};
-use gatelog::SECTOR;
+use device::SECTOR;
 
 // The format of the file that this crate writes.
 const FORMAT: u32 = 1;

@@ -6,7 +6,8 @@ ghost use Rattle.roots.specs.Root.{Counts, root_sector, gate_sector};
 ghost use Rattle.roots.specs.Front.{StandsIn};
 
 use crate::root::{Root, Slot};
-use gatelog::{OPEN, SECTOR};
+use device::SECTOR;
+use gatelog::OPEN;
 
 // What stands in a slot.
 #[derive(Clone, Copy)]
