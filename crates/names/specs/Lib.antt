@@ -1,4 +1,3 @@
-pub mod Format
 pub mod Key
 pub mod KeyLaws
 pub mod KeyParts

@@ -35,7 +35,7 @@ is_name text = nat_le (length text) 253 && list_all is_label (slice_split (λ by
 
 -- ---- the same rules as a grammar
 
--- what may stand behind a label's first character: ([-a-z0-9]*[a-z0-9])?
+-- what may stand after a label's first character: ([-a-z0-9]*[a-z0-9])?
 abbrev pub IsLabelRest : List ℕ → Type 0
 IsLabelRest rest =
     (rest ≡ []) ⊎ ((middle : List ℕ) × (last : ℕ) × (rest ≡ middle ++ last ∷ []) × IsTrue (list_all is_label_byte middle) × IsTrue (is_letter_or_digit last))

@@ -38,7 +38,7 @@ impl From<AllocError> for KeyFault {
     }
 }
 
-// The texts before and behind the first zero byte, if the bytes are UTF-8 and hold one.
+// The texts before and after the first zero byte, if the bytes are UTF-8 and hold one.
 fn split_at_zero(bytes: &[u8]) -> Option<(&str, &str)>
     ensures parts { IfSome result (λ parts. parts.0.now ++ 0 ∷ parts.1.now ≡ bytes.now) }
     ensures plain { (front back : List ℕ) → IsPlain front → IsPlain back
@@ -141,7 +141,7 @@ impl Key {
         &self.name
     }
 
-    // How the key stands to another. A search compares many keys: what stands behind the first part that differs is not looked at.
+    // How the key stands to another. A search compares many keys: what stands after the first part that differs is not looked at.
     fn order(&self, other: &Key) -> Ordering
         ensures { result ≡ key_cmp self.now other.now }
     {

@@ -1,5 +1,5 @@
-//! The names of stored objects: the table of resources, well-formed names and namespaces, keys with
-//! their order and their bytes, and the numbers of a store's format.
+//! The names of stored objects: the table of resources, well-formed names and namespaces, and keys with
+//! their order and their bytes.
 //!
 //! ```text
 //! let key = Key::new(alloc, Resource::ConfigMap, "default", "settings")?;
@@ -13,12 +13,10 @@
 //! one, likewise.
 #![tactic(auto)]
 
-mod format;
 mod key;
 mod name;
 mod resource;
 
-pub use format::{Format, Rules};
 pub use key::{Key, KeyFault};
 pub use name::{check_name, check_namespace};
 pub use resource::{Resource, ResourceTable, Scope};

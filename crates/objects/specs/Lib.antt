@@ -1,3 +1,4 @@
 pub mod Failing
+pub mod Format
 pub mod Objects
 pub mod Place

@@ -14,14 +14,14 @@ module _ {X : Type 0} where
       let count : k + m ≡ length (all ++ x ∷ []) - n = omega (arith, length-append (drop k all) (x ∷ []), length-drop k all, length-append all (x ∷ [])) in
       ap (drop m) (sym front) ∙ drop-drop m k (all ++ x ∷ []) ∙ ap (λ (q : ℕ). drop q (all ++ x ∷ [])) count
 
-  -- what is left behind one item more
+  -- what is left after one item more
   pub drop-after_none : (xs : List X) (i : ℕ) → drop i xs ≡ [] → drop (i + 1) xs ≡ []
   drop-after_none xs i h = sym (drop-drop 1 i xs) ∙ ap (drop 1) h
 
   pub drop-after_some : (xs : List X) (i : ℕ) (x : X) (rest : List X) → drop i xs ≡ x ∷ rest → drop (i + 1) xs ≡ rest
   drop-after_some xs i x rest h = sym (drop-drop 1 i xs) ∙ ap (drop 1) h
 
-  -- one step of an iterator over what is left behind the first i items
+  -- one step of an iterator over what is left after the first i items
   pub drop-next : {A : Type 0} (shows : A → X) (xs : List X) (i : ℕ) (s t : List X) (r : Option A) → s ≡ drop i xs
       → MatchOption r ((s ≡ []) × (t ≡ [])) (λ x. s ≡ shows x ∷ t) → t ≡ drop (i + 1) xs
   drop-next shows xs i s t None e h = h.1 ∙ sym (drop-after_none xs i (sym e ∙ h.0))

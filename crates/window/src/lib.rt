@@ -5,7 +5,7 @@
 //! for event in window.since(revision)? { .. }
 //! ```
 //!
-//! Behind all events of a store, of which the first made revision 2, the window holds the last of
+//! After all events of a store, of which the first made revision 2, the window holds the last of
 //! them, as many as the rules of the store's format keep. `since` tells the events above a revision,
 //! oldest first, and refuses a revision exactly where it is above the current one, or so far below it
 //! that an event may have left the window. All memory is taken by `new`.

@@ -4,7 +4,8 @@ ghost use Rattle.std.specs.Map.Iter.{TakesFirst, deref};
 
 use crate::event::{Change, Event};
 use circular_buffer::{HeapCircularBuffer, Iter};
-use names::{Key, Rules};
+use names::Key;
+use objects::Rules;
 use std::alloc::{AllocError, Global};
 use std::error::Error;
 use std::fmt;
@@ -57,7 +58,7 @@ impl<D> Model for Window<D> {
 
 impl<D: Drop> Window<D> {
     ghost use Rattle.window.specs.Window.{IsWindowOf, event_at, with_event, events_above};
-    ghost use Rattle.names.specs.declared.format.Rules.{Rules as RulesData};
+    ghost use Rattle.objects.specs.declared.format.Rules.{Rules as RulesData};
     ghost use Rattle.window.specs.declared.event.Event.{Event as EventData};
 
     /// The window of an empty store, with room for as many events as the rules keep.
@@ -98,7 +99,7 @@ impl<D: Drop> Window<D> {
         requires { self.old.revision + 1 < 2 ^ 64 }
         ensures value { self.new ≡ with_event self.old change key document }
 
-        // Behind all events of a store, it is the window behind these and one more.
+        // After all events of a store, it is the window after these and one more.
         ensures window { (rules : RulesData) (all : List (EventData D)) →
             let event = event_at self.new.revision change key document in
             IsWindowOf rules all self.old → IsWindowOf rules (all ++ event ∷ []) self.new }

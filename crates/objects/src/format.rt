@@ -1,5 +1,5 @@
 ghost use Rattle.std.specs.Prelude.{◌≡◌};
-ghost use Rattle.names.specs.Format.{rules_of};
+ghost use Rattle.objects.specs.Format.{rules_of};
 
 /// A format of the store's file, which fixes the numbers that the store keeps to.
 #[derive(Clone, Copy)]

@@ -1,8 +1,8 @@
 -- The numbers that a store of a format keeps to.
 use Rattle.std.specs.Prelude.{◌-◌, ◌^◌}
-use Rattle.names.specs.declared.format.Format.{Format}
-use Rattle.names.specs.declared.format.Format.TheVariants.{First}
-use Rattle.names.specs.declared.format.Rules.{Rules}
+use Rattle.objects.specs.declared.format.Format.{Format}
+use Rattle.objects.specs.declared.format.Format.TheVariants.{First}
+use Rattle.objects.specs.declared.format.Rules.{Rules}
 
 -- the last 256 events, texts and bodies of 16 KiB, 2^16 objects, and the revisions that an i64 holds
 abbrev pub rules_of : Format → Rules
