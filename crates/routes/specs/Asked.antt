@@ -32,8 +32,8 @@ get_conditions m t =
     ∷ (UnexpectedBody, not (is_empty m.body))
     ∷ []
 
-abbrev pub shown : Message → Target → (name : List ℕ) → Request
-shown m t name = unless_refused (get_conditions m t) (get (key_of t.resource t.namespace name))
+abbrev pub get_request : Message → Target → (name : List ℕ) → Request
+get_request m t name = unless_refused (get_conditions m t) (get (key_of t.resource t.namespace name))
 
 -- ---- POST to a collection
 
@@ -42,24 +42,24 @@ abbrev pub object_conditions : Message → Target → List Condition
 object_conditions m t = (BadQuery, has_pairs (query_of m.target)) ∷ body_conditions t m.body
 
 -- the creation that a body asks for, if it is read
-abbrev pub created_of : Target → Reading → Request
-created_of t not_json = refused BodyIsNotJson
-created_of t not_whole = refused NumberOutsideRange
-created_of t (document json) = create (manifest_of t json)
+abbrev pub creation : Target → Reading → Request
+creation t not_json = refused BodyIsNotJson
+creation t not_whole = refused NumberOutsideRange
+creation t (document json) = create (manifest_of t json)
 
-abbrev pub created : Message → Target → Request
-created m t = unless_refused (object_conditions m t) (created_of t (reading m.body))
+abbrev pub create_request : Message → Target → Request
+create_request m t = unless_refused (object_conditions m t) (creation t (reading m.body))
 
 -- ---- PUT of an item
 
 -- the replacement that a body asks for, if it is read
-abbrev pub replaced_of : Target → Reading → Request
-replaced_of t not_json = refused BodyIsNotJson
-replaced_of t not_whole = refused NumberOutsideRange
-replaced_of t (document json) = replace (manifest_of t json)
+abbrev pub replacement : Target → Reading → Request
+replacement t not_json = refused BodyIsNotJson
+replacement t not_whole = refused NumberOutsideRange
+replacement t (document json) = replace (manifest_of t json)
 
-abbrev pub replaced : Message → Target → Request
-replaced m t = unless_refused (object_conditions m t) (replaced_of t (reading m.body))
+abbrev pub replace_request : Message → Target → Request
+replace_request m t = unless_refused (object_conditions m t) (replacement t (reading m.body))
 
 -- ---- DELETE of an item
 
@@ -74,8 +74,8 @@ delete_conditions m t =
     ∷ (BadNameInPath, not (is_target t))
     ∷ []
 
-abbrev pub deleted : Message → Target → (name : List ℕ) → Request
-deleted m t name = unless_refused (delete_conditions m t) (deletion (key_of t.resource t.namespace name) m.body)
+abbrev pub delete_request : Message → Target → (name : List ℕ) → Request
+delete_request m t name = unless_refused (delete_conditions m t) (deletion (key_of t.resource t.namespace name) m.body)
 
 -- ---- GET of a collection
 
@@ -101,33 +101,33 @@ collection_conditions m c =
     ∷ []
 
 -- what the query asks, or that it is refused
-abbrev pub gathered : Message → Collection → Request
-gathered m c =
+abbrev pub collection_request : Message → Collection → Request
+collection_request m c =
     option_map_or (λ question. unless_refused (collection_conditions m c) (answering c question)) (question_of (pairs_of (query_of m.target))) (refused BadQuery)
 
 -- ---- the table of methods
 
 -- what a method asks of an item, if an item allows it
 abbrev pub of_item : Message → Target → (name : List ℕ) → Method → Option Request
-of_item m t name Get = Some (shown m t name)
+of_item m t name Get = Some (get_request m t name)
 of_item m t name Head = None
 of_item m t name Post = None
-of_item m t name Put = Some (replaced m t)
-of_item m t name Delete = Some (deleted m t name)
+of_item m t name Put = Some (replace_request m t)
+of_item m t name Delete = Some (delete_request m t name)
 of_item m t name Other = None
 
 -- what a method asks of a collection that is not over all namespaces, if it allows it
 abbrev pub of_collection : Message → Target → Method → Option Request
-of_collection m t Get = Some (gathered m (collection_at t))
+of_collection m t Get = Some (collection_request m (collection_at t))
 of_collection m t Head = None
-of_collection m t Post = Some (created m t)
+of_collection m t Post = Some (create_request m t)
 of_collection m t Put = None
 of_collection m t Delete = None
 of_collection m t Other = None
 
 -- what a method asks of the objects of all namespaces, if they allow it
 abbrev pub of_everywhere : Message → Resource → Method → Option Request
-of_everywhere m r Get = Some (gathered m (all_of r))
+of_everywhere m r Get = Some (collection_request m (all_of r))
 of_everywhere m r Head = None
 of_everywhere m r Post = None
 of_everywhere m r Put = None

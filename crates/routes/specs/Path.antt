@@ -20,7 +20,7 @@ slash = 47
 abbrev pub path_of : List ℕ → List ℕ
 path_of text = before_first (λ byte. byte == question_mark) text
 
--- the query of a target: what stands behind its first question mark (RFC 3986 section 3.4)
+-- the query of a target: what stands after its first question mark (RFC 3986 section 3.4)
 abbrev pub query_of : List ℕ → List ℕ
 query_of text = after_first (λ byte. byte == question_mark) text
 
@@ -60,7 +60,7 @@ abbrev pub pieces_in : (group : List ℕ) → List (List ℕ) → Option Pieces
 pieces_in group (version ∷ rest) = pieces_under (Some group) version rest
 pieces_in group [] = None
 
--- the parts behind a path's first slash: `api` begins those of the core group, `apis` those of the others
+-- the parts after a path's first slash: `api` begins those of the core group, `apis` those of the others
 abbrev pub pieces_behind : List (List ℕ) → Option Pieces
 pieces_behind (word ∷ part ∷ rest) =
     if bytes_eq word (codes "api") then pieces_under None part rest else (if bytes_eq word (codes "apis") then pieces_in part rest else None)

@@ -1,4 +1,4 @@
--- Queries: what stands behind the question mark of a target, as the pairs of a form (URL Standard section 5.1).
+-- Queries: what stands after the question mark of a target, as the pairs of a form (URL Standard section 5.1).
 use Rattle.std.specs.Prelude.{ℕ, ◌^◌, Bool, true, false, List, [], ◌∷◌, map, find, ◌&&◌, ◌||◌, nat_lt, codes, if◌then◌else◌, Option, Some, None, option_map, option_and_then, unwrap_or}
 use Rattle.std.specs.List.{list_all, count_by}
 use Rattle.std.specs.Option.{option_map_or}

@@ -8,7 +8,7 @@ ghost use Rattle.requests.specs.RequestOf.{request_of};
 ghost use Rattle.requests.specs.Collection.{Collection as CollectionData};
 ghost use Rattle.routes.specs.Path.{query_of};
 ghost use Rattle.routes.specs.QuestionOf.{question_seen};
-ghost use Rattle.routes.specs.Asked.{unless_refused, collection_conditions, answering, gathered};
+ghost use Rattle.routes.specs.Asked.{unless_refused, collection_conditions, answering, collection_request};
 
 use crate::query::{Question, question_in};
 use httpmsg::Message;
@@ -83,7 +83,7 @@ fn asked_by(
 }
 
 /// What the query asks of a collection: the objects of a resource, in one namespace or, without one, in all.
-pub(crate) fn gathered(
+pub(crate) fn collection_request(
     alloc: Global,
     message: &Message,
     resource: Resource,
@@ -91,7 +91,7 @@ pub(crate) fn gathered(
     query: &str,
 ) -> Result<Request, AllocError>
     requires { query.now ≡ query_of message.now.target }
-    ensures { IfOk result (λ request. request_of request ≡ gathered message.now (record { resource = resource; namespace = option_map (λ n. n.now) namespace.entry })) }
+    ensures { IfOk result (λ request. request_of request ≡ collection_request message.now (record { resource = resource; namespace = option_map (λ n. n.now) namespace.entry })) }
 {
     match question_in(alloc, query)? {
         Some(question) => asked_by(alloc, message, resource, namespace, question),

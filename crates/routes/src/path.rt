@@ -81,7 +81,7 @@ fn pieces_with<'p>(
     }
 }
 
-// What stands behind the version.
+// What stands after the version.
 fn pieces_under<'p>(
     group: Option<&'p str>,
     version: &'p str,
@@ -104,7 +104,7 @@ fn pieces_under<'p>(
     }
 }
 
-// What stands behind the name of a group.
+// What stands after the name of a group.
 fn pieces_in<'p>(group: &'p str, parts: &[&'p str]) -> Option<Pieces<'p>>
     ensures { result ≡ pieces_in group.now (map (λ part. part.now) parts.now) }
 {
@@ -112,7 +112,7 @@ fn pieces_in<'p>(group: &'p str, parts: &[&'p str]) -> Option<Pieces<'p>>
     pieces_under(Some(group), version, rest)
 }
 
-// What stands behind the first slash.
+// What stands after the first slash.
 fn pieces_behind<'p>(parts: &[&'p str]) -> Option<Pieces<'p>>
     ensures { result ≡ pieces_behind (map (λ part. part.now) parts.now) }
 {

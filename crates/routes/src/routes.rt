@@ -11,10 +11,10 @@ ghost use Rattle.requests.specs.RequestOf.{request_of};
 ghost use Rattle.routes.specs.Path.{query_of};
 ghost use Rattle.routes.specs.PlaceOf.{seen};
 ghost use Rattle.routes.specs.Query.{has_pairs};
-ghost use Rattle.routes.specs.Asked.{object_conditions, shown, created, replaced, deleted, deletion, gathered, collection_at, of_item, of_collection, of_everywhere, asked_at, asked};
+ghost use Rattle.routes.specs.Asked.{object_conditions, get_request, create_request, replace_request, delete_request, deletion, collection_request, collection_at, of_item, of_collection, of_everywhere, asked_at, asked};
 ghost use Rattle.routes.specs.Allow.{allowed, allow_of};
 
-use crate::collection::gathered;
+use crate::collection::collection_request;
 use crate::path::path_and_query;
 use crate::query::has_pairs;
 use crate::table::{Place, Routes, Target};
@@ -108,9 +108,9 @@ fn of_item(
     ensures { IfOk result (λ request. option_map request_of request ≡ of_item message.now target.now name.now message.now.method) }
 {
     Ok(match message.method() {
-        Method::Get => Some(shown(alloc, message, target, name, query)?),
-        Method::Put => Some(replaced(alloc, message, target, name, query)?),
-        Method::Delete => Some(deleted(alloc, message, target, name, query)?),
+        Method::Get => Some(get_request(alloc, message, target, name, query)?),
+        Method::Put => Some(replace_request(alloc, message, target, name, query)?),
+        Method::Delete => Some(delete_request(alloc, message, target, name, query)?),
         Method::Head | Method::Post | Method::Other => None,
     })
 }
@@ -127,24 +127,24 @@ fn of_collection(
     ensures { IfOk result (λ request. option_map request_of request ≡ of_collection message.now target.now message.now.method) }
 {
     Ok(match message.method() {
-        Method::Get => Some(gathered_within(alloc, message, target, query)?),
-        Method::Post => Some(created(alloc, message, target, query)?),
+        Method::Get => Some(collection_request_within(alloc, message, target, query)?),
+        Method::Post => Some(create_request(alloc, message, target, query)?),
         Method::Head | Method::Put | Method::Delete | Method::Other => None,
     })
 }
 
 // GET of a collection that is not over all namespaces.
-fn gathered_within(
+fn collection_request_within(
     alloc: Global,
     message: &Message,
     target: &Target,
     query: &str,
 ) -> Result<Request, AllocError>
     requires { query.now ≡ query_of message.now.target }
-    ensures { IfOk result (λ request. request_of request ≡ gathered message.now (collection_at target.now)) }
+    ensures { IfOk result (λ request. request_of request ≡ collection_request message.now (collection_at target.now)) }
 {
     let namespace = target.collection_namespace();
-    gathered(alloc, message, target.resource, namespace, query)
+    collection_request(alloc, message, target.resource, namespace, query)
 }
 
 // What the method asks of the objects of all namespaces.
@@ -158,13 +158,13 @@ fn of_everywhere(
     ensures { IfOk result (λ request. option_map request_of request ≡ of_everywhere message.now resource message.now.method) }
 {
     Ok(match message.method() {
-        Method::Get => Some(gathered(alloc, message, resource, None, query)?),
+        Method::Get => Some(collection_request(alloc, message, resource, None, query)?),
         Method::Head | Method::Post | Method::Put | Method::Delete | Method::Other => None,
     })
 }
 
 // GET of an item.
-fn shown(
+fn get_request(
     alloc: Global,
     message: &Message,
     target: &Target,
@@ -173,7 +173,7 @@ fn shown(
 ) -> Result<Request, AllocError>
     requires query { query.now ≡ query_of message.now.target }
     requires name { target.now.name ≡ Some name.now }
-    ensures { IfOk result (λ request. request_of request ≡ shown message.now target.now name.now) }
+    ensures { IfOk result (λ request. request_of request ≡ get_request message.now target.now name.now) }
 {
     if has_pairs(query) {
         return Ok(Request::Refused(Refusal::BadQuery));
@@ -221,7 +221,7 @@ fn refused_for(fault: BodyFault) -> Result<Request, AllocError>
 }
 
 // POST to a collection.
-fn created(
+fn create_request(
     alloc: Global,
     message: &Message,
     target: &Target,
@@ -229,7 +229,7 @@ fn created(
 ) -> Result<Request, AllocError>
     requires query { query.now ≡ query_of message.now.target }
     requires name { target.now.name ≡ None }
-    ensures { IfOk result (λ request. request_of request ≡ created message.now target.now) }
+    ensures { IfOk result (λ request. request_of request ≡ create_request message.now target.now) }
 {
     match manifest_asked(alloc, message, target, None, query) {
         Ok(manifest) => Ok(Request::Create(manifest)),
@@ -238,7 +238,7 @@ fn created(
 }
 
 // PUT of an item.
-fn replaced(
+fn replace_request(
     alloc: Global,
     message: &Message,
     target: &Target,
@@ -247,7 +247,7 @@ fn replaced(
 ) -> Result<Request, AllocError>
     requires query { query.now ≡ query_of message.now.target }
     requires name { target.now.name ≡ Some name.now }
-    ensures { IfOk result (λ request. request_of request ≡ replaced message.now target.now) }
+    ensures { IfOk result (λ request. request_of request ≡ replace_request message.now target.now) }
 {
     match manifest_asked(alloc, message, target, Some(name), query) {
         Ok(manifest) => Ok(Request::Replace(manifest)),
@@ -256,7 +256,7 @@ fn replaced(
 }
 
 // DELETE of an item.
-fn deleted(
+fn delete_request(
     alloc: Global,
     message: &Message,
     target: &Target,
@@ -265,7 +265,7 @@ fn deleted(
 ) -> Result<Request, AllocError>
     requires query { query.now ≡ query_of message.now.target }
     requires name { target.now.name ≡ Some name.now }
-    ensures { IfOk result (λ request. request_of request ≡ deleted message.now target.now name.now) }
+    ensures { IfOk result (λ request. request_of request ≡ delete_request message.now target.now name.now) }
 {
     if has_pairs(query) {
         return Ok(Request::Refused(Refusal::BadQuery));

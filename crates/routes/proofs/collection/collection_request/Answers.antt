@@ -2,7 +2,7 @@ use Rattle.std.proofs.Common.{◌≡◌, ap, sym, ◌∙◌, Some, option_map}
 use Rattle.routes.specs.Path.{query_of}
 use Rattle.routes.specs.Query.{pairs_of, question_of}
 use Rattle.routes.specs.QuestionOf.{question_seen}
-use Rattle.routes.proofs.collection.gathered.Goals as goal
+use Rattle.routes.proofs.collection.collection_request.Goals as goal
 
 pub returns-in-Some : goal.returns-in-Some
 returns-in-Some c =
