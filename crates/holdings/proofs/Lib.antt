@@ -1,3 +1,3 @@
 pub mod Showing
 mod Telling
-mod Replaying
+mod Redoing

@@ -1,6 +1,6 @@
 -- What is held of a store over the objects that lie below: the rules, the changes, the revision and the last events.
 use Rattle.std.specs.Prelude.{◌≡◌, ℕ, List, []}
-use Rattle.names.specs.declared.format.Rules.{Rules}
+use Rattle.objects.specs.declared.format.Rules.{Rules}
 use Rattle.names.specs.Key.{Key}
 use Rattle.window.specs.declared.event.Event.{Event}
 use Rattle.documents.specs.Document.{Document}

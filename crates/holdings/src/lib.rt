@@ -9,18 +9,18 @@
 //! Over the objects that lie below, `Holdings` show a view. `find` looks an object up among the changes, and where its key has none in the source that lies
 //! below; `list` merges both. To prepare a write takes all its memory and changes nothing that is seen, and `take` takes none and looks nothing up: a prepared put knows whether an object
 //! stood under its key, a deletion which document it removes. `hold` says what lies below already. When a store is opened again, `restore` and `keep`
-//! hold what was kept, and `replay_put` and `replay_delete` take the writes that were stored, each of which must be allowed to follow. Where nothing lies below, the
+//! hold what was kept, and `redo_put` and `redo_delete` take the writes that were stored, each of which must be allowed to follow. Where nothing lies below, the
 //! source is `Nothing`.
 #![tactic(auto)]
 
 mod holdings;
 mod nothing;
 mod prepared;
-mod replay;
+mod redo;
 mod source;
 
 pub use holdings::Holdings;
 pub use nothing::Nothing;
 pub use prepared::{Deletion, PreparedWrite, Put};
-pub use replay::ReplayFault;
+pub use redo::RedoFault;
 pub use source::{Found, Source};

@@ -29,7 +29,7 @@ module _ {X : Type 0} where
       let parts = and_parts (is_lt (key_cmp k e.0)) (below_all key_cmp k es) below in
       ap (λ r. cond (is_eq r) (Some e.1) (value_at k es)) (less_from (key_cmp k e.0) parts.0) ∙ below_none k es parts.1
 
-  -- also behind one that comes before all of them
+  -- also after one that comes before all of them
   behind : (first : Key × X) (rest : List (Key × X)) (e : Key × X) → below_all key_cmp first.0 rest ≡ true → value_at e.0 rest ≡ Some e.1
       → value_at e.0 (first ∷ rest) ≡ Some e.1
   behind first rest e below found =

@@ -1,6 +1,6 @@
--- Writes that may follow, and those behind them.
+-- Writes that may follow, and those after them.
 use Rattle.std.proofs.Common.{List, [], ◌∷◌, ◌++◌}
-use Rattle.names.specs.declared.format.Rules.{Rules}
+use Rattle.objects.specs.declared.format.Rules.{Rules}
 use Rattle.history.specs.View.{after, after_all}
 use Rattle.recovery.specs.Standing.{Write, View, AllMayFollow}
 

@@ -2,7 +2,7 @@
 use Rattle.std.proofs.Common.{◌≡◌, ℕ, ◌+◌, ◌<◌, List, [], ◌∷◌, ◌++◌, length, map, get_or, take, drop, refl, sym, ap, subst, ◌∙◌, Result, Ok, Err, OnOk}
 use Rattle.std.proofs.lemmas.List.{append-nil, append_assoc, map-append, map_push, drop_more, take-append-drop}
 use Rattle.std.specs.List.{AllByRecursion}
-use Rattle.names.specs.declared.format.Rules.{Rules}
+use Rattle.objects.specs.declared.format.Rules.{Rules}
 use Rattle.names.specs.Key.{Key}
 use Rattle.documents.specs.Document.{Document}
 use Rattle.objects.proofs.Each.{one_each}
@@ -159,7 +159,7 @@ stuck rules own first v ws us front all bytes rest rules_are seen written other 
 
 -- ---- the payloads up to a place
 
--- a list is what stands before a place, the element there, and what stands behind it
+-- a list is what stands before a place, the element there, and what stands after it
 pub map-at : {X Y : Type 0} (f : X → Y) (xs : List X) (i : ℕ) (x : X) → i < length xs → x ≡ get_or xs i x → map f xs ≡ map f (take i xs) ++ f x ∷ map f (drop (i + 1) xs)
 map-at f xs i x inside is =
     ap (map f) (sym (take-append-drop i xs) ∙ ap (λ rest. take i xs ++ rest) (drop_more xs i x inside ∙ ap (λ y. y ∷ drop (i + 1) xs) (sym is)))

@@ -11,7 +11,7 @@ use Rattle.recovery.specs.Standing.{View}
 abbrev Base : Type 0
 Base = List (Key × Stored Beside)
 
--- over another source, or the same behind looks, which holds what the first one does
+-- over another source, or the same after looks, which holds what the first one does
 pub over_kept : (first second : Base → Type 0) (core : State Beside) (held : seen.View Beside) (v : View) → ((base : Base) → first base → second base) → IsOver first core held v
     → IsOver second core held v
 over_kept first second core held v kept over = record {

@@ -1,7 +1,7 @@
 -- The writes of a payload, as they are taken.
 use Rattle.std.specs.Prelude.{◌≡◌, ℕ, List, ◌++◌, map}
 use Rattle.std.specs.List.{AllByRecursion}
-use Rattle.names.specs.declared.format.Rules.{Rules}
+use Rattle.objects.specs.declared.format.Rules.{Rules}
 use Rattle.names.specs.Key.{Key}
 use Rattle.history.specs.History as plain
 use Rattle.history.specs.Mapped.{mapped}
@@ -35,7 +35,7 @@ pub record AreTaken (rules : Rules) (v now : View Beside) (all left : List (plai
   pub shows : now ≡ after_all rules v writes
 
 -- Over the objects that lie below, the store shows what the writes with these payloads left of what was held.
-pub record HasReplayed (rules : Rules) (base : List (Key × Stored Beside)) (held : View Beside) (new : holdings.State Beside) (payloads : List (List ℕ)) : Type 0 where
+pub record HasRedone (rules : Rules) (base : List (Key × Stored Beside)) (held : View Beside) (new : holdings.State Beside) (payloads : List (List ℕ)) : Type 0 where
   pub now : View Beside
   pub shows : holdings.Shows new base now
   pub writes : List Write

@@ -1,7 +1,7 @@
 -- The payloads of a log, as those of the writes of a history with plans.
 use Rattle.std.specs.Prelude.{◌≡◌, ℕ, List, map}
 use Rattle.std.specs.List.{AllByRecursion}
-use Rattle.names.specs.declared.format.Rules.{Rules}
+use Rattle.objects.specs.declared.format.Rules.{Rules}
 use Rattle.history.specs.History as plain
 use Rattle.history.specs.History.{put, delete}
 use Rattle.history.specs.View.{View, AllMayFollow}

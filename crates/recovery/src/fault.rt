@@ -1,6 +1,6 @@
 ghost use Rattle.std.specs.Prelude.{◌≡◌};
 
-use holdings::ReplayFault;
+use holdings::RedoFault;
 use planlist::ReadPlansFault;
 use records::RecordFault;
 use std::alloc::AllocError;
@@ -51,15 +51,15 @@ impl From<RecordFault> for RecoveryFault {
     }
 }
 
-impl From<ReplayFault> for RecoveryFault {
-    ghost use Rattle.recovery.specs.Faults.{of_replay_fault};
+impl From<RedoFault> for RecoveryFault {
+    ghost use Rattle.recovery.specs.Faults.{of_redo_fault};
 
-    ghost from_gives = { λ replay_fault fault. fault ≡ of_replay_fault replay_fault };
+    ghost from_gives = { λ redo_fault fault. fault ≡ of_redo_fault redo_fault };
 
-    fn from(fault: ReplayFault) -> RecoveryFault {
+    fn from(fault: RedoFault) -> RecoveryFault {
         match fault {
-            ReplayFault::NotAllowed => RecoveryFault::Damaged,
-            ReplayFault::Memory => RecoveryFault::Memory,
+            RedoFault::NotAllowed => RecoveryFault::Damaged,
+            RedoFault::Memory => RecoveryFault::Memory,
         }
     }
 }

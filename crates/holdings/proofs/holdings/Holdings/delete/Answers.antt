@@ -3,7 +3,7 @@ use Rattle.circular_buffer.specs.Buffer.{keep_last}
 use Rattle.window.specs.Window.{event_at}
 use Rattle.window.specs.declared.event.Change.TheVariants.{Deleted}
 use Rattle.holdings.specs.Holdings.{State}
-use Rattle.holdings.proofs.Replaying.{made_put}
+use Rattle.holdings.proofs.Redoing.{made_put}
 use Rattle.holdings.proofs.Showing.{shows_deletion}
 use Rattle.holdings.proofs.holdings.Holdings.delete.Goals as goal
 

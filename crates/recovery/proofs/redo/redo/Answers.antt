@@ -1,0 +1,26 @@
+use Rattle.std.proofs.Common.{map}
+use Rattle.history.specs.Mapped.{mapped}
+use Rattle.recovery.specs.Shown.{plans_held}
+use Rattle.records.specs.WriteOf.{write_of}
+use Rattle.recovery.proofs.Histories.{on_ok_to, group_taken, group_recorded}
+use Rattle.recovery.proofs.Knowing.{written_known}
+use Rattle.recovery.proofs.redo.redo.Goals as goal
+
+pub returns-clause-taken : goal.returns-clause-taken
+returns-clause-taken c = λ base held shows known.
+    let read = c.in_ok-writes in
+    on_ok_to c.redo_writes.result _ _
+    (λ taken. (
+      taken.0,
+      taken.1,
+      group_taken c.args.core.now.rules (mapped plans_held held) (mapped plans_held taken.0) (map write_of read.writes.items) c.args.bytes.now taken.2 read.ensures.form read.ensures.writes,
+    ))
+    (c.redo_writes.ensures.taken base held shows
+    (written_known c.args.core.now base (map write_of read.writes.items) c.args.bytes.now read.ensures.form read.ensures.writes known))
+
+pub returns-clause-damaged : goal.returns-clause-damaged
+returns-clause-damaged c = λ base held shows known is_damaged ws group is follow.
+    let read = c.in_ok-writes in
+    c.redo_writes.ensures.damaged base held shows
+    (written_known c.args.core.now base (map write_of read.writes.items) c.args.bytes.now read.ensures.form read.ensures.writes known) is_damaged ws
+    (group_recorded ws (map write_of read.writes.items) c.args.bytes.now group read.ensures.form is read.ensures.writes) follow
