@@ -3,7 +3,7 @@ use Rattle.std.proofs.Common.{◌≡◌, ◌<◌, ◌∙◌, sym, ap, subst, ref
 use Rattle.std.proofs.lemmas.Bool.{cases_Bool}
 use Rattle.std.specs.FinMap.{find, nat_cmp-IsAntisymmetric, slice_cmp-IsAntisymmetric}
 use Rattle.std.specs.List.{AllByRecursion, filter}
-use Rattle.std.specs.Ordering.{is_eq}
+use Rattle.std.specs.Ordering.{is_eq, eq_by_cmp}
 use Rattle.std.specs.Prelude.{option_map}
 use Rattle.std.specs.declared.cmp.Ordering.{Ordering}
 use Rattle.std.specs.declared.cmp.Ordering.TheVariants.{Less, Equal, Greater}
@@ -18,12 +18,13 @@ use Rattle.pages.specs.Page.{Entry, bytes_cmp}
 use Rattle.checkpoint.specs.Reader.{IsRefused}
 use Rattle.shelf.specs.declared.shelf.Shelf.{Shelf}
 use Rattle.shelf.specs.Prefix.{beginning}
-use Rattle.shelf.specs.Shelf.{root_of, Shelves}
+use Rattle.shelf.specs.Shelf.{Shelves}
 use Rattle.shelf.proofs.Staying.{HoldsAsBefore, shelves_stay, shelves_ran}
 use Rattle.entries.proofs.One.{one_object}
 use Rattle.base.specs.declared.stocked.Stocked.{Stocked}
 use Rattle.base.specs.declared.listed.Listed.{Listed}
-use Rattle.base.specs.Stock.{cell_of, stocked_entry, IsStorable, IsOther, HoldObjects, Stocks, AreOf, prefix_of}
+use Rattle.base.specs.declared.stock.Stock.{Stock}
+use Rattle.base.specs.Stock.{cell_of, stocked_entry, IsStorable, IsOther, HoldObjects, Stocks, AreAmong, AreOf, prefix_of, root_of}
 use Rattle.base.specs.Listed.{IsTold, Refuses}
 use Rattle.base.proofs.Prefixes.{begins_of, other_begins, object_begins, other_object}
 
@@ -202,20 +203,52 @@ module _ (entries : List Entry) (objects : List (Key × Stocked)) (of : AreOf en
       let found = stands_among objects of.storable refused.before refused.entry refused.after (sym of.are ∙ refused.are) in
       refused.refused found.0 found.1 found.2
 
--- ---- of shelves
+-- ---- of objects that were found
+
+-- None are among all.
+pub none_among : (some objects : List (Key × Stocked)) → some ≡ [] → AreAmong some objects
+none_among some objects none = λ key s is.
+    let never : None ≡ Some s = ap (value_at key) (sym none) ∙ is in cc
+
+-- One more is, where it is one of the others.
+pub one_among : (some more objects : List (Key × Stocked)) (key : Key) (s : Stocked)
+    → ((k : Key) → value_at k more ≡ cond (eq_by_cmp key_cmp k key) (Some s) (value_at k some)) → value_at key objects ≡ Some s
+    → AreAmong some objects → AreAmong more objects
+one_among some more objects key s put is among = λ k x found.
+    let found_in : cond (is_eq (key_cmp k key)) (Some s) (value_at k some) ≡ Some x = sym (put k) ∙ found in
+    elim (is_eq (key_cmp k key)) as (λ b. is_eq (key_cmp k key) ≡ b → cond b (Some s) (value_at k some) ≡ Some x → value_at k objects ≡ Some x) [
+      | true ↦ λ tie same. ap (λ (k : Key). value_at k objects) (key_cmp-IsAntisymmetric k key (equal_from (key_cmp k key) tie)) ∙ is ∙ same
+      | false ↦ λ other same. among k x same
+    ] refl found_in
+
+-- ---- of stocks
 
 module _ {D : Type 0} (disk : Disk D) where
-  -- A shelf whose pages hold what another's do holds the same objects.
-  pub still : (before after : D) (old new : Shelf) → ((entries : List Entry) → Shelves disk before old entries → Shelves disk after new entries)
-      → (objects : List (Key × Stocked)) → Stocks disk before old objects → Stocks disk after new objects
-  still before after old new kept objects stocks = record { entries = stocks.entries; shelves = kept stocks.entries stocks.shelves; hold = stocks.hold }
+  -- A stock whose pages hold what another's do, and whose found objects are among those, holds the same objects.
+  pub still : (before after : D) (old new : Stock) → ((entries : List Entry) → Shelves disk before old.shelf entries → Shelves disk after new.shelf entries)
+      → (objects : List (Key × Stocked)) → (AreAmong old.found.entries objects → AreAmong new.found.entries objects)
+      → Stocks disk before old objects → Stocks disk after new objects
+  still before after old new kept objects among stocks =
+      record { entries = stocks.entries; shelves = kept stocks.entries stocks.shelves; hold = stocks.hold; found = among stocks.found }
 
-  -- What a shelf holds stays where the device holds, up to the start of the log, what it held. Where there are no pages nothing is asked of it.
-  pub stocks_stay : (shelf : Shelf) (old new : D) (objects : List (Key × Stocked)) → (0 < (root_of shelf).pages → HoldsAsBefore disk shelf old new)
-      → Stocks disk old shelf objects → Stocks disk new shelf objects
-  stocks_stay shelf old new objects as_before stocks =
-      still old new shelf shelf (λ entries shelves. shelves_stay disk shelf old new entries as_before shelves) objects stocks
+  -- So it does where an object is kept that was read from its page.
+  pub still_with : (at : D) (old new : Stock) → new.shelf ≡ old.shelf → (key : Key) → IsTrue (is_key key) → (bytes : List ℕ) → bytes ≡ 1 ∷ key_bytes key
+      → (cell : List ℕ) (o : Key × Stocked) → ((entries : List Entry) → Shelves disk at old.shelf entries → Some cell ≡ find bytes_cmp bytes entries)
+      → IsStorable o → stocked_entry o ≡ (bytes, cell)
+      → ((objects : List (Key × Stocked)) → value_at key objects ≡ Some o.1 → AreAmong old.found.entries objects → AreAmong new.found.entries objects)
+      → (objects : List (Key × Stocked)) → Stocks disk at old objects → Stocks disk at new objects
+  still_with at old new same key is bytes are cell o found can read among objects stocks =
+      let At : Shelf → Type 0 = λ s. Shelves disk at s stocks.entries in
+      let there = read_there stocks.entries objects stocks.hold key is bytes are cell o (found stocks.entries stocks.shelves) can read in
+      record { entries = stocks.entries; shelves = subst At (sym same) stocks.shelves; hold = stocks.hold; found = among objects (sym there) stocks.found }
+
+  -- What a stock holds stays where the device holds, up to the start of the log, what it held. Where there are no pages nothing is asked of it.
+  pub stocks_stay : (stock : Stock) (old new : D) (objects : List (Key × Stocked)) → (0 < (root_of stock).pages → HoldsAsBefore disk stock.shelf old new)
+      → Stocks disk old stock objects → Stocks disk new stock objects
+  stocks_stay stock old new objects as_before stocks =
+      still old new stock stock (λ entries shelves. shelves_stay disk stock.shelf old new entries as_before shelves) objects (λ among. among) stocks
 
   -- So it does where the device was read, and nothing was written.
-  pub stocks_ran : (shelf : Shelf) (old new : D) (objects : List (Key × Stocked)) → Ran disk old new Same → Stocks disk old shelf objects → Stocks disk new shelf objects
-  stocks_ran shelf old new objects ran stocks = still old new shelf shelf (λ entries shelves. shelves_ran disk shelf old new entries ran shelves) objects stocks
+  pub stocks_ran : (stock : Stock) (old new : D) (objects : List (Key × Stocked)) → Ran disk old new Same → Stocks disk old stock objects → Stocks disk new stock objects
+  stocks_ran stock old new objects ran stocks =
+      still old new stock stock (λ entries shelves. shelves_ran disk stock.shelf old new entries ran shelves) objects (λ among. among) stocks

@@ -10,13 +10,11 @@ use Rattle.names.specs.declared.resource.Resource.{Resource}
 use Rattle.names.specs.Key.{Key}
 use Rattle.documents.specs.Document.{Document}
 use Rattle.history.specs.declared.stored.Stored.{Stored}
-use Rattle.pages.specs.Page.{Entry}
 use Rattle.roots.specs.declared.root.Root.{Root}
 use Rattle.roots.specs.Root.{log_start}
-use Rattle.shelf.specs.declared.shelf.Shelf.{Shelf}
-use Rattle.shelf.specs.Shelf.{root_of, Shelves}
 use Rattle.base.specs.declared.stocked.Stocked.{Stocked}
-use Rattle.base.specs.Stock.{Stocks}
+use Rattle.base.specs.declared.stock.Stock.{Stock}
+use Rattle.base.specs.Stock.{root_of, Stocks}
 use Rattle.base.specs.Whole.{whole}
 use Rattle.base.specs.declared.base.Base.{Base}
 use Rattle.base.specs.Base.{not_held, HoldsBase, GoesTo}
@@ -31,41 +29,41 @@ inside_still disk before after old new root ran inside keeps =
     subst Of (sym root) (subst Inside (sym (ran.seen kept)) (inside kept))
 
 module _ {D M : Type 0} {g : Ghosts D} where
-  -- what the shelf holds stays
-  pub held_still : {P : Type 0} (made : M → Document → P) (held : M → Resource → Bool) (old new : Base D M g) (device : D) (shelf : Shelf) (objects : List (Key × Stored P))
-      → new.making ≡ old.making → new.is_damaged ≡ old.is_damaged → new.device.now ≡ device → new.shelf.now ≡ shelf
-      → ((os : List (Key × Stocked)) → Stocks g.disk old.device.now old.shelf.now os → Stocks g.disk device shelf os)
+  -- what the pages hold stays
+  pub held_still : {P : Type 0} (made : M → Document → P) (held : M → Resource → Bool) (old new : Base D M g) (device : D) (stock : Stock) (objects : List (Key × Stored P))
+      → new.making ≡ old.making → new.is_damaged ≡ old.is_damaged → new.device.now ≡ device → new.stock.now ≡ stock
+      → ((os : List (Key × Stocked)) → Stocks g.disk old.device.now old.stock.now os → Stocks g.disk device stock os)
       → HoldsBase made held old objects → HoldsBase made held new objects
-  held_still made held old new device shelf objects making undamaged device_is shelf_is stocks holds =
+  held_still made held old new device stock objects making undamaged device_is stock_is stocks holds =
       let all : List (Key × Stocked) = holds.lies.all in
-      let On : D → Type 0 = λ d. Stocks g.disk d new.shelf.now all in
-      let Of : Shelf → Type 0 = λ s. Stocks g.disk device s all in
+      let On : D → Type 0 = λ d. Stocks g.disk d new.stock.now all in
+      let Of : Stock → Type 0 = λ s. Stocks g.disk device s all in
       let Are : M → Type 0 = λ m. objects ≡ map (whole (made m)) (not_held (held m) all) in
       record {
         whole = undamaged ∙ holds.whole;
         lies = record {
           all = all;
-          stocks = subst On (sym device_is) (subst Of (sym shelf_is) (stocks all holds.lies.stocks));
+          stocks = subst On (sym device_is) (subst Of (sym stock_is) (stocks all holds.lies.stocks));
           are = subst Are (sym making) holds.lies.are;
         };
       }
 
   -- one run of calls more which changes nothing
-  pub goes : (old new : Base D M g) (device : D) (shelf : Shelf)
-      → new.device.ghost_name ≡ old.device.ghost_name → new.shelf.ghost_name ≡ old.shelf.ghost_name → new.making ≡ old.making
-      → new.device.now ≡ device → new.shelf.now ≡ shelf → root_of shelf ≡ root_of old.shelf.now
-      → ((es : List Entry) → Shelves g.disk old.device.now old.shelf.now es → Shelves g.disk device shelf es) → Ran g.disk old.device.now device Same → GoesTo old new
-  goes old new device shelf same_device same_shelf making device_is shelf_is root entries ran =
-      let Root_is : Shelf → Type 0 = λ s. root_of s ≡ root_of old.shelf.now in
-      let On : List Entry → D → Type 0 = λ es d. Shelves g.disk d new.shelf.now es in
-      let Of : List Entry → Shelf → Type 0 = λ es s. Shelves g.disk device s es in
+  pub goes : (old new : Base D M g) (device : D) (stock : Stock)
+      → new.device.ghost_name ≡ old.device.ghost_name → new.stock.ghost_name ≡ old.stock.ghost_name → new.making ≡ old.making
+      → new.device.now ≡ device → new.stock.now ≡ stock → root_of stock ≡ root_of old.stock.now
+      → ((os : List (Key × Stocked)) → Stocks g.disk old.device.now old.stock.now os → Stocks g.disk device stock os) → Ran g.disk old.device.now device Same → GoesTo old new
+  goes old new device stock same_device same_stock making device_is stock_is root stocks ran =
+      let Root_is : Stock → Type 0 = λ s. root_of s ≡ root_of old.stock.now in
+      let On : List (Key × Stocked) → D → Type 0 = λ os d. Stocks g.disk d new.stock.now os in
+      let Of : List (Key × Stocked) → Stock → Type 0 = λ os s. Stocks g.disk device s os in
       let To : D → Type 0 = λ d. Ran g.disk old.device.now d Same in
       record {
         same_device = same_device;
-        same_shelf = same_shelf;
+        same_stock = same_stock;
         making = making;
-        root = subst Root_is (sym shelf_is) root;
-        entries = λ es held. subst (On es) (sym device_is) (subst (Of es) (sym shelf_is) (entries es held));
+        root = subst Root_is (sym stock_is) root;
+        stocks = λ os held. subst (On os) (sym device_is) (subst (Of os) (sym stock_is) (stocks os held));
         ran = λ first before.
             ran_then g.disk first old.device.now new.device.now Same Same Same before (subst To (sym device_is) ran) (λ _ _ same. same) (λ _ _ _ one two. two ∙ one);
       }

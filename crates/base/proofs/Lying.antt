@@ -15,11 +15,10 @@ use Rattle.objects.specs.Objects.{value_at}
 use Rattle.overlay.specs.Covered.{AreCovered}
 use Rattle.overlay.proofs.Changing.{T_from_true, true_from_T}
 use Rattle.history.specs.declared.stored.Stored.{Stored}
-use Rattle.shelf.specs.declared.shelf.Shelf.{Shelf}
-use Rattle.shelf.specs.Shelf.{root_of}
 use Rattle.shelf.proofs.Staying.{HoldsAsBefore}
 use Rattle.base.specs.declared.stocked.Stocked.{Stocked}
-use Rattle.base.specs.Stock.{plain, Stocks}
+use Rattle.base.specs.declared.stock.Stock.{Stock}
+use Rattle.base.specs.Stock.{plain, root_of, Stocks}
 use Rattle.base.proofs.Holding.{stocks_stay, stocks_ran}
 use Rattle.base.specs.Whole.{whole}
 use Rattle.base.specs.Base.{not_held, Lies}
@@ -39,36 +38,36 @@ not_held_sorted held os h = true_from_T _ (is_sorted-where_key key_cmp (λ k. no
 
 module _ {D M P : Type 0} (made : M → Document → P) (held : M → Resource → Bool) (disk : Disk D) where
   -- Of a resource that is held in memory nothing lies below, so that no change has to cover it.
-  pub lies_hide : (device : D) (shelf : Shelf) (making : M) (objects : List (Key × Stored P)) (r : Resource) → Lies made held disk device shelf making objects
+  pub lies_hide : (device : D) (stock : Stock) (making : M) (objects : List (Key × Stored P)) (r : Resource) → Lies made held disk device stock making objects
       → held making r ≡ true → AreCovered r [] objects
-  lies_hide device shelf making objects r lies hidden = λ key of none.
+  lies_hide device stock making objects r lies hidden = λ key of none.
       ap (λ (os : List (Key × Stored P)). value_at key os) lies.are
       ∙ none_lies (made making) (held making) key lies.all (ap (held making) (resource_is r None key of) ∙ hidden)
 
   -- What lies below stays where the device holds, up to the start of the log, what it held. Where there are no pages nothing is asked of it.
-  pub lies_stay : (shelf : Shelf) (making : M) (old new : D) (objects : List (Key × Stored P)) → (0 < (root_of shelf).pages → HoldsAsBefore disk shelf old new)
-      → Lies made held disk old shelf making objects → Lies made held disk new shelf making objects
-  lies_stay shelf making old new objects as_before lies =
-      record { all = lies.all; stocks = stocks_stay disk shelf old new lies.all as_before lies.stocks; are = lies.are }
+  pub lies_stay : (stock : Stock) (making : M) (old new : D) (objects : List (Key × Stored P)) → (0 < (root_of stock).pages → HoldsAsBefore disk stock.shelf old new)
+      → Lies made held disk old stock making objects → Lies made held disk new stock making objects
+  lies_stay stock making old new objects as_before lies =
+      record { all = lies.all; stocks = stocks_stay disk stock old new lies.all as_before lies.stocks; are = lies.are }
 
   -- So it does where the device was read, and nothing was written.
-  pub lies_ran : (shelf : Shelf) (making : M) (old new : D) (objects : List (Key × Stored P)) → Ran disk old new Same
-      → Lies made held disk old shelf making objects → Lies made held disk new shelf making objects
-  lies_ran shelf making old new objects ran lies =
-      record { all = lies.all; stocks = stocks_ran disk shelf old new lies.all ran lies.stocks; are = lies.are }
+  pub lies_ran : (stock : Stock) (making : M) (old new : D) (objects : List (Key × Stored P)) → Ran disk old new Same
+      → Lies made held disk old stock making objects → Lies made held disk new stock making objects
+  lies_ran stock making old new objects ran lies =
+      record { all = lies.all; stocks = stocks_ran disk stock old new lies.all ran lies.stocks; are = lies.are }
 
   -- The keys of what lies below ascend.
-  pub lies_ascend : (device : D) (shelf : Shelf) (making : M) (objects : List (Key × Stored P)) → Lies made held disk device shelf making objects → IsTrue (is_sorted key_cmp objects)
-  lies_ascend device shelf making objects lies =
+  pub lies_ascend : (device : D) (stock : Stock) (making : M) (objects : List (Key × Stored P)) → Lies made held disk device stock making objects → IsTrue (is_sorted key_cmp objects)
+  lies_ascend device stock making objects lies =
       ap (λ (os : List (Key × Stored P)). is_sorted key_cmp os) lies.are
       ∙ whole_sorted (made making) (not_held (held making) lies.all)
       ∙ not_held_sorted (held making) lies.all lies.stocks.hold.ascend
 
   -- Of objects that the pages hold, those lie below that are not held, if beside each of these stands what is made of its document.
-  pub lies_of : (device : D) (shelf : Shelf) (making : M) (objects : List (Key × Stored P)) → Stocks disk device shelf (map plain objects)
+  pub lies_of : (device : D) (stock : Stock) (making : M) (objects : List (Key × Stored P)) → Stocks disk device stock (map plain objects)
       → AreMade (made making) (λ k. not (held making k.resource)) objects
-      → Lies made held disk device shelf making (filter (λ o. not (held making o.0.resource)) objects)
-  lies_of device shelf making objects stocks are_made = record {
+      → Lies made held disk device stock making (filter (λ o. not (held making o.0.resource)) objects)
+  lies_of device stock making objects stocks are_made = record {
     all = map plain objects;
     stocks = stocks;
     are = sym (whole_again (made making) (λ k. not (held making k.resource)) objects are_made);

@@ -1,4 +1,4 @@
--- Objects of a shelf, as what lies below.
+-- Objects in pages, as what lies below.
 use Rattle.std.specs.Prelude.{◌≡◌, Bool, true, false, not, List, map}
 use Rattle.std.proofs.Common.{refl, sym, ◌∙◌}
 use Rattle.std.specs.List.{filter}
@@ -10,11 +10,9 @@ use Rattle.names.specs.declared.resource.Resource.{Resource}
 use Rattle.names.specs.Key.{Key}
 use Rattle.documents.specs.Document.{Document}
 use Rattle.history.specs.declared.stored.Stored.{Stored}
-use Rattle.pages.specs.Page.{Entry}
-use Rattle.shelf.specs.declared.shelf.Shelf.{Shelf}
-use Rattle.shelf.specs.Shelf.{root_of, Shelves}
 use Rattle.base.specs.declared.stocked.Stocked.{Stocked}
-use Rattle.base.specs.Stock.{Stocks}
+use Rattle.base.specs.declared.stock.Stock.{Stock}
+use Rattle.base.specs.Stock.{root_of, Stocks}
 use Rattle.base.specs.Whole.{whole}
 use Rattle.base.specs.declared.base.Base.{Base}
 
@@ -23,37 +21,37 @@ abbrev pub not_held : (held : Resource → Bool) → List (Key × Stocked) → L
 not_held held objects = filter (λ o. not (held o.0.resource)) objects
 
 -- These objects lie below: they are those of the pages that are not held in memory, with what is made of each document beside it.
-pub record Lies {D M P : Type 0} (made : M → Document → P) (held : M → Resource → Bool) (disk : Disk D) (device : D) (shelf : Shelf) (making : M) (objects : List (Key × Stored P)) : Type 0 where
+pub record Lies {D M P : Type 0} (made : M → Document → P) (held : M → Resource → Bool) (disk : Disk D) (device : D) (stock : Stock) (making : M) (objects : List (Key × Stored P)) : Type 0 where
   pub all : List (Key × Stocked)
-  pub stocks : Stocks disk device shelf all
+  pub stocks : Stocks disk device stock all
   pub are : objects ≡ map (whole (made making)) (not_held (held making) all)
 
 -- No damage was found, and these objects lie below.
 pub record HoldsBase {D M P : Type 0} {g : Ghosts D} (made : M → Document → P) (held : M → Resource → Bool) (base : Base D M g) (objects : List (Key × Stored P)) : Type 0 where
   pub whole : base.is_damaged ≡ false
-  pub lies : Lies made held g.disk base.device.now base.shelf.now base.making objects
+  pub lies : Lies made held g.disk base.device.now base.stock.now base.making objects
 
 module _ {D M : Type 0} {g : Ghosts D} where
-  -- It is the same device and the same shelf, which has the same root and holds the same entries, and a run of calls which changed nothing on the device
-  -- has changed nothing still.
+  -- It is the same device and the same stock, whose pages are of the same root and hold the same objects, and a run of calls which changed nothing on the
+  -- device has changed nothing still.
   pub record GoesTo (old new : Base D M g) : Type 0 where
     pub same_device : new.device.ghost_name ≡ old.device.ghost_name
-    pub same_shelf : new.shelf.ghost_name ≡ old.shelf.ghost_name
+    pub same_stock : new.stock.ghost_name ≡ old.stock.ghost_name
     pub making : new.making ≡ old.making
-    pub root : root_of new.shelf.now ≡ root_of old.shelf.now
-    pub entries : (entries : List Entry) → Shelves g.disk old.device.now old.shelf.now entries → Shelves g.disk new.device.now new.shelf.now entries
+    pub root : root_of new.stock.now ≡ root_of old.stock.now
+    pub stocks : (objects : List (Key × Stocked)) → Stocks g.disk old.device.now old.stock.now objects → Stocks g.disk new.device.now new.stock.now objects
     pub ran : (first : D) → Ran g.disk first old.device.now Same → Ran g.disk first new.device.now Same
 
   pub stays : (base : Base D M g) → GoesTo base base
-  stays base = record { same_device = refl; same_shelf = refl; making = refl; root = refl; entries = λ _ held. held; ran = λ _ ran. ran }
+  stays base = record { same_device = refl; same_stock = refl; making = refl; root = refl; stocks = λ _ held. held; ran = λ _ ran. ran }
 
   pub goes_on : (before between after : Base D M g) → GoesTo before between → GoesTo between after → GoesTo before after
   goes_on before between after first second = record {
     same_device = second.same_device ∙ first.same_device;
-    same_shelf = second.same_shelf ∙ first.same_shelf;
+    same_stock = second.same_stock ∙ first.same_stock;
     making = second.making ∙ first.making;
     root = second.root ∙ first.root;
-    entries = λ es held. second.entries es (first.entries es held);
+    stocks = λ objects held. second.stocks objects (first.stocks objects held);
     ran = λ start ran. second.ran start (first.ran start ran);
   }
 

@@ -1,7 +1,7 @@
 -- What is promised of objects in pages.
 use Rattle.std.specs.Prelude.{◌≡◌, ◌≢◌, ℕ, Bool, true, List, [], ◌∷◌, map, length}
 use Rattle.std.specs.List.{AllByRecursion}
-use Rattle.names.specs.declared.format.Rules.{Rules}
+use Rattle.objects.specs.declared.format.Rules.{Rules}
 use Rattle.names.specs.Key.{key_bytes}
 use Rattle.history.specs.View.{View}
 use Rattle.entries.specs.Entries.{entries_of}

@@ -1,4 +1,4 @@
--- Objects in entries, and a shelf that holds them on a device.
+-- Objects in entries, and in the pages of a shelf on a device.
 use Rattle.std.specs.Prelude.{◌≡◌, ◌≢◌, ℕ, List, [], ◌∷◌, ◌++◌, map, Option, Some, None, IsTrue}
 use Rattle.std.specs.FinMap.{is_sorted}
 use Rattle.std.specs.List.{AllByRecursion}
@@ -8,13 +8,16 @@ use Rattle.device.specs.Disk.{Disk}
 use Rattle.names.specs.declared.resource.Resource.{Resource}
 use Rattle.names.specs.Key.{Key, key_cmp}
 use Rattle.names.specs.Resource.{row}
+use Rattle.objects.specs.Objects.{value_at}
 use Rattle.history.specs.declared.stored.Stored.{Stored}
 use Rattle.pages.specs.Page.{Entry}
-use Rattle.shelf.specs.declared.shelf.Shelf.{Shelf}
+use Rattle.roots.specs.declared.root.Root.{Root}
+use Rattle.shelf.specs.Shelf as shelf
 use Rattle.shelf.specs.Shelf.{Shelves}
 use Rattle.entries.specs.Entries.{object_entry}
 use Rattle.entries.specs.Holding.{IsStorableObject}
 use Rattle.base.specs.declared.stocked.Stocked.{Stocked}
+use Rattle.base.specs.declared.stock.Stock.{Stock}
 
 -- an object without what stands beside its document
 abbrev pub plain : {P : Type 0} → Key × Stored P → Key × Stocked
@@ -36,7 +39,7 @@ IsStorable o = IsStorableObject o.0 o.1.document o.1.revision
 abbrev pub IsOther : Entry → Type 0
 IsOther e = (rest : List ℕ) → e.0 ≢ 1 ∷ rest
 
--- The entries are those of these objects, whose keys ascend, and behind them others.
+-- The entries are those of these objects, whose keys ascend, and after them others.
 pub record HoldObjects (entries : List Entry) (objects : List (Key × Stocked)) : Type 0 where
   pub rest : List Entry
   pub are : entries ≡ map stocked_entry objects ++ rest
@@ -44,11 +47,20 @@ pub record HoldObjects (entries : List Entry) (objects : List (Key × Stocked)) 
   pub storable : AllByRecursion IsStorable objects
   pub ascend : IsTrue (is_sorted key_cmp objects)
 
--- The pages of the shelf hold these objects on the device.
-pub record Stocks {D : Type 0} (disk : Disk D) (device : D) (shelf : Shelf) (objects : List (Key × Stocked)) : Type 0 where
+-- the root whose pages have the objects
+abbrev pub root_of : Stock → Root
+root_of stock = shelf.root_of stock.shelf
+
+-- Each of the one is among the other objects.
+abbrev pub AreAmong : List (Key × Stocked) → List (Key × Stocked) → Type 0
+AreAmong some objects = (key : Key) (s : Stocked) → value_at key some ≡ Some s → value_at key objects ≡ Some s
+
+-- The pages hold these objects on the device, among which are those that were found.
+pub record Stocks {D : Type 0} (disk : Disk D) (device : D) (stock : Stock) (objects : List (Key × Stocked)) : Type 0 where
   pub entries : List Entry
-  pub shelves : Shelves disk device shelf entries
+  pub shelves : Shelves disk device stock.shelf entries
   pub hold : HoldObjects entries objects
+  pub found : AreAmong stock.found.entries objects
 
 -- The entries are those of these objects, and no others.
 pub record AreOf (entries : List Entry) (objects : List (Key × Stocked)) : Type 0 where

@@ -1,4 +1,4 @@
-//! Objects of a shelf, found and listed for what is held over them.
+//! Objects in pages, found and listed for what is held over them.
 
 ghost use Rattle.std.specs.Prelude.{◌≡◌, ◌≤◌, ◌*◌, List, not, false, true, map, option_map, length, IfOk, IsErrOf};
 ghost use Rattle.std.specs.List.{filter};
@@ -8,49 +8,48 @@ ghost use Rattle.objects.specs.declared.fault.Part.{Part};
 ghost use Rattle.objects.specs.declared.fault.LookupFault.TheVariants as LookupFault;
 ghost use Rattle.history.specs.declared.stored.Stored.{Stored as StoredData};
 ghost use Rattle.roots.specs.Root.{log_start};
-ghost use Rattle.shelf.specs.Shelf.{root_of};
+ghost use Rattle.base.specs.Stock.{root_of};
 ghost use Rattle.base.specs.Faults.{of_stock_fault};
 ghost use Rattle.base.specs.Whole.{found_of, stored_of, whole};
 ghost use Rattle.base.specs.declared.fault.StockFault.TheVariants as StockFault;
 
 use crate::fault::StockFault;
-use crate::looking::{find, list, list_all};
 use crate::making::FromDocument;
+use crate::stock::Stock;
 use crate::stocked::Stocked;
 use device::Device;
 use history::Stored;
 use holdings::{Found, Source};
 use names::{Key, Resource};
 use objects::{LookupFault, Part};
-use shelf::{Reading, Shelf};
 use std::alloc::{AllocError, Global};
 
-/// The objects of a shelf, on the device that its pages stand on, without those that are held in memory; and how what stands beside each is made.
+/// The objects of a stock, on the device that its pages stand on, without those that are held in memory; and how what stands beside each is made.
 #[derive(Drop)]
 pub struct Base<'a, D: Device, M> {
     device: &'a mut D,
-    shelf: &'a mut Shelf,
+    stock: &'a mut Stock,
     making: M,
     is_damaged: bool,
-    ghost inside: { D.disk.keeps device.now → 512 * log_start (root_of shelf.now) ≤ length (D.disk.content device.now) },
+    ghost inside: { D.disk.keeps device.now → 512 * log_start (root_of stock.now) ≤ length (D.disk.content device.now) },
 }
 
 impl<'a, D: Device, M: Drop> Base<'a, D, M> {
     ghost use Rattle.base.specs.Base.{HoldsBase, GoesTo};
 
-    /// The objects of this shelf, which stands on this device.
-    pub fn new(device: &'a mut D, shelf: &'a mut Shelf, making: M) -> Base<'a, D, M>
-        requires inside { D.disk.keeps device.old → 512 * log_start (root_of shelf.old) ≤ length (D.disk.content device.old) }
+    /// The objects of this stock, whose pages stand on this device.
+    pub fn new(device: &'a mut D, stock: &'a mut Stock, making: M) -> Base<'a, D, M>
+        requires inside { D.disk.keeps device.old → 512 * log_start (root_of stock.old) ≤ length (D.disk.content device.old) }
         ensures same_device { result.device.ghost_name ≡ device.entry.ghost_name }
         ensures device { result.device.now ≡ device.old }
-        ensures same_shelf { result.shelf.ghost_name ≡ shelf.entry.ghost_name }
-        ensures shelf { result.shelf.now ≡ shelf.old }
+        ensures same_stock { result.stock.ghost_name ≡ stock.entry.ghost_name }
+        ensures stock { result.stock.now ≡ stock.old }
         ensures making { result.making ≡ making }
         ensures whole { result.is_damaged ≡ false }
     {
         Base {
             device,
-            shelf,
+            stock,
             making,
             is_damaged: false,
         }
@@ -61,8 +60,8 @@ impl<'a, D: Device, M: Drop> Base<'a, D, M> {
         ensures fault { result ≡ of_stock_fault fault }
         ensures same_device { self.new.device.ghost_name ≡ self.old.device.ghost_name }
         ensures device { self.new.device.now ≡ self.old.device.now }
-        ensures same_shelf { self.new.shelf.ghost_name ≡ self.old.shelf.ghost_name }
-        ensures shelf { self.new.shelf.now ≡ self.old.shelf.now }
+        ensures same_stock { self.new.stock.ghost_name ≡ self.old.stock.ghost_name }
+        ensures stock { self.new.stock.now ≡ self.old.stock.now }
         ensures making { self.new.making ≡ self.old.making }
         ensures whole { (fault ≡ StockFault.Damaged → ⊥) → self.new.is_damaged ≡ self.old.is_damaged }
         ensures damaged { fault ≡ StockFault.Damaged → self.new.is_damaged ≡ true }
@@ -92,7 +91,7 @@ impl<'a, D: Device, M: Drop> Base<'a, D, M> {
         ensures device { IsErrOf result LookupFault.Device → HasGrown (D.disk.failures self.old.device.now) (D.disk.failures self.new.device.now) }
         ensures damaged { (part : Part) → IsErrOf result (LookupFault.Damaged part) → self.new.is_damaged ≡ true }
     {
-        match list_all(alloc, self.shelf, self.device) {
+        match self.stock.list_all(alloc, self.device) {
             Ok(objects) => {
                 let objects = lying::<P, M>(&self.making, objects);
                 Ok(all_of(alloc, &self.making, objects)?)
@@ -178,7 +177,7 @@ impl<'a, P: Drop, D: Device, M: FromDocument<P> + Drop> Source<P> for Base<'a, D
         if self.making.is_held(key.resource()) {
             return Ok(None);
         }
-        match find(alloc, self.shelf, self.device, key) {
+        match self.stock.find(alloc, self.device, key) {
             Ok(stocked) => Ok(found(stocked)),
             Err(fault) => Err(self.told(fault)),
         }
@@ -193,14 +192,7 @@ impl<'a, P: Drop, D: Device, M: FromDocument<P> + Drop> Source<P> for Base<'a, D
         if self.making.is_held(resource) {
             return Ok(Vec::new(alloc));
         }
-        match list(
-            alloc,
-            self.shelf,
-            self.device,
-            resource,
-            namespace,
-            Reading::Passing,
-        ) {
+        match self.stock.list(alloc, self.device, resource, namespace) {
             Ok(objects) => Ok(all_of(alloc, &self.making, objects)?),
             Err(fault) => Err(self.told(fault)),
         }

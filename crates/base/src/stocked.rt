@@ -7,7 +7,7 @@ ghost use Rattle.base.specs.Stock.{stocked_entry, IsStorable};
 use documents::Document;
 use entries::{EntryFault, StoredObject, read_object};
 use names::Key;
-use std::alloc::Global;
+use std::alloc::{AllocError, Global};
 
 /// What is stored under a key.
 #[derive(Drop)]
@@ -15,6 +15,17 @@ pub struct Stocked {
     pub document: Document,
     /// That of its last write.
     pub revision: u64,
+}
+
+impl Clone for Stocked {
+    ghost is_clone = { λ stocked copy. copy ≡ stocked };
+
+    fn clone(&self) -> Result<Stocked, AllocError> {
+        Ok(Stocked {
+            document: self.document.clone()?,
+            revision: self.revision,
+        })
+    }
 }
 
 /// Reads an object from its entry: a key, and the cell that stands under it. `Damaged` where no well-formed object has this entry.

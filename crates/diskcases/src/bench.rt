@@ -9,7 +9,8 @@ use crate::page_lines::{page, page_find, page_room, page_with};
 use crate::root_lines::{log_start, new_store, root, write_sector};
 use crate::scan_lines::{lay, scan_pages};
 use crate::shelf_lines::shelf;
-use crate::stock_lines::sift_pages;
+use crate::sift_lines::sift_pages;
+use crate::stock_lines::stock;
 use crate::writing_lines::write_entries;
 use cases::{Bench, Told, Wrong, run_text};
 use device::MemDevice;
@@ -82,6 +83,7 @@ fn answer(alloc: Global, device: &mut MemDevice, log: &mut LogLines, line: &mut 
         "scan" => scan_pages(alloc, device, line),
         "sift" => sift_pages(alloc, device, line),
         "shelf" => shelf(alloc, device, line),
+        "stock" => stock(alloc, device, line),
         word => of_the_log(alloc, word, device, log, line),
     }
 }

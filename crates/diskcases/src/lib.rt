@@ -16,6 +16,7 @@ mod page_lines;
 mod root_lines;
 mod scan_lines;
 mod shelf_lines;
+mod sift_lines;
 mod stock_lines;
 mod writing_lines;
 

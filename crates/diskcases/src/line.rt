@@ -30,7 +30,7 @@ impl<'a> Line<'a> {
         self.fail(Wrong::Told(why));
     }
 
-    /// The next word, behind which the rest stands: the empty text behind the last.
+    /// The next word, after which the rest stands: the empty text after the last.
     pub fn word(&mut self) -> &'a str {
         let (word, rest) = first_word(self.rest);
         self.rest = rest;

@@ -7,7 +7,7 @@ use device::write_through;
 use diskmodels::{Recorded, found_after_crash};
 use std::alloc::Global;
 
-/// `file-after-crash BYTE`: how a sector of this byte begins, which was written to a file in memory and synced, behind a crash.
+/// `file-after-crash BYTE`: how a sector of this byte begins, which was written to a file in memory and synced, after a crash.
 pub fn file_after_crash(alloc: Global, line: &mut Line<'_>) {
     let Ok(found) = found_after_crash(alloc, &[line.byte(); 512]) else {
         return line.fail(Wrong::Memory);

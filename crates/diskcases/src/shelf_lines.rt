@@ -1,11 +1,12 @@
 //! Lines on the shelf of a root's pages.
 
 ghost use Rattle.std.specs.Prelude.{IfSome};
+ghost use Rattle.shelf.specs.Shelf.{root_of};
 ghost use Rattle.diskcases.specs.Inside.{LiesInside};
 
 use crate::line::Line;
 use crate::scan_lines::{Listing, push_entries, read_pages, root_at};
-use crate::stock_lines::{Beginning, find_object, list_all_objects, list_objects};
+use crate::sift_lines::Beginning;
 use base::Sieve;
 use cases::Wrong;
 use device::MemDevice;
@@ -29,8 +30,8 @@ fn look(
     is_shown: bool,
     line: &mut Line<'_>,
 )
-    requires inside { LiesInside shelf.old device.old }
-    ensures inside { LiesInside shelf.new device.new }
+    requires inside { LiesInside (root_of shelf.old) device.old }
+    ensures inside { LiesInside (root_of shelf.new) device.new }
 {
     let key = line.rest.as_bytes();
     match shelf.bring(alloc, device, key) {
@@ -51,8 +52,8 @@ fn tell(
     reading: Reading,
     line: &mut Line<'_>,
 )
-    requires inside { LiesInside shelf.old device.old }
-    ensures inside { LiesInside shelf.new device.new }
+    requires inside { LiesInside (root_of shelf.old) device.old }
+    ensures inside { LiesInside (root_of shelf.new) device.new }
 {
     let mut listing = Listing {
         entries: Vec::new(alloc),
@@ -66,17 +67,14 @@ fn tell(
 
 // Answers a question.
 fn ask(alloc: Global, shelf: &mut Shelf, device: &mut MemDevice, line: &mut Line<'_>)
-    requires inside { LiesInside shelf.old device.old }
-    ensures inside { LiesInside shelf.new device.new }
+    requires inside { LiesInside (root_of shelf.old) device.old }
+    ensures inside { LiesInside (root_of shelf.new) device.new }
 {
     match line.word() {
         "get" => look(alloc, shelf, device, true, line),
         "has" => look(alloc, shelf, device, false, line),
         "list" => tell(alloc, shelf, device, Reading::Kept, line),
         "pass" => tell(alloc, shelf, device, Reading::Passing, line),
-        "stock-find" => find_object(alloc, shelf, device, line),
-        "stock-list" => list_objects(alloc, shelf, device, line),
-        "stock-all" => list_all_objects(alloc, shelf, device, line),
         _ => line.refuse("no question of a shelf"),
     }
 }
@@ -89,7 +87,7 @@ pub fn shelf_at(
     pages: u32,
     line: &mut Line<'_>,
 ) -> Option<(Shelf, u64)>
-    ensures inside { IfSome result (λ found. LiesInside found.0 device.new) }
+    ensures inside { IfSome result (λ found. LiesInside (root_of found.0) device.new) }
 {
     let root = root_at(device, first, pages, line)?;
     let all = Beginning {

@@ -1,13 +1,13 @@
-//! Questions on the objects in pages.
+//! Lines on the objects in the pages of a root.
 
+ghost use Rattle.base.specs.Stock.{root_of};
 ghost use Rattle.diskcases.specs.Inside.{LiesInside};
 
 use crate::line::Line;
-use crate::scan_lines::{read_pages, root_at};
-use base::{Choice, Sieve, StockFault, Stocked, find, list, list_all};
+use crate::shelf_lines::shelf_at;
+use base::{Stock, StockFault, Stocked};
 use device::MemDevice;
 use names::Key;
-use shelf::{Reading, Shelf};
 use std::alloc::Global;
 
 fn fault_text(fault: StockFault) -> &'static str {
@@ -18,24 +18,9 @@ fn fault_text(fault: StockFault) -> &'static str {
     }
 }
 
-/// `stock-find PLURAL NAMESPACE NAME`: the text and the revision of what is stored under the key, or `none`.
-pub(crate) fn find_object(
-    alloc: Global,
-    shelf: &mut Shelf,
-    device: &mut MemDevice,
-    line: &mut Line<'_>,
-)
-    requires inside { LiesInside shelf.old device.old }
-    ensures inside { LiesInside shelf.new device.new }
-{
-    let Some(resource) = line.resource() else {
-        return;
-    };
-    let namespace = line.word();
-    let Some(key) = line.key(alloc, resource, namespace, line.rest) else {
-        return;
-    };
-    match find(alloc, shelf, device, &key) {
+// What is stored under a key, or `none`.
+fn show_found(alloc: Global, found: Result<Option<Stocked>, StockFault>, line: &mut Line<'_>) {
+    match found {
         Ok(Some(stocked)) => {
             line.show_text(stocked.document.json().text(alloc));
             line.show(&stocked.revision);
@@ -58,76 +43,53 @@ fn show_objects(listed: Result<Vec<(Key, Stocked)>, StockFault>, line: &mut Line
     }
 }
 
-/// `stock-list PLURAL`, `stock-list PLURAL NAMESPACE`: the keys of the objects of a resource, in all namespaces or in one, with the revision of each.
-pub(crate) fn list_objects(
-    alloc: Global,
-    shelf: &mut Shelf,
-    device: &mut MemDevice,
-    line: &mut Line<'_>,
-)
-    requires inside { LiesInside shelf.old device.old }
-    ensures inside { LiesInside shelf.new device.new }
+// The key that the rest of a line names, as `PLURAL NAMESPACE NAME`.
+fn key_asked(alloc: Global, line: &mut Line<'_>) -> Option<Key> {
+    let resource = line.resource()?;
+    let namespace = line.word();
+    line.key(alloc, resource, namespace, line.rest)
+}
+
+// Answers a question.
+fn ask(alloc: Global, stock: &mut Stock, device: &mut MemDevice, line: &mut Line<'_>)
+    requires inside { LiesInside (root_of stock.old) device.old }
+    ensures inside { LiesInside (root_of stock.new) device.new }
 {
-    let Some(resource) = line.resource() else {
-        return;
-    };
-    let namespace = if line.rest.is_empty() {
-        None
-    } else {
-        Some(line.rest)
-    };
-    let listed = list(alloc, shelf, device, resource, namespace, Reading::Passing);
-    show_objects(listed, line);
-}
-
-/// `stock-all`: the keys of all objects, with the revision of each.
-pub(crate) fn list_all_objects(
-    alloc: Global,
-    shelf: &mut Shelf,
-    device: &mut MemDevice,
-    line: &mut Line<'_>,
-)
-    requires inside { LiesInside shelf.old device.old }
-    ensures inside { LiesInside shelf.new device.new }
-{
-    let listed = list_all(alloc, shelf, device);
-    show_objects(listed, line);
-}
-
-/// The objects whose entries' keys begin so.
-#[derive(Drop)]
-pub(crate) struct Beginning {
-    pub(crate) prefix: Vec<u8>,
-}
-
-impl Choice for Beginning {
-    ghost use Rattle.shelf.specs.Prefix.{begins};
-
-    ghost chosen = { λ choice key. begins choice.prefix.items key };
-
-    fn holds(&self, key: &[u8]) -> bool {
-        key.starts_with(&self.prefix)
+    match line.word() {
+        "find" => {
+            if let Some(key) = key_asked(alloc, line) {
+                let found = stock.find(alloc, device, &key);
+                show_found(alloc, found, line);
+            }
+        }
+        "list" => {
+            if let Some(resource) = line.resource() {
+                let namespace = if line.rest.is_empty() {
+                    None
+                } else {
+                    Some(line.rest)
+                };
+                let listed = stock.list(alloc, device, resource, namespace);
+                show_objects(listed, line);
+            }
+        }
+        "all" => {
+            let listed = stock.list_all(alloc, device);
+            show_objects(listed, line);
+        }
+        _ => line.refuse("no question of a stock"),
     }
 }
 
-/// `sift FIRST PAGES PREFIX`: what a sieve keeps of so many pages from a sector on, where the objects are chosen whose keys begin so, and
-/// behind `of` how many objects there are.
-pub(crate) fn sift_pages(alloc: Global, device: &mut MemDevice, line: &mut Line<'_>) {
+/// `stock FIRST PAGES QUESTION ; ..`: the answers of the objects in so many pages from a sector on, which are read before, each once.
+pub fn stock(alloc: Global, device: &mut MemDevice, line: &mut Line<'_>) {
     let (first, pages) = (line.number(), line.pages());
-    let choice = Beginning {
-        prefix: line.payload(alloc, line.rest),
-    };
-    let Some(root) = root_at(device, first, pages, line) else {
+    let Some((shelf, _)) = shelf_at(alloc, device, first, pages, line) else {
         return;
     };
-    let mut sieve = Sieve::new(alloc, &choice);
-    if let Err(fault) = read_pages(alloc, device, &root, &mut sieve) {
-        return line.answer.word(fault);
+    let mut stock = Stock::new(alloc, shelf);
+    for question in line.rest.split(" ; ") {
+        line.rest = question;
+        ask(alloc, &mut stock, device, line);
     }
-    for entry in sieve.kept() {
-        line.spell(alloc, entry.key());
-        line.spell(alloc, entry.cell());
-    }
-    line.answer.word("of");
-    line.show(&sieve.objects());
 }

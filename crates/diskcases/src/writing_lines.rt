@@ -56,7 +56,7 @@ fn push_written(alloc: Global, line: &mut Line<'_>, written: &Written) {
     }
 }
 
-/// `write LAST REVISION KEY ; CELL | ..`: writes these entries as the next generation: its root, and behind `begin` the first key of each
+/// `write LAST REVISION KEY ; CELL | ..`: writes these entries as the next generation: its root, and after `begin` the first key of each
 /// page, in hex where it is no word.
 pub fn write_entries(alloc: Global, device: &mut MemDevice, line: &mut Line<'_>) {
     let (last_gate, revision) = (line.number(), line.number());

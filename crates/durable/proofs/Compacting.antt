@@ -22,7 +22,7 @@ use Rattle.roots.specs.Install.{IsBefore, IsInUse}
 use Rattle.checkpoint.specs.Pages.{HoldsEntries}
 use Rattle.checkpoint.specs.Writing.{IsSource, IsWritten, IsBeforeOrWritten}
 use Rattle.roots.proofs.Chain.{stands_moments}
-use Rattle.names.specs.declared.format.Rules.{Rules}
+use Rattle.objects.specs.declared.format.Rules.{Rules}
 use Rattle.history.specs.View.{view}
 use Rattle.recovery.specs.Standing.{History, IsHistory, View, with_plans}
 use Rattle.snapshots.specs.Keeping.{entries_of, held_entries}

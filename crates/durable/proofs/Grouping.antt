@@ -9,7 +9,7 @@ use Rattle.device.specs.Run.{Ran, Stands}
 use Rattle.device.specs.Step.{Same}
 use Rattle.device.proofs.Moments.{followed_by}
 use Rattle.device.proofs.Runs.{stands_now}
-use Rattle.names.specs.declared.format.Rules.{Rules}
+use Rattle.objects.specs.declared.format.Rules.{Rules}
 use Rattle.requests.specs.Request.{Request}
 use Rattle.history.specs.History as plain
 use Rattle.history.specs.Reply.{Reply}
@@ -140,7 +140,7 @@ failed_reading old new r run s read stopped = record {
   admitted = λ rules v. written_admitted rules v r s;
 }
 
--- ---- behind other replies
+-- ---- after other replies
 
 pub more_none : {D : Type 0} {g : Ghosts D} (store : Store D g) (group : Group) (all : List Request) (before : List Reply) → Gathers group []
     → HasGatheredMore store store group all before before
@@ -434,7 +434,7 @@ pub in_parts : {A B : Type 0} (f : A → B) (rest front back : List A) (n : ℕ)
 in_parts f rest front back n first second =
     ap (map f) (sym (take-append-drop n rest)) ∙ map-append f (take n rest) (drop n rest) ∙ (λ i. map f (sym first i) ++ map f (sym second i))
 
--- A group among all requests, behind those that were answered.
+-- A group among all requests, after those that were answered.
 module _ {D : Type 0} {g : Ghosts D} (old mid new : Store D g) (all group later : List Request) (given now : List Reply) (stop : Option Fault) (inside : length given ≤ length all)
     (split : all ≡ take (length given) all ++ (group ++ later)) (so_far : HasServed old mid (take (length given) all) given) (next : HasAnswered mid new group given now stop) where
   -- its answered ones stand in front of all that is left
@@ -468,7 +468,7 @@ module _ {D : Type 0} {g : Ghosts D} (old mid new : Store D g) (all group later 
       subst Said (sym next.pushed)
       (run_stopped old mid new (take (length given) all) given next.more so_far group later all (sym (length-take-le (length given) all inside)) split failed.0 failed.1)
 
-  -- what is left behind a group that is answered whole
+  -- what is left after a group that is answered whole
   pub left_behind : stop ≡ None → all ≡ take (length now) all ++ later
   left_behind none =
       split ∙ sym (append_assoc (take (length given) all) group later)

@@ -1,9 +1,9 @@
 -- The numbers of a format, and what a history of one shows.
 use Rattle.std.proofs.Common.{arith, ◌≡◌, ◌≤◌, ◌<◌, ◌^◌, ◌∙◌, sym, subst, refl}
-use Rattle.names.specs.declared.format.Format.{Format}
-use Rattle.names.specs.declared.format.Format.TheVariants.{First}
-use Rattle.names.specs.declared.format.Rules.{Rules}
-use Rattle.names.specs.Format.{rules_of}
+use Rattle.objects.specs.declared.format.Format.{Format}
+use Rattle.objects.specs.declared.format.Format.TheVariants.{First}
+use Rattle.objects.specs.declared.format.Rules.{Rules}
+use Rattle.objects.specs.Format.{rules_of}
 use Rattle.history.specs.View.{view}
 use Rattle.recovery.specs.Standing.{History, IsHistory}
 use Rattle.snapshots.specs.Keeping.{IsKeepable}

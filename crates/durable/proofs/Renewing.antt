@@ -6,7 +6,7 @@ use Rattle.device.specs.Disk.{Disk, HasFailed}
 use Rattle.device.specs.Run.{Ran, Stands}
 use Rattle.device.specs.Step.{Same}
 use Rattle.device.proofs.Moments.{followed_by}
-use Rattle.names.specs.declared.format.Rules.{Rules}
+use Rattle.objects.specs.declared.format.Rules.{Rules}
 use Rattle.history.specs.View.{view}
 use Rattle.holdings.specs.Holdings.{State, Shows}
 use Rattle.snapshots.specs.Keeping.{IsKeepable}
@@ -57,7 +57,7 @@ never_exhausted f (inl is) never = let both : Faults.Device ≡ Faults.Exhausted
 never_exhausted f (inr (inl is)) never = let both : Faults.Memory ≡ Faults.Exhausted = sym is ∙ never in cc
 never_exhausted f (inr (inr is)) never = let both : Faults.Damaged is.0 ≡ Faults.Exhausted = sym is.1 ∙ never in cc
 
--- a device that failed behind reads failed
+-- a device that failed after reads failed
 pub failed_then : {D : Type 0} (disk : Disk D) (old mid new : D) → Ran disk old mid Same → HasFailed disk mid new → HasFailed disk old new
 failed_then disk old mid new run (inl more) = inl (omega (arith, run.count, more))
 failed_then disk old mid new run (inr all) = inr all

@@ -5,7 +5,7 @@ use Rattle.std.proofs.lemmas.Grind.{take_at_read}
 use Rattle.std.proofs.Math.Seq.{take-append_seam}
 use Rattle.device.specs.declared.device.Device.{Ghosts}
 use Rattle.device.proofs.Moments.{followed_by}
-use Rattle.names.specs.declared.format.Rules.{Rules}
+use Rattle.objects.specs.declared.format.Rules.{Rules}
 use Rattle.history.specs.Reply.{Reply}
 use Rattle.history.specs.View.{view, empty, after_all}
 use Rattle.history.proofs.ViewLemmas.{after_all-append}
@@ -37,7 +37,7 @@ found_behind rules h us ws c found = record {
   stands = let Of : History → Type 0 = λ x. StandsFor rules c x in subst Of (append_assoc h us found.more) found.stands;
 }
 
--- the same behind writes that were kept
+-- the same after writes that were kept
 found_further : (rules : Rules) (h : History) (us kept ws : List Write) (c : List ℕ) → IsFound rules (h ++ us) kept ws c → IsFound rules h (us ++ kept) (us ++ ws) c
 found_further rules h us kept ws c found = record {
   more = found.more;
@@ -79,7 +79,7 @@ replies-append rules v (r ∷ rs) qs =
 view-added : (rules : Rules) (h : History) (ws : List Write) → after_all rules (view rules h) ws ≡ view rules (h ++ ws)
 view-added rules h ws = sym (after_all-append rules empty h ws)
 
--- the writes of some requests and of those behind them
+-- the writes of some requests and of those after them
 pub added-append : (rules : Rules) (h : History) (rs qs : List Asked) → added rules h (rs ++ qs) ≡ added rules h rs ++ added rules (h ++ added rules h rs) qs
 added-append rules h rs qs =
     accepted-append rules (view rules h) rs qs ∙ ap (λ x. added rules h rs ++ accepted rules x qs) (view-added rules h (added rules h rs))
@@ -144,7 +144,7 @@ served_none rules store h only_now settled =
 
 -- ---- runs by what is shown
 
--- what is seen behind further requests
+-- what is seen after further requests
 pub view_then : (rules : Rules) (v : View) (rs qs : List Asked)
     → after_all rules v (accepted rules v (rs ++ qs))
     ≡ after_all rules (after_all rules v (accepted rules v rs)) (accepted rules (after_all rules v (accepted rules v rs)) qs)

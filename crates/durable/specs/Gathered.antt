@@ -7,7 +7,7 @@ use Rattle.device.specs.declared.device.Device.{Ghosts}
 use Rattle.device.specs.Disk.{HasFailed}
 use Rattle.device.specs.Run.{Ran}
 use Rattle.device.specs.Step.{Same}
-use Rattle.names.specs.declared.format.Rules.{Rules}
+use Rattle.objects.specs.declared.format.Rules.{Rules}
 use Rattle.requests.specs.Request.{Request}
 use Rattle.history.specs.History as plain
 use Rattle.history.specs.Mapped.{mapped_write}
@@ -47,7 +47,7 @@ pub record CanBeAppended (rules : Rules) (v : View) (ws : List Write) : Type 0 w
 
 -- ---- one request
 
--- A store that showed v shows what the request leaves, and its writes are gathered behind the others.
+-- A store that showed v shows what the request leaves, and its writes are gathered after the others.
 pub record HasSteppedAt {D : Type 0} {g : Ghosts D} (rules : Rules) (new : Store D g) (before now : Group) (v : View) (a : Asked) (said : Reply) : Type 0 where
   pub reply : said ≡ reply rules v a
   pub serving : ServesAt rules new (after_all rules v (writes rules v a))
@@ -83,14 +83,14 @@ pub record HasGathered {D : Type 0} {g : Ghosts D} (old new : Store D g) (group 
   pub few : count_of group ≤ length given
   pub shown : (rules : Rules) (v : View) → ServesAt rules old v → HasGatheredAt rules new group v asked given
 
--- The first requests of a group, up to one to which memory was refused, are answered behind other replies, and nothing of it is on the device yet.
+-- The first requests of a group, up to one to which memory was refused, are answered after other replies, and nothing of it is on the device yet.
 pub record HasGatheredMore {D : Type 0} {g : Ghosts D} (old new : Store D g) (group : Group) (requests : List Request) (before now : List Reply) : Type 0 where
   pub more : List Reply
   pub pushed : now ≡ before ++ more
   pub within : length more ≤ length requests
   pub gathered : HasGathered old new group (take (length more) requests) more
 
--- The first requests of a group, up to one to which memory was refused, are answered behind other replies, and what they write is on the device.
+-- The first requests of a group, up to one to which memory was refused, are answered after other replies, and what they write is on the device.
 pub record HasServedMore {D : Type 0} {g : Ghosts D} (old new : Store D g) (requests : List Request) (before now : List Reply) : Type 0 where
   pub more : List Reply
   pub pushed : now ≡ before ++ more
@@ -102,7 +102,7 @@ pub record HasStoppedIn {D : Type 0} {g : Ghosts D} (old new : Store D g) (reque
   pub stopped : HasStopped old new requests []
   pub within : length stopped.failing ≤ length requests
 
--- A group is answered behind other replies, up to a fault.
+-- A group is answered after other replies, up to a fault.
 pub record HasAnswered {D : Type 0} {g : Ghosts D} (old new : Store D g) (requests : List Request) (before now : List Reply) (stop : Option Fault) : Type 0 where
   pub more : List Reply
   pub pushed : now ≡ before ++ more
@@ -111,7 +111,7 @@ pub record HasAnswered {D : Type 0} {g : Ghosts D} (old new : Store D g) (reques
   pub served : (stop ≡ None) ⊎ (stop ≡ Some Faults.Memory) → HasServed old new (take (length more) requests) more
   pub stopped : stop ≡ Some Faults.Device → (stopped : HasStopped old new requests more) × (length more + length stopped.failing ≤ length requests)
 
--- A group of so many requests has met this fault or none, and its replies stand behind others. The store serves on unless its device fails, or damage is
+-- A group of so many requests has met this fault or none, and its replies stand after others. The store serves on unless its device fails, or damage is
 -- found. That is only where no view is shown, and nothing is written then.
 pub record HasMet {D : Type 0} {g : Ghosts D} (old new : Store D g) (asked : ℕ) (before now : Vec Reply Global) (stop : Option Fault) : Type 0 where
   pub damaged : (damage : Damage) → stop ≡ Some (Faults.Damaged damage) → (rules : Rules) (v : View) → ServesAt rules old v → ⊥

@@ -53,7 +53,7 @@ impl<D: Device> Store<D> {
     ghost use Rattle.gatelog.specs.Payload.{payload_of};
     ghost use Rattle.std.specs.Vec.{vec_capacity};
     ghost use Rattle.roots.specs.Root.{log_start, HoldsRoot};
-    ghost use Rattle.names.specs.declared.format.Rules.{Rules};
+    ghost use Rattle.objects.specs.declared.format.Rules.{Rules};
     ghost use Rattle.requests.specs.Request.{RequestHasForm};
     ghost use Rattle.requests.specs.RequestOf.{request_of};
     ghost use Rattle.history.specs.View as seen;
@@ -188,7 +188,7 @@ impl<D: Device> Store<D> {
         }
     }
 
-    // Takes the step of a request, behind those of its group, whose writes are gathered and not on the device yet.
+    // Takes the step of a request, after those of its group, whose writes are gathered and not on the device yet.
     fn step(&mut self, alloc: Global, request: &Request, group: &mut Group) -> Result<Reply, Fault>
         requires serves { serves self.old ≡ true }
         requires few { count_of group.old < group_limit }
@@ -346,7 +346,7 @@ impl<D: Device> Store<D> {
     ///
     /// # Errors
     ///
-    /// As [`Store::apply`]: the fault is that of the request behind those that were answered. There is memory for the replies of all
+    /// As [`Store::apply`]: the fault is that of the request after those that were answered. There is memory for the replies of all
     /// requests before the first is applied, or the fault is `Memory` with no reply. A store that has failed answers `Failed`, also
     /// where there is no request.
     pub fn run(&mut self, alloc: Global, requests: &[Request]) -> (Vec<Reply>, Option<Fault>)
@@ -520,7 +520,7 @@ impl<D: Device> Store<D> {
             revision,
             &mut entries,
         ) {
-            Ok(written) => Ok(self.start_over(written, core)),
+            Ok(written) => Ok(self.start_over(alloc, written, core)),
             Err(fault) => {
                 self.serves = changed_nothing(fault);
                 Err(Fault::from(fault))
@@ -529,7 +529,7 @@ impl<D: Device> Store<D> {
     }
 
     // Begins the generation of a root that counts, whose log is empty, with what is held over its pages.
-    fn start_over(&mut self, written: Written, core: Core) -> Compacted
+    fn start_over(&mut self, alloc: Global, written: Written, core: Core) -> Compacted
         requires in_data { 8 ≤ written.root.first }
         requires room { log_start written.root < 2 ^ 54 }
         requires counted { length written.first_keys.items ≡ written.root.pages }
@@ -547,7 +547,8 @@ impl<D: Device> Store<D> {
     {
         let Written { root, first_keys } = written;
         self.log = Log::restart(&self.device, root.log_start());
-        self.paged.start_over(&self.device, root, first_keys, core);
+        self.paged
+            .start_over(alloc, &self.device, root, first_keys, core);
         self.serves = true;
         Compacted {
             generation: root.generation,
@@ -600,7 +601,7 @@ impl<D: Device> Store<D> {
 
 impl Store<MemDevice> {
     ghost use Rattle.device.specs.Memory.{memory};
-    ghost use Rattle.names.specs.declared.format.Rules.{Rules};
+    ghost use Rattle.objects.specs.declared.format.Rules.{Rules};
     ghost use Rattle.recovery.specs.Standing.{History};
     ghost use Rattle.durable.specs.Settled.{device_of, IsSettledAt};
 

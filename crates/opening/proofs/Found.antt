@@ -1,10 +1,10 @@
--- What is found on a device that was read, behind a run that only read, and with a fault.
+-- What is found on a device that was read, after a run that only read, and with a fault.
 use Rattle.std.proofs.Common.{◌≡◌, ◌≢◌, ◌⊎◌, inl, inr, sym, ap, subst, ℕ, List, Result, Ok, Err, IfOk, IsErrOf}
 use Rattle.std.specs.Result.{IsErrAnd}
 use Rattle.device.specs.Disk.{Disk, HasFailed}
 use Rattle.device.specs.Run.{Ran}
 use Rattle.device.specs.Step.{Same}
-use Rattle.names.specs.declared.format.Rules.{Rules}
+use Rattle.objects.specs.declared.format.Rules.{Rules}
 use Rattle.recovery.specs.Standing.{History}
 use Rattle.roots.specs.declared.open.RootFault.{RootFault}
 use Rattle.roots.specs.declared.open.RootFault.TheVariants as root_fault
@@ -27,7 +27,7 @@ err_of (Ok x) e holds = absurd holds
 err_of (Err f) e holds = ap Err holds
 
 module _ {D : Type 0} (disk : Disk D) where
-  -- what was read behind a run that only read
+  -- what was read after a run that only read
   pub found_behind : (old mid new : D) (result : Result Opened Fault) → Ran disk old mid Same → HasRead disk mid new result → HasRead disk old new result
   found_behind old mid new result run read =
       let For : Rules → History → List ℕ → Type 0 = λ rules h x. StandsFor rules x h in
@@ -36,7 +36,7 @@ module _ {D : Type 0} (disk : Disk D) where
         works = read.works;
         in_data = read.in_data;
         found = λ keeps rules h stands. read.found (run.kept keeps) rules h (subst (For rules h) (sym (run.seen keeps)) stands);
-        replayed = read.replayed;
+        redone = read.redone;
         log = λ keeps.
             let Of : List ℕ → Type 0 = λ x. IfOk result (λ opened. IsLogOf x (root_of opened.paged) opened.log) in
             subst Of (run.seen keeps) (read.log (run.kept keeps));
@@ -56,7 +56,7 @@ module _ {D : Type 0} (disk : Disk D) where
       works = tt;
       in_data = tt;
       found = λ keeps rules h stands. tt;
-      replayed = tt;
+      redone = tt;
       log = λ keeps. tt;
       damaged = λ keeps damage is. damaged keeps damage (let same : f ≡ fault.Damaged damage = cc in same);
       ran = run;

@@ -7,7 +7,7 @@ use Rattle.gatelog.proofs.Walking.{at_most_one}
 use Rattle.roots.specs.declared.root.Root.{Root}
 use Rattle.roots.specs.Root.{log_start, HoldsRoot}
 use Rattle.roots.proofs.Counting.{one_counts}
-use Rattle.names.specs.declared.format.Rules.{Rules}
+use Rattle.objects.specs.declared.format.Rules.{Rules}
 use Rattle.names.specs.Key.{Key}
 use Rattle.documents.specs.Document.{Document}
 use Rattle.history.specs.History as plain
@@ -26,7 +26,7 @@ use Rattle.recovery.specs.Standing.{Write, History, View, PutsTrees, HasTrees, A
 use Rattle.records.specs.Payload.{writes_in}
 use Rattle.recovery.specs.Written as written
 use Rattle.recovery.specs.Written.{IsWritten}
-use Rattle.recovery.specs.Taken.{HasReplayed}
+use Rattle.recovery.specs.Taken.{HasRedone}
 use Rattle.recovery.proofs.Histories.{one_list, written_storable}
 use Rattle.durable.specs.Recorded.{payload, IsGroup}
 use Rattle.recovery.proofs.Following.{AllMayFollow-first, AllMayFollow-others}
@@ -34,8 +34,8 @@ use Rattle.recovery.proofs.Staying.{histories_show}
 use Rattle.snapshots.specs.Keeping.{entries_of, IsKeepable, IsHeld}
 use Rattle.snapshots.proofs.Shown.{held_as_it_is}
 use Rattle.snapshots.proofs.Kept.{entries_have_one_view}
-use Rattle.opening.specs.Laws.{AtMostOneView, ReplayedIsShown}
-use Rattle.opening.specs.Opened.{IsReplayed}
+use Rattle.opening.specs.Laws.{AtMostOneView, RedoneIsShown}
+use Rattle.opening.specs.Opened.{IsRedone}
 use Rattle.durable.specs.Stands.{HoldsBase, StandsFor}
 use Rattle.durable.proofs.Numbers.{first_numbers, history_kept}
 
@@ -174,29 +174,29 @@ module _ (rules : Rules) (content : List ℕ) (h : History) (stands : StandsFor 
           subst Of (sym shown) (written_here payloads last log)
 
       -- and the store that took them shows the history
-      pub opened_shows : (below : List (Key × Stored Beside)) → HasNoRules below → (core : State Beside) → HasReplayed rules below held core payloads
+      pub opened_shows : (below : List (Key × Stored Beside)) → HasNoRules below → (core : State Beside) → HasRedone rules below held core payloads
           → ShowsOver core below (view rules h)
-      opened_shows below free core replayed = record {
-        held = replayed.now;
-        shows = replayed.shows;
-        plans = shows_here payloads last (mapped plans_held held) (mapped plans_held replayed.now) shown log (replayed.writes, replayed.written, replayed.left);
+      opened_shows below free core redone = record {
+        held = redone.now;
+        shows = redone.shows;
+        plans = shows_here payloads last (mapped plans_held held) (mapped plans_held redone.now) shown log (redone.writes, redone.written, redone.left);
         free = free;
       }
 
 -- what a store holds that took writes over what it held of a checkpoint
-pub replayed_holds : (rules : Rules) (held : seen.View Beside) (core : State Beside) (payloads : List (List ℕ)) → IsHeld rules held → HasReplayed rules [] held core payloads
-    → (now : seen.View Beside) × holdings.Shows core [] now × IsReplayed rules now
-replayed_holds rules held core payloads is replayed =
+pub redone_holds : (rules : Rules) (held : seen.View Beside) (core : State Beside) (payloads : List (List ℕ)) → IsHeld rules held → HasRedone rules [] held core payloads
+    → (now : seen.View Beside) × holdings.Shows core [] now × IsRedone rules now
+redone_holds rules held core payloads is redone =
     let Held : seen.View Beside → Type 0 = λ v. IsHeld rules v in (
-      replayed.now,
-      replayed.shows,
+      redone.now,
+      redone.shows,
       record {
         base = mapped plans_held held;
         kept = subst Held (sym (held_as_it_is held)) is;
-        writes = replayed.writes;
-        storable = written_storable rules (mapped plans_held held) replayed.writes payloads replayed.written;
-        follow = replayed.written.follow;
-        shows = replayed.left;
+        writes = redone.writes;
+        storable = written_storable rules (mapped plans_held held) redone.writes payloads redone.written;
+        follow = redone.written.follow;
+        shows = redone.left;
       },
     )
 
@@ -226,9 +226,9 @@ one_view first second content g h one other =
     let Stands : Rules → Type 0 = λ rules. StandsFor rules content g in
     (same, ap (λ (rules : Rules). view rules g) same ∙ one_view_of second content g h (subst Stands same one) other)
 
--- what was read of a checkpoint and of the writes behind it, with the plans of their trees, shows the view of the history that they are of
-pub replayed_is_shown : ReplayedIsShown
-replayed_is_shown rules held base ws history is base_same writes_same = (
+-- what was read of a checkpoint and of the writes after it, with the plans of their trees, shows the view of the history that they are of
+pub redone_is_shown : RedoneIsShown
+redone_is_shown rules held base ws history is base_same writes_same = (
   is.shows ∙ ap (λ (b : seen.View Beside). after_all rules b is.writes) base_same
       ∙ ap (λ (us : List written.Write). after_all rules (with_plans (view rules base)) us) writes_same
       ∙ sym (all_mapped plans_beside rules (view rules base) ws)

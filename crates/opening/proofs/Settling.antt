@@ -5,7 +5,7 @@ use Rattle.device.specs.Disk.{LeavesOnly}
 use Rattle.device.specs.Run.{Ran}
 use Rattle.device.specs.Step.{Same, After}
 use Rattle.device.proofs.Moments.{weaker}
-use Rattle.names.specs.declared.format.Rules.{Rules}
+use Rattle.objects.specs.declared.format.Rules.{Rules}
 use Rattle.history.specs.View as seen
 use Rattle.history.specs.View.{view}
 use Rattle.recovery.specs.Beside.{Beside}
@@ -16,7 +16,7 @@ use Rattle.durable.specs.declared.store.Store.{Store}
 use Rattle.durable.specs.Ready.{HoldsHistory}
 use Rattle.durable.specs.Settled.{device_of, paged_of, root_of, serves, kept_rules, Holds, IsSettledAt}
 use Rattle.durable.proofs.Answering.{settled_from}
-use Rattle.opening.specs.Opened.{IsReplayed}
+use Rattle.opening.specs.Opened.{IsRedone}
 
 module _ {D : Type 0} {g : Ghosts D} (store : Store D g) (device : D) (objects : Paged) (on : device_of store ≡ device) (has : paged_of store ≡ objects) where
   -- it is settled at the history that was found
@@ -30,11 +30,11 @@ module _ {D : Type 0} {g : Ghosts D} (store : Store D g) (device : D) (objects :
       settled_from rules store h working there.0 (subst Shown (sym on) there.1) (subst Held (sym on) holds)
 
   -- it holds what was read, where its root has no pages
-  pub replayed_with : ((paged.root_of objects).pages ≡ 0 → (held : seen.View Beside) × paged.Holds g.disk device objects held × IsReplayed objects.core.rules held)
-      → (root_of store).pages ≡ 0 → (held : seen.View Beside) × Holds store held × IsReplayed (kept_rules store) held
-  replayed_with found none =
+  pub redone_with : ((paged.root_of objects).pages ≡ 0 → (held : seen.View Beside) × paged.Holds g.disk device objects held × IsRedone objects.core.rules held)
+      → (root_of store).pages ≡ 0 → (held : seen.View Beside) × Holds store held × IsRedone (kept_rules store) held
+  redone_with found none =
       let With : Paged → Type 0 =
-      λ p. (paged.root_of p).pages ≡ 0 → (held : seen.View Beside) × paged.Holds g.disk device p held × IsReplayed p.core.rules held
+      λ p. (paged.root_of p).pages ≡ 0 → (held : seen.View Beside) × paged.Holds g.disk device p held × IsRedone p.core.rules held
       in
       let there = subst With (sym has) found none in
       let On : D → Type 0 = λ d. paged.Holds g.disk d (paged_of store) there.0 in

@@ -1,13 +1,13 @@
 -- Laws of contents.
 use Rattle.std.specs.Prelude.{◌≡◌, ℕ, List, [], ◌++◌, map}
-use Rattle.names.specs.declared.format.Rules.{Rules}
+use Rattle.objects.specs.declared.format.Rules.{Rules}
 use Rattle.recovery.specs.Beside.{Beside}
 use Rattle.recovery.specs.Shown.{Shows}
 use Rattle.recovery.specs.Standing.{History, IsHistory, IsView, with_plans, write_with_plans}
 use Rattle.history.specs.View as seen
 use Rattle.history.specs.View.{view}
 use Rattle.roots.specs.NewStore.{new_content}
-use Rattle.opening.specs.Opened.{IsReplayed}
+use Rattle.opening.specs.Opened.{IsRedone}
 use Rattle.durable.specs.Rules.{first_rules}
 use Rattle.durable.specs.Stands.{StandsFor}
 
@@ -21,10 +21,10 @@ AtMostOneView =
 abbrev pub NewStandsForNothing : Type 0
 NewStandsForNothing = StandsFor first_rules new_content []
 
--- What was read of a checkpoint that keeps a history, and of the writes behind it, with the plans of their trees, shows the view of that history
+-- What was read of a checkpoint that keeps a history, and of the writes after it, with the plans of their trees, shows the view of that history
 -- and those writes.
-abbrev pub ReplayedIsShown : Type 0
-ReplayedIsShown =
-    (rules : Rules) (held : seen.View Beside) (base ws : History) → IsHistory rules (base ++ ws) → (is : IsReplayed rules held)
+abbrev pub RedoneIsShown : Type 0
+RedoneIsShown =
+    (rules : Rules) (held : seen.View Beside) (base ws : History) → IsHistory rules (base ++ ws) → (is : IsRedone rules held)
     → is.base ≡ with_plans (view rules base) → is.writes ≡ map write_with_plans ws
     → Shows held (view rules (base ++ ws)) × IsView (view rules (base ++ ws))

@@ -3,7 +3,7 @@ use Rattle.std.specs.Prelude.{◌≡◌, ◌≢◌, ◌≤◌, ℕ, List, false,
 use Rattle.device.specs.Disk.{Disk, HasFailed}
 use Rattle.device.specs.Run.{Ran}
 use Rattle.device.specs.Step.{Same}
-use Rattle.names.specs.declared.format.Rules.{Rules}
+use Rattle.objects.specs.declared.format.Rules.{Rules}
 use Rattle.history.specs.Mapped.{mapped}
 use Rattle.history.specs.View as seen
 use Rattle.history.specs.View.{AllMayFollow, after_all, view}
@@ -32,7 +32,7 @@ pub record IsLogOf (content : List ℕ) (root : Root) (log : Log) : Type 0 where
   pub holds : HoldsLog log.start payloads log.last content
 
 -- What is held is what writes with plans, each of which a record can hold, left of what a checkpoint may keep. Nothing is said of a device.
-pub record IsReplayed (rules : Rules) (held : seen.View Beside) : Type 0 where
+pub record IsRedone (rules : Rules) (held : seen.View Beside) : Type 0 where
   pub base : seen.View Beside
   pub kept : IsHeld rules base
   pub writes : List Write
@@ -48,8 +48,8 @@ pub record HasRead {D : Type 0} (disk : Disk D) (old new : D) (result : Result O
   pub in_data : IfOk result (λ opened. 8 ≤ opened.log.start)
   pub found : disk.keeps old → (rules : Rules) (h : History) → StandsFor rules (disk.content old) h
       → IfOk result (λ opened. (opened.paged.core.rules ≡ rules) × IsShown disk new opened.paged (view rules h))
-  pub replayed : IfOk result (λ opened. (root_of opened.paged).pages ≡ 0
-      → (held : seen.View Beside) × Holds disk new opened.paged held × IsReplayed opened.paged.core.rules held)
+  pub redone : IfOk result (λ opened. (root_of opened.paged).pages ≡ 0
+      → (held : seen.View Beside) × Holds disk new opened.paged held × IsRedone opened.paged.core.rules held)
   pub log : disk.keeps old → IfOk result (λ opened. IsLogOf (disk.content old) (root_of opened.paged) opened.log)
   pub damaged : disk.keeps old → (damage : Damage) → IsErrOf result (Faults.Damaged damage)
       → (rules : Rules) (h : History) → StandsFor rules (disk.content old) h → ⊥

@@ -6,15 +6,15 @@ ghost use Rattle.device.specs.Step.{Same};
 ghost use Rattle.device.specs.Run.{Ran};
 ghost use Rattle.gatelog.specs.Log.{HoldsLog};
 ghost use Rattle.roots.specs.Root.{log_start};
-ghost use Rattle.names.specs.declared.format.Rules.{Rules};
+ghost use Rattle.objects.specs.declared.format.Rules.{Rules};
 ghost use Rattle.names.specs.Key.{Key as KeyData};
 ghost use Rattle.recovery.specs.Standing.{History, IsHistory, with_plans};
 ghost use Rattle.recovery.specs.Known.{Writes};
-ghost use Rattle.recovery.specs.Taken.{HasReplayed};
+ghost use Rattle.recovery.specs.Taken.{HasRedone};
 ghost use Rattle.recovery.specs.Written.{Write, IsWritten};
 ghost use Rattle.durable.specs.declared.fault.Damage.{Damage as DamageData};
 ghost use Rattle.durable.specs.declared.fault.Fault.TheVariants as Fault;
-ghost use Rattle.opening.specs.Opened.{HasRead, IsReplayed};
+ghost use Rattle.opening.specs.Opened.{HasRead, IsRedone};
 ghost use Rattle.recovery.specs.Beside.{Beside as BesideData};
 ghost use Rattle.history.specs.View as seen;
 ghost use Rattle.history.specs.View.{view};
@@ -27,7 +27,8 @@ ghost use Rattle.durable.specs.Stands.{HoldsBase};
 use device::Device;
 use durable::{Damage, Fault};
 use gatelog::Log;
-use names::{Format, Key, Rules};
+use names::Key;
+use objects::{Format, Rules};
 use paged::Paged;
 use recovery::{RecoveryFault, written_keys};
 use roots::{Root, counted_root};
@@ -76,19 +77,19 @@ fn read_objects<D: Device>(
     ensures found { D.disk.keeps device.old → (rules : Rules) (base : History) (ws : List Write) → AreOfFormat rules → IsHistory rules base
         → HoldsBase rules (D.disk.content device.old) root.now base → IsWritten rules (with_plans (view rules base)) ws (map (λ p. p.items) payloads.now)
         → IfOk result (λ p. Below D.disk device.new p (base_of (with_plans (view rules base)))
-        × HasReplayed rules (base_of (with_plans (view rules base))) (with_plans (view rules base)) p.core (map (λ p. p.items) payloads.now)) }
+        × HasRedone rules (base_of (with_plans (view rules base))) (with_plans (view rules base)) p.core (map (λ p. p.items) payloads.now)) }
     ensures damaged { D.disk.keeps device.old → (damage : DamageData) → IsErrOf result (Fault.Damaged damage)
         → (rules : Rules) (base : History) (ws : List Write) → AreOfFormat rules → IsHistory rules base
         → HoldsBase rules (D.disk.content device.old) root.now base → IsWritten rules (with_plans (view rules base)) ws (map (λ p. p.items) payloads.now) → ⊥ }
-    ensures replayed { root.now.pages ≡ 0 → IfOk result (λ p. Below D.disk device.new p []
-        × ((held : seen.View BesideData) × holdings.Shows p.core [] held × IsReplayed first_rules held)) }
+    ensures redone { root.now.pages ≡ 0 → IfOk result (λ p. Below D.disk device.new p []
+        × ((held : seen.View BesideData) × holdings.Shows p.core [] held × IsRedone first_rules held)) }
     ensures ran { Ran D.disk device.old device.new Same }
     ensures refusal { (result ≢ Err Fault.Failed) × (result ≢ Err Fault.Exhausted) }
     ensures cause { IsErrOf result Fault.Device → HasFailed D.disk device.old device.new }
 {
     let keys = keys_in(alloc, payloads)?;
     let paged = Paged::read(alloc, device, rules(), root, &keys)?;
-    Ok(paged.replayed(alloc, payloads)?)
+    Ok(paged.redone(alloc, payloads)?)
 }
 
 // The log at a gate, and its payloads.

@@ -14,6 +14,6 @@ mod laws;
 mod new_store;
 mod open_store;
 
-pub use laws::{new_store_is_empty, one_view, replayed_is_shown};
+pub use laws::{new_store_is_empty, one_view, redone_is_shown};
 pub use new_store::{CreateFault, create};
 pub use open_store::open;

@@ -1,6 +1,6 @@
 ghost use Rattle.std.specs.Prelude.{◌≡◌, ◌≢◌, ◌≤◌, ◌⊎◌, true, ℕ, List, IfOk, IfErr};
 ghost use Rattle.device.specs.Disk.{LeavesOnly, HasFailed};
-ghost use Rattle.names.specs.declared.format.Rules.{Rules};
+ghost use Rattle.objects.specs.declared.format.Rules.{Rules};
 ghost use Rattle.history.specs.View as seen;
 ghost use Rattle.recovery.specs.Beside.{Beside};
 ghost use Rattle.recovery.specs.Standing.{History};
@@ -8,7 +8,7 @@ ghost use Rattle.durable.specs.declared.fault.Fault.TheVariants as Fault;
 ghost use Rattle.durable.specs.Rules.{AreOfFormat};
 ghost use Rattle.durable.specs.Settled.{device_of, root_of, serves, kept_rules, Holds, IsSettledAt};
 ghost use Rattle.durable.specs.Stands.{StandsFor};
-ghost use Rattle.opening.specs.Opened.{IsReplayed};
+ghost use Rattle.opening.specs.Opened.{IsRedone};
 
 use crate::content::synced_store;
 use device::Device;
@@ -28,7 +28,7 @@ pub fn open<D: Device>(alloc: Global, device: D) -> Result<Store<D>, (Fault, D)>
     // Whatever the device: it keeps to the numbers of a format, and where the root that counts has no pages, it shows what the writes that were read
     // left, with their plans.
     ensures rules { IfOk result (λ store. AreOfFormat (kept_rules store)) }
-    ensures replayed { IfOk result (λ store. (root_of store).pages ≡ 0 → (held : seen.View Beside) × Holds store held × IsReplayed (kept_rules store) held) }
+    ensures redone { IfOk result (λ store. (root_of store).pages ≡ 0 → (held : seen.View Beside) × Holds store held × IsRedone (kept_rules store) held) }
 
     // At every moment a crash leaves what it might have left before.
     ensures any_moment { D.disk.keeps device → IfOk result (λ store. LeavesOnly D.disk device (device_of store) (D.disk.left device)) }

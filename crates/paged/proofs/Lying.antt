@@ -5,7 +5,7 @@ use Rattle.std.specs.FinMap.{is_sorted}
 use Rattle.std.specs.List.{AllByRecursion}
 use Rattle.serde_json.specs.Data.{Data}
 use Rattle.device.specs.Disk.{Disk}
-use Rattle.names.specs.declared.format.Rules.{Rules}
+use Rattle.objects.specs.declared.format.Rules.{Rules}
 use Rattle.names.specs.declared.resource.Resource.{Resource}
 use Rattle.names.specs.declared.resource.Resource.TheVariants.{ConfigMap, Node, Pod, Service, Deployment, ValidatingAdmissionPolicy, ValidatingAdmissionPolicyBinding}
 use Rattle.names.specs.Key.{Key}
@@ -14,9 +14,10 @@ use Rattle.history.specs.View as seen
 use Rattle.expressions.specs.Specification.{Plans, these, MayHavePlans}
 use Rattle.pages.specs.Page.{bytes_cmp}
 use Rattle.entries.proofs.Ascending as ascending
-use Rattle.shelf.specs.declared.shelf.Shelf.{Shelf}
 use Rattle.shelf.specs.Shelf.{Shelves}
+use Rattle.base.specs.declared.stock.Stock.{Stock}
 use Rattle.base.specs.Stock.{plain, HoldObjects}
+use Rattle.base.proofs.Holding.{none_among}
 use Rattle.base.proofs.Views.{view_holds}
 use Rattle.base.proofs.Lying.{lies_of}
 use Rattle.snapshots.specs.Keeping.{held_plans, held_entries, IsHeldObject, IsHeld}
@@ -56,17 +57,28 @@ are_made bare (o ∷ os) all = (
   are_made bare os all.1,
 )
 
--- Where the pages of a shelf hold the entries of a view that may be held, its objects lie there which are not held in memory.
-pub lying : {D : Type 0} (disk : Disk D) (device : D) (shelf : Shelf) (rules : Rules) (held : seen.View Beside) → IsHeld rules held
-    → Shelves disk device shelf (held_entries held) → LiesBelow disk device shelf (base_of held)
-lying disk device shelf rules held is shelves = λ bare.
-    lies_of made_bare held_bare disk device shelf bare held.objects
-    (record { entries = held_entries held; shelves = shelves; hold = entries_hold rules held is }) (are_made bare held.objects is.objects)
+-- Where pages hold the entries of a view that may be held, and none of its objects was found yet, those lie there which are not held in memory.
+pub lying : {D : Type 0} (disk : Disk D) (device : D) (stock : Stock) (rules : Rules) (held : seen.View Beside) → IsHeld rules held
+    → stock.found.entries ≡ [] → Shelves disk device stock.shelf (held_entries held) → LiesBelow disk device stock (base_of held)
+lying disk device stock rules held is none shelves = λ bare.
+    lies_of made_bare held_bare disk device stock bare held.objects
+    (record {
+      entries = held_entries held;
+      shelves = shelves;
+      hold = entries_hold rules held is;
+      found = none_among stock.found.entries (map plain held.objects) none;
+    })
+    (are_made bare held.objects is.objects)
 
--- Where the pages of a shelf hold no entries, nothing lies there.
-pub none_lying : {D : Type 0} (disk : Disk D) (device : D) (shelf : Shelf) → Shelves disk device shelf [] → LiesBelow disk device shelf []
-none_lying disk device shelf shelves = λ bare. record {
+-- Where pages hold no entries, nothing lies there.
+pub none_lying : {D : Type 0} (disk : Disk D) (device : D) (stock : Stock) → stock.found.entries ≡ [] → Shelves disk device stock.shelf [] → LiesBelow disk device stock []
+none_lying disk device stock none shelves = λ bare. record {
   all = [];
-  stocks = record { entries = []; shelves = shelves; hold = record { rest = []; are = refl; other = tt; storable = tt; ascend = refl } };
+  stocks = record {
+    entries = [];
+    shelves = shelves;
+    hold = record { rest = []; are = refl; other = tt; storable = tt; ascend = refl };
+    found = none_among stock.found.entries [] none;
+  };
   are = refl;
 }

@@ -5,7 +5,7 @@ use Rattle.std.specs.Prelude.{not, IsTrue, IsErrOf}
 use Rattle.std.specs.FinMap.{is_sorted}
 use Rattle.std.specs.List.{filter}
 use Rattle.std.specs.Result.{IsErrAnd}
-use Rattle.names.specs.declared.format.Rules.{Rules}
+use Rattle.objects.specs.declared.format.Rules.{Rules}
 use Rattle.names.specs.declared.resource.Resource.{Resource}
 use Rattle.names.specs.Key.{Key}
 use Rattle.history.specs.declared.stored.Stored.{Stored}

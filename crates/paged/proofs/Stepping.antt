@@ -7,8 +7,8 @@ use Rattle.names.specs.Key.{Key}
 use Rattle.requests.specs.Request.{Request}
 use Rattle.history.specs.declared.stored.Stored.{Stored}
 use Rattle.holdings.specs.Holdings.{State}
-use Rattle.shelf.specs.declared.shelf.Shelf.{Shelf}
 use Rattle.base.specs.declared.base.Base.{Base}
+use Rattle.base.specs.declared.stock.Stock.{Stock}
 use Rattle.base.specs.Base.{Lies, HoldsBase}
 use Rattle.recovery.specs.Beside.{Beside}
 use Rattle.apicore.specs.Prepared.{IsPrepared}
@@ -22,28 +22,28 @@ abbrev pub Objects : Type 0
 Objects = List (Key × Stored Beside)
 
 -- what lies below is the same, whatever says how it is made: there is nothing to know of it
-any_bare : {D : Type 0} (disk : Disk D) (device : D) (shelf : Shelf) (one other : Bare) (objects : Objects) → Lies made_bare held_bare disk device shelf one objects
-    → Lies made_bare held_bare disk device shelf other objects
-any_bare disk device shelf one other objects lies = record { all = lies.all; stocks = lies.stocks; are = lies.are }
+any_bare : {D : Type 0} (disk : Disk D) (device : D) (stock : Stock) (one other : Bare) (objects : Objects) → Lies made_bare held_bare disk device stock one objects
+    → Lies made_bare held_bare disk device stock other objects
+any_bare disk device stock one other objects lies = record { all = lies.all; stocks = lies.stocks; are = lies.are }
 
 -- these objects are held by a base, beside whose documents stands what they spell
 abbrev pub HoldsBare : {D : Type 0} {g : Ghosts D} → Base D Bare g → Objects → Type 0
 HoldsBare base objects = HoldsBase made_bare held_bare base objects
 
-module _ {D : Type 0} {g : Ghosts D} (base : Base D Bare g) (device : D) (shelf : Shelf) (device_is : base.device.now ≡ device) (shelf_is : base.shelf.now ≡ shelf) (objects : Objects) where
-  -- What lies in the pages of a shelf is held by a base over it,
-  pub base_holds : base.is_damaged ≡ false → LiesBelow g.disk device shelf objects → HoldsBare base objects
+module _ {D : Type 0} {g : Ghosts D} (base : Base D Bare g) (device : D) (stock : Stock) (device_is : base.device.now ≡ device) (stock_is : base.stock.now ≡ stock) (objects : Objects) where
+  -- What lies in pages is held by a base over them,
+  pub base_holds : base.is_damaged ≡ false → LiesBelow g.disk device stock objects → HoldsBare base objects
   base_holds undamaged below =
-      let On : D → Type 0 = λ d. Lies made_bare held_bare g.disk d base.shelf.now base.making objects in
-      let Of : Shelf → Type 0 = λ s. Lies made_bare held_bare g.disk device s base.making objects in
-      record { whole = undamaged; lies = subst On (sym device_is) (subst Of (sym shelf_is) (below base.making)) }
+      let On : D → Type 0 = λ d. Lies made_bare held_bare g.disk d base.stock.now base.making objects in
+      let Of : Stock → Type 0 = λ s. Lies made_bare held_bare g.disk device s base.making objects in
+      record { whole = undamaged; lies = subst On (sym device_is) (subst Of (sym stock_is) (below base.making)) }
 
   -- and what the base holds lies there.
-  pub base_lies : HoldsBare base objects → LiesBelow g.disk device shelf objects
+  pub base_lies : HoldsBare base objects → LiesBelow g.disk device stock objects
   base_lies holds = λ bare.
-      let On : D → Type 0 = λ d. Lies made_bare held_bare g.disk d base.shelf.now base.making objects in
-      let Of : Shelf → Type 0 = λ s. Lies made_bare held_bare g.disk device s base.making objects in
-      any_bare g.disk device shelf base.making bare objects (subst Of shelf_is (subst On device_is holds.lies))
+      let On : D → Type 0 = λ d. Lies made_bare held_bare g.disk d base.stock.now base.making objects in
+      let Of : Stock → Type 0 = λ s. Lies made_bare held_bare g.disk device s base.making objects in
+      any_bare g.disk device stock base.making bare objects (subst Of stock_is (subst On device_is holds.lies))
 
 -- A step that is prepared over what one source holds is prepared over what another one holds, where the first holds all that the other does.
 pub prepared_over : (first second : Objects → Type 0) (core : State Beside) (r : Request) {E : Type 0} (result : Result Prepared E) → ((objects : Objects) → second objects → first objects)

@@ -1,4 +1,4 @@
--- What lies in the pages of a store's shelf.
+-- What lies in the pages of a store.
 use Rattle.std.specs.Prelude.{Bool, not, List, []}
 use Rattle.device.specs.Disk.{Disk}
 use Rattle.names.specs.declared.resource.Resource.{Resource}
@@ -7,7 +7,7 @@ use Rattle.documents.specs.Document.{Document}
 use Rattle.history.specs.declared.stored.Stored.{Stored}
 use Rattle.history.specs.View as seen
 use Rattle.policy.specs.Matching.{is_guarded}
-use Rattle.shelf.specs.declared.shelf.Shelf.{Shelf}
+use Rattle.base.specs.declared.stock.Stock.{Stock}
 use Rattle.base.specs.Base.{Lies}
 use Rattle.snapshots.specs.LyingBelow as snapshots
 use Rattle.expressions.specs.Specification.{these}
@@ -29,6 +29,6 @@ held_bare bare r = is_rule r
 abbrev pub base_of : seen.View Beside → List (Key × Stored Beside)
 base_of held = snapshots.base_of (λ r. not (is_rule r)) held
 
--- These objects lie in the pages of a shelf, with what their documents spell.
-abbrev pub LiesBelow : {D : Type 0} → (disk : Disk D) → D → Shelf → List (Key × Stored Beside) → Type 0
-LiesBelow disk device shelf base = (bare : Bare) → Lies made_bare held_bare disk device shelf bare base
+-- These objects lie in pages, with what their documents spell.
+abbrev pub LiesBelow : {D : Type 0} → (disk : Disk D) → D → Stock → List (Key × Stored Beside) → Type 0
+LiesBelow disk device stock base = (bare : Bare) → Lies made_bare held_bare disk device stock bare base

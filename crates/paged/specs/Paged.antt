@@ -6,7 +6,7 @@ use Rattle.names.specs.Key.{Key}
 use Rattle.history.specs.declared.stored.Stored.{Stored}
 use Rattle.history.specs.View as seen
 use Rattle.holdings.specs.Holdings as holdings
-use Rattle.shelf.specs.Shelf as shelf
+use Rattle.base.specs.Stock as stock
 use Rattle.recovery.specs.Beside.{Beside}
 use Rattle.recovery.specs.Shown.{ShowsOver}
 use Rattle.recovery.specs.Standing.{View}
@@ -15,11 +15,11 @@ use Rattle.paged.specs.Lying.{LiesBelow}
 
 -- the root whose pages it has
 abbrev pub root_of : Paged → Root
-root_of p = shelf.root_of p.shelf
+root_of p = stock.root_of p.stock
 
 -- these objects lie in its pages
 abbrev pub Below : {D : Type 0} → (disk : Disk D) → D → Paged → List (Key × Stored Beside) → Type 0
-Below disk device p base = LiesBelow disk device p.shelf base
+Below disk device p base = LiesBelow disk device p.stock base
 
 -- It holds this, over what lies in its pages.
 pub record Holds {D : Type 0} (disk : Disk D) (device : D) (p : Paged) (held : seen.View Beside) : Type 0 where

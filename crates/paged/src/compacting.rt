@@ -4,7 +4,7 @@ ghost use Rattle.std.specs.Prelude.{◌≡◌, ◌<◌, ◌≤◌, ◌*◌, ◌^
 ghost use Rattle.device.specs.Disk.{HasFailed};
 ghost use Rattle.device.specs.Step.{Same};
 ghost use Rattle.device.specs.Run.{Ran};
-ghost use Rattle.names.specs.declared.format.Rules.{Rules as RulesData};
+ghost use Rattle.objects.specs.declared.format.Rules.{Rules as RulesData};
 ghost use Rattle.names.specs.Key.{Key as KeyData};
 ghost use Rattle.objects.specs.declared.fault.Part.{Part};
 ghost use Rattle.objects.specs.declared.fault.LookupFault.TheVariants as LookupFault;
@@ -77,7 +77,7 @@ impl Paged {
         ensures ran { Ran D.disk device.old device.new Same }
         ensures device { IsErrOf result LookupFault.Device → HasFailed D.disk device.old device.new }
     {
-        let mut base = Base::new(device, &mut self.shelf, Bare);
+        let mut base = Base::new(device, &mut self.stock, Bare);
         base.all(alloc)
     }
 
@@ -108,6 +108,7 @@ impl Paged {
     /// Begins the generation of a root, in whose pages the entries stand now. It takes no memory, and touches no device.
     pub fn start_over<D: Device>(
         &mut self,
+        alloc: Global,
         device: &D,
         root: Root,
         first_keys: Vec<Vec<u8>>,
@@ -121,7 +122,7 @@ impl Paged {
             → IsIndex (keys_of first_keys.items) (pages_of_root root (D.disk.content device.now)) → (0 < root.pages → D.disk.keeps device.now)
             → HoldsEntries (D.disk.content device.now) root (held_entries held) → Below D.disk device.now self.new (base_of held) }
     {
-        self.shelf.start_over(device, root, first_keys);
+        self.stock.start_over(alloc, device, root, first_keys);
         self.core = core;
     }
 }

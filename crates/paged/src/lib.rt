@@ -1,7 +1,7 @@
 //! The objects of a store: those of its last checkpoint lie in pages, and what was put or removed since, policies and bindings are held in memory.
 //!
 //! ```text
-//! let paged = Paged::read(alloc, &mut device, rules, &root, &written_keys(alloc, &payloads)?)?.replayed(alloc, &payloads)?;
+//! let paged = Paged::read(alloc, &mut device, rules, &root, &written_keys(alloc, &payloads)?)?.redone(alloc, &payloads)?;
 //! let prepared = paged.prepare(alloc, &mut device, &request)?;
 //! paged.take(prepared.write);
 //! ```

@@ -61,7 +61,7 @@ impl Paged {
         ensures read { IsErrOf result LookupFault.Device ⊎ ((part : Part) × IsErrOf result (LookupFault.Damaged part)) → (s : Specification Expr) × IsReadOf (request_of request.now) s }
         ensures damaged { (part : Part) → IsErrOf result (LookupFault.Damaged part) → (v : View) → IsShown D.disk device.old self.old v → IsView v → ⊥ }
     {
-        let mut base = Base::new(device, &mut self.shelf, Bare);
+        let mut base = Base::new(device, &mut self.stock, Bare);
         prepare(&mut self.core, alloc, &mut base, request)
     }
 
@@ -69,7 +69,7 @@ impl Paged {
     pub fn take(&mut self, write: Option<PreparedWrite<Beside>>)
         requires { HasRoomFor self.old.core write }
         ensures rules { self.new.core.rules ≡ self.old.core.rules }
-        ensures shelf { self.new.shelf ≡ self.old.shelf }
+        ensures stock { self.new.stock ≡ self.old.stock }
         ensures shows { (base : List (KeyData × StoredData BesideData)) (v : seen.View BesideData) → Shows self.old.core base v → AreNext v write
             → Shows self.new.core base (after_all self.old.core.rules v (writes_of write)) }
     {

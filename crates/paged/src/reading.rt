@@ -9,8 +9,9 @@ ghost use Rattle.pages.specs.Page.{Entry as EntryData};
 ghost use Rattle.roots.specs.Root.{log_start};
 ghost use Rattle.checkpoint.specs.Index.{keys_of};
 ghost use Rattle.checkpoint.specs.Pages.{pages_of_root, HoldsEntries, IsIndex};
-ghost use Rattle.shelf.specs.Shelf as shelves;
+ghost use Rattle.shelf.specs.Shelf.{Shelves};
 ghost use Rattle.base.specs.Sieve.{chosen_of, objects_among};
+ghost use Rattle.base.specs.Stock as stocks;
 ghost use Rattle.history.specs.declared.stored.Stored.{Stored as StoredData};
 ghost use Rattle.history.specs.View as seen;
 ghost use Rattle.history.specs.Mapped.{mapped};
@@ -21,7 +22,7 @@ ghost use Rattle.snapshots.specs.Restoring.{IsDamaged};
 ghost use Rattle.recovery.specs.Beside.{Beside as BesideData};
 ghost use Rattle.recovery.specs.Known.{AllKnown};
 ghost use Rattle.recovery.specs.Shown.{plans_held};
-ghost use Rattle.recovery.specs.Taken.{HasReplayed};
+ghost use Rattle.recovery.specs.Taken.{HasRedone};
 ghost use Rattle.recovery.specs.Written.{Write, IsWritten};
 ghost use Rattle.recovery.specs.declared.fault.RecoveryFault.TheVariants as RecoveryFault;
 ghost use Rattle.paged.specs.Chosen.{rules_among, ChoosesRules};
@@ -33,12 +34,13 @@ use crate::bare::Bare;
 use crate::chosen::{Chosen, rules_among};
 use crate::fault::ReadFault;
 use crate::state::Paged;
-use base::Sieve;
+use base::{Sieve, Stock};
 use checkpoint::scan;
 use device::Device;
 use entries::Entry;
-use names::{Key, Rules};
-use recovery::{Core, RecoveryFault, replayed};
+use names::Key;
+use objects::Rules;
+use recovery::{Core, RecoveryFault, redone};
 use roots::Root;
 use shelf::Shelf;
 use snapshots::{SnapshotFault, restored};
@@ -71,19 +73,20 @@ fn core_of(
     restored(alloc, rules, kept, &Bare, count, revision)
 }
 
-// The shelf of a root's pages, with the first key of each.
-fn shelf_of<D: Device>(
+// What stands in a root's pages, with the first key of each.
+fn stock_of<D: Device>(
     alloc: Global,
     device: &D,
     root: &Root,
     first_keys: Vec<Vec<u8>>,
-) -> Result<Shelf, ReadFault>
+) -> Result<Stock, ReadFault>
     requires { log_start root.now < 2 ^ 54 }
-    ensures root { IfOk result (λ shelf. shelves.root_of shelf ≡ root.now) }
+    ensures root { IfOk result (λ stock. stocks.root_of stock ≡ root.now) }
     ensures counted { OnOk result (length first_keys.items ≡ root.now.pages) }
     ensures shelves { (entries : List EntryData) → IsIndex (keys_of first_keys.items) (pages_of_root root.now (D.disk.content device.now))
         → (0 < root.now.pages → D.disk.keeps device.now)
-        → HoldsEntries (D.disk.content device.now) root.now entries → IfOk result (λ shelf. shelves.Shelves D.disk device.now shelf entries) }
+        → HoldsEntries (D.disk.content device.now) root.now entries → IfOk result (λ stock. Shelves D.disk device.now stock.shelf entries) }
+    ensures found { IfOk result (λ stock. stock.found.entries ≡ []) }
     ensures damaged { IsErrOf result ReadFault.Page ⊎ (IsErrOf result ReadFault.Entry ⊎ IsErrOf result ReadFault.Plans)
         → length first_keys.items ≡ root.now.pages → ⊥ }
     ensures cause { IsErrOf result ReadFault.Device → ⊥ }
@@ -91,7 +94,8 @@ fn shelf_of<D: Device>(
     if first_keys.len() != root.pages as usize {
         return Err(ReadFault::Page);
     }
-    Ok(Shelf::new(alloc, device, *root, first_keys)?)
+    let shelf = Shelf::new(alloc, device, *root, first_keys)?;
+    Ok(Stock::new(alloc, shelf))
 }
 
 impl Paged {
@@ -133,8 +137,8 @@ impl Paged {
         let mut sieve = Sieve::new(alloc, &chosen);
         let first_keys = scan(alloc, device, root, &mut sieve)?;
         let core = core_of(alloc, rules, sieve.kept(), sieve.objects(), root.revision)?;
-        let shelf = shelf_of(alloc, device, root, first_keys)?;
-        Ok(Paged { core, shelf })
+        let stock = stock_of(alloc, device, root, first_keys)?;
+        Ok(Paged { core, stock })
     }
 
     /// The objects, once the store took the writes of a log with these payloads. No page is read: memory has to know each key that they write.
@@ -143,21 +147,21 @@ impl Paged {
     ///
     /// `Plans` where the plans of a policy are none that it may have, `Damaged` where else no writes that may follow have these payloads, and
     /// `Memory` where there was none.
-    pub fn replayed(self, alloc: Global, payloads: &[Vec<u8>]) -> Result<Paged, RecoveryFault>
+    pub fn redone(self, alloc: Global, payloads: &[Vec<u8>]) -> Result<Paged, RecoveryFault>
         ensures rules { IfOk result (λ p. p.core.rules ≡ self.core.rules) }
-        ensures shelf { IfOk result (λ p. p.shelf ≡ self.shelf) }
+        ensures stock { IfOk result (λ p. p.stock ≡ self.stock) }
         ensures found { (base : List (KeyData × StoredData BesideData)) (held : seen.View BesideData) → Shows self.core base held
             → AllKnown self.core base (map (λ p. p.items) payloads.now)
-            → IfOk result (λ p. HasReplayed self.core.rules base held p.core (map (λ p. p.items) payloads.now)) }
+            → IfOk result (λ p. HasRedone self.core.rules base held p.core (map (λ p. p.items) payloads.now)) }
         ensures damaged { (base : List (KeyData × StoredData BesideData)) (held : seen.View BesideData) → Shows self.core base held
             → AllKnown self.core base (map (λ p. p.items) payloads.now)
             → IsErrOf result RecoveryFault.Damaged ⊎ IsErrOf result RecoveryFault.Plans
             → (ws : List Write) → IsWritten self.core.rules (mapped plans_held held) ws (map (λ p. p.items) payloads.now) → ⊥ }
     {
-        let core = replayed(alloc, self.core, payloads)?;
+        let core = redone(alloc, self.core, payloads)?;
         Ok(Paged {
             core,
-            shelf: self.shelf,
+            stock: self.stock,
         })
     }
 }

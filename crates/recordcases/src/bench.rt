@@ -1,6 +1,6 @@
 //! The lines of a case, by their words.
 
-use crate::core_lines::{answered, prepares, replay};
+use crate::core_lines::{answered, prepares, redo};
 use crate::entry_lines::{pieces, reads_event, reads_object, reads_piece};
 use crate::holdings_lines::{held, held_over_pages, lies};
 use crate::overlay_lines::over;
@@ -43,7 +43,7 @@ fn answer(alloc: Global, line: &mut Line<'_>) {
     match line.word() {
         "reads" => reads(alloc, line),
         "cuts" => cuts(alloc, line),
-        "replay" => replay(alloc, line),
+        "redo" => redo(alloc, line),
         "answered" => answered(alloc, line),
         "prepares" => prepares(alloc, line),
         "keys" => keys(alloc, line),

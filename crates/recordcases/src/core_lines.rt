@@ -7,8 +7,8 @@ use apicore::{Prepared, prepare};
 use cases::{Wrong, first_word, shown};
 use diskcases::Line;
 use holdings::{Nothing, PreparedWrite, Put};
-use names::{Format, Rules};
-use recovery::{Beside, Core, RecoveryFault, replayed};
+use objects::{Format, Rules};
+use recovery::{Beside, Core, RecoveryFault, redone};
 use requests::Request;
 use routes::Routes;
 use rowcases::{message, routed_first};
@@ -70,7 +70,7 @@ fn log_of(alloc: Global, line: &mut Line<'_>) -> Vec<Vec<u8>> {
 fn store(alloc: Global, rules: Rules, line: &mut Line<'_>) -> Result<Core, RecoveryFault> {
     let log = log_of(alloc, line);
     match Core::over(alloc, rules, 1, 0) {
-        Ok(empty) => replayed(alloc, empty, &log),
+        Ok(empty) => redone(alloc, empty, &log),
         Err(_) => Err(RecoveryFault::Memory),
     }
 }
@@ -81,8 +81,8 @@ fn show_counts(core: &Core, line: &mut Line<'_>) {
     line.show(&core.object_count());
 }
 
-/// `replay LIMITS PAYLOAD ; ..`: the revision and the number of objects of the store.
-pub fn replay(alloc: Global, line: &mut Line<'_>) {
+/// `redo LIMITS PAYLOAD ; ..`: the revision and the number of objects of the store.
+pub fn redo(alloc: Global, line: &mut Line<'_>) {
     let rules = rules_of(line);
     match store(alloc, rules, line) {
         Ok(core) => show_counts(&core, line),

@@ -104,7 +104,7 @@ pub fn pieces(alloc: Global, line: &mut Line<'_>) {
     }
 }
 
-/// `reads-piece PLANS ; KEY ; CELL`: the size of these plans with this piece behind them.
+/// `reads-piece PLANS ; KEY ; CELL`: the size of these plans with this piece after them.
 pub fn reads_piece(alloc: Global, line: &mut Line<'_>) {
     let Some((before, piece)) = line.rest.split_once(" ; ") else {
         return line.refuse("a piece stands behind plans");

@@ -9,8 +9,8 @@ use cases::Wrong;
 use diskcases::Line;
 use history::Stored;
 use holdings::{Found, Holdings, PreparedWrite, Source};
-use names::{Format, Key, Resource, Rules};
-use objects::{Entry, LookupFault, Objects};
+use names::{Key, Resource};
+use objects::{Entry, Format, LookupFault, Objects, Rules};
 use requests::Manifest;
 use std::alloc::{AllocError, Global};
 use std::fmt::Display;
@@ -270,7 +270,7 @@ impl Layers {
         }
     }
 
-    // One step, and its answer behind those before it.
+    // One step, and its answer after those before it.
     fn step(&mut self, alloc: Global, line: &mut Line<'_>) {
         match line.word() {
             "find" => self.find(alloc, line),

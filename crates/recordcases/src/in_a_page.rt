@@ -1,8 +1,9 @@
 //! Objects in a page, which lie below what is held.
 
+ghost use Rattle.base.specs.Stock.{root_of};
 ghost use Rattle.diskcases.specs.Inside.{LiesInside};
 
-use base::{Base, FromDocument};
+use base::{Base, FromDocument, Stock};
 use cases::Wrong;
 use device::{Device, MemDevice};
 use diskcases::{Line, shelf_at};
@@ -13,7 +14,6 @@ use holdings::{Found, Holdings, Source};
 use names::{Key, Resource};
 use objects::{Entry, LookupFault};
 use pages::PageBuilder;
-use shelf::Shelf;
 use std::alloc::{AllocError, Global};
 
 const PAGE_SECTORS: u64 = 64;
@@ -47,9 +47,9 @@ impl FromDocument<u64> for Zero {
 #[derive(Drop)]
 pub struct PagedObjects {
     device: MemDevice,
-    shelf: Shelf,
+    stock: Stock,
     zero: Zero,
-    ghost inside: { LiesInside shelf device },
+    ghost inside: { LiesInside (root_of stock) device },
 }
 
 impl PagedObjects {
@@ -60,7 +60,7 @@ impl PagedObjects {
         holdings: &Holdings<u64>,
         key: &Key,
     ) -> Result<Option<Found>, LookupFault> {
-        let mut base = Base::new(&mut self.device, &mut self.shelf, self.zero);
+        let mut base = Base::new(&mut self.device, &mut self.stock, self.zero);
         holdings.find(alloc, &mut base, key)
     }
 
@@ -70,13 +70,13 @@ impl PagedObjects {
         alloc: Global,
         resource: Resource,
     ) -> Result<Vec<(Key, Stored<u64>)>, LookupFault> {
-        let mut base = Base::new(&mut self.device, &mut self.shelf, self.zero);
+        let mut base = Base::new(&mut self.device, &mut self.stock, self.zero);
         base.list(alloc, resource, None)
     }
 
     /// All that lies below.
     pub fn all(&mut self, alloc: Global) -> Result<Vec<(Key, Stored<u64>)>, LookupFault> {
-        let mut base = Base::new(&mut self.device, &mut self.shelf, self.zero);
+        let mut base = Base::new(&mut self.device, &mut self.stock, self.zero);
         base.all(alloc)
     }
 }
@@ -137,7 +137,7 @@ pub fn paged(
     let (shelf, count) = shelf_at(alloc, &mut device, 0, pages, line)?;
     let paged = PagedObjects {
         device,
-        shelf,
+        stock: Stock::new(alloc, shelf),
         zero,
     };
     Some((paged, count))

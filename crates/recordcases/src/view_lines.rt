@@ -6,7 +6,8 @@ use diskcases::Line;
 use entries::{Entry, KeptObject, KeptView, event_entry, object_entry, plan_entries, read_view};
 use history::Stored;
 use holdings::Holdings;
-use names::{Format, Key};
+use names::Key;
+use objects::Format;
 use std::alloc::{AllocError, Global};
 
 // Entries, with ` | ` between them; none where the rest is empty.
@@ -57,7 +58,7 @@ fn fill(alloc: Global, holdings: &mut Holdings<Vec<u8>>, view: KeptView, line: &
     }
 }
 
-// Asks that the first of these entries is written, and gives those behind it.
+// Asks that the first of these entries is written, and gives those after it.
 fn behind<'a>(
     entries: &'a [Entry],
     written: Result<Entry, AllocError>,

@@ -1,18 +1,18 @@
 use Rattle.std.proofs.Common.{◌≡◌, ◌∙◌, refl, sym, ap, subst, ⊎_elim, inl, inr, ℕ, List, [], map, Contains, Err}
-use Rattle.names.specs.declared.format.Rules.{Rules}
+use Rattle.objects.specs.declared.format.Rules.{Rules}
 use Rattle.names.specs.Key.{Key}
 use Rattle.history.specs.Mapped.{mapped}
 use Rattle.history.specs.View as seen
 use Rattle.history.specs.View.{view}
 use Rattle.history.specs.declared.stored.Stored.{Stored}
-use Rattle.shelf.specs.declared.shelf.Shelf.{Shelf}
+use Rattle.base.specs.declared.stock.Stock.{Stock}
 use Rattle.snapshots.specs.Keeping.{IsHeld}
 use Rattle.snapshots.proofs.Shown.{held_as_it_is}
 use Rattle.recovery.specs.Beside.{Beside}
 use Rattle.recovery.specs.Known.{AllKnown}
 use Rattle.recovery.specs.Shown.{plans_held}
 use Rattle.recovery.specs.Standing.{with_plans}
-use Rattle.recovery.specs.Taken.{HasReplayed}
+use Rattle.recovery.specs.Taken.{HasRedone}
 use Rattle.recovery.specs.Written.{IsWritten}
 use Rattle.paged.specs.Lying.{base_of, LiesBelow}
 use Rattle.durable.specs.Rules.{first_rules}
@@ -20,7 +20,7 @@ use Rattle.durable.specs.declared.fault.Fault.TheVariants as Fault
 use Rattle.durable.proofs.Renewing.{err_is}
 use Rattle.opening.proofs.Bases.{base_held, base_entries, page_entry_or_plans, log_or_plans}
 use Rattle.durable.proofs.Numbers.{first_numbers}
-use Rattle.opening.proofs.Reading.{replayed_holds}
+use Rattle.opening.proofs.Reading.{redone_holds}
 use Rattle.opening.proofs.content.read_objects.Goals as goal
 
 pub returns-in_err-paged-clause-damaged : goal.returns-in_err-paged-clause-damaged
@@ -38,8 +38,8 @@ returns-in_err-paged-clause-damaged g c keeps damage told rules base ws numbers 
     (λ is. c.read.ensures.damaged keeps (inr (inr (c.in_err-paged.was ∙ ap Err is))) held kept entries holds.revision) other)
     fault
 
-pub returns-in_err-replayed-clause-damaged : goal.returns-in_err-replayed-clause-damaged
-returns-in_err-replayed-clause-damaged g c keeps damage told rules base ws numbers history holds written =
+pub returns-in_err-redone-clause-damaged : goal.returns-in_err-redone-clause-damaged
+returns-in_err-redone-clause-damaged g c keeps damage told rules base ws numbers history holds written =
     let content = g.D.Device.disk.content c.args.device.now in
     let root = c.args.root.now in
     let held : seen.View Beside = with_plans (view rules base) in
@@ -55,10 +55,10 @@ returns-in_err-replayed-clause-damaged g c keeps damage told rules base ws numbe
     λ payload key has writes. found.2 key (subst (λ keys. In keys key) (sym c.deref.ensures.value)
     (c.in_ok-keys.ensures.all held ws (subst (λ r. By r held) first written) payload key has writes)) in
     let own_written = subst (λ r. By r (mapped plans_held held)) own (subst (By rules) (sym (held_as_it_is held)) written) in
-    ⊎_elim (λ is. c.replayed.ensures.damaged below held found.1 known (inl (c.in_err-replayed.was ∙ ap Err is)) ws own_written)
-    (λ is. c.replayed.ensures.damaged below held found.1 known (inr (c.in_err-replayed.was ∙ ap Err is)) ws own_written)
-    (log_or_plans c.in_err-replayed.field-0.0 damage
-    (sym (err_is c.from_residual-in_err-replayed.result _ (Fault.Damaged damage) c.from_residual-in_err-replayed.ensures.1 told)))
+    ⊎_elim (λ is. c.redone.ensures.damaged below held found.1 known (inl (c.in_err-redone.was ∙ ap Err is)) ws own_written)
+    (λ is. c.redone.ensures.damaged below held found.1 known (inr (c.in_err-redone.was ∙ ap Err is)) ws own_written)
+    (log_or_plans c.in_err-redone.field-0.0 damage
+    (sym (err_is c.from_residual-in_err-redone.result _ (Fault.Damaged damage) c.from_residual-in_err-redone.ensures.1 told)))
 
 pub returns-clause-found : goal.returns-clause-found
 returns-clause-found g c keeps rules base ws numbers history holds written =
@@ -77,21 +77,21 @@ returns-clause-found g c keeps rules base ws numbers history holds written =
     let known : AllKnown c.in_ok-paged.paged.core below payloads =
     λ payload key has writes. found.2 key (subst (λ keys. In keys key) (sym c.deref.ensures.value)
     (c.in_ok-keys.ensures.all held ws (subst By first written) payload key has writes)) in
-    let Lies : Shelf → Type 0 = λ s. LiesBelow disk c.read.new.device s below in
-    let Replayed : Rules → Type 0 = λ r. HasReplayed r below held c.in_ok-replayed.field-0.core payloads in
-    (subst Lies (sym c.in_ok-replayed.ensures.shelf) found.0, subst Replayed (sym own) (c.in_ok-replayed.ensures.found below held found.1 known))
+    let Lies : Stock → Type 0 = λ s. LiesBelow disk c.read.new.device s below in
+    let Redone : Rules → Type 0 = λ r. HasRedone r below held c.in_ok-redone.field-0.core payloads in
+    (subst Lies (sym c.in_ok-redone.ensures.stock) found.0, subst Redone (sym own) (c.in_ok-redone.ensures.found below held found.1 known))
 
-pub returns-clause-replayed : goal.returns-clause-replayed
-returns-clause-replayed g c none =
-    let core = c.in_ok-replayed.field-0.core in
+pub returns-clause-redone : goal.returns-clause-redone
+returns-clause-redone g c none =
+    let core = c.in_ok-redone.field-0.core in
     let payloads : List (List ℕ) = map (λ p. p.items) c.args.payloads.now in
     let read = c.in_ok-paged.ensures.no_pages none in
     let held = read.1 in
     let own : c.in_ok-paged.paged.core.rules ≡ first_rules = c.in_ok-paged.ensures.rules ∙ c.rules.ensures in
-    let Lies : Shelf → Type 0 = λ s. LiesBelow g.D.Device.disk c.read.new.device s [] in
+    let Lies : Stock → Type 0 = λ s. LiesBelow g.D.Device.disk c.read.new.device s [] in
     let Held : Rules → Type 0 = λ r. IsHeld r held.0 in
-    let Replayed : Rules → Type 0 = λ r. HasReplayed r [] held.0 core payloads in (
-      subst Lies (sym c.in_ok-replayed.ensures.shelf) read.0,
-      replayed_holds first_rules held.0 core payloads (subst Held c.rules.ensures held.1)
-          (subst Replayed own (c.in_ok-replayed.ensures.found [] held.0 held.2 (λ _ _ _ _ _. refl))),
+    let Redone : Rules → Type 0 = λ r. HasRedone r [] held.0 core payloads in (
+      subst Lies (sym c.in_ok-redone.ensures.stock) read.0,
+      redone_holds first_rules held.0 core payloads (subst Held c.rules.ensures held.1)
+          (subst Redone own (c.in_ok-redone.ensures.found [] held.0 held.2 (λ _ _ _ _ _. refl))),
     )

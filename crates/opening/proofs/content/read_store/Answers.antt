@@ -1,7 +1,7 @@
 use Rattle.std.proofs.Common.{arith, rules as common, ◌≡◌, ◌∙◌, sym, ap, subst, List, [], ℕ, map, Result, Err, IsErrOf}
 use Rattle.device.specs.Run.{Ran}
 use Rattle.device.specs.Step.{Same}
-use Rattle.names.specs.declared.format.Rules.{Rules}
+use Rattle.objects.specs.declared.format.Rules.{Rules}
 use Rattle.gatelog.specs.Log.{HoldsLog}
 use Rattle.roots.specs.Root.{log_start, HoldsRoot}
 use Rattle.history.specs.View as seen
@@ -11,7 +11,7 @@ use Rattle.roots.specs.declared.root.Root.{Root}
 use Rattle.snapshots.proofs.Shown.{held_as_it_is}
 use Rattle.recovery.specs.Beside.{Beside}
 use Rattle.recovery.specs.Standing.{write_with_plans, with_plans}
-use Rattle.recovery.specs.Taken.{HasReplayed}
+use Rattle.recovery.specs.Taken.{HasRedone}
 use Rattle.recovery.specs.Written.{Write, IsWritten}
 use Rattle.paged.specs.Lying.{base_of}
 use Rattle.paged.proofs.Staying.{below_free}
@@ -24,7 +24,7 @@ use Rattle.durable.proofs.Numbers.{first_numbers}
 use Rattle.durable.proofs.Renewing.{failed_then}
 use Rattle.durable.proofs.Unwritten.{read_then}
 use Rattle.opening.specs.declared.content.Opened.{Opened}
-use Rattle.opening.specs.Opened.{IsReplayed, HasRead}
+use Rattle.opening.specs.Opened.{IsRedone, HasRead}
 use Rattle.opening.proofs.Bases.{read_thrice}
 use Rattle.opening.proofs.Found.{err_of, found_none, found_no_root}
 use Rattle.opening.proofs.Reading.{base_is, base_here, no_log_here, written_here, opened_shows}
@@ -95,7 +95,7 @@ returns-in_ok-paged-in-Ok g c =
           let there : HoldsLog (log_start root) payloads log.last content = subst In root_same (subst At c.log_start.ensures.place (c.in-Ok.ensures.found kept)) in
           let Keeps : List ℕ → Type 0 = λ x. HoldsBase rules x root stands.base in
           let By : List (List ℕ) → Type 0 = λ ps. IsWritten rules held later ps in
-          let Replayed : List (List ℕ) → Type 0 = λ ps. HasReplayed rules (base_of held) held paged.core ps in
+          let Redone : List (List ℕ) → Type 0 = λ ps. HasRedone rules (base_of held) held paged.core ps in
           let found = read.found (c.read_log.ensures.ran.kept kept) rules stands.base later stands.numbers (base_is rules content h stands)
           (subst Keeps (sym same) (base_here rules content h stands root counts))
           (subst By (ap (map (λ p. p.items)) (sym c.deref.ensures.value)) (written_here rules content h stands root counts payloads log.last there)) in (
@@ -104,13 +104,13 @@ returns-in_ok-paged-in-Ok g c =
               base = base_of held;
               below = found.0;
               shows = opened_shows rules content h stands root counts payloads log.last held (held_as_it_is held) there (base_of held)
-                  (below_free disk paged (base_of held) c.read_objects.new.device found.0) paged.core (subst Replayed (ap (map (λ p. p.items)) c.deref.ensures.value) found.1);
+                  (below_free disk paged (base_of held) c.read_objects.new.device found.0) paged.core (subst Redone (ap (map (λ p. p.items)) c.deref.ensures.value) found.1);
             },
           );
-      replayed = λ none.
-          let found = read.replayed (ap (λ (r : Root). r.pages) (sym read.root) ∙ none) in
-          let Replayed : Rules → Type 0 = λ r. IsReplayed r found.1.0 in
-          (found.1.0, record { base = []; below = found.0; shows = found.1.1 }, subst Replayed (sym read.rules) found.1.2);
+      redone = λ none.
+          let found = read.redone (ap (λ (r : Root). r.pages) (sym read.root) ∙ none) in
+          let Redone : Rules → Type 0 = λ r. IsRedone r found.1.0 in
+          (found.1.0, record { base = []; below = found.0; shows = found.1.1 }, subst Redone (sym read.rules) found.1.2);
       log = λ keeps.
           let Counts : Root → Type 0 = λ r. HoldsRoot content r in
           let Of : ℕ → Type 0 = λ start. HoldsLog start payloads log.last content in

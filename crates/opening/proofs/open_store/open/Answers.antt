@@ -7,7 +7,7 @@ use Rattle.durable.proofs.Answering.{Small}
 use Rattle.durable.proofs.Numbers.{first_small}
 use Rattle.opening.proofs.Beginning.{first_is}
 use Rattle.opening.proofs.Readiness.{opened_ready, opened_holds, device_or_memory}
-use Rattle.opening.proofs.Settling.{settled_with, replayed_with, moments_with, content_with, count_with}
+use Rattle.opening.proofs.Settling.{settled_with, redone_with, moments_with, content_with, count_with}
 use Rattle.opening.proofs.open_store.open.Goals as goal
 
 pub serving-requires-clause-limits : goal.serving-requires-clause-limits
@@ -31,9 +31,9 @@ returns-in-Ok-clause-rules g c =
     let At : Paged → Type 0 = λ p. AreOfFormat p.core.rules in
     subst At (sym c.serving.ensures.paged) (subst AreOfFormat (sym c.in-Ok.ensures.read.rules) first_is)
 
-pub returns-in-Ok-clause-replayed : goal.returns-in-Ok-clause-replayed
-returns-in-Ok-clause-replayed g c =
-    replayed_with c.serving.result c.synced_store.new.device c.in-Ok.opened.paged c.serving.ensures.device c.serving.ensures.paged c.in-Ok.ensures.read.replayed
+pub returns-in-Ok-clause-redone : goal.returns-in-Ok-clause-redone
+returns-in-Ok-clause-redone g c =
+    redone_with c.serving.result c.synced_store.new.device c.in-Ok.opened.paged c.serving.ensures.device c.serving.ensures.paged c.in-Ok.ensures.read.redone
 
 pub returns-in-Ok-clause-any_moment : goal.returns-in-Ok-clause-any_moment
 returns-in-Ok-clause-any_moment g c keeps =

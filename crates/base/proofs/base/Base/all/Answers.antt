@@ -20,7 +20,8 @@ returns-in_ok-all_of-in-Ok g c =
     record { listed = listed; kept = grind (arith, held_still); goes = search (rules, goes); counts = search rules; device = grind arith; damaged = grind arith }
 
 pub returns-in_err-all_of-in-Ok : goal.returns-in_err-all_of-in-Ok
-returns-in_err-all_of-in-Ok g c = search (rules, held_still, goes)
+returns-in_err-all_of-in-Ok g c =
+    record { listed = search rules; kept = grind (arith, held_still); goes = search (rules, goes); counts = search rules; device = grind arith; damaged = grind arith }
 
 pub returns-in-Err-clause-kept : goal.returns-in-Err-clause-kept
 returns-in-Err-clause-kept g c objects holds = let undamaged = c.told.ensures.whole (λ damaged. c.in-Err.ensures.damaged holds.lies.all holds.lies.stocks (λ i. Err (damaged i))) in search (rules, held_still)

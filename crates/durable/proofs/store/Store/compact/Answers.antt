@@ -1,7 +1,7 @@
 use Rattle.std.proofs.Common.{◌+◌, ◌≡◌, ◌∙◌, sym, ap, subst, ⊎_elim, [], Err}
 use Rattle.roots.specs.declared.root.Root.{Root}
 use Rattle.checkpoint.specs.EntryList.{entries_of as in_list}
-use Rattle.names.specs.declared.format.Rules.{Rules}
+use Rattle.objects.specs.declared.format.Rules.{Rules}
 use Rattle.snapshots.specs.Keeping.{entries_of, IsKeepable}
 use Rattle.history.specs.View.{view}
 use Rattle.recovery.proofs.Histories.{on_ok_to}

@@ -1,14 +1,14 @@
 use Rattle.std.proofs.Common.{arith, rules, ◌≡◌, ◌∙◌, refl, sym, subst, IsErrOf, List}
 use Rattle.std.proofs.lemmas.Grind.{common_steps}
-use Rattle.names.specs.declared.format.Rules.{Rules}
+use Rattle.objects.specs.declared.format.Rules.{Rules}
 use Rattle.names.specs.Key.{Key}
 use Rattle.requests.specs.RequestOf.{request_of}
 use Rattle.history.specs.View.{after_all}
 use Rattle.history.specs.declared.stored.Stored.{Stored}
 use Rattle.holdings.specs.Holdings.{Shows}
 use Rattle.holdings.specs.Prepared.{writes_of}
-use Rattle.shelf.specs.declared.shelf.Shelf.{Shelf}
-use Rattle.shelf.specs.Shelf as shelf
+use Rattle.base.specs.declared.stock.Stock.{Stock}
+use Rattle.base.specs.Stock as stock
 use Rattle.recovery.specs.Beside.{Beside}
 use Rattle.paged.specs.Lying.{LiesBelow}
 use Rattle.durable.specs.declared.fault.Fault.TheVariants as Faults
@@ -40,8 +40,8 @@ invariant_of-self g c =
       in_data = store.in_data;
       works = store.works;
       ready = λ serves keeps.
-          let Ready : Shelf → Type 0 = λ s. ∥ IsReady g.D.Device.disk store.device (shelf.root_of s) store.log ∥₁ in
-          subst Ready (sym c.take.ensures.shelf) (store.ready serves keeps);
+          let Ready : Stock → Type 0 = λ s. ∥ IsReady g.D.Device.disk store.device (stock.root_of s) store.log ∥₁ in
+          subst Ready (sym c.take.ensures.stock) (store.ready serves keeps);
     }
 
 pub returns-clause-stepped : goal.returns-clause-stepped
@@ -49,10 +49,10 @@ returns-clause-stepped g c =
     let prepared = c.in_ok-prepared.prepared in
     let core = c.args.self.now.paged.core in
     let rules_are : c.prepare.new.self.paged.core.rules ≡ core.rules = c.prepare.ensures.rules in
-    let Lies : List (Key × Stored Beside) → Shelf → Type 0 = λ base s. LiesBelow g.D.Device.disk c.prepare.new.self.device s base in
+    let Lies : List (Key × Stored Beside) → Stock → Type 0 = λ base s. LiesBelow g.D.Device.disk c.prepare.new.self.device s base in
     stepped c.args.self.now _ c.args.group.now c.gather.new.group (request_of c.args.request.now) prepared c.in_ok-prepared.ensures.step c.prepare.ensures.form
     c.in_ok-prepared.ensures.goes_on (c.take.ensures.rules ∙ rules_are)
-    (λ base below. subst (Lies base) (sym c.take.ensures.shelf) (c.prepare.ensures.lies base below))
+    (λ base below. subst (Lies base) (sym c.take.ensures.stock) (c.prepare.ensures.lies base below))
     (λ base held shows next.
     let Left : Rules → Type 0 = λ r. Shows c.take.new.self.core base (after_all r held (writes_of prepared.write)) in
     subst Left rules_are (c.take.ensures.shows base held (c.prepare.ensures.shows base held shows) next))

@@ -8,7 +8,7 @@ use Rattle.roots.specs.Root.{log_start, HoldsRoot}
 use Rattle.gatelog.specs.Log.{HoldsLog}
 use Rattle.roots.specs.declared.root.Root.{Root}
 use Rattle.pages.specs.Page.{Entry}
-use Rattle.names.specs.declared.format.Rules.{Rules}
+use Rattle.objects.specs.declared.format.Rules.{Rules}
 use Rattle.snapshots.proofs.Alone.{kept_held}
 use Rattle.snapshots.proofs.Kept.{entries_fit}
 use Rattle.history.specs.View.{view}

@@ -36,11 +36,11 @@ returns-in_err-core-clause-damaged g c keeps told held is holds revision =
     (λ bad. c.core_of.ensures.damaged (inr (c.in_err-core.was ∙ ap Err bad)) held (is_chosen chosen) is all kept objects (sym revision))
     (snapshot_bad c.from_residual-in_err-core.result c.in_err-core.field-0.0 c.from_residual-in_err-core.ensures.1 told)
 
-pub returns-in_err-shelf-clause-damaged : goal.returns-in_err-shelf-clause-damaged
-returns-in_err-shelf-clause-damaged g c keeps told held is holds revision =
+pub returns-in_err-stock-clause-damaged : goal.returns-in_err-stock-clause-damaged
+returns-in_err-stock-clause-damaged g c keeps told held is holds revision =
     let content = g.D.Device.disk.content c.args.device.now in
-    let bad : IsBad c.shelf_of.result = ⊎_elim (λ x. inl (search rules)) (⊎_elim (λ x. inr (inl (search rules))) (λ x. inr (inr (search rules)))) told in
-    c.shelf_of.ensures.damaged bad
+    let bad : IsBad c.stock_of.result = ⊎_elim (λ x. inl (search rules)) (⊎_elim (λ x. inr (inl (search rules))) (λ x. inr (inr (search rules)))) told in
+    c.stock_of.ensures.damaged bad
     (sym (length-map c.in_ok-first_keys.first_keys.items (λ key. key.items))
     ∙ count_keys (keys_of c.in_ok-first_keys.first_keys.items) c.args.root.now content (c.in_ok-first_keys.ensures.index keeps))
 
@@ -63,10 +63,10 @@ returns-clause-held g c keeps held is holds revision =
     let Index : List ℕ → Type 0 = λ x. IsIndex keys (pages_of_root root x) in
     let Holds : List ℕ → Type 0 = λ x. HoldsEntries x root (held_entries held) in
     let shelves =
-    c.in_ok-shelf.ensures.shelves (held_entries held) (subst Index same (c.in_ok-first_keys.ensures.index keeps)) (λ some. c.scan.ensures.ran.kept keeps)
+    c.in_ok-stock.ensures.shelves (held_entries held) (subst Index same (c.in_ok-first_keys.ensures.index keeps)) (λ some. c.scan.ensures.ran.kept keeps)
     (subst Holds same holds)
     in (
-      lying disk c.scan.new.device c.in_ok-shelf.shelf c.args.rules held is shelves,
+      lying disk c.scan.new.device c.in_ok-stock.stock c.args.rules held is c.in_ok-stock.ensures.found shelves,
       shown.0,
       λ k has. shown.1 k (c.in_ok-chosen.ensures k has),
     )
@@ -81,10 +81,10 @@ returns-clause-no_pages g c none =
     let keys = keys_of c.in_ok-first_keys.first_keys.items in
     let index =
     index_of_none keys root content none
-    (length-map c.in_ok-first_keys.first_keys.items (λ key. key.items) ∙ c.in_ok-shelf.ensures.counted)
+    (length-map c.in_ok-first_keys.first_keys.items (λ key. key.items) ∙ c.in_ok-stock.ensures.counted)
     in
-    let shelves = c.in_ok-shelf.ensures.shelves [] index (λ some. absurd (omega (arith, some, none))) (holds_none root content none) in (
-      none_lying disk c.scan.new.device c.in_ok-shelf.shelf shelves,
+    let shelves = c.in_ok-stock.ensures.shelves [] index (λ some. absurd (omega (arith, some, none))) (holds_none root content none) in (
+      none_lying disk c.scan.new.device c.in_ok-stock.stock c.in_ok-stock.ensures.found shelves,
       c.in_ok-core.ensures.none (c.kept.ensures ∙ ap (λ (s : Sieve Chosen). s.kept.items) untold.2 ∙ made.kept)
           (c.objects.ensures ∙ ap (λ (s : Sieve Chosen). s.objects) untold.2 ∙ made.objects),
     )

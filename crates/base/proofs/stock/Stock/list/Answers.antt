@@ -1,7 +1,7 @@
 use Rattle.std.proofs.Common.{◌∙◌}
 use Rattle.std.specs.Prelude.{option_map}
 use Rattle.base.proofs.Holding.{are_of, still}
-use Rattle.base.proofs.looking.list.Goals as goal
+use Rattle.base.proofs.stock.Stock.list.Goals as goal
 
 pub returns-clause-found : goal.returns-clause-found
 returns-clause-found g c objects stocks =
@@ -9,8 +9,8 @@ returns-clause-found g c objects stocks =
     (are_of stocks.entries objects stocks.hold c.args.resource (option_map (λ text. text.now) c.args.namespace) c.deref.result.now (c.deref.ensures.value ∙ c.in_ok-prefix.ensures))
 
 pub returns-clause-kept : goal.returns-clause-kept
-returns-clause-kept g c =
-    still g.D.Device.disk c.args.device.now c.objects_with.new.device c.args.shelf.now c.objects_with.new.shelf c.objects_with.ensures.entries
+returns-clause-kept g c objects stocks =
+    still g.D.Device.disk c.args.device.now c.objects_with.new.device c.args.self.now _ c.objects_with.ensures.entries objects (λ among. among) stocks
 
 pub returns-clause-damaged : goal.returns-clause-damaged
 returns-clause-damaged g c objects stocks is =

@@ -3,7 +3,7 @@ use Rattle.base.specs.StockFaults.{of_shelf_fault}
 use Rattle.base.specs.declared.fault.StockFault.TheVariants as StockFault
 use Rattle.base.proofs.Faults.{damage_is}
 use Rattle.base.proofs.Holding.{told_objects, none_refused}
-use Rattle.base.proofs.looking.objects_with.Goals as goal
+use Rattle.base.proofs.stock.objects_with.Goals as goal
 
 pub returns-in_err-tell-clause-damaged : goal.returns-in_err-tell-clause-damaged
 returns-in_err-tell-clause-damaged g c entries objects shelves of is =
