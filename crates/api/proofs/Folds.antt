@@ -5,7 +5,7 @@ use Rattle.std.specs.List.{AllByRecursion}
 use Rattle.device.specs.declared.device.Device.{Ghosts}
 use Rattle.device.proofs.Moments.{followed_by}
 use Rattle.requests.specs.declared.refusal.Refusal.TheVariants.{StorageFailed}
-use Rattle.names.specs.declared.format.Rules.{Rules}
+use Rattle.objects.specs.declared.format.Rules.{Rules}
 use Rattle.records.specs.Payload.{group_limit}
 use Rattle.recovery.specs.Standing.{Write, History, View}
 use Rattle.apicore.specs.Admitted.{AreAdmitted}

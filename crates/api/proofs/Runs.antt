@@ -3,7 +3,7 @@ use Rattle.std.proofs.Common.{◌≡◌, ℕ, List, [], ◌∷◌, ◌++◌, ap,
 use Rattle.std.proofs.lemmas.List.{append-nil}
 use Rattle.device.specs.declared.device.Device.{Ghosts}
 use Rattle.requests.specs.declared.refusal.Refusal.TheVariants.{OutOfMemory}
-use Rattle.names.specs.declared.format.Rules.{Rules}
+use Rattle.objects.specs.declared.format.Rules.{Rules}
 use Rattle.recovery.specs.Standing.{View}
 use Rattle.durable.specs.declared.store.Store.{Store}
 use Rattle.durable.specs.Settled.{device_of}
@@ -21,7 +21,7 @@ use Rattle.api.proofs.Folds.{seen, grown_after, answers_none, answers_then, writ
 use Rattle.api.proofs.Streams.{at_once, ended_stream}
 
 module _ (rules : Rules) where
-  -- The bytes that were cut are these messages, which are answered, and a piece behind them is read and not fed yet.
+  -- The bytes that were cut are these messages, which are answered, and a piece after them is read and not fed yet.
   pub record SoFar {I O D : Type 0} {g : Ghosts D} (gave : I → I → List ℕ → Type 0) (took : O → O → List ℕ → Type 0) (i j : I) (o p : O)
       (old new : Store D g) (v : View) (now : Progress) (piece : List ℕ) : Type 0 where
     pub read : List ℕ

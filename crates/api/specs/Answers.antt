@@ -15,7 +15,7 @@ use Rattle.apicore.specs.Prepared.{IsReadOf}
 use Rattle.history.specs.View.{view, after_all}
 use Rattle.durable.specs.declared.fault.Damage.{Damage}
 use Rattle.durable.specs.declared.store.Store.{Store}
-use Rattle.names.specs.declared.format.Rules.{Rules}
+use Rattle.objects.specs.declared.format.Rules.{Rules}
 use Rattle.durable.specs.Settled.{serves, ServesAt, IsSettledAt, IsLeftAt, LeavesSome}
 use Rattle.httpmsg.specs.Flow.{TookSome}
 use Rattle.httpmsg.specs.Stream.{Message}
@@ -82,7 +82,7 @@ abbrev pub WhereSettled : {D : Type 0} {g : Ghosts D} → Rules → Store D g �
 WhereSettled rules old v P = (h : History) → v ≡ view rules h → IsSettledAt rules old h → P h
 
 -- The store showed v, and shows what the answers leave; each of their writes was admitted by the policies, bindings and parameters just
--- before it. A store that had failed is as it was. One that was settled at a history is settled behind the writes of the answers, and at
+-- before it. A store that had failed is as it was. One that was settled at a history is settled after the writes of the answers, and at
 -- every moment since a crash leaves that history followed by some first ones of them.
 pub record HasApplied {D : Type 0} {g : Ghosts D} (rules : Rules) (old new : Store D g) (v : View) (answered : List Answered) : Type 0 where
   pub serving : serves new ≡ serves old
@@ -94,7 +94,7 @@ pub record HasApplied {D : Type 0} {g : Ghosts D} (rules : Rules) (old new : Sto
   pub moments : WhereSettled rules old v (λ h. LeavesSome rules old new h (all_writes rules v answered))
 
 module _ {O D : Type 0} {g : Ghosts D} (rules : Rules) (took : O → O → List ℕ → Type 0) (o p : O) (old new : Store D g) where
-  -- The messages are answered, and behind the replies closing bytes are written.
+  -- The messages are answered, and after the replies closing bytes are written.
   pub record Answers (v : View) (ms : List Message) (closing : List ℕ) : Type 0 where
     pub answered : List Answered
     pub answers : messages answered ≡ ms

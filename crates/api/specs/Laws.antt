@@ -5,7 +5,7 @@ use Rattle.recovery.specs.Standing.{History}
 use Rattle.history.specs.Reply.{Reply, status}
 use Rattle.apicore.specs.Step.{Asked, runs}
 use Rattle.history.specs.View.{view}
-use Rattle.names.specs.declared.format.Rules.{Rules}
+use Rattle.objects.specs.declared.format.Rules.{Rules}
 use Rattle.httpmsg.specs.Stream.{Message}
 use Rattle.replies.specs.ReplyBytes.{reply_bytes}
 use Rattle.api.specs.Answers.{Answered, asked_of, all_writes, all_bytes}
@@ -20,7 +20,7 @@ abbrev pub all_asked : List Answered → List Asked
 all_asked [] = []
 all_asked (a ∷ more) = asked_if a.is_served (asked_of a) (all_asked more)
 
--- the bytes of the reply to a message, and of what stands behind it: a message that was not served has none of these replies
+-- the bytes of the reply to a message, and of what stands after it: a message that was not served has none of these replies
 abbrev pub bytes_if : Bool → Message → List Reply → (List Reply → List ℕ) → List ℕ
 bytes_if true m [] behind = []
 bytes_if true m (r ∷ replies) behind = reply_bytes m r ++ behind replies

@@ -3,7 +3,7 @@ use Rattle.std.specs.Prelude.{◌≡◌, ℕ, ◌≤◌, ◌⊎◌, List, [], �
 use Rattle.device.specs.declared.device.Device.{Ghosts}
 use Rattle.requests.specs.declared.refusal.Refusal.TheVariants.{OutOfMemory}
 use Rattle.recovery.specs.Standing.{View}
-use Rattle.names.specs.declared.format.Rules.{Rules}
+use Rattle.objects.specs.declared.format.Rules.{Rules}
 use Rattle.durable.specs.declared.store.Store.{Store}
 use Rattle.httpmsg.specs.declared.head.End.{End}
 use Rattle.httpmsg.specs.Flow.{TookSome}
@@ -19,7 +19,7 @@ use Rattle.api.specs.Answers.{Answers, WritesSome, MeetsFailure}
 
 module _ {O D : Type 0} {g : Ghosts D} (rules : Rules) (took : O → O → List ℕ → Type 0) (failures : O → ℕ) (o p : O) (old new : Store D g) (v : View)
     (read : List ℕ) (ms : List Message) (before : Progress) (piece : List ℕ) (now : Progress) where
-  -- Behind the messages cut so far the piece gives some, which are answered.
+  -- After the messages cut so far the piece gives some, which are answered.
   pub record TellsMore (closing : List ℕ) : Type 0 where
     pub more : List Message
     pub cut : IsCut (read ++ piece) (ms ++ more) now
@@ -69,7 +69,7 @@ module _ {I O D : Type 0} {g : Ghosts D} (rules : Rules) (gave : I → I → Lis
   Steps buffer ended Finish = TellsMore rules took failures o p old new v read ms before piece now [] × (now.end ≡ None) × gave i j [] × ended
   Steps buffer ended (EndStep end) = TellsMore rules took failures o p old new v read ms before piece now (end_bytes end) × (now.end ≡ Some end) × gave i j []
 
-  -- Where a step stops serving, the piece does, or the input failed behind it.
+  -- Where a step stops serving, the piece does, or the input failed after it.
   abbrev pub StepsWrong : ServeFault → Type 0
   StepsWrong fault =
       (Breaks rules took failures o p old new v read ms before piece now fault

@@ -6,7 +6,7 @@ use Rattle.requests.specs.declared.refusal.Refusal.TheVariants.{OutOfMemory, Sto
 use Rattle.records.specs.Payload.{group_limit}
 use Rattle.recovery.specs.Standing.{View}
 use Rattle.apicore.specs.Admitted.{AreAdmitted}
-use Rattle.names.specs.declared.format.Rules.{Rules}
+use Rattle.objects.specs.declared.format.Rules.{Rules}
 use Rattle.durable.specs.declared.fault.Damage.{Damage}
 use Rattle.durable.specs.declared.store.Store.{Store}
 use Rattle.durable.specs.Settled.{serves, IsLeftAt, LeavesSome}
@@ -26,7 +26,7 @@ Ends ended read ms end = (ended × IsStream read ms end) ⊎ ((more : List ℕ) 
 abbrev pub GoesOn : (read : List ℕ) → List Message → Type 0
 GoesOn read ms = (pending : List ℕ) × IsCut read ms (record { pending = pending; end = None })
 
--- What may be written behind the replies to all messages: the reply of the stream's end, or that memory was refused to
+-- What may be written after the replies to all messages: the reply of the stream's end, or that memory was refused to
 -- further bytes.
 abbrev pub IsClosing : (read : List ℕ) → List Message → (closing : List ℕ) → Type 0
 IsClosing read ms closing =
@@ -48,7 +48,7 @@ module _ {D : Type 0} {g : Ghosts D} (rules : Rules) (old new : Store D g) (v : 
     pub store : HasApplied rules old new v answered
 
   -- The output failed: some first messages were applied, and what is written is a beginning of their replies, and of what
-  -- closes behind them.
+  -- closes after them.
   pub record HasWrittenSome : Type 0 where
     pub answered : List Answered
     pub waiting : List Message

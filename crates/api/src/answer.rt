@@ -3,7 +3,7 @@
 ghost use Rattle.std.specs.Prelude.{◌≡◌, ◌<◌, ◌≤◌, ◌⊎◌, ◌++◌, [], ◌∷◌, List, length, map, take, option_map, true, false, IfOk, OnOk, IfErr, IsErrOf, MatchResult};
 ghost use Rattle.std.specs.Vec.{vec_len, vec_capacity};
 ghost use Rattle.requests.specs.RequestOf.{request_of};
-ghost use Rattle.names.specs.declared.format.Rules.{Rules};
+ghost use Rattle.objects.specs.declared.format.Rules.{Rules};
 ghost use Rattle.records.specs.Payload.{group_limit};
 ghost use Rattle.recovery.specs.Standing.{View};
 ghost use Rattle.history.specs.Reply.{Reply as ReplyData};
@@ -114,7 +114,7 @@ fn replies_to<D: Device>(
     let (replies, fault) = store.run(alloc, requests);
     match fault {
         None => Ok(replies),
-        // To the request behind those that were answered.
+        // To the request after those that were answered.
         Some(Fault::Memory) => Ok(replies),
         Some(Fault::Device) => Err(ServeFault::Device),
         Some(Fault::Damaged(damage)) => Err(ServeFault::Damaged(damage)),

@@ -2,7 +2,7 @@
 
 ghost use Rattle.std.specs.Prelude.{◌≡◌, ◌≢◌, ◌<◌, ◌≤◌, ◌⊎◌, ℕ, List, [], length, take, false, Some, None, IfOk, IfErr, IsErrOf, MatchResult};
 ghost use Rattle.requests.specs.declared.refusal.Refusal.TheVariants as refusal;
-ghost use Rattle.names.specs.declared.format.Rules.{Rules};
+ghost use Rattle.objects.specs.declared.format.Rules.{Rules};
 ghost use Rattle.recovery.specs.Standing.{View};
 ghost use Rattle.durable.specs.Settled.{device_of, serves};
 ghost use Rattle.httpmsg.specs.declared.head.BrokenMessage.{BrokenMessage as BrokenData};
@@ -28,7 +28,7 @@ use std::alloc::{AllocError, Global};
 /// What a piece of the input told.
 #[derive(Clone, Copy)]
 pub(crate) enum Told {
-    /// Messages, which are answered; a fault may stand behind them.
+    /// Messages, which are answered; a fault may stand after them.
     Messages,
     /// No message, and no end.
     Nothing,

@@ -1,6 +1,6 @@
 -- Each accepted write was admitted.
 use Rattle.std.proofs.Common.{◌≡◌, refl, subst, List, [], ◌∷◌, ◌++◌, Bool, true, false, cond, is_some}
-use Rattle.names.specs.declared.format.Rules.{Rules}
+use Rattle.objects.specs.declared.format.Rules.{Rules}
 use Rattle.requests.specs.Request.{Request, get, list, watch, create, replace, delete, refused}
 use Rattle.history.specs.History as write
 use Rattle.history.specs.View.{after, after_all}

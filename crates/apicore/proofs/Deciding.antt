@@ -3,7 +3,7 @@ use Rattle.std.proofs.Common.{◌≡◌, ◌∙◌, sym, ap, refl, subst, ℕ, �
 use Rattle.std.specs.Option.{option_map_or}
 use Rattle.serde_json.specs.Data.{Data}
 use Rattle.celtree.specs.Tree.{Expr}
-use Rattle.names.specs.declared.format.Rules.{Rules}
+use Rattle.objects.specs.declared.format.Rules.{Rules}
 use Rattle.names.specs.Key.{Key}
 use Rattle.documents.specs.Document.{Document}
 use Rattle.policy.specs.Rules.{Attempt}
@@ -82,7 +82,7 @@ read_step rules held v a p asks is none = record {
   next = none_next held p none;
 }
 
--- behind conditions that do not hold the verdict decides
+-- after conditions that do not hold the verdict decides
 judged_at : (held : seen.View Beside) (own : List Condition) (w : Write) (j : Verdict) (shows : List (List ℕ) → Reply) (p : Prepared) → first_of own ≡ None → IsJudged held shows w j p
     → (p.reply ≡ option_map_or status (first_of (own ++ verdict_conditions j)) (shows (warnings_of j)))
     × (map (mapped_write plans_held) (writes_of p.write) ≡ map write_with_plans (cond (is_some (first_of (own ++ verdict_conditions j))) [] (w ∷ [])))

@@ -1,4 +1,4 @@
--- What a step is where it is refused, and behind the verdict on its write.
+-- What a step is where it is refused, and after the verdict on its write.
 use Rattle.std.specs.Prelude.{◌≡◌, ℕ, List, [], ◌∷◌, map, None}
 use Rattle.history.specs.Mapped.{mapped_write}
 use Rattle.history.specs.Reply.{Reply}

@@ -1,6 +1,6 @@
 -- Laws of steps.
 use Rattle.std.specs.Prelude.{◌≡◌, ◌≤◌, ◌^◌, List, ◌∷◌}
-use Rattle.names.specs.declared.format.Rules.{Rules}
+use Rattle.objects.specs.declared.format.Rules.{Rules}
 use Rattle.requests.specs.Request.{RequestHasForm}
 use Rattle.history.specs.View.{view}
 use Rattle.recovery.specs.Standing.{View, History, IsHistory}

@@ -2,7 +2,7 @@
 use Rattle.std.specs.Prelude.{ℕ, ◌+◌, List, [], ◌∷◌, ◌++◌, true, codes, if◌then◌else◌, Option, is_some}
 use Rattle.std.specs.Option.{option_map_or}
 use Rattle.celtree.specs.Tree.{Expr}
-use Rattle.names.specs.declared.format.Rules.{Rules}
+use Rattle.objects.specs.declared.format.Rules.{Rules}
 use Rattle.requests.specs.Codes.{document_in}
 use Rattle.requests.specs.declared.refusal.Refusal.TheVariants.{NotFound}
 use Rattle.requests.specs.Refusal as table

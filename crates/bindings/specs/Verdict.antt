@@ -53,7 +53,7 @@ denial_text policy binding message = named_by policy binding ++ (codes " denied 
 abbrev pub printable : (character : ℕ) → ℕ
 printable c = if nat_le 0x20 c && nat_le c 0x7E then c else 63
 
--- a quote and a backslash stand behind a backslash
+-- a quote and a backslash stand after a backslash
 abbrev pub escaped : (character : ℕ) → List ℕ
 escaped c = if c == 34 || c == 92 then 92 ∷ c ∷ [] else c ∷ []
 

@@ -6,7 +6,7 @@ ghost use Rattle.bindings.specs.Verdict.{named_by, denial_text, printable, escap
 
 use std::alloc::{AllocError, Global};
 
-// Names the policy and the binding behind the text.
+// Names the policy and the binding after the text.
 fn name_both(alloc: Global, front: &str, policy: &str, binding: &str) -> Result<String, AllocError>
     ensures { IfOk result (λ s. string_bytes s ≡ front.now ++ named_by policy.now binding.now) }
 {
@@ -55,7 +55,7 @@ fn printable(character: char) -> char
     }
 }
 
-// A quote and a backslash stand behind a backslash.
+// A quote and a backslash stand after a backslash.
 fn push_escaped(text: &mut String, character: char) -> Result<(), AllocError>
     ensures { (rest : List ℕ) → OnOk result (string_bytes text.new ++ rest ≡ string_bytes text.old ++ (escaped (printable character) ++ rest)) }
 {

@@ -2,7 +2,7 @@
 //! and line.
 //!
 //! A [`Bench`] does what the lines of a file say, and [`run_text`] gives them to it. A file holds rows, each by itself, or cases: a line
-//! `case NAME` begins one on a new bench, and behind a line that cannot be done the rest of its case is passed over. An empty
+//! `case NAME` begins one on a new bench, and after a line that cannot be done the rest of its case is passed over. An empty
 //! line, or one that begins with `#`, says nothing.
 #![tactic(auto)]
 

@@ -21,7 +21,7 @@ pub trait Bench: Drop + Sized {
 // What a file has come to.
 #[derive(Drop)]
 struct Reading<B: Bench> {
-    // none before the first line, and behind a line of a case that failed
+    // none before the first line, and after a line of a case that failed
     bench: Option<B>,
     is_case: bool,
     // whether a comparison was made since the bench was new
@@ -37,7 +37,7 @@ impl<B: Bench> Reading<B> {
         Ok(())
     }
 
-    // Does what a line says. Behind one that fails, the rest of a case is passed over.
+    // Does what a line says. After one that fails, the rest of a case is passed over.
     fn line(&mut self, alloc: Global, line: &str) -> Result<u64, Wrong> {
         let Some(bench) = &mut self.bench else {
             return Ok(0);

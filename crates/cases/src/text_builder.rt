@@ -40,7 +40,7 @@ impl TextBuilder {
         }
     }
 
-    /// Adds a word, behind a blank unless it is the first.
+    /// Adds a word, after a blank unless it is the first.
     pub fn word(&mut self, word: &str) {
         if !self.text.is_empty() {
             self.push(" ");

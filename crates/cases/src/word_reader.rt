@@ -20,7 +20,7 @@ impl<'a> WordReader<'a> {
         }
     }
 
-    /// The next word: the empty text behind the last.
+    /// The next word: the empty text after the last.
     pub fn word(&mut self) -> &'a str {
         let (word, rest) = first_word(self.rest);
         self.rest = rest;
@@ -38,7 +38,7 @@ impl<'a> WordReader<'a> {
         }
     }
 
-    /// What stands behind the words so far.
+    /// What stands after the words so far.
     pub fn rest(&self) -> &'a str {
         self.rest
     }

@@ -22,7 +22,7 @@ pub fn yes_or_no(alloc: Global, holds: bool) -> Result<String, Wrong> {
     text(alloc, if holds { "yes" } else { "no" })
 }
 
-/// The first word of a text, and what stands behind the blank after it.
+/// The first word of a text, and what stands after the blank that follows it.
 pub fn first_word(text: &str) -> (&str, &str) {
     match text.split_once(' ') {
         Some((word, rest)) => (word, rest),

@@ -12,7 +12,7 @@ pub(crate) fn show<T: Display>(out: &mut String, value: &T) {
     let _ = write!(out, "{value}");
 }
 
-/// Adds another text that should be the same, behind these words, where it is not.
+/// Adds another text that should be the same, after these words, where it is not.
 pub(crate) fn put_other(out: &mut String, words: &str, other: &str) {
     if out.as_str() != other {
         put(out, words);

@@ -1,4 +1,4 @@
--- One instruction: what is awaited behind it is where control comes by it and the instructions before.
+-- One instruction: what is awaited after it is where control comes by it and the instructions before.
 use Rattle.std.proofs.Common.{◌≡◌, ◌⊎◌, inl, inr, ℕ, ◌+◌, ◌<◌, ◌≤◌, not, List, [], ◌∷◌, length, map, drop, Some, Ok, refl, sym, ap, subst, ◌∙◌, arith}
 use Rattle.std.specs.Prelude.{slice_get}
 use Rattle.std.specs.List.{filter}
@@ -50,7 +50,7 @@ pub comes_later : (code : List Op) (at : ℕ) (c : Control) → ComesBefore code
 comes_later code at c coming.begins = coming.begins
 comes_later code at c (coming.goes p d op comes before inside here m) = coming.goes p d op (comes_later code at p comes) (omega arith) inside here m
 
--- what is awaited behind an instruction is awaited before it, further on, or the instruction leads there
+-- what is awaited after an instruction is awaited before it, further on, or the instruction leads there
 abbrev Came : ℕ → ℕ → Op → Control → Body → List Body → Type 0
 Came at h op c b os = Awaits c b os ⊎ Among c (next op (record { place = at; end = b.end; outer = ends_of os; height = h }))
 

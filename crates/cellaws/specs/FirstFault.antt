@@ -7,7 +7,7 @@ use Rattle.instructions.specs.Op.{Op, Over}
 use Rattle.instructions.specs.Judging.{takes, targets, is_named, first_fault}
 use Rattle.instructions.specs.WellFormed.{Among, Control, next}
 
--- A macro opens its body: the ends of the bodies behind an instruction.
+-- A macro opens its body: the ends of the bodies after an instruction.
 abbrev pub opened : Op → List ℕ → List ℕ
 opened (Over m end) ends = end ∷ ends
 opened op ends = ends

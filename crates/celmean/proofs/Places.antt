@@ -17,7 +17,7 @@ module _ (k v : Value) where
   place_here zero (f ∷ es) e within got before = let p : key_before k f.0 ≡ true = rw (← got) at before in rw p refl
   place_here (suc i) (f ∷ es) e within got before = ap (λ x. f ∷ x) (place_here i es e (omega arith) got before)
 
-  -- and behind all others
+  -- and after all others
   pub place_past : (i : ℕ) (es : List (Value × Value)) (e : Value × Value) → i < length es → get_or es i e ≡ e → key_before k e.0 ≡ false
       → take i es ++ inserted k v (drop i es) ≡ take (suc i) es ++ inserted k v (drop (suc i) es)
   place_past i [] e within got after = absurd (omega arith)

@@ -9,7 +9,7 @@ use Rattle.celmean.specs.Macros.{is_true, is_false, range_of, over_items}
 use Rattle.celmean.specs.Operators.{prefixed, infixed}
 use Rattle.celmean.specs.Functions.{called, method_called}
 
--- What the names stand for: `object` and the like and the variables of macros, the innermost first, and what stands behind `variables.`.
+-- What the names stand for: `object` and the like and the variables of macros, the innermost first, and what stands after `variables.`.
 pub record Environment : Type 0 where
   pub names : List (List ℕ × Outcome)
   pub variables : List (List ℕ × Outcome)

@@ -12,7 +12,7 @@ text_starts_with s t = starts_with ◌==◌ s t
 abbrev pub text_ends_with : List ℕ → List ℕ → Bool
 text_ends_with s t = ends_with ◌==◌ s t
 
--- t stands at the front of s, or further behind
+-- t stands at the front of s, or further after
 abbrev pub text_contains : List ℕ → List ℕ → Bool
 text_contains [] t = text_starts_with [] t
 text_contains (c ∷ s) t = text_starts_with (c ∷ s) t || text_contains s t
@@ -36,7 +36,7 @@ positive_of_text s = if is_numeral s then signed (pos (digits_value 10 s)) else 
 abbrev negative_of_text : List ℕ → Outcome
 negative_of_text s = if is_numeral s then signed (neg_ℤ (pos (digits_value 10 s))) else Error
 
--- the same, perhaps behind a minus sign, in 64 signed bits
+-- the same, perhaps after a minus sign, in 64 signed bits
 abbrev pub signed_of_text : List ℕ → Outcome
 signed_of_text [] = Error
 signed_of_text (c ∷ s) = if c == 45 then negative_of_text s else positive_of_text (c ∷ s)

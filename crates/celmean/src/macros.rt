@@ -181,7 +181,7 @@ fn one_of(outcomes: &Vec<Outcome>) -> Outcome
     }
 }
 
-// The item goes behind the others, if the outcome is true.
+// The item goes after the others, if the outcome is true.
 fn keep_if(kept: &mut Vec<Value>, item: &Value, outcome: &Outcome) -> Result<(), AllocError>
     ensures { OnOk result (values_seen kept.new.items ≡ values_seen kept.old.items ++ (if is_true (outcome_of outcome.now) then value_of item.now ∷ [] else [])) }
 {

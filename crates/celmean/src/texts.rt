@@ -65,7 +65,7 @@ fn has_plus(text: &str) -> bool
     }
 }
 
-/// The number of decimal digits, perhaps behind a minus sign.
+/// The number of decimal digits, perhaps after a minus sign.
 pub(crate) fn signed_of_text(text: &str) -> Outcome
     ensures { outcome_of result ≡ signed_of_text text.now }
 {
@@ -91,7 +91,7 @@ pub(crate) fn unsigned_of_text(text: &str) -> Outcome
     }
 }
 
-/// The decimal digits of a number, behind a minus sign if it is negative.
+/// The decimal digits of a number, after a minus sign if it is negative.
 pub(crate) fn signed_text(alloc: Global, number: i64) -> Result<String, AllocError>
     ensures { IfOk result (λ s. string_bytes s ≡ signed_decimal number) }
 {

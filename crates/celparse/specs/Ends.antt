@@ -53,7 +53,7 @@ pub record Read (l : Level) (i : List Terminal) (t : Expr) (r : List Terminal) :
 abbrev pub HasNoTree : Level → List Terminal → Type 0
 HasNoTree l i = (u : Expr) (s : List Terminal) → Spells l i u s → Ends l s → ⊥
 
--- the same of a primary expression, behind which suffixes may stand
+-- the same of a primary expression, after which suffixes may stand
 pub record ReadPrimary (i : List Terminal) (t : Expr) (r : List Terminal) : Type 0 where
   pub spelled : Spells Primary i t r
   pub only : (u : Expr) (s : List Terminal) → Spells Primary i u s → Ends Primary s → (u ≡ t) × (s ≡ r)

@@ -29,7 +29,7 @@ pub data Literal : List Terminal → Expr → List Terminal → Type 0 where
   -- INT = ["-"] DIGIT {DIGIT} | ..
   negative_int : {n : ℕ} {r : List Terminal} → n ≤ 2 ^ 63 → Literal (token.Mark sign.Minus ∷ token.Int n ∷ r) (Int (neg_ℤ (pos n))) r
 
--- The levels of the grammar. Heights: 0 Unary, 1 Mul, 2 Add, 3 Rel, 4 And, 5 Or. Suffixes stand behind a tree, and a chain of operands of height h behind its left side.
+-- The levels of the grammar. Heights: 0 Unary, 1 Mul, 2 Add, 3 Rel, 4 And, 5 Or. Suffixes stand after a tree, and a chain of operands of height h after its left side.
 pub data Level : Type 0 where
   Primary Member Whole : Level
   Suffixes : (of : Expr) → Level
@@ -43,7 +43,7 @@ close_sign closing.Parenthesis = sign.CloseParenthesis
 close_sign closing.Bracket = sign.CloseBracket
 close_sign closing.Brace = sign.CloseBrace
 
--- a comma may stand behind the last item of a list or map literal, but not of a call's arguments
+-- a comma may stand after the last item of a list or map literal, but not of a call's arguments
 abbrev pub trails : Closing → Bool
 trails closing.Parenthesis = false
 trails closing.Bracket = true
@@ -90,7 +90,7 @@ mutual
     prefixed : {p : Prefix} {i m r : List Terminal} {t : Expr} → after_prefix p i ≡ Some m → Spells (Prefixed p) m t r → Spells (Height 0) i (Unary p t) r
     -- {} Member
     bare : {p : Prefix} {i r : List Terminal} {t : Expr} → Spells Member i t r → Spells (Prefixed p) i t r
-    -- "!" {"!"} Member  |  "-" {"-"} Member, behind one of the same
+    -- "!" {"!"} Member  |  "-" {"-"} Member, after one of the same
     again : {p : Prefix} {i m r : List Terminal} {t : Expr} → after_prefix p i ≡ Some m → Spells (Prefixed p) m t r → Spells (Prefixed p) i (Unary p t) r
     -- Mul, Add, Rel, And, Or = Chain, whose first operand is of the height below
     operand : {h : ℕ} {i m r : List Terminal} {a t : Expr} → Spells (Height h) i a m → Spells (Chain h a) m t r → Spells (Height (suc h)) i t r

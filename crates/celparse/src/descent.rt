@@ -168,7 +168,7 @@ fn unary<'a, 'b>(
     }
 }
 
-// Behind a prefix operator: more of the same, or the operand.
+// After a prefix operator: more of the same, or the operand.
 #[cycle(expression)]
 fn prefixed<'a, 'b>(
     alloc: Global,

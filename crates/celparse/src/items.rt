@@ -8,11 +8,11 @@ use celtokens::Sign;
 /// The sign that ends a list of items.
 #[derive(Clone, Copy)]
 pub(crate) enum Closing {
-    /// `)`, behind a call's arguments.
+    /// `)`, after a call's arguments.
     Parenthesis,
-    /// `]`, behind the items of a list literal.
+    /// `]`, after the items of a list literal.
     Bracket,
-    /// `}`, behind the entries of a map literal.
+    /// `}`, after the entries of a map literal.
     Brace,
 }
 
@@ -27,7 +27,7 @@ pub(crate) fn close_sign(closing: Closing) -> Sign
     }
 }
 
-/// Whether a comma may stand behind the last item.
+/// Whether a comma may stand after the last item.
 pub(crate) fn trails(closing: Closing) -> bool
     ensures { result ≡ trails closing }
 {

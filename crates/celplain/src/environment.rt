@@ -22,7 +22,7 @@ pub struct Binding<'a> {
 pub struct Environment<'a> {
     /// `object`, `request` and the like, and the variables of macros, the innermost first.
     pub names: &'a [Binding<'a>],
-    /// What stands behind `variables.`
+    /// What stands after `variables.`
     pub variables: &'a [Binding<'a>],
 }
 
@@ -41,7 +41,7 @@ pub(crate) fn bound(name: &str, bindings: &[Binding<'_>]) -> Result<Outcome, All
     Ok(Outcome::Error)
 }
 
-/// The bindings behind one more.
+/// The bindings after one more.
 pub(crate) fn bind<'a>(
     alloc: Global,
     first: Binding<'a>,

@@ -171,7 +171,7 @@ fn evaluate_index(
     index_of(of, &index)
 }
 
-// An operator behind its left side.
+// An operator after its left side.
 #[cycle(evaluate)]
 fn evaluate_infix(
     alloc: Global,

@@ -92,11 +92,11 @@ code_point_bytes base n i c m e =
     let rest : m ≡ drop n i = sym (ap (λ p. p.1) parts.1) in
     rw rest (drop_bytes n i le)
 
--- behind a backslash e stands before i and names the character c, and m is left: the backslash and what was taken have at least the bytes of c
+-- after a backslash e stands before i and names the character c, and m is left: the backslash and what was taken have at least the bytes of c
 abbrev Pays : ℕ → List ℕ → ℕ → List ℕ → Type 0
 Pays e i c m = char_bytes c + bytes m ≤ 1 + (char_bytes e + bytes i)
 
--- a letter or sign behind a backslash names itself or an ASCII character
+-- a letter or sign after a backslash names itself or an ASCII character
 ascii_or_itself : (a b c d f g h j : Bool) (e x : ℕ)
     → (if a then Some e else (if b then Some 7 else (if c then Some 8 else (if d then Some 12 else (if f then Some 10 else (if g then Some 13 else (if h then Some 9 else (if j then Some 11 else None)))))))) ≡ Some x
     → (x ≡ e) ⊎ (x < 128)

@@ -4,7 +4,7 @@ use Rattle.celtokens.specs.declared.sign.Sign.TheVariants as sign
 use Rattle.celtokens.specs.Terminal.{Terminal}
 use Rattle.celtokens.specs.Terminal as token
 
--- how many brackets are open behind a token, where n are open before it: a closing one never takes the count below 0
+-- how many brackets are open after a token, where n are open before it: a closing one never takes the count below 0
 abbrev pub open_after : ℕ → Terminal → ℕ
 open_after n (token.Mark sign.OpenParenthesis) = suc n
 open_after n (token.Mark sign.OpenBracket) = suc n

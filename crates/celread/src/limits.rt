@@ -9,7 +9,7 @@ ghost use Rattle.celtree.specs.View.{view, views, pair_views};
 use celtokens::{Sign, Token};
 use celtree::Tree;
 
-// How many brackets are open behind the token.
+// How many brackets are open after the token.
 fn open_after(opened: u32, token: &Token<'_>) -> u32
     requires { opened ≤ 32 }
     ensures { result ≡ open_after opened (terminal token.now) }

@@ -1,4 +1,4 @@
--- What stands behind a backslash in a string.
+-- What stands after a backslash in a string.
 use Rattle.std.specs.Prelude.{ℕ, ◌&&◌, ◌||◌, ◌==◌, nat_le, length, take, drop, Option, Some, None, List, [], ◌∷◌, if◌then◌else◌}
 use Rattle.std.specs.Str.Parse.{digits_value}
 use Rattle.std.proofs.Math.Utf8.{scalar}

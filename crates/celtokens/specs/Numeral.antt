@@ -14,7 +14,7 @@ pub data Numeral : ℕ → List ℕ → ℕ → List ℕ → Type 0 where
 abbrev pub is_u : ℕ → Bool
 is_u c = c == 117 || c == 85
 
--- the hexadecimal digits and the rest behind `0x`, if there is such a digit
+-- the hexadecimal digits and the rest after `0x`, if there is such a digit
 abbrev pub after_hex_prefix : List ℕ → Option (List ℕ)
 after_hex_prefix (z ∷ x ∷ d ∷ ds) = if z == 48 && (x == 120 && is_in kind.HexDigit d) then Some (d ∷ ds) else None
 after_hex_prefix _ = None

@@ -26,7 +26,7 @@ character s (c ∷ i) =
     if c == 92 && not s.raw then escape i
     else (if is_line_end c && not s.tripled then None else Some (c, i))
 
--- behind the opening delimiter: the characters up to the first closing one, and what follows it
+-- after the opening delimiter: the characters up to the first closing one, and what follows it
 pub data Inside (s : Style) : List ℕ → List ℕ → List ℕ → Type 0 where
   closed : {i r : List ℕ} → after_delimiter s i ≡ Some r → Inside s i [] r
   next : {i m t r : List ℕ} {c : ℕ} → after_delimiter s i ≡ None → character s i ≡ Some (c, m) → Inside s m t r → Inside s i (c ∷ t) r
@@ -66,7 +66,7 @@ pub record BestText (raw : Bool) (i t r : List ℕ) : Type 0 where
   pub text : IsText raw i t r
   pub others : (u s : List ℕ) → IsText raw i u s → (length r < length s) ⊎ ((u ≡ t) × (s ≡ r))
 
--- `r` or `R`, and behind it the longest string
+-- `r` or `R`, and after it the longest string
 pub record IsRawText (l t r : List ℕ) : Type 0 where
   pub first : ℕ
   pub rest : List ℕ

@@ -29,7 +29,7 @@ impl Number<'_> {
     }
 }
 
-// The hexadecimal digits and the rest behind `0x`, if there is such a digit.
+// The hexadecimal digits and the rest after `0x`, if there is such a digit.
 fn after_hex_prefix(chars: &[char]) -> Option<&[char]>
     ensures { option_map (λ x. x.now) result ≡ after_hex_prefix chars.now }
 {

@@ -229,7 +229,7 @@ fn has(alloc: Global, arguments: Vec<Tree>) -> Result<Option<Box<Tree>>, AllocEr
     }
 }
 
-/// The tree of `name(arguments)`, if it has one: `has` is called of one selection `e.f`, and a macro only behind an operand.
+/// The tree of `name(arguments)`, if it has one: `has` is called of one selection `e.f`, and a macro only after an operand.
 ///
 /// # Errors
 ///
@@ -254,7 +254,7 @@ pub fn call(
 }
 
 /// The tree of `of.name(arguments)`, if it has one: a macro has a name as its variable and a body, `map` perhaps a test before the body,
-/// and `has` is never called behind an operand.
+/// and `has` is never called after an operand.
 ///
 /// # Errors
 ///

@@ -1,4 +1,4 @@
-//! Which tree the variables of a policy stand behind.
+//! Which tree the variables of a policy stand after.
 
 ghost use Rattle.std.specs.Prelude.{◌≡◌};
 ghost use Rattle.celtree.specs.Variables.{is_variables};
@@ -6,7 +6,7 @@ ghost use Rattle.celtree.specs.View.{view};
 
 use crate::tree::Tree;
 
-/// Whether the tree is the name `variables`, behind which a policy's variables stand.
+/// Whether the tree is the name `variables`, after which a policy's variables stand.
 pub fn is_variables(tree: &Tree) -> bool
     ensures { result ≡ is_variables (view tree.now) }
 {

@@ -92,13 +92,13 @@ fits_sized (map k v) = true
 fits_sized dyn = true
 fits_sized _ = false
 
--- `+` behind a list
+-- `+` after a list
 abbrev pub list_sum : ValueType → ValueType → Option ValueType
 list_sum t (list u) = Some (list (common t u))
 list_sum t dyn = Some (list dyn)
 list_sum t _ = None
 
--- `+` behind dyn
+-- `+` after dyn
 abbrev pub dyn_sum : ValueType → Option ValueType
 dyn_sum int = Some int
 dyn_sum uint = Some uint
@@ -118,7 +118,7 @@ sum_type bool u = None
 sum_type null u = None
 sum_type (map k v) u = None
 
--- `- * / %` behind dyn
+-- `- * / %` after dyn
 abbrev pub dyn_number : ValueType → Option ValueType
 dyn_number int = Some int
 dyn_number uint = Some uint

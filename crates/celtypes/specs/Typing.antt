@@ -10,7 +10,7 @@ use Rattle.celtree.specs.Variables.{is_variables}
 use Rattle.celtypes.specs.Types.{ValueType, int, uint, bool, string, null, dyn, list, map}
 use Rattle.celtypes.specs.Tables.{Fits, Common, Element, AreKeys, Sums, IsArithmetic, Calculates, IsConnective, IsEquality, IsComparison, Comparable, ItemOf, IndexOf, FieldOf, IsSized, Calls, IsTextTest, IsTest}
 
--- What names stand for: the variables of macros, the innermost first, whether `params` is declared, and the policy's earlier variables, behind `variables.`.
+-- What names stand for: the variables of macros, the innermost first, whether `params` is declared, and the policy's earlier variables, after `variables.`.
 pub record Scope : Type 0 where
   pub locals : List (List ℕ × ValueType)
   pub has_params : Bool

@@ -11,7 +11,7 @@ use std::alloc::{AllocError, Global};
 /// A variable of a policy: its expression stands before the ones that name it by `variables.NAME`.
 #[derive(Drop)]
 pub struct Variable {
-    /// The name behind `variables.`
+    /// The name after `variables.`
     pub name: String,
     /// The type of its expression.
     pub value_type: CelType,
@@ -94,7 +94,7 @@ pub(crate) fn variable_type(
     Ok(None)
 }
 
-/// The variables of macros behind one more.
+/// The variables of macros after one more.
 pub(crate) fn bind<'a>(
     alloc: Global,
     first: Local<'a>,

@@ -39,7 +39,7 @@ something_left p is some = ap (λ o. unwrap_or o (end_at p.pending)) is ∙ left
     left [] e = cc
     left (b ∷ bytes) e = refl
 
--- behind the end: what is cut stays, and nothing more comes
+-- after the end: what is cut stays, and nothing more comes
 pub fed_ended : {R E : Type 0} (items : R → List Message) (r : Result R E) (all : List ℕ) (ms : List Message) (p : Progress) (more : List ℕ) (end : End)
     → p.end ≡ Some end → IfOk r (λ x. (items x ≡ []) × ((b : BrokenMessage) → end ≢ Broken b)) → IsCut all ms p
     → IfOk r (λ x. IsCut (all ++ more) (ms ++ items x) p)

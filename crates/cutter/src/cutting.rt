@@ -34,7 +34,7 @@ pub(crate) enum Awaited {
 }
 
 impl Awaited {
-    // What is awaited behind these bytes, of which so many must be there.
+    // What is awaited after these bytes, of which so many must be there.
     fn behind(bytes: &[u8], need: usize) -> Awaited
         ensures { Awaits bytes.now need → IsAwaited bytes.now result }
     {
@@ -92,7 +92,7 @@ fn told(messages: Vec<Message>, end: Option<End>) -> Result<Vec<Message>, CutFau
     }
 }
 
-// What is cut from bytes behind the end: nothing, or the fault again.
+// What is cut from bytes after the end: nothing, or the fault again.
 fn after_end(alloc: Global, end: End) -> Result<Vec<Message>, CutFault>
     ensures ok { IfOk result (λ more. (more.items ≡ []) × ((b : BrokenMessage) → end ≢ End.Broken b)) }
     ensures broken { (b : BrokenMessage) → result ≡ Err (CutFault.Broken b) → end ≡ End.Broken b }

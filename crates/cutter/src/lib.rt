@@ -7,7 +7,7 @@
 //! ```
 //!
 //! The messages of all pieces are those of the stream that the pieces make, once each and in order. A fault is told as soon as the bytes
-//! hold it, behind the messages before it, and each later call tells it again. What waits for its end is bounded, and where memory is
+//! hold it, after the messages before it, and each later call tells it again. What waits for its end is bounded, and where memory is
 //! refused nothing changes.
 #![tactic(auto)]
 

@@ -1,4 +1,4 @@
--- One more piece of a policy's plans, behind those before it.
+-- One more piece of a policy's plans, after those before it.
 use Rattle.std.proofs.Common.{arith, ◌≡◌, ◌∙◌, sym, ap, refl, ⊎_elim, ◌<◌, ◌≤◌, ◌+◌, ◌-◌, ◌*◌, ◌%◌, ◌^◌, ℕ, zero, suc, List, [], ◌∷◌, ◌++◌, map, take, drop, length, get_or}
 use Rattle.std.proofs.lemmas.Bool.{cases_lt}
 use Rattle.std.proofs.lemmas.Grind.{div_ceil_times}
@@ -30,7 +30,7 @@ same_pieces k old cell from (suc n) inside =
     let rest = same_pieces k old cell (from + 1) n (omega arith) in
     λ i. ((plan_entry k old from).0, here i) ∷ rest i
 
--- Behind full pieces stands one more.
+-- After full pieces stands one more.
 pub added : (k : Key) (old cell : List ℕ) (m : ℕ) → length old ≡ 16384 * m → 0 < length cell → length cell ≤ 16384
     → plan_entries k (old ++ cell) ≡ plan_entries k old ++ ((plan_entry k [] m).0, cell) ∷ []
 added k old cell m exact some few =
@@ -47,7 +47,7 @@ added k old cell m exact some few =
     ∙ ap (λ (e : Entry). map (plan_entry k old) (range_with_len 0 m) ++ e ∷ []) last
     ∙ ap (λ (n : ℕ). map (plan_entry k old) (range_with_len 0 n) ++ (key, cell) ∷ []) (sym counted_old)
 
--- what is known of an entry that stands behind the pieces of the bytes before it
+-- what is known of an entry that stands after the pieces of the bytes before it
 module _ (k : Key) (old all key cell : List ℕ) (rest : List Entry)
     (same : plan_entries k all ≡ plan_entries k old ++ (key, cell) ∷ rest) where
   abbrev before : ℕ

@@ -12,7 +12,7 @@ use Rattle.std.specs.Ordering.{nat_cmp, ordering_then, is_lt}
 use Rattle.std.specs.declared.cmp.Ordering.{Ordering}
 use Rattle.std.specs.declared.cmp.Ordering.TheVariants.{Less, Equal, Greater}
 use Rattle.byteorder.specs.Endian.{big_bytes}
-use Rattle.names.specs.declared.format.Rules.{Rules}
+use Rattle.objects.specs.declared.format.Rules.{Rules}
 use Rattle.names.specs.declared.resource.Resource.{Resource}
 use Rattle.names.specs.declared.resource.Resource.TheVariants.{ValidatingAdmissionPolicy}
 use Rattle.names.specs.Key.{Key, is_key, key_bytes, key_cmp, fits_scope}
@@ -213,7 +213,7 @@ module _ {P : Type 0} (plans : Key × Stored P → List ℕ) (rules : Rules) whe
       (below_policy k o.0 n bytes (plans o) is can.0.0.0.key policy few.0.0 (less_from (key_cmp k o.0) parts.0))
       (below_plans k n bytes os is policy can.1 few.1 parts.1)
 
-  -- each piece of an object's plans is below the plans behind it
+  -- each piece of an object's plans is below the plans after it
   all_below_plans : (k : Key) (bytes : List ℕ) (os : List (Key × Stored P)) → IsTrue (is_key k) → (bytes ≢ [] → k.resource ≡ ValidatingAdmissionPolicy)
       → AllByRecursion (CanHoldObject rules) os → AllByRecursion (HasFewPlans plans) os → below_all key_cmp k os ≡ true
       → AllByRecursion (λ e. IsBelow e.0 (plans_among plans os)) (plan_entries k bytes)

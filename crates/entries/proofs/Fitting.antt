@@ -7,7 +7,7 @@ use Rattle.byteorder.specs.Endian.{big_bytes}
 use Rattle.byteorder.specs.Numbers.{length-bytes_high_first}
 use Rattle.fields.specs.Field.{field}
 use Rattle.jsondoc.specs.Document.{text}
-use Rattle.names.specs.declared.format.Rules.{Rules}
+use Rattle.objects.specs.declared.format.Rules.{Rules}
 use Rattle.names.specs.Key.{Key, is_key, key_bytes}
 use Rattle.window.specs.declared.event.Event.{Event}
 use Rattle.documents.specs.Document.{Document}

@@ -9,7 +9,7 @@ use Rattle.std.specs.FinMap.{is_sorted}
 use Rattle.std.specs.FinMap.Entries.{below_all}
 use Rattle.std.proofs.lemmas.Bool.{and_parts}
 use Rattle.byteorder.specs.Endian.{big_bytes}
-use Rattle.names.specs.declared.format.Rules.{Rules}
+use Rattle.objects.specs.declared.format.Rules.{Rules}
 use Rattle.names.specs.Key.{Key, key_bytes, key_cmp}
 use Rattle.window.specs.declared.event.Event.{Event}
 use Rattle.documents.specs.Document.{Document}
@@ -27,11 +27,11 @@ use Rattle.entries.proofs.Views.{above}
 use Rattle.entries.proofs.Pieces.{one_plans, cut_pieces, more_pieces}
 use Rattle.objects.proofs.Each.{one_each}
 
--- an entry in front of those behind it
+-- an entry in front of those after it
 pub at_index : (es : List Entry) (i : ℕ) (x : Entry) → i < length es → x ≡ get_or es i x → es ≡ take i es ++ x ∷ drop (i + 1) es
 at_index es i x inside is = sym (take-append-drop i es) ∙ ap (λ (r : List Entry). take i es ++ r) (drop_more es i x inside ∙ ap (λ (y : Entry). y ∷ drop (i + 1) es) (sym is))
 
--- Behind objects that were read, an entry whose key begins with 1 is an object's, where objects stand in front of what begins otherwise.
+-- After objects that were read, an entry whose key begins with 1 is an object's, where objects stand in front of what begins otherwise.
 pub next_object : (xs : List StoredObject) (x : Entry) (more : List Entry) (os : List (Key × Stored (List ℕ))) (rest : List Entry) (bytes : List ℕ)
     → x.0 ≡ 1 ∷ bytes → AllByRecursion IsStorableStored os → BeginsOtherwise rest → map stored_entry os ++ rest ≡ map entry_read xs ++ x ∷ more
     → (o : Key × Stored (List ℕ)) × IsStorableStored o × (stored_entry o ≡ x)
@@ -210,7 +210,7 @@ one_events es fs a b same = one_each IsStorableEvent event_entry one_event es fs
 
 module _ (rules : Rules) (v : View (List ℕ)) (holds : IsHoldable bytes_beside rules v) (all : List Entry) (same : entries_of bytes_beside v ≡ all)
     (read : List StoredObject) (n : ℕ) (len : n ≡ length read) (is : map entry_read read ++ drop (length read) all ≡ all) (stops : BeginsOtherwise (drop (length read) all)) where
-  -- The objects that were read are those of the view, and behind them stand its plans and its events.
+  -- The objects that were read are those of the view, and after them stand its plans and its events.
   pub view_split : (map stored_entry v.objects ≡ map entry_read read)
       × (plans_among bytes_beside v.objects ++ map event_entry v.events ≡ take (length all - n) (drop n all))
   view_split =

@@ -113,7 +113,7 @@ module _ (k : Key) (a b : List ℕ) where
       let parts = more_pieces (from + 1) n m x xs ys next above rest in
       (parts.0, λ i. head i ∷ parts.1 i)
 
--- what is behind the plans of an object is above them, if it has some
+-- what is after the plans of an object is above them, if it has some
 pub split_plans : (k : Key) (a b : List ℕ) (xs ys : List Entry) → (a ≢ [] → AreAbove k xs × AreAbove k ys) → (b ≢ [] → AreAbove k xs × AreAbove k ys)
     → plan_entries k a ++ xs ≡ plan_entries k b ++ ys → (a ≡ b) × (xs ≡ ys)
 split_plans k [] [] xs ys first second same = (refl, same)

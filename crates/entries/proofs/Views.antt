@@ -7,7 +7,7 @@ use Rattle.std.specs.FinMap.Entries.{below_all}
 use Rattle.std.specs.Int.{div_ceil}
 use Rattle.std.specs.List.{AllByRecursion, range_with_len}
 use Rattle.byteorder.specs.Endian.{big_bytes}
-use Rattle.names.specs.declared.format.Rules.{Rules}
+use Rattle.objects.specs.declared.format.Rules.{Rules}
 use Rattle.names.specs.declared.resource.Resource.TheVariants.{ValidatingAdmissionPolicy}
 use Rattle.names.specs.Key.{Key, is_key, key_bytes, key_cmp}
 use Rattle.window.specs.declared.event.Event.{Event}
@@ -69,7 +69,7 @@ one_list rules (e ∷ es) (f ∷ fs) a b same =
     λ i. here i ∷ others i
 
 module _ {P : Type 0} (plans : Key × Stored P → List ℕ) where
-  -- behind the objects stand plans and events
+  -- after the objects stand plans and events
   plans_otherwise : (os : List (Key × Stored P)) (es : List (Event Document)) → BeginsOtherwise (plans_among plans os ++ map event_entry es)
   plans_otherwise [] es = events_otherwise es
   plans_otherwise (o ∷ os) es =
@@ -80,7 +80,7 @@ module _ {P : Type 0} (plans : Key × Stored P → List ℕ) where
       ]
 
   module _ (rules : Rules) where
-    -- the plans behind a policy, and the events, are above the policy's own plans
+    -- the plans after a policy, and the events, are above the policy's own plans
     pub above : (k : Key) (os : List (Key × Stored P)) (es : List (Event Document)) → IsTrue (is_key k) → k.resource ≡ ValidatingAdmissionPolicy
         → AllByRecursion (CanHoldObject rules) os → AllByRecursion (HasFewPlans plans) os → below_all key_cmp k os ≡ true
         → AreAbove k (plans_among plans os ++ map event_entry es)

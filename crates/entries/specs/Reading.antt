@@ -44,7 +44,7 @@ AreAbove k es = (piece : ℕ) → below_all bytes_cmp (plan_entry k [] piece).0 
 abbrev pub ArePlans : Key → (plans : List ℕ) → (rest : List Entry) → Type 0
 ArePlans k plans rest = (length plans ≤ 2 ^ 30) × (k.resource ≡ ValidatingAdmissionPolicy → AreAbove k rest) × (plans ≢ [] → k.resource ≡ ValidatingAdmissionPolicy)
 
--- So may each of these objects have its plans, in front of those of the objects behind it and of these entries.
+-- So may each of these objects have its plans, in front of those of the objects after it and of these entries.
 abbrev pub AreFollowed : List (Key × Stored (List ℕ)) → List Entry → Type 0
 AreFollowed [] rest = Unit {0}
 AreFollowed (o ∷ os) rest = IsStorableStored o × ArePlans o.0 o.1.beside (plans_among bytes_beside os ++ rest) × AreFollowed os rest

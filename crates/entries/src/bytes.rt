@@ -25,7 +25,7 @@ pub(crate) fn number_bytes(number: u64) -> [u8; 8]
     bytes
 }
 
-/// Bytes behind a mark.
+/// Bytes after a mark.
 pub(crate) fn marked(alloc: Global, mark: u8, bytes: &[u8]) -> Result<Vec<u8>, AllocError>
     ensures { IfOk result (λ v. v.items ≡ mark ∷ bytes.now) }
 {
@@ -35,7 +35,7 @@ pub(crate) fn marked(alloc: Global, mark: u8, bytes: &[u8]) -> Result<Vec<u8>, A
     Ok(all)
 }
 
-/// What stands behind a mark: `None` where there is another.
+/// What stands after a mark: `None` where there is another.
 pub(crate) fn behind_mark(mark: u8, bytes: &[u8]) -> Option<&[u8]>
     ensures parts { IfSome result (λ rest. bytes.now ≡ mark ∷ rest.now) }
     ensures none { result ≡ None → (rest : List ℕ) → bytes.now ≢ mark ∷ rest }
@@ -47,7 +47,7 @@ pub(crate) fn behind_mark(mark: u8, bytes: &[u8]) -> Option<&[u8]>
     Some(rest)
 }
 
-/// The number in the first eight bytes, and what stands behind them: `None` where there are fewer.
+/// The number in the first eight bytes, and what stands after them: `None` where there are fewer.
 pub(crate) fn split_number(bytes: &[u8]) -> Option<(u64, &[u8])>
     ensures parts { IfSome result (λ parts. bytes.now ≡ big_bytes 8 parts.0 ++ parts.1.now) }
     ensures size { IfSome result (λ parts. parts.0 < 2 ^ 64) }

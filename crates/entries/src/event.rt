@@ -92,7 +92,7 @@ fn read_revision(key: &[u8]) -> Option<u64>
     Some(revision)
 }
 
-// The change of an event, and what stands behind it.
+// The change of an event, and what stands after it.
 fn split_change(cell: &[u8]) -> Option<(Change, &[u8])>
     ensures parts { IfSome result (λ parts. cell.now ≡ change_number parts.0 ∷ parts.1.now) }
     ensures none { result ≡ None → (change : ChangeData) (rest : List ℕ) → cell.now ≢ change_number change ∷ rest }

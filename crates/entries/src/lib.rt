@@ -22,7 +22,7 @@
 //!
 //! The entries of a view ascend ([`entries_ascend`]), each fits a page ([`entries_fit_pages`]), and at most one view has them, its plans among
 //! it ([`entries_have_one_view`]). What a history shows can be held ([`histories_are_holdable`]). These laws speak of views with the bytes of plans
-//! beside their documents, as records have them; the lemmas behind them (`entries_ascend`, `entries_fit`, `one_view_of` and `holdable` in
+//! beside their documents, as records have them; the lemmas that carry them (`entries_ascend`, `entries_fit`, `one_view_of` and `holdable` in
 //! `proofs/`) serve whatever stands beside a document.
 #![tactic(auto)]
 

@@ -62,7 +62,7 @@ pub fn plan_entries(alloc: Global, key: &Key, plans: &[u8]) -> Result<Vec<Entry>
     Ok(entries)
 }
 
-// Whether one more piece, of these bytes, may stand behind the pieces of others: those are full.
+// Whether one more piece, of these bytes, may stand after the pieces of others: those are full.
 fn may_follow(plans: &[u8], cell: &[u8]) -> bool
     ensures { IsTrue result
         ↔ ((length plans.now % 16384 ≡ 0) × (length plans.now < 2 ^ 30) × (0 < length cell.now) × (length cell.now ≤ 16384)) }
@@ -78,7 +78,7 @@ fn may_follow(plans: &[u8], cell: &[u8]) -> bool
 ///
 /// # Errors
 ///
-/// `Damaged` where no plans have these pieces one behind the other, and `Memory` where there was no memory to read it. The bytes
+/// `Damaged` where no plans have these pieces one after the other, and `Memory` where there was no memory to read it. The bytes
 /// stay as they were.
 pub fn read_piece(
     alloc: Global,

@@ -9,7 +9,7 @@ use Rattle.plan.specs.Machine.{World}
 use Rattle.plancode.specs.Plans.{Judged}
 use Rattle.evaluation.specs.ByPlans.{given_by, outcomes_by}
 
--- what the plan at a place gives stands behind the outcomes so far
+-- what the plan at a place gives stands after the outcomes so far
 pub one_more : (js : List Judged) (i : ℕ) (j : Judged) (names : Name → Outcome) (old new read : List code.Outcome) (o : code.Outcome) → i < length js
     → j ≡ get_or js i j → read ≡ old → outcome_of o ≡ given_by j (record { names = names; variables = outcomes_seen read }) → new ≡ old ++ o ∷ []
     → outcomes_by (drop (i + 1) js) names (outcomes_seen new) ≡ outcomes_by (drop i js) names (outcomes_seen old)

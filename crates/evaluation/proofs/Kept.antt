@@ -1,4 +1,4 @@
--- What conditions say behind earlier ones.
+-- What conditions say after earlier ones.
 use Rattle.std.proofs.Common.{◌≡◌, refl}
 use Rattle.policy.specs.Forms.{Text}
 use Rattle.evaluation.specs.Denials.{Conditions, met, unmet, neither, or_neither}

@@ -87,7 +87,7 @@ plans_behind_conditions p (c ∷ cs) ss (e ∷ es) typed = plans_behind_conditio
 
 -- ---- variables
 
--- What stands behind variables: the trees with their types, their plans, and the variables with their outcomes.
+-- What stands after variables: the trees with their types, their plans, and the variables with their outcomes.
 record Behind (p : Policy) (ns : List Named) (ss : List Source) (trees : List Expr) (earlier : List Text) (names : Name → Outcome) (env : Environment) (os : List Outcome) : Type 0 where
   pub declared : Variables
   pub typed : AreTyped p declared ss (drop (length ns) trees)

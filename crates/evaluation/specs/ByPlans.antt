@@ -26,12 +26,12 @@ conditions_by [] js w = met
 conditions_by (n ∷ ns) [] w = met
 conditions_by (n ∷ ns) (j ∷ js) w = and_then n.name (given_by j w) (conditions_by ns js w)
 
--- the outcomes of variables, behind those of earlier ones
+-- the outcomes of variables, after those of earlier ones
 abbrev pub outcomes_by : List Judged → (names : Name → Outcome) → (earlier : List Outcome) → List Outcome
 outcomes_by [] names os = os
 outcomes_by (j ∷ js) names os = outcomes_by js names (os ++ given_by j (record { names = names; variables = os }) ∷ [])
 
--- the plan of a message expression, and the plans behind it
+-- the plan of a message expression, and the plans after it
 abbrev pub message_plan : (expression : Option Text) → List Judged → Option Judged
 message_plan None js = None
 message_plan (Some text) [] = None
@@ -63,7 +63,7 @@ tests_by f (v ∷ vs) [] w = None
 tests_by f (v ∷ vs) (j ∷ js) w =
     option_map_or Some (told f v (line_by (message_plan v.message_expression js) w) (given_by j w)) (tests_by f vs (behind_plan v.message_expression js) w)
 
--- what variables and validations say by their plans, which stand behind those of the conditions
+-- what variables and validations say by their plans, which stand after those of the conditions
 abbrev pub evaluate_by : Policy → List Judged → (names : Name → Outcome) → Option Denial
 evaluate_by p js names =
     tests_by p.failure_policy p.validations (drop (length p.variables) js)

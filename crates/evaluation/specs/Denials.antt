@@ -93,6 +93,6 @@ first_denial f (x ∷ xs) = option_map_or Some (f x) (first_denial f xs)
 abbrev pub on_tests : FailurePolicy → List Test → Environment → Option Denial
 on_tests f ts env = first_denial (λ t. on_outcome f t env (mean t.tree env)) ts
 
--- the first denial by a validation, behind the variables
+-- the first denial by a validation, after the variables
 abbrev pub evaluate : Policy → List Expr → Environment → Option Denial
 evaluate p trees env = on_tests p.failure_policy (tests_of p trees) (with_variables (variables_of p trees) env)

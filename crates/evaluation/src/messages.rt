@@ -54,7 +54,7 @@ pub(crate) fn line_of(outcome: Outcome) -> Option<String>
     }
 }
 
-/// One text behind another.
+/// One text after another.
 pub(crate) fn prefixed(alloc: Global, prefix: &str, text: &str) -> Result<String, AllocError>
     ensures { IfOk result (λ s. string_bytes s ≡ prefix.now ++ text.now) }
 {

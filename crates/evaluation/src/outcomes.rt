@@ -59,7 +59,7 @@ pub(crate) fn given_by(
     )
 }
 
-/// The first plans, and those behind them.
+/// The first plans, and those after them.
 #[tactic(auto, using(crate::proofs::Lists::all_taken, crate::proofs::Lists::all_dropped))]
 pub(crate) fn split(plans: &[Verified], count: usize) -> (&[Verified], &[Verified])
     ensures front { result.0.now ≡ take count plans.now }
@@ -72,7 +72,7 @@ pub(crate) fn split(plans: &[Verified], count: usize) -> (&[Verified], &[Verifie
     }
 }
 
-/// The outcomes of variables, by their plans, each behind the earlier ones.
+/// The outcomes of variables, by their plans, each after the earlier ones.
 pub(crate) fn outcomes_by(
     alloc: Global,
     plans: &[Verified],

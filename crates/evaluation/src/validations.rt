@@ -21,7 +21,7 @@ use policy::{Attempt, FailurePolicy, Policy, Validation};
 use serde_json::Value as Json;
 use std::alloc::{AllocError, Global};
 
-// The plan of the message expression, which the validation may lack, and the plans behind it.
+// The plan of the message expression, which the validation may lack, and the plans after it.
 fn message_plan<'a>(
     validation: &Validation,
     plans: &'a [Verified],

@@ -7,7 +7,7 @@ use entries::event_entry;
 use std::alloc::{AllocError, Global};
 use window::Events;
 
-/// Adds the entries of events, each behind those before it.
+/// Adds the entries of events, each after those before it.
 ///
 /// # Errors
 ///

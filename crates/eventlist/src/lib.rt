@@ -1,4 +1,4 @@
-//! The entries of events, as a checkpoint keeps them behind those of objects and plans.
+//! The entries of events, as a checkpoint keeps them after those of objects and plans.
 #![tactic(auto)]
 
 mod events;

@@ -73,7 +73,7 @@ count_sources p =
 
 -- ---- all plans
 
--- Of the expressions ss, which spell the trees es, the first ones have the plans in done. Behind them these variables are declared, and the rest is to come.
+-- Of the expressions ss, which spell the trees es, the first ones have the plans in done. After them these variables are declared, and the rest is to come.
 pub record Planning (p : Policy) (ss : List Source) (es : List Expr) (vs : Variables) (done : List Judged) (rest : List Source) (later : List Expr) : Type 0 where
   pub typed : AreTyped p vs rest later
   pub small : AllByRecursion IsSmall later
@@ -108,7 +108,7 @@ ends {done = done} so_far = so_far.plans ∙ append-nil done
 
 -- ---- the same, at an index of the program's list
 
--- the rest is an expression and the ones behind it, and so are their trees
+-- the rest is an expression and the ones after it, and so are their trees
 at_index : {A B : Type 0} (f : A → Source) (xs : List A) (i : ℕ) (d : A) (g : B → Expr) (trees : List B) (x : B) (rest : List B)
     {p : Policy} {ss : List Source} {es : List Expr} {vs : Variables} {done : List Judged}
     → i < length xs → trees ≡ x ∷ rest → Planning p ss es vs done (map f (drop i xs)) (map g trees)

@@ -1,4 +1,4 @@
--- One expression: whether it is bad, and what is declared behind it.
+-- One expression: whether it is bad, and what is declared after it.
 use Rattle.std.proofs.Common.{◌≡◌, subst}
 use Rattle.celread.specs.Reading.{IsNotRead}
 use Rattle.celtree.specs.Tree.{Expr}

@@ -10,7 +10,7 @@ use Rattle.expressions.specs.Expressions.{Variables, Source, and_declared}
 use Rattle.expressions.specs.Typed.{AreTyped, IsBad, IsFirstBad, AreUntyped}
 use Rattle.expressions.specs.Trees.{IsNext}
 
--- Of the expressions ss the first ones spell the trees in done. Behind them these variables are declared, and the rest is to come.
+-- Of the expressions ss the first ones spell the trees in done. After them these variables are declared, and the rest is to come.
 pub record Progress (p : Policy) (ss : List Source) (vs : Variables) (done : List Expr) (rest : List Source) : Type 0 where
   pub typed : (es : List Expr) → AreTyped p vs rest es → AreTyped p [] ss (done ++ es)
   pub alone : (us : List Expr) → AreTyped p [] ss us → (es : List Expr) × (us ≡ done ++ es) × AreTyped p vs rest es
@@ -24,7 +24,7 @@ small_push : (es : List Expr) (e : Expr) → AllByRecursion IsSmall es → IsSma
 small_push [] e all one = (one, tt)
 small_push (x ∷ xs) e all one = (all.0, small_push xs e all.1 one)
 
--- what is typed behind an expression is typed with it
+-- what is typed after an expression is typed with it
 typed_more : (p : Policy) (vs ws : Variables) (s : Source) (e : Expr) (rest : List Source) (es : List Expr)
     → IsNext p vs s e ws → AreTyped p ws rest es → AreTyped p vs (s ∷ rest) (e ∷ es)
 typed_more p vs ws s e rest es next h = (next.type, next.typed, subst (λ (v : Variables). AreTyped p v rest es) next.declared h)
@@ -59,7 +59,7 @@ goes_on {p} {ss} {vs} {ws} {done} {s} {e} {rest} so_far next = record {
   small = small_push done e so_far.small next.small;
 }
 
--- behind a bad expression no trees are typed
+-- after a bad expression no trees are typed
 none_typed : (p : Policy) (vs : Variables) (s : Source) (rest : List Source) (es : List Expr) → IsBad p vs s → AreTyped p vs (s ∷ rest) es → ⊥
 none_typed p vs s rest [] bad h = h
 none_typed p vs s rest (e ∷ es) bad h = bad e h.0 h.1

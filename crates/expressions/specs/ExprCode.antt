@@ -135,7 +135,7 @@ abbrev mutual
 abbrev pub bytes_inj : (s t : List ℕ) → bytes_code s ≡ bytes_code t → s ≡ t
 bytes_inj = (coded_list coded_ℕ).inj
 
--- the parts behind the number of a constructor
+-- the parts after the number of a constructor
 abbrev pub first : Gv → Gv
 first g = head (tail g)
 

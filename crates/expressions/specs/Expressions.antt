@@ -47,7 +47,7 @@ scope_at p vs (variable name) = record { locals = []; has_params = is_some p.par
 scope_at p vs validation = record { locals = []; has_params = is_some p.param_kind; variables = vs }
 scope_at p vs message = record { locals = []; has_params = is_some p.param_kind; variables = vs }
 
--- the earlier variables of what stands behind an expression of this type
+-- the earlier variables of what stands after an expression of this type
 abbrev pub and_declared : Place → ValueType → Variables → Variables
 and_declared condition t vs = vs
 and_declared (variable name) t vs = vs ++ (name, t) ∷ []

@@ -24,7 +24,7 @@ and_named message earlier = earlier
 abbrev pub plan_of : (names : List Text) → Expr → Judged
 plan_of names e = record { vars = length names; ops = compiled e 0 (record { locals = []; variables = names }) }
 
--- the plan of each tree, behind these earlier variables
+-- the plan of each tree, after these earlier variables
 abbrev pub each_plan : (earlier : List Text) → List Source → List Expr → List Judged
 each_plan earlier [] es = []
 each_plan earlier (s ∷ ss) [] = []

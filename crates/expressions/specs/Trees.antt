@@ -25,7 +25,7 @@ pub record IsSuited (p : Policy) (vs : Variables) (place : Place) (e : Expr) (t 
   pub suits : Suits place t
   pub alone : (u : ValueType) → HasType (scope_at p vs place) e u → u ≡ t
 
--- the expression spells this tree and no other, and these variables are declared behind it
+-- the expression spells this tree and no other, and these variables are declared after it
 pub record IsNext (p : Policy) (vs : Variables) (s : Source) (e : Expr) (behind : Variables) : Type 0 where
   pub type : ValueType
   pub typed : IsTyped p vs s e type

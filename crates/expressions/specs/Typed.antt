@@ -10,7 +10,7 @@ use Rattle.policy.specs.Policies.{policy_of}
 use Rattle.policy.specs.Spec.{Policy}
 use Rattle.expressions.specs.Expressions.{Source, Variables, sources, scope_at, and_declared, Suits}
 
--- behind these variables, the expression spells this tree, which has this type, as it must
+-- after these variables, the expression spells this tree, which has this type, as it must
 pub record IsTyped (p : Policy) (vs : Variables) (s : Source) (e : Expr) (t : ValueType) : Type 0 where
   pub read : IsReadAs s.text e
   pub typed : HasType (scope_at p vs s.place) e t

@@ -14,7 +14,7 @@ names_in vs = map (λ v. v.0) vs
 abbrev pub HasItsType : Policy → Variables → Source → Expr → Type 0
 HasItsType p vs s e = (t : ValueType) × IsTyped p vs s e t
 
--- these variables are declared behind the expression
+-- these variables are declared after the expression
 abbrev pub Declares : Policy → Variables → Source → Expr → (behind : Variables) → Type 0
 Declares p vs s e behind = (t : ValueType) → IsTyped p vs s e t → behind ≡ and_declared s.place t vs
 

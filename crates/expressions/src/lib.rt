@@ -14,7 +14,7 @@
 //! The expressions of a policy are its match conditions, its variables and its validations, each with its message expression
 //! (`specs/Expressions.antt` says which, and what each may name and must give). [`TypedPolicy::read`] gives the trees that they spell
 //! where each has a type as it must, and else tells the first that is bad: both directions stand in its contract, and no other trees
-//! are spelled. [`TypedPolicy::plans`] gives the code of each tree, behind the variables that it may name. `specs/Specification.antt`
+//! are spelled. [`TypedPolicy::plans`] gives the code of each tree, after the variables that it may name. `specs/Specification.antt`
 //! says by these what stands in an object. Objects of the other resources have no form, so all of them are sound.
 #![tactic(auto)]
 

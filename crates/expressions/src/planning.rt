@@ -48,7 +48,7 @@ fn verified(alloc: Global, tree: &Tree, env: &Env<'_>) -> Result<Verified, Alloc
     }
 }
 
-// The plan of an expression, behind these variables.
+// The plan of an expression, after these variables.
 fn plan_at(
     alloc: Global,
     policy: &Policy,
@@ -65,7 +65,7 @@ fn plan_at(
     verified(alloc, tree, &env)
 }
 
-// Declares the variable behind its expression. Types are not kept, so the tree is typed again.
+// Declares the variable after its expression. Types are not kept, so the tree is typed again.
 fn declare_again(
     alloc: Global,
     policy: &Policy,

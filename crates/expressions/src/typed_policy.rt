@@ -72,7 +72,7 @@ impl TypedPolicy {
     }
 
     /// The plans of the expressions: those of the match conditions, the variables and the validations, each validation's message
-    /// expression behind it. A plan may name the variables that stand before its expression, and that of a match condition none.
+    /// expression after it. A plan may name the variables that stand before its expression, and that of a match condition none.
     ///
     /// # Errors
     ///

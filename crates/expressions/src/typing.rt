@@ -18,7 +18,7 @@ use celtypes::{CelType, Env, TypeFault, Variable, at_most_one_type, check};
 use policy::Policy;
 use std::alloc::{AllocError, Global};
 
-/// What an expression at the place may name, behind these variables.
+/// What an expression at the place may name, after these variables.
 pub(crate) fn env_at<'a>(policy: &Policy, variables: &'a [Variable], place: &Place<'_>) -> Env<'a>
     ensures { declared result ≡ scope_at (policy_seen policy.now) (variables_seen variables.now) (place_seen place.now) }
 {
@@ -42,7 +42,7 @@ fn env_of<'a>(policy: &Policy, variables: &'a [Variable]) -> Env<'a>
     }
 }
 
-/// The type of a tree at the place, behind these variables, if it has one.
+/// The type of a tree at the place, after these variables, if it has one.
 pub(crate) fn type_at(
     alloc: Global,
     policy: &Policy,
@@ -114,7 +114,7 @@ fn suited(
     }
 }
 
-/// Declares the variable behind its expression; behind another expression nothing.
+/// Declares the variable after its expression; after another expression nothing.
 pub(crate) fn declare(
     alloc: Global,
     variables: &mut Vec<Variable>,

@@ -14,7 +14,7 @@ ghost use Rattle.fields.specs.Field.{field};
 
 use byteorder::{BigEndian, ByteOrder};
 
-/// The bytes whose number stands in two bytes, and what stands behind them: `None` where there are fewer.
+/// The bytes whose number stands in two bytes, and what stands after them: `None` where there are fewer.
 pub fn short_field(bytes: &[u8]) -> Option<(&[u8], &[u8])>
     ensures parts { IfSome result (λ parts. bytes.now ≡ field 2 parts.0.now ++ parts.1.now) }
     ensures size { IfSome result (λ parts. length parts.0.now < 256 ^ 2) }
@@ -26,7 +26,7 @@ pub fn short_field(bytes: &[u8]) -> Option<(&[u8], &[u8])>
     split_behind(&bytes[2..], BigEndian::read_u16(bytes) as usize)
 }
 
-/// The bytes whose number stands in four bytes, and what stands behind them: `None` where there are fewer.
+/// The bytes whose number stands in four bytes, and what stands after them: `None` where there are fewer.
 pub fn long_field(bytes: &[u8]) -> Option<(&[u8], &[u8])>
     ensures parts { IfSome result (λ parts. bytes.now ≡ field 4 parts.0.now ++ parts.1.now) }
     ensures size { IfSome result (λ parts. length parts.0.now < 256 ^ 4) }
@@ -38,7 +38,7 @@ pub fn long_field(bytes: &[u8]) -> Option<(&[u8], &[u8])>
     split_behind(&bytes[4..], BigEndian::read_u32(bytes) as usize)
 }
 
-// This many bytes, and what stands behind them, if there are as many.
+// This many bytes, and what stands after them, if there are as many.
 fn split_behind(bytes: &[u8], size: usize) -> Option<(&[u8], &[u8])>
     ensures parts { IfSome result (λ parts. bytes.now ≡ parts.0.now ++ parts.1.now) }
     ensures size { IfSome result (λ parts. length parts.0.now ≡ size) }

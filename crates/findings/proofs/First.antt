@@ -1,4 +1,4 @@
--- The first refusal of lists of conditions, one behind the other.
+-- The first refusal of lists of conditions, one after the other.
 use Rattle.std.proofs.Common.{◌≡◌, ◌∙◌, ap, refl, ◌+◌, List, [], ◌∷◌, ◌++◌, Bool, true, false, option_map, Option, Some, None}
 use Rattle.requests.specs.Refusal as table
 use Rattle.findings.specs.Conditions.{Refusal, Condition, known, first_of, of_table}

@@ -1,4 +1,4 @@
--- What looks leave, one behind another.
+-- What looks leave, one after another.
 use Rattle.std.proofs.Common.{◌≡◌, ◌∙◌, sym, ◌≤◌, ℕ, List, Result, Ok, Err, OnErr, inl, inr, arith}
 use Rattle.std.specs.Prelude.{IsErrOf}
 use Rattle.names.specs.Key.{Key}
@@ -30,7 +30,7 @@ module _ {S : Type 0} (holds : S → Base → Type 0) (goes_to : S → S → Typ
     damaged = λ part told. looked.damaged part (same (Damaged part) told);
   }
 
-  -- behind looks that failed not, where nothing but memory is wanting
+  -- after looks that failed not, where nothing but memory is wanting
   pub looked_behind : {A : Type 0} (before after : S) (result : Result A LookupFault) → ((base : Base) → holds before base → holds after base) → goes_to before after
       → failures before ≤ failures after → OnErr result (IsErrOf result Memory) → HasLooked holds goes_to failures core before after result
   looked_behind before after (Ok x) kept goes counts memory = record {
@@ -52,7 +52,7 @@ module _ {S : Type 0} (holds : S → Base → Type 0) (goes_to : S → S → Typ
   pub looked_not : {A : Type 0} (s : S) (result : Result A LookupFault) → goes_to s s → OnErr result (IsErrOf result Memory) → HasLooked holds goes_to failures core s s result
   looked_not s result stays memory = looked_behind s s result (λ base below. below) stays (omega arith) memory
 
-  -- behind a look that failed not
+  -- after a look that failed not
   pub looked_on : {A : Type 0} (before between after : S) (result : Result A LookupFault) → ((base : Base) → holds before base → holds between base) → failures before ≤ failures between
       → goes_to before after → HasLooked holds goes_to failures core between after result → HasLooked holds goes_to failures core before after result
   looked_on before between after result kept counts goes looked = record {

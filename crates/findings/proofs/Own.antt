@@ -2,7 +2,7 @@
 use Rattle.std.proofs.Common.{◌≡◌, ◌∙◌, sym, ap, refl, ℕ, ◌+◌, List, [], ◌∷◌, ◌++◌, true, false, option_map, Option, Some, None, is_some, if◌then◌else◌}
 use Rattle.serde_json.specs.Data.{Data}
 use Rattle.celtree.specs.Tree.{Expr}
-use Rattle.names.specs.declared.format.Rules.{Rules}
+use Rattle.objects.specs.declared.format.Rules.{Rules}
 use Rattle.names.specs.Key.{Key}
 use Rattle.documents.specs.Document.{shown}
 use Rattle.policy.specs.Rules.{Attempt}
@@ -30,7 +30,7 @@ use Rattle.findings.proofs.First.{none_of_both, refused_alone, none_behind, is_t
 use Rattle.findings.proofs.Found.{IsFound, replace_found, first_missing}
 use Rattle.findings.proofs.Showing.{exists_shown, shown_at_shown, replace_shown, delete_shown, create_limits_shown, replace_limits_shown}
 
--- what refuses a creation behind the condition for its key
+-- what refuses a creation after the condition for its key
 abbrev rest_of : Rules → View → Manifest → Specification Expr → List Condition
 rest_of rules v m s = form_conditions s ++ create_limits rules v (document_in m.body)
 

@@ -18,6 +18,6 @@ module _ {P : Type 0} (took : P → P → List ℕ → Type 0) where
       let some : TookSome took old new text = subst (λ (t : List ℕ). TookSome took old new t) same (took_some_of took old new written result writes) in
       subst (λ (x : Option P). Shows took x (Some new) text) (sym is) (new, refl, some)
 
--- five texts, one behind the other
+-- five texts, one after the other
 pub five_joined : (a b c d e : List ℕ) → a ++ (b ++ (c ++ (d ++ e))) ≡ a ++ b ++ c ++ d ++ e
 five_joined a b c d e = sym (append_assoc a b (c ++ (d ++ e))) ∙ sym (append_assoc (a ++ b) c (d ++ e)) ∙ sym (append_assoc (a ++ b ++ c) d e)

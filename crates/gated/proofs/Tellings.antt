@@ -19,7 +19,7 @@ module _ {E : Type 0} (took : E → E → List ℕ → Type 0) (failures : E →
       go StreamFailed t = (StreamFailed, refl, t)
       go OutOfMemory t = (OutOfMemory, refl, t)
 
--- six texts, one behind the other
+-- six texts, one after the other
 pub six_joined : (a b c d e f : List ℕ) → a ++ (b ++ (c ++ (d ++ (e ++ f)))) ≡ a ++ b ++ c ++ d ++ e ++ f
 six_joined a b c d e f =
     sym (append_assoc a b (c ++ (d ++ (e ++ f)))) ∙ sym (append_assoc (a ++ b) c (d ++ (e ++ f))) ∙ sym (append_assoc (a ++ b ++ c) d (e ++ f))

@@ -60,7 +60,7 @@ IsAsked name rows (Serve file address connections idle_seconds) =
 IsAsked name rows (Compact file) = (name ≡ codes "compact") × (first_of (codes "file") rows ≡ Some file.now)
 IsAsked name rows (Check file) = (name ≡ codes "check") × (first_of (codes "file") rows ≡ Some file.now)
 
--- The words, of which the first is the program's name, name the verb's command, and its fields are what stands behind the name.
+-- The words, of which the first is the program's name, name the verb's command, and its fields are what stands after the name.
 abbrev pub AskFor : List Text → Verb → Type 0
 AskFor words verb = (name : Text) × (rows : List Row) × (subcommand_of gated_line words ≡ Some (name, rows)) × IsAsked name rows verb
 

@@ -18,7 +18,7 @@ use Rattle.gated.specs.declared.problem.Problem.TheVariants as problem
 use Rattle.gated.specs.declared.status.Status.{Status}
 use Rattle.gated.specs.declared.status.Status.TheVariants as status
 
--- what is told of it: in its line on standard error behind the program's name, and of damage that a check finds in a line of the output
+-- what is told of it: in its line on standard error after the program's name, and of damage that a check finds in a line of the output
 abbrev pub text_of : Problem → List ℕ
 text_of problem.FileExists = codes "file exists"
 text_of problem.NoStore = codes "no store"

@@ -20,7 +20,7 @@ pub word_more : (Byte : ℕ → Type 0) (stop : ℕ) (Next : List ℕ → Type 0
 word_more Byte stop Next b text passes (word, rest, is, all, next) =
     (b ∷ word, rest, ap (λ x. b ∷ x) is, All-cons Byte b word passes all, next)
 
--- the byte behind a word
+-- the byte after a word
 pub word_stop : (Byte : ℕ → Type 0) (stop : ℕ) (Next : List ℕ → Type 0) (text : List ℕ) → Next text → IsWord Byte stop Next (stop ∷ text)
 word_stop Byte stop Next text next = ([], text, refl, All-nil Byte, next)
 

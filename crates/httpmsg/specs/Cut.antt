@@ -28,7 +28,7 @@ IsNext bytes (Whole m len) = (0 < len) × (len ≤ length bytes) × Takes bytes 
 IsNext bytes (Unfinished need) = Awaits bytes need
 IsNext bytes (Fails broken) = EndsAtOnce bytes (Broken broken)
 
--- whatever is cut from the rest is, behind these messages, cut from the bytes
+-- whatever is cut from the rest is, after these messages, cut from the bytes
 abbrev pub Leads : List ℕ → List Message → List ℕ → Type 0
 Leads bytes ms rest = (ns : List Message) (p : Progress) → IsCut rest ns p → IsCut bytes (ms ++ ns) p
 

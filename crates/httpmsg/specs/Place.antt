@@ -24,7 +24,7 @@ IsValue text = (value : List ℕ) × (rest : List ℕ) × (text ≡ value ++ res
 abbrev pub IsWord : (ℕ → Type 0) → ℕ → (List ℕ → Type 0) → List ℕ → Type 0
 IsWord Byte stop Next text = (word : List ℕ) × (rest : List ℕ) × (text ≡ word ++ stop ∷ rest) × All Byte word × Next rest
 
--- it is a version behind so many of its bytes, and the end of its line
+-- it is a version after so many of its bytes, and the end of its line
 abbrev pub IsVersion : ℕ → List ℕ → Type 0
 IsVersion count text =
     (minor : ℕ) × (rest : List ℕ) × (text ≡ drop count (codes "HTTP/1.") ++ (48 + minor) ∷ rest) × (minor ≤ 1) × IsLineEnd rest
@@ -40,7 +40,7 @@ IsTargetByte b = (is_uri_byte b ≡ true) × (b < 128)
 abbrev pub IsTarget : List ℕ → Type 0
 IsTarget = IsWord IsTargetByte 32 (IsVersion 0)
 
--- the text behind a byte
+-- the text after a byte
 abbrev pub IsBehind : (ℕ → Type 0) → (List ℕ → Type 0) → List ℕ → Type 0
 IsBehind Byte Next text = (b : ℕ) × (rest : List ℕ) × (text ≡ b ∷ rest) × Byte b × Next rest
 
@@ -59,7 +59,7 @@ Follows InLastLine text = text ≡ 10 ∷ []
 Follows InName text = IsWord IsTokenByte 58 IsValue text
 Follows InValue text = IsValue text
 
--- a byte is a step from a place to another: whatever may follow there may follow here behind it
+-- a byte is a step from a place to another: whatever may follow there may follow here after it
 abbrev pub Steps : Place → ℕ → Place → Type 0
 Steps here b there = (text : List ℕ) → Follows there text → Follows here (b ∷ text)
 

@@ -53,7 +53,7 @@ impl Message {
         self.method
     }
 
-    /// The target (RFC 9112 section 3.2): a path, and a query behind a question mark.
+    /// The target (RFC 9112 section 3.2): a path, and a query after a question mark.
     pub fn target(&self) -> &str
         ensures { result.now ≡ self.now.target }
     {

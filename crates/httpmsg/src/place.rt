@@ -8,21 +8,21 @@ use httparse::{is_header_name_token, is_header_value_token, is_method_token, is_
 /// Where in a head its bytes end.
 #[derive(Clone, Copy)]
 pub enum Place {
-    /// Before the request line, and behind the empty lines before it.
+    /// Before the request line, and after the empty lines before it.
     BeforeRequest,
-    /// Behind the CR of an empty line before it.
+    /// After the CR of an empty line before it.
     InEmptyLine,
     InMethod,
     BeforeTarget,
     InTarget,
-    /// Behind so many bytes of [`VERSION`].
+    /// After so many bytes of [`VERSION`].
     InVersion(usize),
     BehindVersion,
-    /// Behind the CR of a line.
+    /// After the CR of a line.
     BehindReturn,
     /// Before a field, or the empty line that ends the head.
     BeforeLine,
-    /// Behind the CR of the empty line.
+    /// After the CR of the empty line.
     InLastLine,
     InName,
     InValue,
@@ -159,7 +159,7 @@ fn in_value(byte: u8) -> Option<Place>
 }
 
 impl Place {
-    // The place behind one more byte, where that neither ends the head nor may break it.
+    // The place after one more byte, where that neither ends the head nor may break it.
     fn behind_byte(self, byte: u8) -> Option<Place>
         ensures { IfSome result (Steps self byte) }
     {
@@ -179,7 +179,7 @@ impl Place {
         }
     }
 
-    /// The place behind these further bytes, where they neither end the head nor may break it.
+    /// The place after these further bytes, where they neither end the head nor may break it.
     pub fn behind(self, bytes: &[u8]) -> Option<Place>
         ensures { IfSome result (λ place. (text : List ℕ) → Follows place text → Follows self (bytes.now ++ text)) }
     {

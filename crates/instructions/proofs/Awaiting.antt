@@ -129,7 +129,7 @@ own_awaits c b (o ∷ os) own = inl own
 elsewhere : (at : ℕ) (c : Control) → at < c.place → not (comes_to at (arrival_of c)) ≡ true
 elsewhere at c lt = grind (arith, nat_tests)
 
--- control that is awaited further on is still awaited behind an instruction
+-- control that is awaited further on is still awaited after an instruction
 pub stays_awaited : (vars at : ℕ) (op : Op) (code : List Op) (c : Control) (b : Body) (os : List Body) (y : Body × List Body) → at < c.place → Nested code at at b os → Steps vars at op (drop (at + 1) code) b os y → Awaits c b os → Awaits c y.0 y.1
 stays_awaited vars at op code c b os y lt n s m =
     let le : c.place ≤ c.end = awaits_end code at at c b os n m in
@@ -189,7 +189,7 @@ lead_on op at h d b os m =
     (λ n. among_map (within b.end (ends_of os)) d (arrivals op at h) n (λ a k e. lead_within op at h d b os a k e))
     (lead_inner op at h d b os)
 
--- where control leads from an instruction is awaited behind it
+-- where control leads from an instruction is awaited after it
 pub leads_on : (vars at : ℕ) (op : Op) (code : List Op) (c d : Control) (b : Body) (os : List Body) (y : Body × List Body) (s : Steps vars at op (drop (at + 1) code) b os y) → c.place ≡ at → c.place < c.end → slice_get code at ≡ Some op → Nested code at at b os → Awaits c b os → Among d (next op c) → Awaits d y.0 y.1
 leads_on vars at op code c d b os y s same inside here n m k =
     let st = standing vars at op code c b os y s same inside here n m in

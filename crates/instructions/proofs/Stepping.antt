@@ -1,4 +1,4 @@
--- One instruction: what is awaited before it and behind it.
+-- One instruction: what is awaited before it and after it.
 use Rattle.std.proofs.Common.{◌≡◌, inl, inr, ℕ, ◌+◌, ◌<◌, ◌≤◌, true, false, not, eq-eqb, List, [], ◌∷◌, ◌++◌, map, drop, Some, Ok, refl, sym, ap, subst, ◌∙◌, arith}
 use Rattle.std.specs.Prelude.{slice_get}
 use Rattle.std.specs.List.{filter}
@@ -16,7 +16,7 @@ ends_of bodies = map (λ (b : Body). b.end) bodies
 abbrev pub arrival_of : Control → Arrival
 arrival_of c = record { place = c.place; height = c.height }
 
--- an arrival that is awaited behind an instruction was awaited before, or the instruction leads there
+-- an arrival that is awaited after an instruction was awaited before, or the instruction leads there
 came : {P : Type 0} (at : ℕ) (a : Arrival) (awaited more : List Arrival) → Among a (filter (λ x. not (comes_to at x)) awaited ++ more) → (Among a awaited → (a.place ≡ at → ⊥) → P) → (Among a more → P) → P
 came at a awaited more m before now =
     among_either a (filter (λ x. not (comes_to at x)) awaited) more m

@@ -81,7 +81,7 @@ test_ok : {A : Type 0} (b : Bool) (f : CodeFault) (x y : A) → cond b (Ok x) (E
 test_ok true f x y e = refl
 test_ok false f x y e = absurd cc
 
--- the bodies that are open behind those that end at a place: there is more to come, or the plan ends with one outcome
+-- the bodies that are open after those that end at a place: there is more to come, or the plan ends with one outcome
 record Left (code : List Op) (n : ℕ) (x : Body × List Body) : Type 0 where
   stays : Body × List Body
   went : left n x.0 x.1 ≡ Ok stays

@@ -70,7 +70,7 @@ arrivals (Jump target) at height = record { place = target; height = height } �
 arrivals (Over m end) at height = record { place = end; height = height } ∷ []
 arrivals op at height = record { place = at + 1; height = height - takes op + 1 } ∷ []
 
--- A body that is open: the place behind its last instruction, and the arrivals in it that are still awaited. The whole plan is the
+-- A body that is open: the place after its last instruction, and the arrivals in it that are still awaited. The whole plan is the
 -- outermost body.
 pub record Body : Type 0 where
   pub end : ℕ
@@ -124,11 +124,11 @@ is_named vars depth (PushSlot slot.Inner) = nat_lt 1 depth
 is_named vars depth (Over m end) = nat_lt depth 2
 is_named vars depth op = true
 
--- The arrivals that are awaited behind an instruction that is run at the place with this height.
+-- The arrivals that are awaited after an instruction that is run at the place with this height.
 abbrev pub goes_on : Op → ℕ → ℕ → Body → Body
 goes_on op at height body = record { end = body.end; awaited = filter (λ a. not (comes_to at a)) body.awaited ++ arrivals op at height }
 
--- The open bodies behind an instruction: a macro opens its own, with an empty stack.
+-- The open bodies after an instruction: a macro opens its own, with an empty stack.
 abbrev pub opens : Op → ℕ → Body → List Body → Body × List Body
 opens (Over m end) at body others = (record { end = end; awaited = record { place = at + 1; height = 0 } ∷ [] }, body ∷ others)
 opens op at body others = (body, others)
@@ -139,14 +139,14 @@ runs op at None body others = Err fault.BadStack
 runs op at (Some height) body others =
     if nat_lt height (takes op) then Err fault.BadStack else Ok (opens op at (goes_on op at height body) others)
 
--- One instruction in its body, with those behind it.
+-- One instruction in its body, with those after it.
 abbrev pub judged : ℕ → ℕ → Op → List Op → Body → List Body → Result (Body × List Body) CodeFault
 judged vars at op later body others =
     if not (are_fair at body.end later (targets op)) then Err fault.BadJump else
     if not (is_named vars (length others) op) then Err fault.BadName else
     runs op at (height_at at body.awaited) body others
 
--- One instruction, behind the bodies that end at its place.
+-- One instruction, after the bodies that end at its place.
 abbrev pub step : ℕ → ℕ → Op → List Op → Body → List Body → Result (Body × List Body) CodeFault
 step vars at op later body others = left at body others >>= λ x. judged vars at op later x.0 x.1
 

@@ -42,7 +42,7 @@ pub record StandsAt (code : List Op) (c : Control) (op : Op) : Type 0 where
 
 -- A plan in a place with so many variables is well formed.
 pub record IsWellFormed (vars : ℕ) (code : List Op) : Type 0 where
-  -- A target lies ahead, and not behind the end of the body.
+  -- A target lies ahead, and not past the end of the body.
   pub forward : (c : Control) (op : Op) (target : ℕ) → StandsAt code c op → Among target (targets op) → (c.place < target) × (target ≤ c.end)
   -- A target lies in no body of a macro between.
   pub outside : (c : Control) (op : Op) (target place end : ℕ) (m : Macro) → StandsAt code c op → Among target (targets op) → slice_get code place ≡ Some (Over m end) → c.place < place → place < target → end ≤ target

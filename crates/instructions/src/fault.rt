@@ -17,10 +17,10 @@ pub enum CodeFault {
     /// A text is not UTF-8.
     #[error("text is not UTF-8")]
     TextNotUtf8,
-    /// Bytes stand behind the last instruction.
+    /// Bytes stand after the last instruction.
     #[error("bytes behind the last instruction")]
     TrailingBytes,
-    /// A target lies not ahead, behind the end of the body that the instruction stands in, or in another body.
+    /// A target lies not ahead, or past the end of the body that the instruction stands in, or in another body.
     #[error("bad target")]
     BadJump,
     /// A variable that is not declared, a macro's variable outside it, or macros three deep.

@@ -74,7 +74,7 @@ text_reads_back s d is whole = reading-whole (string_bytes s) d (IsUtf8-string_b
 
 -- ---- members and items
 
--- what is found at a member is its value, or is found behind it
+-- what is found at a member is its value, or is found after it
 pub chosen : (P : Data → Type 0) (o : Ordering) (rest : Option Data) (e d : Data) → (rest ≡ Some d → P d) → P e → match_ordering o rest (Some e) rest ≡ Some d → P d
 chosen P Less rest e d later here is = later is
 chosen P Equal rest e d later here is = let same : e ≡ d = cc in subst P same here

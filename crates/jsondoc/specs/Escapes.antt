@@ -3,7 +3,7 @@ use Rattle.std.specs.Prelude.{◌≡◌, ℕ, ◌+◌, ◌/◌, ◌%◌, ◌==�
 use Rattle.std.specs.Option.{option_map_or}
 use Rattle.json.specs.Print.{escape_byte}
 
--- a byte with a short escape, and the letter behind the backslash
+-- a byte with a short escape, and the letter after the backslash
 abbrev short_escapes : List (ℕ × List ℕ)
 short_escapes =
     (34, codes "\"") ∷ (92, codes "\\") ∷ (8, codes "b") ∷ (9, codes "t") ∷ (10, codes "n") ∷ (12, codes "f") ∷ (13, codes "r") ∷ []

@@ -1,7 +1,7 @@
 ghost use Rattle.std.specs.Prelude.{◌≡◌, ◌≤◌, ◌++◌, ◌⊎◌, ◌↔◌, ℕ, List, true, false, IsTrue, IfOk, IfErr, OnErr, Err, Some};
 ghost use Rattle.device.specs.Disk.{HasFailed};
 ghost use Rattle.device.specs.Memory.{memory_content, memory_left, memory_disk};
-ghost use Rattle.names.specs.declared.format.Rules.{Rules};
+ghost use Rattle.objects.specs.declared.format.Rules.{Rules};
 ghost use Rattle.recovery.specs.Standing.{Write, History};
 ghost use Rattle.durable.specs.declared.fault.Fault.TheVariants as Fault;
 ghost use Rattle.lives.specs.Lives.{EpisodeLeaves, LivesFrom};

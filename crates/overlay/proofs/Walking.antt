@@ -130,7 +130,7 @@ module _ {X : Type 0} where
       ∙ ap (λ (es : List (Key × X)). put_by f ++ es) (walk_below k v front cs base below.1 (rest_sorted f (front ++ cs) sorted) above)
       ∙ sym (append_assoc (put_by f) (puts_of front) (merged cs ((k, v) ∷ base)))
 
-  -- those behind all entries
+  -- those after all entries
   pub walk_end : (cs : List (Key × Option X)) → is_sorted key_cmp cs ≡ true → merged cs [] ≡ puts_of cs
   walk_end [] sorted = refl
   walk_end (c ∷ cs) sorted =

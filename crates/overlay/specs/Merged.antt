@@ -9,7 +9,7 @@ module _ {X : Type 0} where
   changed key (Some value) entries = with_value key value entries
   changed key None entries = without_key key entries
 
-  -- what changes leave: each is one of what those behind it leave
+  -- what changes leave: each is one of what those after it leave
   abbrev pub merged : List (Key × Option X) → List (Key × X) → List (Key × X)
   merged [] base = base
   merged (change ∷ changes) base = changed change.0 change.1 (merged changes base)

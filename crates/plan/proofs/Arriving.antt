@@ -48,7 +48,7 @@ one_more x a b s = record {
   back = λ y m. elim m [ inl e ↦ inl e | inr n ↦ inr (s.back y n) ];
 }
 
--- all of them are at the place or behind it
+-- all of them are at the place or after it
 abbrev pub Ahead : ℕ → List Arrival → Type 0
 Ahead place further = (a : Arrival) → Among a further → place ≤ a.place
 
@@ -61,7 +61,7 @@ ahead_too place x l le ahead = λ a m. elim m [ inl e ↦ (let s : x.place ≡ a
 pub ahead_before : (at to : ℕ) (l : List Arrival) → at ≤ to → Ahead to l → Ahead at l
 ahead_before at to l le ahead = λ a m. (let n : to ≤ a.place = ahead a m in omega arith)
 
--- what is awaited behind an instruction: what was awaited further on, and what the instruction leads to
+-- what is awaited after an instruction: what was awaited further on, and what the instruction leads to
 pub behind : (at h : ℕ) (further awaited more : List Arrival) → Ahead (at + 1) further → Same awaited (come at h ∷ further) → Same (filter (λ a. not (comes_to at a)) awaited ++ more) (more ++ further)
 behind at h further awaited more ahead same = record {
   into = λ a m. among_either a (filter (λ x. not (comes_to at x)) awaited) more m

@@ -1,4 +1,4 @@
--- The machine follows the meaning: backwards, from what it gives behind an expression's code to what it gives before it.
+-- The machine follows the meaning: backwards, from what it gives after an expression's code to what it gives before it.
 use Rattle.std.proofs.Common.{◌≡◌, ℕ, zero, suc, ◌+◌, ◌-◌, ◌<◌, ◌≤◌, Bool, true, false, ◌&&◌, cond, Option, Some, None, List, [], ◌∷◌, ◌++◌, map, take, drop, reverse, length, nat_lt, refl, sym, ap, ◌∙◌, subst, arith, append_assoc, length-append}
 use Rattle.std.specs.Prelude.{slice_get}
 use Rattle.std.proofs.lemmas.Bool.{false≢true, and_parts}
@@ -46,7 +46,7 @@ has_back code at (i ∷ a) b h =
     let e : at + 1 + length a ≡ at + length (i ∷ a) = omega arith in
     subst (λ n. HasAt code n b) e (has_back code (at + 1) a b h.1)
 
--- what stands behind the code of an expression
+-- what stands after the code of an expression
 behind : (code : List Op) (at : ℕ) (t : Expr) (d : Names) (b : List Op) → HasAt code at (compiled t at d ++ b) → HasAt code (at + size t) b
 behind code at t d b h = subst (λ n. HasAt code (at + n) b) (length-compiled t at d) (has_back code at (compiled t at d) b h)
 

@@ -64,7 +64,7 @@ meets_inside w d env items x v few m = record {
   depth = omega (arith, length-append items (v ∷ []), m.depth);
 }
 
--- what stands behind `variables.`, by its place
+-- what stands after `variables.`, by its place
 at_place : (b : Bool) (o : Outcome) (os : List Outcome) (n : ℕ) (p : Outcome) → or_missing (slice_get os n) ≡ p → or_missing (slice_get (o ∷ os) (cond b 0 (suc n))) ≡ cond b o p
 at_place true o os n p e = refl
 at_place false o os n p e = e

@@ -1,4 +1,4 @@
--- The pass over a stretch of code meets no fault: backwards, from what it finds behind the stretch to what it finds before it.
+-- The pass over a stretch of code meets no fault: backwards, from what it finds after the stretch to what it finds before it.
 use Rattle.std.proofs.Common.{◌≡◌, ℕ, ◌+◌, ◌-◌, ◌≤◌, Bool, true, false, not, cond, nat_lt, List, [], ◌∷◌, ◌++◌, length, Ok, Err, refl, sym, ap, subst, ◌∙◌, arith, rules, append_assoc, length-append}
 use Rattle.std.specs.List.{filter, list_all}
 use Rattle.std.proofs.lemmas.Bool.Decides.{nat_tests}
@@ -54,7 +54,7 @@ if_false to = search rules
 pub if_true : (to : ℕ) → IsTest (IfTrue to) to
 if_true to = search rules
 
--- where control may be behind the branch of a conditional, its own next place first
+-- where control may be after the branch of a conditional, its own next place first
 branched : (at from other to h : ℕ) (further : List Arrival) → at + 1 ≡ from → Same (arrivals (Branch other to) at (h + 1) ++ further) (come from h ∷ come other h ∷ come to (h + 1) ∷ further)
 branched at from other to h further next =
     let low : h + 1 - 1 ≡ h = omega arith in
@@ -103,7 +103,7 @@ module _ (vars : ℕ) where
             ∙ ap (λ (n : ℕ). judge vars n rest (record { end = end; awaited = more }) outer) next ∙ p.is;
       }
 
-  -- The stretch leads from one place and height to another, in bodies this deep, whatever is awaited further on and whatever stands behind it.
+  -- The stretch leads from one place and height to another, in bodies this deep, whatever is awaited further on and whatever stands after it.
   pub record Leads (depth at : ℕ) (ops : List Op) (h to k : ℕ) : Type 0 where
     pub long : at + length ops ≡ to
     -- no macro of it leads further
@@ -121,7 +121,7 @@ module _ (vars : ℕ) where
         subst (λ (n : ℕ). Passes n rest end awaited outer) (sym e) p;
   }
 
-  -- one stretch behind the other
+  -- one stretch after the other
   pub on : (depth at h mid k to l : ℕ) (a b : List Op) → Leads depth at a h mid k → Leads depth mid b k to l → Leads depth at (a ++ b) h to l
   on depth at h mid k to l a b first second = record {
     long = omega (arith, first.long, second.long, length-append a b);
@@ -148,7 +148,7 @@ module _ (vars : ℕ) where
         acts at to end h op further all awaited rest outer next le ahead fair depth_named enough (p.opens_none at) same after then;
   }
 
-  -- `&&` and `||` behind the left side: the test may lead to the end, past the right side and what takes both
+  -- `&&` and `||` after the left side: the test may lead to the end, past the right side and what takes both
   pub tests : (depth at from to h : ℕ) (test : Op) (right : List Op) → IsTest test to → at + 1 ≡ from → Leads depth from right (h + 1) to (h + 1) → Leads depth at (test ∷ right) (h + 1) to (h + 1)
   tests depth at from to h test right t next side = record {
     long = omega (arith, next, side.long);
@@ -166,7 +166,7 @@ module _ (vars : ℕ) where
         (λ last last_same. then last (same_over last (e ∷ e ∷ further) (e ∷ further) last_same (once_only e further))));
   }
 
-  -- the first branch of `?:` is left behind, and control comes to the second
+  -- the first branch of `?:` is left, and control comes to the second
   jumped : (depth at from to end h : ℕ) (second : List Op) (further awaited : List Arrival) (rest : List Op) (outer : List Body) → at + 1 ≡ from → Leads depth from second h to (h + 1)
       → length outer ≡ depth → to ≤ end → Ahead to further → Same awaited (come at (h + 1) ∷ come from h ∷ come to (h + 1) ∷ further)
       → ((now : List Arrival) → Same now (come to (h + 1) ∷ further) → Passes to rest end now outer) → Passes at (Jump to ∷ (second ++ rest)) end awaited outer
@@ -181,7 +181,7 @@ module _ (vars : ℕ) where
       (λ now now_same. side.by end (e ∷ further) now rest outer deep le end_ahead now_same
       (λ last last_same. then last (same_over last (e ∷ e ∷ further) (e ∷ further) last_same (once_only e further))))
 
-  -- `?:` behind the test
+  -- `?:` after the test
   pub chooses : (depth at from near other h to : ℕ) (first second : List Op) → at + 1 ≡ from → near + 1 ≡ other → Leads depth from first h near (h + 1) → Leads depth other second h to (h + 1)
       → Leads depth at (Branch other to ∷ (first ++ Jump to ∷ second)) (h + 1) to (h + 1)
   chooses depth at from near other h to first second next leap one two =
@@ -216,7 +216,7 @@ module _ (vars : ℕ) where
       inside.by to [] (come from 0 ∷ []) rest (record { end = end; awaited = more } ∷ outer) (omega (arith, deep)) (omega arith) (none_ahead to) (same_itself (come from 0 ∷ []))
       (λ now same. leaves to end now more rest outer same p)
 
-  -- a macro behind its operand
+  -- a macro after its operand
   pub loops : (depth deeper at from to h : ℕ) (m : Macro) (body : List Op) → depth + 1 ≡ deeper → deeper ≤ 2 → at + 1 ≡ from → Leads deeper from body 0 to 1
       → Leads depth at (Over m to ∷ body) (h + 1) to (h + 1)
   loops depth deeper at from to h m body one_deeper few next inside = record {

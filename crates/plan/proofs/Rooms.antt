@@ -27,7 +27,7 @@ both_fit : (a b : List Op) → Fit a → Fit b → Fit (a ++ b)
 both_fit [] b e f = f
 both_fit (op ∷ a) b e f = (e.0, both_fit a b e.1 f)
 
--- one instruction behind
+-- one instruction after
 one_more : (a : List Op) (op : Op) → Fit a → Fits op → Fit (a ++ op ∷ [])
 one_more a op e f = both_fit a (op ∷ []) e (f, tt)
 

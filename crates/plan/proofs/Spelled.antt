@@ -29,7 +29,7 @@ bytes-cons op b = length-append (spelled op) (flat_map spelled b)
 bytes-one : (op : Op) → bytes (op ∷ []) ≡ length (spelled op)
 bytes-one op = omega (arith, bytes-cons op [])
 
--- one instruction behind
+-- one instruction after
 one_more : (a : List Op) (op : Op) (m k : ℕ) → bytes a ≤ m → length (spelled op) ≤ k → bytes (a ++ op ∷ []) ≤ m + k
 one_more a op m k e f = omega (arith, bytes-append a (op ∷ []), bytes-one op)
 

@@ -77,7 +77,7 @@ on_call function.Contains os = on_two (λ a b. method_called (codes "contains") 
 on_call function.StartsWith os = on_two (λ a b. method_called (codes "startsWith") a (b ∷ [])) os
 on_call function.EndsWith os = on_two (λ a b. method_called (codes "endsWith") a (b ∷ [])) os
 
--- the stack behind an instruction that leads to the next one
+-- the stack after an instruction that leads to the next one
 abbrev pub after : World → List Value → Op → List Outcome → List Outcome
 after w items (PushInt z) os = Gives (Int z) ∷ os
 after w items (PushUint n) os = Gives (Uint n) ∷ os

@@ -1,4 +1,4 @@
-//! Instructions, one behind another.
+//! Instructions, one after another.
 
 ghost use Rattle.std.specs.Prelude.{◌≡◌, ◌+◌, [], ◌∷◌, ◌++◌, length, IfOk};
 ghost use Rattle.instructions.specs.Op.{Branch, Jump, Over};
@@ -20,7 +20,7 @@ pub(crate) fn alone(alloc: Global, instruction: Instruction) -> Result<Vec<Instr
     Ok(code)
 }
 
-/// The instructions with one more behind them.
+/// The instructions with one more after them.
 pub(crate) fn followed(
     code: Vec<Instruction>,
     instruction: Instruction,
@@ -33,7 +33,7 @@ pub(crate) fn followed(
     Ok(code)
 }
 
-/// The instructions with others behind them.
+/// The instructions with others after them.
 pub(crate) fn joined(
     first: Vec<Instruction>,
     second: Vec<Instruction>,
@@ -81,7 +81,7 @@ fn leading(
     }
 }
 
-/// The instructions of `a + b` and the like, by those of `a` and `b`, and the number of the instruction behind.
+/// The instructions of `a + b` and the like, by those of `a` and `b`, and the number of the instruction after.
 pub(crate) fn infix_code(
     operator: Operator,
     left: Vec<Instruction>,
@@ -95,7 +95,7 @@ pub(crate) fn infix_code(
     gathered(left, right, infix_instruction(operator))
 }
 
-/// The instructions of `c ? a : b`, by those of `c`, `a` and `b`, and the numbers of the first instruction of `b` and of the one behind.
+/// The instructions of `c ? a : b`, by those of `c`, `a` and `b`, and the numbers of the first instruction of `b` and of the one after.
 pub(crate) fn conditional_code(
     test: Vec<Instruction>,
     first: Vec<Instruction>,
@@ -112,7 +112,7 @@ pub(crate) fn conditional_code(
     joined(test, branches)
 }
 
-/// The instructions of a macro, by those of what it goes over and of its body, and the number of the instruction behind.
+/// The instructions of a macro, by those of what it goes over and of its body, and the number of the instruction after.
 pub(crate) fn macro_code(
     kind: Macro,
     of: Vec<Instruction>,

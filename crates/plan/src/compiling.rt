@@ -22,7 +22,7 @@ use celtypes::Env;
 use instructions::{Instruction, Plan};
 use std::alloc::{AllocError, Global};
 
-// The place behind the instructions of a tree that begin at `at`. The tree is named for the contract.
+// The place after the instructions of a tree that begin at `at`. The tree is named for the contract.
 fn behind_tree(at: usize, _tree: &Tree, code: &Vec<Instruction>) -> usize
     requires whole { length code.now.items ≡ size (view _tree.now) }
     requires room { at + size (view _tree.now) ≤ 65535 }

@@ -84,7 +84,7 @@ pub(crate) fn place_of(name: &str, variables: &[Variable]) -> u16
     place
 }
 
-/// The variables of macros behind one more.
+/// The variables of macros after one more.
 pub(crate) fn bind<'a>(
     alloc: Global,
     first: &'a str,

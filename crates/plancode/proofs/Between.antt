@@ -22,7 +22,7 @@ pub last_of_append : (place found : ℕ) (spans : List Span) (s : Span) → last
 last_of_append place found [] s = refl
 last_of_append place found (x ∷ spans) s = last_of_append place (cond (nat_lt place x.end) x.start found) spans s
 
--- what was found is never behind what is found later
+-- what was found is never after what is found later
 no_earlier : (place at found : ℕ) (ops : List Op) → found ≤ at → found ≤ last_start place at found ops
 no_earlier place at found [] le = omega arith
 no_earlier place at found (op ∷ ops) le =

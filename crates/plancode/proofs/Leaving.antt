@@ -39,7 +39,7 @@ leaves_fails at count t around ts (b, (c ∷ cs)) o ends none =
     let one : has_one at b ≡ false = sym (one_known at t b o.nested.0) ∙ none in
     ap (λ p. cond p (cond (has_one at b) (left at c cs) (Err fault.BadStack)) (Ok (b, c ∷ cs))) e ∙ ap (λ p. cond p (left at c cs) (Err fault.BadStack)) one
 
--- behind a body that ends, the same is asked of the one around it
+-- after a body that ends, the same is asked of the one around it
 pub record Around (at count : ℕ) (t : Table) (ts : List Table) (bodies : Body × List Body) : Type 0 where
   pub others : Body × List Body
   pub standing : AreOpen at count t ts others

@@ -105,7 +105,7 @@ is_judged vars at op ops starts t outer bodies named tells o fair is =
     judged_as vars at op (drop (at + 1) ops) bodies true named (sym (fair_is at op ops starts t (tables_of outer) bodies tells o) ∙ fair)
     (ap (λ (n : ℕ). is_named vars n op) (depth_is at (length ops) t outer bodies o) ∙ is)
 
--- behind the bodies that end
+-- after the bodies that end
 pub left_known : (at count : ℕ) (t u : Table) (ts us : List Table) (k : AreKnown at count t ts) → Reaches at count u us (left at k.bodies.0 k.bodies.1) → AreKnown at count u us
 left_known at count t u ts us k r =
     let low = low_left at at k.bodies.0 k.bodies.1 r.bodies k.low k.all_low r.are in

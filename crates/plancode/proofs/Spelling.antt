@@ -20,7 +20,7 @@ use Rattle.plancode.proofs.Tables.{truth_takes, name_up_to_takes, slot_takes, pr
 abbrev pub Room : Name → Op → Type 0
 Room g op = Fits op × NamesUpTo g op
 
--- a number, and the bytes behind it, are the bytes of an instruction, and those behind it
+-- a number, and the bytes after it, are the bytes of an instruction, and those after it
 pub record Spells (g : Name) (b : ℕ) (bytes : List ℕ) (x : Op × List ℕ) : Type 0 where
   pub parts : b ∷ bytes ≡ spelled x.0 ++ x.1
   pub rest_fits : IsBytes x.1

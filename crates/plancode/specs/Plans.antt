@@ -6,12 +6,12 @@ use Rattle.instructions.specs.Op.{Op, PushName}
 use Rattle.instructions.specs.Bytes.{name_number, HaveRoom}
 use Rattle.instructions.specs.WellFormed.{IsWellFormed}
 
--- The instruction puts no declared name behind this one, by their numbers.
+-- The instruction puts no declared name after this one, by their numbers.
 abbrev pub NamesUpTo : Name → Op → Type 0
 NamesUpTo greatest (PushName x) = name_number x ≤ name_number greatest
 NamesUpTo greatest op = Unit {0}
 
--- A plan uses no declared name behind this one.
+-- A plan uses no declared name after this one.
 abbrev pub UsesNamesUpTo : Name → List Op → Type 0
 UsesNamesUpTo greatest ops = AllByRecursion (NamesUpTo greatest) ops
 

@@ -21,12 +21,12 @@ use Rattle.instructions.specs.Bytes.{name_number}
 use Rattle.instructions.specs.Faults.{◌>>=◌}
 use Rattle.instructions.specs.Judging.{first_fault}
 
--- A byte, and the bytes behind it.
+-- A byte, and the bytes after it.
 abbrev pub byte_at : List ℕ → Result (ℕ × List ℕ) CodeFault
 byte_at [] = Err fault.Truncated
 byte_at (b ∷ rest) = Ok (b, rest)
 
--- A number of some bytes, and the bytes behind it.
+-- A number of some bytes, and the bytes after it.
 abbrev pub number_at : Width → List ℕ → Result (ℕ × List ℕ) CodeFault
 number_at w bytes =
     if nat_lt (length bytes) (byte_len w) then Err fault.Truncated else Ok (from_be_bytes w (take (byte_len w) bytes), drop (byte_len w) bytes)
@@ -35,7 +35,7 @@ number_at w bytes =
 abbrev pub text_of : List ℕ → Result (List ℕ) CodeFault
 text_of bytes = if is_utf8 bytes then Ok bytes else Err fault.TextNotUtf8
 
--- So many bytes of text, and the bytes behind them.
+-- So many bytes of text, and the bytes after them.
 abbrev pub text_of_length : ℕ → List ℕ → Result (List ℕ × List ℕ) CodeFault
 text_of_length n bytes = if nat_lt (length bytes) n then Err fault.Truncated else (text_of (take n bytes) >>= λ text. Ok (text, drop n bytes))
 
@@ -54,7 +54,7 @@ name_of b =
     if b == 3 then Ok name.Request else
     if b == 4 then Ok name.Params else Err fault.BadOperand
 
--- In a place that declares the names up to this one, by their numbers, those behind it are none.
+-- In a place that declares the names up to this one, by their numbers, those after it are none.
 abbrev pub name_up_to : Name → ℕ → Result Name CodeFault
 name_up_to greatest b = name_of b >>= λ x. if nat_lt (name_number greatest) (name_number x) then Err fault.BadOperand else Ok x
 
@@ -142,7 +142,7 @@ taking_at b rest =
     if b == 17 then Ok (TakeBoth, rest) else
     if b == 18 then Ok (TakeEither, rest) else leading_at b rest
 
--- The instruction with a number, and the bytes behind it.
+-- The instruction with a number, and the bytes after it.
 unfoldable pub operands_at : Name → ℕ → List ℕ → Result (Op × List ℕ) CodeFault
 operands_at greatest b rest =
     if b == 1 then with_long (λ n. PushInt (cast_signed w64 n)) rest else
@@ -154,11 +154,11 @@ operands_at greatest b rest =
     if b == 7 then with_short PushVariable rest else
     if b == 8 then with_byte slot_of PushSlot rest else taking_at b rest
 
--- An instruction, and the bytes behind it.
+-- An instruction, and the bytes after it.
 unfoldable pub op_at : Name → List ℕ → Result (Op × List ℕ) CodeFault
 op_at greatest bytes = byte_at bytes >>= λ b. operands_at greatest b.0 b.1
 
--- So many instructions, and the bytes behind them.
+-- So many instructions, and the bytes after them.
 unfoldable pub ops_at : Name → ℕ → List ℕ → Result (List Op × List ℕ) CodeFault
 ops_at greatest zero bytes = Ok ([], bytes)
 ops_at greatest (suc n) bytes = op_at greatest bytes >>= λ first. ops_at greatest n first.1 >>= λ others. Ok (first.0 ∷ others.0, others.1)
@@ -166,7 +166,7 @@ ops_at greatest (suc n) bytes = op_at greatest bytes >>= λ first. ops_at greate
 abbrev pub nothing_behind : List Op × List ℕ → Result (List Op) CodeFault
 nothing_behind x = if length x.1 == 0 then Ok x.0 else Err fault.TrailingBytes
 
--- The number of instructions, so many instructions, and nothing behind them.
+-- The number of instructions, so many instructions, and nothing after them.
 unfoldable pub plan_of : Name → List ℕ → Result (List Op) CodeFault
 plan_of greatest bytes = number_at w16 bytes >>= λ n. ops_at greatest n.0 n.1 >>= λ x. nothing_behind x
 

@@ -25,7 +25,7 @@ pub(crate) enum Height {
     Mixed,
 }
 
-/// A body that is open: its first place, the place behind its last instruction, and the height at each of its places, its end among them,
+/// A body that is open: its first place, the place after its last instruction, and the height at each of its places, its end among them,
 /// as far as it is known.
 #[derive(Drop)]
 pub(crate) struct Body {

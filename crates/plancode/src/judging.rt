@@ -224,7 +224,7 @@ fn run(
     }
 }
 
-// Judges one instruction, behind the bodies that end at its place.
+// Judges one instruction, after the bodies that end at its place.
 fn step_over(
     alloc: Global,
     vars: u16,

@@ -18,14 +18,14 @@ ghost use Rattle.plancode.specs.Macros.{last_of, Tells};
 use instructions::Instruction;
 use std::alloc::{AllocError, Global};
 
-/// The body of a macro: its first place, and the place behind its last.
+/// The body of a macro: its first place, and the place after its last.
 #[derive(Clone, Copy)]
 struct Span {
     start: usize,
     end: usize,
 }
 
-// The start of the last body that goes past a place, 0 if there is none. Those behind it go past no later place, and are dropped.
+// The start of the last body that goes past a place, 0 if there is none. Those after it go past no later place, and are dropped.
 fn last_past(place: usize, spans: &mut Vec<Span>) -> usize
     ensures value { result ≡ last_of place 0 spans.old.items }
     ensures kept { (later : ℕ) → place ≤ later → last_of later 0 spans.new.items ≡ last_of later 0 spans.old.items }

@@ -8,7 +8,7 @@ ghost use Rattle.plancode.specs.Reading.{byte_at, number_at, text_at, text_of, t
 use instructions::CodeFault;
 use std::alloc::Global;
 
-/// The first byte, and the bytes behind it; [`CodeFault::Truncated`] where there is none.
+/// The first byte, and the bytes after it; [`CodeFault::Truncated`] where there is none.
 pub(crate) fn byte(bytes: &[u8]) -> Result<(u8, &[u8]), CodeFault>
     ensures { Gives (λ x. (x.0, x.1.now)) result (byte_at bytes.now) }
 {
@@ -18,7 +18,7 @@ pub(crate) fn byte(bytes: &[u8]) -> Result<(u8, &[u8]), CodeFault>
     }
 }
 
-/// A number of two bytes, and the bytes behind it; [`CodeFault::Truncated`] where there are fewer.
+/// A number of two bytes, and the bytes after it; [`CodeFault::Truncated`] where there are fewer.
 pub(crate) fn short(bytes: &[u8]) -> Result<(u16, &[u8]), CodeFault>
     ensures { Gives (λ x. (x.0, x.1.now)) result (number_at w16 bytes.now) }
 {
@@ -30,7 +30,7 @@ pub(crate) fn short(bytes: &[u8]) -> Result<(u16, &[u8]), CodeFault>
     Ok((number, rest))
 }
 
-/// A number of eight bytes, and the bytes behind it; [`CodeFault::Truncated`] where there are fewer.
+/// A number of eight bytes, and the bytes after it; [`CodeFault::Truncated`] where there are fewer.
 pub(crate) fn long(bytes: &[u8]) -> Result<(u64, &[u8]), CodeFault>
     ensures { Gives (λ x. (x.0, x.1.now)) result (number_at w64 bytes.now) }
 {
@@ -65,7 +65,7 @@ fn text_of_size(alloc: Global, size: usize, bytes: &[u8]) -> Result<(String, &[u
     Ok((text, rest))
 }
 
-/// A text behind its length, and the bytes behind it. It is truncated before it is not UTF-8.
+/// A text after its length, and the bytes that follow. It is truncated before it is not UTF-8.
 #[tactic(auto, unfolding(crate::specs::Reading::text_at))]
 pub(crate) fn text(alloc: Global, bytes: &[u8]) -> Result<(String, &[u8]), CodeFault>
     ensures { Gives (λ x. (string_bytes x.0, x.1.now)) result (text_at bytes.now) }

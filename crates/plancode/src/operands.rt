@@ -256,7 +256,7 @@ fn with_operands(
     }
 }
 
-/// The instruction at the front, and the bytes behind it; the first fault where there is none.
+/// The instruction at the front, and the bytes after it; the first fault where there is none.
 #[tactic(auto, unfolding(crate::specs::Reading::op_at))]
 pub(crate) fn instruction(
     alloc: Global,

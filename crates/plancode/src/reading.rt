@@ -10,7 +10,7 @@ use crate::operands::instruction;
 use instructions::{CodeFault, Instruction, Name};
 use std::alloc::Global;
 
-// So many instructions, and the bytes behind them.
+// So many instructions, and the bytes after them.
 fn instructions(
     alloc: Global,
     count: u16,

@@ -92,7 +92,7 @@ fn decode_all(alloc: Global, bytes: &[u8], vars: u16, greatest: Name) -> Result<
 /// The bytes are read front to back: [`CodeFault::Truncated`], [`CodeFault::BadOperand`], a name that is not declared among them, and [`CodeFault::TextNotUtf8`] are told in
 /// the order of the bytes, then [`CodeFault::TrailingBytes`]. The instructions are judged in order, each for its targets
 /// ([`CodeFault::BadJump`]), its name ([`CodeFault::BadName`]) and its stack ([`CodeFault::BadStack`]); the end of a body is judged
-/// before the instruction behind it, and the end of the plan last.
+/// before the instruction after it, and the end of the plan last.
 pub fn decode(alloc: Global, bytes: &[u8], vars: u16, greatest: Name) -> Result<Verified, CodeFault>
     // The plan is well formed, its names are declared, and the bytes are its code.
     ensures found { IfOk result (λ p. IsWellFormed vars p.ops × HaveRoom p.ops × UsesNamesUpTo greatest p.ops × (bytes.now ≡ code p.ops)) }

@@ -68,7 +68,7 @@ only_plan n q bytes inside behind short parts place verified is p rest fits same
     let vars : p.vars ≡ q.vars = fits.place ∙ sym place in
     (λ i. record { vars = vars i; ops = ops i }, found.1)
 
--- the plans that were read for each place, behind their number
+-- the plans that were read for each place, after their number
 pub is_listed : {T E : Type 0} (items : T → List Judged) (r : Result T E) (places bytes rest : List ℕ) (n : ℕ) → n ≡ length places → bytes ≡ big_bytes 2 n ++ rest
     → IfOk r (λ v. flat_map plan_bytes (items v) ≡ rest) → IfOk r (λ v. AreFor places (items v)) → IfOk r (λ v. list_bytes (items v) ≡ bytes)
 is_listed items (Err e) places bytes rest n counts parts found fits = tt

@@ -6,7 +6,7 @@
 //! let plans = read_plans(alloc, &[0, 0, 1], &bytes)?;
 //! ```
 //!
-//! The bytes are the number of plans in two bytes and each plan's code behind its number of bytes in four, the highest byte first.
+//! The bytes are the number of plans in two bytes and each plan's code after its number of bytes in four, the highest byte first.
 //! [`write_plans`] gives exactly these. [`read_plans`] gives well-formed plans whose bytes they are, one for each place, and answers
 //! [`ReadPlansFault::Damaged`] only where there are none; there is at most one such list ([`one_list`]).
 #![tactic(auto)]

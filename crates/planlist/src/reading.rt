@@ -58,7 +58,7 @@ fn read_code(alloc: Global, variables: u16, code_bytes: &[u8]) -> Result<Verifie
     }
 }
 
-// The plan that bytes begin with, for a place with so many variables, and what stands behind it.
+// The plan that bytes begin with, for a place with so many variables, and what stands after it.
 fn read_plan(
     alloc: Global,
     variables: u16,
@@ -99,7 +99,7 @@ fn read_each(alloc: Global, places: &[u16], bytes: &[u8]) -> Result<Vec<Verified
     Ok(plans)
 }
 
-// The number of plans, and what stands behind it.
+// The number of plans, and what stands after it.
 fn split_count(bytes: &[u8]) -> Option<(u16, &[u8])>
     ensures parts { IfSome result (λ x. bytes.now ≡ big_bytes 2 x.0 ++ x.1.now) }
     ensures none { result ≡ None → (n : ℕ) (rest : List ℕ) → bytes.now ≢ big_bytes 2 n ++ rest }

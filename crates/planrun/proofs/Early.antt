@@ -18,7 +18,7 @@ or_left : (b c : Bool) → b ≡ true → (b || c) ≡ true
 or_left true c e = refl
 or_left false c e = absurd cc
 
--- one that is there is there whatever comes behind
+-- one that is there is there whatever comes after
 some_among : (p : Outcome → Bool) (os rest : List Outcome) (o : Outcome) → p o ≡ true → some_is p (os ++ o ∷ rest) ≡ true
 some_among p [] rest o e = or_left (p o) (some_is p rest) e
 some_among p (x ∷ os) rest o e = or_true (p x) (some_is p (os ++ o ∷ rest)) (some_among p os rest o e)
@@ -37,7 +37,7 @@ decided macro_of.ExistsOne vs os rest o e = absurd cc
 decided macro_of.Map vs os rest o e = absurd cc
 decided macro_of.Filter vs os rest o e = absurd cc
 
--- a list is what stands before a place, what stands there, and what stands behind
+-- a list is what stands before a place, what stands there, and what stands after
 split : {A B C : Type 0} (f : B → C) (g : A → B) (xs : List A) (i : ℕ) (x : A) → i < length xs → x ≡ get_or xs i x → map f (map g (take i xs)) ++ f (g x) ∷ map f (map g (drop (suc i) xs)) ≡ map f (map g xs)
 split f g [] i x less e = absurd (omega arith)
 split f g (y ∷ xs) zero x less e = ap (λ z. f (g z) ∷ map f (map g xs)) e

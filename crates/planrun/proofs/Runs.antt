@@ -23,7 +23,7 @@ first_step m n p stop os less =
     let within : nat_lt p stop ≡ true = grind (arith, nat_tests) in
     rw within refl
 
--- what is left behind an instruction gives the same
+-- what is left after an instruction gives the same
 pub onward : (m : Machine) (left n p stop to : ℕ) (os new whole : List Outcome) → left ≡ suc n → p < stop
     → next_of m left p stop (items_of m) os ≡ whole
     → step_if (world m) (slice_get (ops m) p) (next_of m n) p stop (items_of m) os ≡ next_of m n to stop (items_of m) new

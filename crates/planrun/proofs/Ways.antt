@@ -90,7 +90,7 @@ ends_within vars code c w begins = omega arith
 ends_within vars code c w (goes b d op comes inside here m) =
     ends_at code b d op (ends_within vars code b w comes) (λ target n. (w.forward b op target (record { comes = comes; inside = inside; here = here }) n).1) m
 
--- control stands at no place behind the code
+-- control stands at no place after the code
 pub in_code : (vars : ℕ) (code : List Op) (at stop depth height : ℕ) → IsWellFormed vars code → ComesTo code at stop depth height → stop ≤ length code
 in_code vars code at stop depth height w c = ends_within vars code (there at stop height c.outer) w c.comes
 

@@ -66,6 +66,6 @@ IsAtOp m op at stop height = Stands (vars m) (ops m) op at stop (depth m) height
 abbrev pub BeginsBody : Machine → (first end : ℕ) → Type 0
 BeginsBody m first end = Begins (vars m) (ops m) first end (depth m)
 
--- An instruction at a place may lead to another, with so many outcomes on the stack before it and so many behind it.
+-- An instruction at a place may lead to another, with so many outcomes on the stack before it and so many after it.
 abbrev pub Leads : Op → (at to before after : ℕ) → Type 0
 Leads op at to before after = Among (record { place = to; height = after }) (arrivals op at before)

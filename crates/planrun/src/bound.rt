@@ -104,7 +104,7 @@ pub(crate) fn item_of(slot: Slot, slots: &Slots<'_>) -> Result<Outcome, AllocErr
     Ok(Outcome::Gives(item.clone()?))
 }
 
-/// The items of the macros around, with one more behind them.
+/// The items of the macros around, with one more after them.
 pub(crate) fn with_item<'a>(slots: Slots<'a>, item: &'a Value) -> Slots<'a>
     requires { length (slots_seen slots) < 2 }
     ensures items { slots_seen result ≡ slots_seen slots.entry ++ value_of item.now ∷ [] }

@@ -5,7 +5,7 @@
 //! is no fault that it could answer but that no memory is left.
 //!
 //! A plan is run over documents where they lie: what an expression takes from one is copied only where an operation needs a value. The
-//! macros `all` and `exists` run no item behind the one that decides them.
+//! macros `all` and `exists` run no item after the one that decides them.
 #![tactic(auto)]
 
 mod bound;

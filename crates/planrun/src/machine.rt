@@ -80,7 +80,7 @@ fn advance<'a>(
     }
 }
 
-// `c ? a : b`: the truth value leads to one of two places. What is none leaves the error, and leads behind both.
+// `c ? a : b`: the truth value leads to one of two places. What is none leaves the error, and leads past both.
 fn branch(
     at: usize,
     stop: usize,
@@ -172,7 +172,7 @@ fn run_instruction<'a>(
     }
 }
 
-// A macro: its body is run with an empty stack for each item, and it leads behind the body.
+// A macro: its body is run with an empty stack for each item, and it leads past the body.
 #[cycle(execute)]
 fn run_macro<'a>(
     alloc: Global,

@@ -6,7 +6,7 @@ use Rattle.celmean.specs.declared.value.Outcome.{Outcome}
 use Rattle.celmean.specs.Value as seen
 use Rattle.celmean.specs.Seen.{outcome_of, outcomes_seen}
 
--- the topmost of a stack behind those taken
+-- the topmost of a stack after those taken
 pub taken_on : (os : List Outcome) (o : Outcome) (s t whole : List seen.Outcome) (h : seen.Outcome) (n i : ℕ) → i < n → s ≡ h ∷ t → outcome_of o ≡ h
     → outcomes_seen os ++ take (n - i) s ≡ whole → outcomes_seen (os ++ o ∷ []) ++ take (n - (i + 1)) t ≡ whole
 taken_on os o s t whole h n i less is same was =

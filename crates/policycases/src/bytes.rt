@@ -68,7 +68,7 @@ fn parts_text(alloc: Global, inside: &[u8], behind: &[u8]) -> Result<String, Wro
     told(alloc, &inside, &behind)
 }
 
-/// The field in front whose length stands in two bytes, or else in four, and what stands behind it.
+/// The field in front whose length stands in two bytes, or else in four, and what stands after it.
 ///
 /// # Errors
 ///

@@ -71,7 +71,7 @@ impl Frames {
         Ok(())
     }
 
-    // What stands around the text of a line with this word: in front of it, and behind it.
+    // What stands around the text of a line with this word: in front of it, and after it.
     fn around(&self, word: &str) -> (&str, &str) {
         let mut parts = ("", "");
         for frame in self.all.iter() {

@@ -63,7 +63,7 @@ impl Bench for Policies {
         })
     }
 
-    // A warning `~ TEXT`, a question with its answer behind an arrow, or what is put down.
+    // A warning `~ TEXT`, a question with its answer after an arrow, or what is put down.
     fn line(&mut self, alloc: Global, line: &str) -> Result<u64, Wrong> {
         if let Some(warning) = line.strip_prefix("~ ") {
             return self.compare_warning(alloc, warning);

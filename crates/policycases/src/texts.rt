@@ -13,7 +13,7 @@ pub fn debugged<T: Debug>(alloc: Global, value: &T) -> Result<String, Wrong> {
     Ok(format!(in alloc; "{value:?}")?)
 }
 
-/// What is told, and a text behind a blank.
+/// What is told, and a text after a blank.
 ///
 /// # Errors
 ///

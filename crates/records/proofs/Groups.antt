@@ -5,7 +5,7 @@ use Rattle.std.proofs.lemmas.Grind.{flat_map-append}
 use Rattle.std.proofs.lemmas.List.{append-nil}
 use Rattle.records.specs.Payload.{writes_in}
 
--- a group more has its writes behind the others
+-- a group more has its writes after the others
 pub writes_in-push : {W : Type 0} (groups : List (List W)) (ws : List W) → writes_in (groups ++ ws ∷ []) ≡ writes_in groups ++ ws
 writes_in-push {W} groups ws = flat_map-append (λ (g : List W). g) groups (ws ∷ []) ∙ ap (λ (x : List W). writes_in groups ++ x) (append-nil ws)
 

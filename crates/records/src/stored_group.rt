@@ -14,7 +14,7 @@ use crate::stored_write::{StoredWrite, read_one};
 use byteorder::{BigEndian, ByteOrder};
 use std::alloc::Global;
 
-// The number of writes that a record may hold, and what stands behind it.
+// The number of writes that a record may hold, and what stands after it.
 fn split_count(payload: &[u8]) -> Option<(u16, &[u8])>
     ensures parts { IfSome result (λ parts. payload.now ≡ big_bytes 2 parts.0 ++ parts.1.now) }
     ensures some { IfSome result (λ parts. 1 ≤ parts.0) }

@@ -25,7 +25,7 @@ pub enum StoredWrite<'a> {
     Delete(Key),
 }
 
-/// Reads the write that the bytes begin with, and hands on what stands behind it. `Damaged` where they begin with no well-formed write.
+/// Reads the write that the bytes begin with, and hands on what stands after it. `Damaged` where they begin with no well-formed write.
 pub(crate) fn read_one(alloc: Global, bytes: &[u8]) -> Result<(StoredWrite<'_>, &[u8]), RecordFault>
     ensures write { IfOk result (λ p. write_bytes (write_of p.0) ++ p.1.now ≡ bytes.now) }
     ensures form { IfOk result (λ p. IsStorable (write_of p.0)) }
@@ -45,7 +45,7 @@ pub(crate) fn read_one(alloc: Global, bytes: &[u8]) -> Result<(StoredWrite<'_>, 
     }
 }
 
-// Reads the fields of a put, its document and its plans, and hands on what stands behind them.
+// Reads the fields of a put, its document and its plans, and hands on what stands after them.
 fn read_put(alloc: Global, bytes: &[u8]) -> Result<(Manifest, &[u8], &[u8]), RecordFault>
     ensures write { IfOk result (λ r. fields (put r.0.key (document_in r.0.body) r.1.now) ++ r.2.now ≡ bytes.now) }
     ensures form { IfOk result (λ r. IsStorable (put r.0.key (document_in r.0.body) r.1.now)) }
@@ -85,7 +85,7 @@ pub fn read_document(
     Ok(manifest)
 }
 
-// Reads the field of a deletion, and hands on what stands behind it.
+// Reads the field of a deletion, and hands on what stands after it.
 fn read_delete(alloc: Global, bytes: &[u8]) -> Result<(Key, &[u8]), RecordFault>
     ensures write { IfOk result (λ r. fields (delete r.0) ++ r.1.now ≡ bytes.now) }
     ensures form { IfOk result (λ r. IsTrue (is_key r.0)) }

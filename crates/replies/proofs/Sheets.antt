@@ -1,4 +1,4 @@
--- Bytes put behind those that a sheet holds.
+-- Bytes put after those that a sheet holds.
 use Rattle.std.proofs.Common.{arith, ◌≡◌, ◌<◌, ◌+◌, ◌∙◌, sym, add-one, ap, refl, subst, ℕ, zero, suc, List, [], ◌∷◌, ◌++◌, length, take, drop, get_or, Option, Some, None, unwrap_or, Result, Ok, Err, OnOk, IfSome}
 use Rattle.std.specs.Prelude.{option_map}
 use Rattle.std.specs.Borrow.{Bor}

@@ -10,7 +10,7 @@ use Rattle.httpmsg.specs.Stream.{Message}
 use Rattle.routes.specs.Allow.{allow_of}
 use Rattle.replies.specs.ReplyBytes.{reply_bytes}
 
--- the bytes of these replies to messages, in order, and behind them that memory was refused
+-- the bytes of these replies to messages, in order, and after them that memory was refused
 abbrev pub answers_bytes : List Message → List Reply → List ℕ
 answers_bytes [] replies = []
 answers_bytes (m ∷ more) [] = reply_bytes m (status OutOfMemory) ++ answers_bytes more []
@@ -26,7 +26,7 @@ pub record CanAnswerAll (ms : List Message) (replies : List Reply) (allows : Lis
   pub allowed : (i : ℕ) (m : Message) → i < length ms → i < length replies
       → option_map (λ methods. methods.now) (slice_index_or allows i None) ≡ allow_of (slice_index_or ms i m)
 
--- Bytes were put behind those that were held: a beginning of all was taken, and but for an error the rest of them is held now.
+-- Bytes were put after those that were held: a beginning of all was taken, and but for an error the rest of them is held now.
 pub record PutsBehind {S T E : Type 0} (took : S → S → List ℕ → Type 0) (old new : S) (held kept bytes : List ℕ) (result : Result T E) : Type 0 where
   pub some : TookSome took old new (held ++ bytes)
   pub kept_is : OnOk result (some.rest ≡ kept)

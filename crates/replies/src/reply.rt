@@ -93,7 +93,7 @@ fn out_of_memory(message: &Message) -> Response<'static>
     refusing(Refusal::OutOfMemory, body, without_body, message.closes())
 }
 
-// Puts a response behind what the sheet holds. Where the sheet has no room for it, what it holds is written, and then the response.
+// Puts a response after what the sheet holds. Where the sheet has no room for it, what it holds is written, and then the response.
 fn put_behind<O: Output>(
     output: &mut O,
     sheet: &mut Sheet,
@@ -116,7 +116,7 @@ fn put_behind<O: Output>(
     }
 }
 
-// Puts the answer to a message behind what the sheet holds: its reply, or where there is none that memory was refused.
+// Puts the answer to a message after what the sheet holds: its reply, or where there is none that memory was refused.
 fn put_answer<O: Output>(
     output: &mut O,
     sheet: &mut Sheet,
@@ -142,7 +142,7 @@ fn methods_at(allows: &[Option<&'static str>], index: usize) -> Option<&'static 
     allows.get(index).copied().flatten()
 }
 
-/// Writes the answers to messages: these replies, in order, and behind them that memory was refused. They are written in one piece where
+/// Writes the answers to messages: these replies, in order, and after them that memory was refused. They are written in one piece where
 /// the sheet has room for them. It takes no memory.
 pub fn write_answers<O: Output>(
     output: &mut O,

@@ -94,7 +94,7 @@ parted_is : (byte : ℕ) (text : List ℕ) (p : List ℕ × List ℕ) → parted
 parted_is byte [] p is = absurd (let never : None ≡ Some p = is in cc)
 parted_is byte (b ∷ bs) p is = is_test (b == byte) byte b bs p refl is (λ q e. parted_is byte bs q e)
 
--- ---- what stands behind a byte
+-- ---- what stands after a byte
 
 behind_none : (byte : ℕ) (text : List ℕ) → lacks_byte byte text ≡ true → behind byte text ≡ None
 behind_none byte [] all = refl

@@ -44,12 +44,12 @@ is_label_byte byte = is_value_byte byte || byte == 47
 abbrev pub is_label : List ℕ → Bool
 is_label text = not (length text == 0) && list_all is_label_byte text
 
--- the texts before and behind the first such byte, where there is one
+-- the texts before and after the first such byte, where there is one
 abbrev pub parted : ℕ → List ℕ → Option (List ℕ × List ℕ)
 parted byte text =
     if nat_lt (position_or_len (λ b. b == byte) text) (length text) then Some (before_first (λ b. b == byte) text, after_first (λ b. b == byte) text) else None
 
--- the text behind this byte, where it begins with it
+-- the text after this byte, where it begins with it
 abbrev pub behind : ℕ → List ℕ → Option (List ℕ)
 behind byte [] = None
 behind byte (b ∷ bs) = if b == byte then Some bs else None

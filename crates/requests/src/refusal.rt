@@ -32,9 +32,9 @@ pub enum Refusal {
     BadNameInPath,
     /// A GET has a body.
     UnexpectedBody,
-    /// The revision that a watch begins behind is not there, is no number in its one form, or is above the current one.
+    /// The revision that a watch begins after is not there, is no number in its one form, or is above the current one.
     BadVersion,
-    /// Events above the revision that a watch begins behind may have left the window.
+    /// Events above the revision that a watch begins after may have left the window.
     Expired,
     /// The body is no JSON value (RFC 8259), or one that is nested too deep.
     BodyIsNotJson,

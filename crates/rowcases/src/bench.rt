@@ -6,8 +6,7 @@ use crate::{
 };
 use cases::{Bench, TextBuilder, Told, Wrong, compare, first_word, number, run_text, shown};
 use jsondoc::Doc;
-use names::Format;
-use objects::Objects;
+use objects::{Format, Objects};
 use routes::Routes;
 use std::alloc::Global;
 use window::Window;

@@ -45,7 +45,7 @@ pub fn manifest(alloc: Global, text: &str) -> Result<String, Wrong> {
     }
 }
 
-// The selector between two quotation marks, and what stands behind them.
+// The selector between two quotation marks, and what stands after them.
 fn read_selector(alloc: Global, text: &str) -> Result<(Option<Selector>, &str), Wrong> {
     let quoted = text.strip_prefix('"').unwrap_or("");
     match quoted.split_once('"') {

@@ -11,10 +11,10 @@ pub trait Service: Drop + Sized {
     /// A new one, for a case.
     fn new(alloc: Global) -> Result<Self, Wrong>;
 
-    /// Serves a connection on which this was sent, and gives what is written, with its end behind it: `ends WORD`.
+    /// Serves a connection on which this was sent, and gives what is written, with its end after it: `ends WORD`.
     fn serve(&mut self, alloc: Global, sent: &str) -> Result<String, Wrong>;
 
-    /// Answers a question, by its first word and what stands behind that.
+    /// Answers a question, by its first word and what stands after that.
     fn answer(&mut self, alloc: Global, word: &str, rest: &str) -> Result<String, Wrong>;
 }
 

@@ -2,7 +2,8 @@
 
 use crate::texts::{or_dash, or_empty, quoted};
 use cases::{TextBuilder, WordReader, Wrong, bytes, first_word, shown, spelled, text, yes_or_no};
-use names::{Key, KeyFault, Resource, ResourceTable, Rules, Scope, check_name, check_namespace};
+use names::{Key, KeyFault, Resource, ResourceTable, Scope, check_name, check_namespace};
+use objects::Rules;
 use std::alloc::Global;
 
 /// The resource with this plural in its paths.

@@ -104,7 +104,7 @@ fn push_request(alloc: Global, line: &mut TextBuilder, request: &Request) -> Res
         Request::Watch(collection, revision) => {
             line.word("watch");
             push_collection(line, collection);
-            line.word("behind ");
+            line.word("after ");
             line.show(revision);
         }
         Request::Create(manifest) => {

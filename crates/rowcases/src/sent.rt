@@ -22,7 +22,7 @@ pub fn message(alloc: Global, text: &str) -> Result<String, Wrong> {
     line.end()
 }
 
-/// One reply, whose head tells the length of its body, as `CODE BODY`, with its end behind it where that is not `clean`. Anything
+/// One reply, whose head tells the length of its body, as `CODE BODY`, with its end after it where that is not `clean`. Anything
 /// else as it is.
 pub fn short(alloc: Global, answer: &str) -> Result<String, Wrong> {
     let (written, end) = match answer.rsplit_once("ends ") {

@@ -24,7 +24,7 @@ pub fn made_text(alloc: Global, made: Result<Doc, AllocError>) -> Result<String,
     }
 }
 
-/// What stands in front of a separator and what behind it: the text and nothing, where it is not there.
+/// What stands in front of a separator and what after it: the text and nothing, where it is not there.
 pub fn parted<'a>(text: &'a str, separator: &str) -> (&'a str, &'a str) {
     match text.split_once(separator) {
         Some(parts) => parts,
@@ -39,7 +39,7 @@ pub fn push_times(made: &mut TextBuilder, times: u64, piece: &str) {
     }
 }
 
-/// A text between quotes, in which `\0` is the character 0; with ` xN` behind it, N times.
+/// A text between quotes, in which `\0` is the character 0; with ` xN` after it, N times.
 pub fn quoted(alloc: Global, text: &str) -> Result<String, Wrong> {
     let Some((front, behind)) = text.rsplit_once('\'') else {
         return Err(Wrong::Told("a text stands between quotes"));

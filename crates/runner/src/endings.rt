@@ -6,7 +6,7 @@ use httpmsg::End;
 use rowcases::fault_word;
 use std::alloc::Global;
 
-/// What was written, with its end behind it: `ends WORD`.
+/// What was written, with its end after it: `ends WORD`.
 pub fn with_end(
     alloc: Global,
     written: &[u8],

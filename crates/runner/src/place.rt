@@ -202,7 +202,7 @@ impl Place {
         }
     }
 
-    /// The n-th call of the device from now fails, and all behind it.
+    /// The n-th call of the device from now fails, and all after it.
     pub fn stop_on(&mut self, call: u64) {
         if let Some(device) = self.device() {
             device.stop_on(call);
@@ -291,7 +291,7 @@ impl Place {
         self.tell(told);
     }
 
-    /// Serves a connection, and tells what was written, with its end behind it.
+    /// Serves a connection, and tells what was written, with its end after it.
     pub fn serve(&mut self, reader: Parted<'_>, writer: Taker) {
         let alloc = self.alloc;
         let Some(store) = self.store() else {

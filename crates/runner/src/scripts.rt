@@ -65,7 +65,7 @@ pub fn push_script_looks(
     place.end(0)
 }
 
-// Asks that a further stop and crash, in the next request or in the compaction behind it, leaves the revision, or one more, and that where it was told.
+// Asks that a further stop and crash, in the next request or in the compaction after it, leaves the revision, or one more, and that where it was told.
 fn stops_again(place: &mut Place, probe: &[Episode]) {
     let revision = place.revision();
     let Ok(found) = place.live(probe) else {
@@ -82,7 +82,7 @@ fn stops_again(place: &mut Place, probe: &[Episode]) {
     place.note(is_left, "a second stop leaves something else");
 }
 
-/// Takes the steps on a device that stops, and crashes, and lives the episodes behind: how many a step met.
+/// Takes the steps on a device that stops, and crashes, and lives the episodes after: how many a step met.
 pub fn script_stopped(
     alloc: Global,
     steps: &[Episode],
@@ -172,8 +172,8 @@ fn found_text(alloc: Global, found: &[Found]) -> Result<String, Wrong> {
     line.end()
 }
 
-/// `drive ROOM AT STOP LENGTH [PICK ..]`: the steps of this case behind its opening as a life of a new store, each in an episode of its own, and an
-/// opening behind them. The AT-th is stopped at a call, and crashes so. Of each the revision that it finds, and the codes of its replies.
+/// `drive ROOM AT STOP LENGTH [PICK ..]`: the steps of this case after its opening as a life of a new store, each in an episode of its own, and an
+/// opening after them. The AT-th is stopped at a call, and crashes so. Of each the revision that it finds, and the codes of its replies.
 pub fn driven(alloc: Global, words: &[String], line: &str) -> Result<String, Wrong> {
     let mut numbers = WordReader::new(line);
     let (room, at, call) = (numbers.number(), numbers.number(), numbers.number());

@@ -45,7 +45,7 @@ fn push_step(
     Ok(())
 }
 
-/// Adds the steps of a case, and these behind them, each an episode, or all in one.
+/// Adds the steps of a case, and these after them, each an episode, or all in one.
 pub fn push_steps(
     alloc: Global,
     words: &[String],

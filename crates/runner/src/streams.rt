@@ -82,7 +82,7 @@ impl Write for Taker {
     }
 }
 
-// What is written on a new store, with its end behind it.
+// What is written on a new store, with its end after it.
 fn served(alloc: Global, reader: Parted<'_>, writer: Taker) -> Result<String, Wrong> {
     let mut place = Place::new(alloc, ROOM_SECTORS);
     place.open();
@@ -92,13 +92,13 @@ fn served(alloc: Global, reader: Parted<'_>, writer: Taker) -> Result<String, Wr
     answer
 }
 
-// Asks that this is written, with its end behind it, where a reader gets on.
+// Asks that this is written, with its end after it, where a reader gets on.
 fn is_read(alloc: Global, reader: Parted<'_>, wanted: &str) -> Result<(), Wrong> {
     let found = served(alloc, reader, Taker::new(alloc, usize::MAX, 0))?;
     compare(alloc, found.as_str(), wanted)
 }
 
-/// `cuts`: whether a stream that is cut behind each of its bytes in turn, or that is read byte by byte, has the replies and the end
+/// `cuts`: whether a stream that is cut after each of its bytes in turn, or that is read byte by byte, has the replies and the end
 /// of the whole.
 pub fn cuts(alloc: Global, sent: &str) -> Result<String, Wrong> {
     let reader = Parted::new(sent, usize::MAX, usize::MAX, 0);
@@ -131,7 +131,7 @@ pub fn readers(alloc: Global, sent: &str, line: &str) -> Result<String, Wrong> {
     short(alloc, answer.as_str())
 }
 
-// Asks that a writer that takes a byte a call, and fails behind so many, takes the front of the replies, and that the connection ends so.
+// Asks that a writer that takes a byte a call, and fails after so many, takes the front of the replies, and that the connection ends so.
 fn is_written(alloc: Global, sent: &str, replies: &str, count: usize) -> Result<(), Wrong> {
     let reader = Parted::new(sent, usize::MAX, usize::MAX, 0);
     let writer = Taker::new(alloc, 1, (count as u64).saturating_add(1));

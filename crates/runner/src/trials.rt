@@ -120,7 +120,7 @@ impl<'a> Trial<'a> {
         Ok(held)
     }
 
-    // One stop of a script and one crash, and a further stop behind it: how many a step met.
+    // One stop of a script and one crash, and a further stop after it: how many a step met.
     fn script_stopped(&mut self, alloc: Global, stop: Stop<'_>, second: u64) -> Result<u64, Wrong> {
         let at = self.steps.len().saturating_sub(2);
         let further = Stop {
@@ -133,7 +133,7 @@ impl<'a> Trial<'a> {
         script_stopped(alloc, script, behind, &self.looks, stop)
     }
 
-    // The same with each crash behind a stop at a call.
+    // The same with each crash after a stop at a call.
     fn script_stops(&mut self, alloc: Global, call: u64, alone: u64) -> Result<u64, Wrong> {
         let mut met = 0_u64;
         for pick in [Pick::Old, Pick::New, Pick::Fill(0xA5), Pick::Fill(0)] {

@@ -1,6 +1,6 @@
 -- What is shown where the chosen part of a view is held.
 use Rattle.std.proofs.Common.{◌≡◌, ◌∙◌, sym, ap, subst, Bool, true, ℕ, List, ◌∷◌, length}
-use Rattle.names.specs.declared.format.Rules.{Rules}
+use Rattle.objects.specs.declared.format.Rules.{Rules}
 use Rattle.names.specs.declared.resource.Resource.{Resource}
 use Rattle.names.specs.Key.{Key, key_bytes}
 use Rattle.objects.specs.Objects.{value_at}

@@ -1,6 +1,6 @@
 -- A store that holds what was read from entries.
 use Rattle.std.proofs.Common.{arith, ◌≡◌, ◌∙◌, sym, ap, subst, refl, ◌⊎◌, ⊎_elim, ◌+◌, ◌-◌, ◌<◌, ◌^◌, ℕ, List, length}
-use Rattle.names.specs.declared.format.Rules.{Rules}
+use Rattle.objects.specs.declared.format.Rules.{Rules}
 use Rattle.window.specs.declared.event.Event.{Event}
 use Rattle.documents.specs.Document.{Document}
 use Rattle.history.specs.View as seen
@@ -35,7 +35,7 @@ entry_damaged EntryFault.Memory told = ⊎_elim (λ same. cc) (λ same. cc) told
 abbrev pub made_again : KeptView → List Object → Held
 made_again kept objects = record { objects = objects; revision = kept.revision; events = kept.events }
 
--- its events are kept behind what lies below
+-- its events are kept after what lies below
 pub can_keep : (rules : Rules) (core : Core) (base : List Object) (kept : KeptView) (events : List Told) → core.rules ≡ rules
     → Shows core base (behind base kept) → IsReadView kept → HasLastEvents rules kept → events ≡ kept.events → CanKeep core base (behind base kept) events
 can_keep rules core base kept events same shows read last are =

@@ -2,7 +2,7 @@
 use Rattle.std.proofs.Common.{arith, refl, ◌+◌, ◌≤◌, Bool, true, false, cond, ℕ, List, [], ◌∷◌, length}
 use Rattle.std.specs.List.{AllByRecursion, filter}
 use Rattle.jsondoc.specs.Document.{text}
-use Rattle.names.specs.declared.format.Rules.{Rules}
+use Rattle.objects.specs.declared.format.Rules.{Rules}
 use Rattle.names.specs.Key.{Key, key_bytes}
 use Rattle.window.specs.declared.event.Event.{Event}
 use Rattle.documents.specs.Document.{Document}

@@ -1,4 +1,4 @@
--- Ascending keys, and one more key in front of them or behind.
+-- Ascending keys, and one more key in front of them or after.
 use Rattle.std.proofs.Common.{◌≡◌, ◌∙◌, sym, ap, refl, Bool, true, false, cond, ◌&&◌, List, [], ◌∷◌, ◌++◌, Some, None, Ordering, Less, Greater}
 use Rattle.std.proofs.lemmas.Bool.{and_parts}
 use Rattle.std.specs.FinMap.{is_sorted}
@@ -28,13 +28,13 @@ module _ {X : Type 0} where
       let then : key_cmp y.0 e.0 ≡ Less = less_from (key_cmp y.0 e.0) parts.0 in
       both (is_lt (key_cmp k e.0)) (below_all key_cmp k es) (ap is_lt (key_cmp_total.trans k y.0 e.0 less then)) (below_through k y es less parts.1)
 
-  -- Whether keys ascend, the first two and those behind the first decide.
+  -- Whether keys ascend, the first two and those after the first decide.
   first_decides : (x y : Key × X) (es : List (Key × X)) → is_sorted key_cmp (x ∷ y ∷ es) ≡ (is_lt (key_cmp x.0 y.0) && is_sorted key_cmp (y ∷ es))
   first_decides x y es =
       second_too (is_lt (key_cmp x.0 y.0)) (below_all key_cmp x.0 es) (below_all key_cmp y.0 es) (is_sorted key_cmp es)
       (λ less below. below_through x.0 y es (less_from (key_cmp x.0 y.0) less) below)
 
-  -- so it goes on with the second, where that is behind the first
+  -- so it goes on with the second, where that is after the first
   pub goes_on : (x y : Key × X) (left es all : List (Key × X)) (b : Bool) → left ≡ y ∷ es → is_sorted key_cmp (x ∷ left) ≡ is_sorted key_cmp all
       → b ≡ is_lt (key_cmp x.0 y.0) → b ≡ true → is_sorted key_cmp (y ∷ es) ≡ is_sorted key_cmp all
   goes_on x y left es all b step so is behind =
@@ -43,7 +43,7 @@ module _ {X : Type 0} where
       ∙ ap (λ (rest : List (Key × X)). is_sorted key_cmp (x ∷ rest)) (sym step)
       ∙ so
 
-  -- ---- behind
+  -- ---- after
 
   -- the last of some keys that are above this one
   below_end : (k : Key) (xs : List (Key × X)) (y : Key × X) (more : List (Key × X)) → below_all key_cmp k (xs ++ y ∷ more) ≡ true → is_lt (key_cmp k y.0) ≡ true
@@ -76,7 +76,7 @@ module _ {X : Type 0} where
       let parts = and_parts (below_all key_cmp x.0 (xs ++ (k, s) ∷ [])) (is_sorted key_cmp (xs ++ (k, s) ∷ [])) sorted in
       ap (λ (r : Ordering). cond (is_eq r) (Some x.1) (value_at k xs)) (above_first x xs k s parts.0) ∙ none_last xs k s parts.1
 
-  -- and it has its place behind them
+  -- and it has its place after them
   pub with_value_last : (xs : List (Key × X)) (k : Key) (s : X) → is_sorted key_cmp (xs ++ (k, s) ∷ []) ≡ true → with_value k s xs ≡ xs ++ (k, s) ∷ []
   with_value_last [] k s sorted = refl
   with_value_last (x ∷ xs) k s sorted =

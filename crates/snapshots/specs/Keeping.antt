@@ -3,7 +3,7 @@ use Rattle.std.specs.Prelude.{◌≡◌, ◌≤◌, ◌-◌, ◌^◌, ℕ, List,
 use Rattle.std.specs.FinMap.{is_sorted}
 use Rattle.std.specs.List.{AllByRecursion}
 use Rattle.celtree.specs.Tree.{Expr}
-use Rattle.names.specs.declared.format.Rules.{Rules}
+use Rattle.objects.specs.declared.format.Rules.{Rules}
 use Rattle.names.specs.Key.{Key, key_cmp}
 use Rattle.window.specs.Window.{AreNumberedFrom}
 use Rattle.history.specs.declared.stored.Stored.{Stored}
@@ -53,7 +53,7 @@ pub record IsHeldObject (o : Key × Stored Beside) : Type 0 where
   pub few : length (held_plans o) ≤ 2 ^ 30
   pub beside : o.1.beside ≡ spelled o.1.document.json o.1.beside.plans
 
--- What the core may hold behind a checkpoint: the keys of the objects ascend, and the events are those of the last writes, whose revisions count up
+-- What the core may hold after a checkpoint: the keys of the objects ascend, and the events are those of the last writes, whose revisions count up
 -- to the view's.
 pub record IsHeld (rules : Rules) (held : seen.View Beside) : Type 0 where
   pub ascends : IsTrue (is_sorted key_cmp held.objects)

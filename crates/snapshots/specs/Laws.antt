@@ -1,7 +1,7 @@
 -- Laws of what a checkpoint keeps.
 use Rattle.std.specs.Prelude.{◌≡◌, ◌<◌, ◌≤◌, ◌^◌, IsTrue}
 use Rattle.std.specs.FinMap.{is_sorted}
-use Rattle.names.specs.declared.format.Rules.{Rules}
+use Rattle.objects.specs.declared.format.Rules.{Rules}
 use Rattle.history.specs.View.{view}
 use Rattle.pages.specs.Page.{bytes_cmp}
 use Rattle.checkpoint.specs.Filling.{AllFit}

@@ -2,7 +2,7 @@
 use Rattle.std.specs.Prelude.{◌≡◌, ◌≤◌, ◌⊎◌, ℕ, ◌+◌, ◌-◌, Bool, List, [], ◌++◌, map, length, Some, Result, IsTrue, IsErrOf}
 use Rattle.std.specs.FinMap.{is_sorted}
 use Rattle.std.specs.List.{AllByRecursion}
-use Rattle.names.specs.declared.format.Rules.{Rules}
+use Rattle.objects.specs.declared.format.Rules.{Rules}
 use Rattle.names.specs.declared.resource.Resource.{Resource}
 use Rattle.names.specs.Key.{Key, key_cmp}
 use Rattle.objects.specs.Objects.{value_at, with_value}
@@ -62,7 +62,7 @@ with_objects v os = record { objects = os; revision = v.revision; events = v.eve
 abbrev pub with_events : View Beside → List (Event Document) → View Beside
 with_events v events = record { objects = v.objects; revision = v.revision + length events; events = v.events ++ events }
 
--- This view is shown, and the events may be kept behind its own: their revisions count up from the view's, and the window has places for them.
+-- This view is shown, and the events may be kept after its own: their revisions count up from the view's, and the window has places for them.
 pub record CanKeep (core : State Beside) (base : List (Key × Stored Beside)) (v : View Beside) (events : List (Event Document)) : Type 0 where
   pub shows : Shows core base v
   pub numbered : AreNumberedFrom v.revision events
@@ -82,7 +82,7 @@ pub record AreRestored (lies : Resource → Bool) (old new : State Beside) (kept
   pub shows : (base : List (Key × Stored Beside)) (v : View Beside) → Shows old base v → HasThoseBelow lies objects base
       → Shows new base (with_objects v (merged (puts_of objects) base))
 
--- A view may be held behind a checkpoint that has these entries and this revision, and over each list of so many objects that may lie below what is
+-- A view may be held after a checkpoint that has these entries and this revision, and over each list of so many objects that may lie below what is
 -- kept it is shown, with what those that are kept leave of it.
 pub record IsRestored (rules : Rules) (lies : Resource → Bool) (all : List Entry) (count number : ℕ) (core : State Beside) : Type 0 where
   pub kept : View Beside

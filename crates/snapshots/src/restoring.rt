@@ -3,7 +3,7 @@
 ghost use Rattle.std.specs.Prelude.{◌≡◌, ◌+◌, ◌-◌, ◌^◌, ◌<◌, ◌∷◌, [], true, ℕ, Bool, List, length, IsTrue, IfOk, OnOk, ◌↔◌};
 ghost use Rattle.std.specs.FinMap.{is_sorted};
 ghost use Rattle.std.specs.Ordering.{is_lt};
-ghost use Rattle.names.specs.declared.format.Rules.{Rules as RulesData};
+ghost use Rattle.objects.specs.declared.format.Rules.{Rules as RulesData};
 ghost use Rattle.names.specs.Key.{Key as KeyData, key_bytes, key_cmp};
 ghost use Rattle.history.specs.declared.stored.Stored.{Stored as StoredData};
 ghost use Rattle.history.specs.View.{View};
@@ -22,12 +22,13 @@ use entries::{Entry, KeptObject, KeptView, read_view};
 use expressions::stored_plans;
 use history::Stored;
 use holdings::Holdings;
-use names::{Key, Rules};
+use names::Key;
+use objects::Rules;
 use recovery::{Beside, Core};
 use std::alloc::{AllocError, Global};
 use window::Event;
 
-// Whether the key of an object comes behind that of another.
+// Whether the key of an object comes after that of another.
 fn is_behind(object: &KeptObject, before: &KeptObject) -> bool
     ensures { result ≡ is_lt (key_cmp before.now.0 object.now.0) }
 {
@@ -125,7 +126,7 @@ fn restore_all<B: Below>(
     Ok(())
 }
 
-// Keeps events as they were, behind those that are shown.
+// Keeps events as they were, after those that are shown.
 fn keep_all(core: &mut Core, events: Vec<Event<Document>>)
     requires { core.old.revision + length events.items < 2 ^ 64 }
     ensures rules { core.new.rules ≡ core.old.rules }

@@ -1,4 +1,4 @@
--- One binding and one policy as they are held, and a verdict behind warnings.
+-- One binding and one policy as they are held, and a verdict after warnings.
 use Rattle.std.specs.Prelude.{◌++◌, List, option_map, option_and_then, Option}
 use Rattle.names.specs.Key.{Key}
 use Rattle.policy.specs.Rules.{Attempt}

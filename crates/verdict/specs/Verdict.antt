@@ -26,7 +26,7 @@ abbrev pub on_action : Action → (name : Text) → spec.Binding → Denial → 
 on_action Deny name b d rest = denied b.policy name d.reason d.message
 on_action Warn name b d rest = and_warn (warning b.policy name d.message) rest
 
--- a finding, before the verdict of those behind it
+-- a finding, before the verdict of those after it
 abbrev pub decide : (name : Text) → spec.Binding → Option Denial → Verdict → Verdict
 decide name b None rest = rest
 decide name b (Some d) rest = on_action b.action name b d rest

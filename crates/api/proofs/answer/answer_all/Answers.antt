@@ -13,7 +13,7 @@ loop-rest-init g c = record {
   goes_on = refl;
 }
 
--- the rest is a group and what stands behind it
+-- the rest is a group and what stands after it
 split_of : (rest group more : List Message) (n : ℕ) → group ≡ take n rest → more ≡ drop n rest → rest ≡ group ++ more
 split_of rest group more n group_is more_is =
     sym (take-append-drop n rest) ∙ ap (λ (x : List Message). x ++ drop n rest) (sym group_is) ∙ ap (λ (x : List Message). group ++ x) (sym more_is)

@@ -6,7 +6,7 @@ use Rattle.recovery.specs.Standing.{Write, View}
 use Rattle.apicore.specs.Step.{Asked, writes, reply, accepted, replies}
 use Rattle.history.specs.Reply.{status}
 use Rattle.history.specs.View.{view, after_all}
-use Rattle.names.specs.declared.format.Rules.{Rules}
+use Rattle.objects.specs.declared.format.Rules.{Rules}
 use Rattle.httpmsg.specs.Stream.{Message}
 use Rattle.replies.specs.ReplyBytes.{reply_bytes}
 use Rattle.api.specs.Answers.{Answered, asked_of, all_writes, all_bytes}

@@ -5,7 +5,7 @@ use Rattle.celtokens.specs.Text.{is_r, HasNoText, BestText, IsRawText, HasNoRawT
 use Rattle.celtokens.proofs.Words.{raw_from_mark, no_raw_from_mark}
 use Rattle.celtokens.proofs.lexeme.raw_text.Goals as goal
 
--- behind the mark: the string is raw
+-- after the mark: the string is raw
 behind_mark : (l m : List ℕ) → FirstIs is_r l m → (o : Option (Vec ℕ Global × Bor (List ℕ)))
     → MatchOption o (HasNoText true m) (λ x. BestText true m x.0.items x.1.now) → MatchOption o (HasNoRawText l) (λ x. IsRawText l x.0.items x.1.now)
 behind_mark l m mark None none = no_raw_from_mark l m mark none

@@ -11,7 +11,7 @@ use Rattle.entries.specs.Laws.{bytes_beside}
 use Rattle.entries.specs.Reading.{entry_read, IsReadObject, IsStorableStored, AreFollowed}
 use Rattle.entries.proofs.reading.with_plans.Given as goal
 
--- The objects that are left, and the entries that are left, are those of the objects behind the ones so far.
+-- The objects that are left, and the entries that are left, are those of the objects after the ones so far.
 abbrev pub Ahead : (all : List (Key × Stored (List ℕ))) (rest : List Entry) (kept : List (Key × Stored (List ℕ))) (left : List StoredObject) (entries : List Entry) → Type 0
 Ahead all rest kept left entries =
     (more : List (Key × Stored (List ℕ))) × (all ≡ kept ++ more) × AreFollowed more rest × (map stored_entry more ≡ map entry_read left) × (plans_among bytes_beside more ++ rest ≡ entries)

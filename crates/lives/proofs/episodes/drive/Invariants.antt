@@ -1,7 +1,7 @@
 use Rattle.std.proofs.Common.{◌≡◌, ◌≤◌, length, take}
 use Rattle.std.specs.Vec.{vec_capacity}
 use Rattle.device.specs.Memory.{memory_content, memory_disk}
-use Rattle.names.specs.declared.format.Rules.{Rules}
+use Rattle.objects.specs.declared.format.Rules.{Rules}
 use Rattle.recovery.specs.Standing.{History}
 use Rattle.durable.specs.Stands.{StandsFor}
 use Rattle.lives.proofs.Driving.{LivesTo}
