@@ -71,7 +71,7 @@ def reply_size(text, is_head=False):
 
 
 def cut(output, messages):
-    """The replies in an output, one to each message from the first on, and one more at most behind them."""
+    """The replies in an output, one to each message from the first on, and one more at most after them."""
     replies = []
     for it in (*messages, b""):
         size = reply_size(output, it.startswith(b"HEAD "))
