@@ -14,10 +14,10 @@ use Rattle.apicore.specs.Step.{Asked, verdict_conditions, verdict_of, refusal, w
 use Rattle.apicore.specs.Laws.{AcceptedAreAdmitted}
 
 -- where nothing refuses, nothing of the end does
-none_behind : (cs ds : List Condition) → is_some (first_of (cs ++ ds)) ≡ false → is_some (first_of ds) ≡ false
-none_behind [] ds none = none
-none_behind ((r, true) ∷ cs) ds none = cc
-none_behind ((r, false) ∷ cs) ds none = none_behind cs ds none
+none_after : (cs ds : List Condition) → is_some (first_of (cs ++ ds)) ≡ false → is_some (first_of ds) ≡ false
+none_after [] ds none = none
+none_after ((r, true) ∷ cs) ds none = cc
+none_after ((r, false) ∷ cs) ds none = none_after cs ds none
 
 admitted_by : (v : Verdict) → is_some (first_of (verdict_conditions v)) ≡ false → IsAdmitted v
 admitted_by (admitted warnings) none = tt
@@ -36,7 +36,7 @@ admitted_where : (rules : Rules) (v : View) (a : Asked) (w : Write) → asks_for
 admitted_where rules v a w is none =
     let Of : List Write → Type 0 = λ ws. is_some (first_of (verdict_conditions (verdict_of v ws))) ≡ false in
     admitted_by (verdict_on v w)
-    (subst Of is (none_behind (own_conditions rules v a.request a.specification) (verdict_conditions (verdict_of v (asks_for a.request a.specification))) none))
+    (subst Of is (none_after (own_conditions rules v a.request a.specification) (verdict_conditions (verdict_of v (asks_for a.request a.specification))) none))
 
 -- what one request writes was admitted
 pub written_admitted : (rules : Rules) (v : View) (r : Request) (s : Specification Expr) → AreAdmitted rules v (writes rules v (record { request = r; specification = s }))

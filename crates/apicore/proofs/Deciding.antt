@@ -42,7 +42,7 @@ use Rattle.recovery.specs.Standing.{Write, View, write_with_plans}
 use Rattle.findings.specs.Attempts.{objects_of, attempt_of, shown_at}
 use Rattle.findings.specs.Conditions.{Refusal, Condition, known, denied_by, first_of, of_table, asks_for, own_conditions, replace_conditions, delete_conditions, create_limits, replace_limits}
 use Rattle.findings.proofs.Own.{create_clear, create_attempt, replace_clear, replace_attempt, deleted, delete_attempt}
-use Rattle.findings.proofs.First.{refused_alone, none_behind, first_of_table, nothing_more}
+use Rattle.findings.proofs.First.{refused_alone, none_after, first_of_table, nothing_more}
 use Rattle.findings.proofs.Showing.{getting, getting_shown, listing_shown, telling, telling_shown, revision_shown, document_shown}
 use Rattle.apicore.specs.Judged.{IsRefused, IsMade, IsJudged}
 use Rattle.apicore.specs.Prepared.{IsReadOf, IsStepOf, IsPrepared}
@@ -88,13 +88,13 @@ judged_at : (held : seen.View Beside) (own : List Condition) (w : Write) (j : Ve
     × (map (mapped_write plans_held) (writes_of p.write) ≡ map write_with_plans (cond (is_some (first_of (own ++ verdict_conditions j))) [] (w ∷ [])))
     × AreNext held p.write
 judged_at held own w (admitted warnings) shows p none judged =
-    let first = sym (none_behind own [] none) in (
+    let first = sym (none_after own [] none) in (
       judged.reply ∙ ap (λ (x : Option Refusal). option_map_or status x (shows warnings)) first,
       judged.writes ∙ ap (λ (x : Option Refusal). map write_with_plans (cond (is_some x) [] (w ∷ []))) first,
       judged.next,
     )
 judged_at held own w (denied policy binding reason message) shows p none judged =
-    let first = sym (none_behind own ((denied_by policy binding reason message, true) ∷ []) none) in (
+    let first = sym (none_after own ((denied_by policy binding reason message, true) ∷ []) none) in (
       judged.0 ∙ ap (λ (x : Option Refusal). option_map_or status x (shows [])) first,
       ap (λ w. map (mapped_write plans_held) (writes_of w)) judged.1 ∙ ap (λ (x : Option Refusal). map write_with_plans (cond (is_some x) [] (w ∷ []))) first,
       none_next held p judged.1,

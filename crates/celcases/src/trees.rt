@@ -121,20 +121,20 @@ fn put_tree(out: &mut String, tree: &Tree) {
     }
 }
 
-fn put_between(out: &mut String, before: &str, part: &str, behind: &str) {
+fn put_between(out: &mut String, before: &str, part: &str, after: &str) {
     put(out, before);
     put(out, part);
-    put(out, behind);
+    put(out, after);
 }
 
 #[cycle(put)]
-fn put_trees(out: &mut String, before: &str, trees: &Vec<Tree>, behind: &str) {
+fn put_trees(out: &mut String, before: &str, trees: &Vec<Tree>, after: &str) {
     put(out, before);
     for tree in trees {
         put(out, " ");
         put_tree(out, tree);
     }
-    put(out, behind);
+    put(out, after);
 }
 
 #[cycle(put)]

@@ -104,14 +104,14 @@ sound_on code at h op b os here lt stands sound c m =
 
 record Both (code : List Op) (at : ℕ) (c : Control) (y : Body × List Body) : Type 0 where
   before : c.place ≤ at → ComesBefore code at c
-  behind : at + 1 ≤ c.place → Awaits c y.0 y.1
+  after : at + 1 ≤ c.place → Awaits c y.0 y.1
 
 both_earlier : (vars at : ℕ) (op : Op) (code : List Op) (b : Body) (os : List Body) (y : Body × List Body) → Nested code at at b os
     → Complete code at b os → Steps vars at op (drop (at + 1) code) b os y
     → (c : Control) → ComesBefore code at c → Both code at c y
 both_earlier vars at op code b os y n complete s c comes = record {
   before = λ le. comes;
-  behind = λ lt. stays_awaited vars at op code c b os y (omega arith) n s (complete c comes (omega arith));
+  after = λ lt. stays_awaited vars at op code c b os y (omega arith) n s (complete c comes (omega arith));
 }
 
 both_here : (vars at : ℕ) (op : Op) (code : List Op) (b : Body) (os : List Body) (y : Body × List Body) → slice_get code at ≡ Some op
@@ -120,12 +120,12 @@ both_here : (vars at : ℕ) (op : Op) (code : List Op) (b : Body) (os : List Bod
 both_here vars at op code b os y here n complete s c d comes same inside m =
     let awaited = leads_on vars at op code c d b os y s same inside here n (complete c comes (omega arith)) m in
     let low : at + 1 ≤ d.place = awaits_low code (at + 1) (at + 1) d y.0 y.1 (nested_step vars at op code b os y here n s) awaited in
-    record { before = λ le. absurd (omega arith); behind = λ lt. awaited }
+    record { before = λ le. absurd (omega arith); after = λ lt. awaited }
 
 both : (vars at : ℕ) (op : Op) (code : List Op) (b : Body) (os : List Body) (y : Body × List Body) → slice_get code at ≡ Some op
     → Nested code at at b os → Complete code at b os → Steps vars at op (drop (at + 1) code) b os y
     → (c : Control) → ComesBefore code (at + 1) c → Both code at c y
-both vars at op code b os y here n complete s c coming.begins = record { before = λ le. coming.begins; behind = λ lt. absurd (omega arith) }
+both vars at op code b os y here n complete s c coming.begins = record { before = λ le. coming.begins; after = λ lt. absurd (omega arith) }
 both vars at op code b os y here n complete s c (coming.goes p d op2 comes before inside there m) =
     let k = both vars at op code b os y here n complete s p comes in
     let earlier = k.before (omega arith) in
@@ -139,4 +139,4 @@ both vars at op code b os y here n complete s c (coming.goes p d op2 comes befor
 pub complete_on : (vars at : ℕ) (op : Op) (code : List Op) (b : Body) (os : List Body) (y : Body × List Body) → slice_get code at ≡ Some op
     → Nested code at at b os → Complete code at b os → Steps vars at op (drop (at + 1) code) b os y
     → Complete code (at + 1) y.0 y.1
-complete_on vars at op code b os y here n complete s c comes le = (both vars at op code b os y here n complete s c comes).behind le
+complete_on vars at op code b os y here n complete s c comes le = (both vars at op code b os y here n complete s c comes).after le

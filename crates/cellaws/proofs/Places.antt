@@ -60,7 +60,7 @@ ends_opened op at h b os = refl
 
 only_start_at : (code : List Op) (n : ℕ) (ends : List ℕ) → n ≡ 0 → Bodies code n ends → Held 0 ends (whole code) []
 only_start_at code n ends same bodies.whole = inl refl
-only_start_at code n ends same (bodies.behind place end outer op stands inside here) = absurd (omega arith)
+only_start_at code n ends same (bodies.after place end outer op stands inside here) = absurd (omega arith)
 only_start_at code n ends same (bodies.left place outer stands) =
     held_left 0 outer (whole code) [] (subst (λ (p : ℕ). Held 0 (p ∷ outer) (whole code) []) same (only_start_at code place (place ∷ outer) same stands))
 
@@ -74,7 +74,7 @@ only_on_at : (code : List Op) (at h n : ℕ) (op : Op) (x : Body × List Body) �
     → (ends : List ℕ) → n ≡ at + 1 → Bodies code n ends
     → Held (at + 1) ends (opens op at (goes_on op at h x.0) x.1).0 (opens op at (goes_on op at h x.0) x.1).1
 only_on_at code at h n op x here f ends same bodies.whole = absurd (omega arith)
-only_on_at code at h n op x here f ends same (bodies.behind place end outer op2 stands inside there) =
+only_on_at code at h n op x here f ends same (bodies.after place end outer op2 stands inside there) =
     let p : place ≡ at = omega arith in
     let moved : Bodies code at (end ∷ outer) = subst (λ (k : ℕ). Bodies code k (end ∷ outer)) p stands in
     let o : op ≡ op2 = same_Some op op2 (sym here ∙ (sym (ap (slice_get code) p) ∙ there)) in
@@ -104,4 +104,4 @@ left_bodies code at b os x went m = left_by at (λ b os. Bodies code at (all_end
 pub bodies_on : (code : List Op) (at h : ℕ) (op : Op) (b : Body) (os : List Body) → slice_get code at ≡ Some op → at < b.end → Bodies code at (all_ends b os)
     → Bodies code (at + 1) (all_ends (opens op at (goes_on op at h b) os).0 (opens op at (goes_on op at h b) os).1)
 bodies_on code at h op b os here lt m =
-    subst (λ (es : List ℕ). Bodies code (at + 1) es) (sym (ends_opened op at h b os)) (bodies.behind at b.end (ends_of os) op m lt here)
+    subst (λ (es : List ℕ). Bodies code (at + 1) es) (sym (ends_opened op at h b os)) (bodies.after at b.end (ends_of os) op m lt here)

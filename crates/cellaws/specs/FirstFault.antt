@@ -16,7 +16,7 @@ opened op ends = ends
 -- passed only before the end of the innermost body; at its end a body is left.
 pub data Bodies (code : List Op) : ℕ → List ℕ → Type 0 where
   whole : Bodies code 0 (length code ∷ [])
-  behind : (place end : ℕ) (outer : List ℕ) (op : Op) → Bodies code place (end ∷ outer) → place < end → slice_get code place ≡ Some op
+  after : (place end : ℕ) (outer : List ℕ) (op : Op) → Bodies code place (end ∷ outer) → place < end → slice_get code place ≡ Some op
       → Bodies code (place + 1) (opened op (end ∷ outer))
   left : (place : ℕ) (outer : List ℕ) → Bodies code place (place ∷ outer) → Bodies code place outer
 

@@ -12,7 +12,7 @@ text_starts_with s t = starts_with ◌==◌ s t
 abbrev pub text_ends_with : List ℕ → List ℕ → Bool
 text_ends_with s t = ends_with ◌==◌ s t
 
--- t stands at the front of s, or further after
+-- t stands at the front of s, or further on
 abbrev pub text_contains : List ℕ → List ℕ → Bool
 text_contains [] t = text_starts_with [] t
 text_contains (c ∷ s) t = text_starts_with (c ∷ s) t || text_contains s t

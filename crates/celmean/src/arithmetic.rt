@@ -130,8 +130,8 @@ fn joined_lists(left: &Vec<Value>, right: &Vec<Value>) -> Result<Outcome, AllocE
         return Ok(Outcome::Error);
     }
     let mut joined = copy_items(left)?;
-    let mut behind = copy_items(right)?;
-    joined.append(&mut behind)?;
+    let mut after = copy_items(right)?;
+    joined.append(&mut after)?;
     Ok(Outcome::Gives(Value::list(*left.allocator(), joined)?))
 }
 

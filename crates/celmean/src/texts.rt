@@ -33,7 +33,7 @@ pub(crate) fn contains(whole: &str, part: &str) -> bool
             return true;
         }
         match rest.split_first() {
-            Some((_, behind)) => rest = behind,
+            Some((_, after)) => rest = after,
             None => return false,
         }
     }

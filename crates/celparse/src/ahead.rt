@@ -209,7 +209,7 @@ pub(crate) fn suffix_at<'a, 'b>(tokens: &'b [Token<'a>]) -> Suffix<'a, 'b>
     ensures { IsSuffix tokens.now result }
 {
     match after(tokens, Sign::Dot) {
-        Some(behind) => match selector_at(behind) {
+        Some(beyond) => match selector_at(beyond) {
             Some((name, rest)) => match after(rest, Sign::OpenParenthesis) {
                 Some(inside) => Suffix::Method(name, inside),
                 None => Suffix::Field(name, rest),
@@ -243,15 +243,15 @@ pub(crate) fn separator_at<'a, 'b>(tokens: &'b [Token<'a>], closing: Closing) ->
     match after(tokens, close_sign(closing)) {
         Some(rest) => Separator::End(rest),
         None => match after(tokens, Sign::Comma) {
-            Some(behind) => match after(behind, close_sign(closing)) {
+            Some(beyond) => match after(beyond, close_sign(closing)) {
                 Some(rest) => {
                     if trails(closing) {
                         Separator::End(rest)
                     } else {
-                        Separator::Comma(behind)
+                        Separator::Comma(beyond)
                     }
                 }
-                None => Separator::Comma(behind),
+                None => Separator::Comma(beyond),
             },
             None => Separator::Wrong,
         },

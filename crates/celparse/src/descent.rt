@@ -105,11 +105,11 @@ pub fn expression<'a, 'b>(
 {
     let (test, rest) = infix(alloc, tokens, 5)?;
     match after(rest, Sign::Question) {
-        Some(behind) => {
-            let (first, rest) = infix(alloc, behind, 5)?;
+        Some(beyond) => {
+            let (first, rest) = infix(alloc, beyond, 5)?;
             match after(rest, Sign::Colon) {
-                Some(behind) => {
-                    let (second, rest) = expression(alloc, behind)?;
+                Some(beyond) => {
+                    let (second, rest) = expression(alloc, beyond)?;
                     let tree = conditional(alloc, test, first, second)?;
                     Ok((tree, rest))
                 }
@@ -138,8 +138,8 @@ fn infix<'a, 'b>(
     let (mut left, mut rest) = infix(alloc, tokens, lower)?;
     'operators: loop {
         match operator_at(rest, lower) {
-            Some((operator, behind)) => {
-                let (right, after) = infix(alloc, behind, lower)?;
+            Some((operator, beyond)) => {
+                let (right, after) = infix(alloc, beyond, lower)?;
                 let tree = joined(alloc, operator, left, right)?;
                 left = tree;
                 rest = after;
@@ -159,8 +159,8 @@ fn unary<'a, 'b>(
     ensures shorter { IfOk result (λ x. length x.1.now < length tokens.now) }
 {
     match prefix_at(tokens) {
-        Some((prefix, behind)) => {
-            let (of, rest) = prefixed(alloc, behind, prefix)?;
+        Some((prefix, beyond)) => {
+            let (of, rest) = prefixed(alloc, beyond, prefix)?;
             let tree = unary_of(alloc, prefix, of)?;
             Ok((tree, rest))
         }
@@ -180,8 +180,8 @@ fn prefixed<'a, 'b>(
     ensures shorter { IfOk result (λ x. length x.1.now < length tokens.now) }
 {
     match after_prefix(tokens, prefix) {
-        Some(behind) => {
-            let (of, rest) = prefixed(alloc, behind, prefix)?;
+        Some(beyond) => {
+            let (of, rest) = prefixed(alloc, beyond, prefix)?;
             let tree = unary_of(alloc, prefix, of)?;
             Ok((tree, rest))
         }
@@ -202,13 +202,13 @@ fn member<'a, 'b>(
     let (mut of, mut rest) = primary(alloc, tokens)?;
     'suffixes: loop {
         match suffix_at(rest) {
-            Suffix::Field(name, behind) => {
+            Suffix::Field(name, beyond) => {
                 let tree = field(alloc, of, name)?;
                 of = tree;
-                rest = behind;
+                rest = beyond;
             }
-            Suffix::Method(name, behind) => {
-                let (arguments, after) = items(alloc, behind, Closing::Parenthesis)?;
+            Suffix::Method(name, beyond) => {
+                let (arguments, after) = items(alloc, beyond, Closing::Parenthesis)?;
                 let name = text_of(alloc, name)?;
                 match method(alloc, of, name, arguments)? {
                     Some(tree) => {
@@ -218,13 +218,13 @@ fn member<'a, 'b>(
                     None => return Err(ParseFault::NotInGrammar),
                 }
             }
-            Suffix::Index(behind) => {
-                let (index, inside) = expression(alloc, behind)?;
+            Suffix::Index(beyond) => {
+                let (index, inside) = expression(alloc, beyond)?;
                 match after(inside, Sign::CloseBracket) {
-                    Some(behind) => {
+                    Some(beyond) => {
                         let tree = indexed(alloc, of, index)?;
                         of = tree;
-                        rest = behind;
+                        rest = beyond;
                     }
                     None => return Err(ParseFault::NotInGrammar),
                 }
@@ -275,8 +275,8 @@ fn composite<'a, 'b>(
             }
         }
         Start::Parenthesis(inside) => {
-            let (tree, behind) = expression(alloc, inside)?;
-            match after(behind, Sign::CloseParenthesis) {
+            let (tree, beyond) = expression(alloc, inside)?;
+            match after(beyond, Sign::CloseParenthesis) {
                 Some(rest) => Ok((tree, rest)),
                 None => Err(ParseFault::NotInGrammar),
             }
@@ -315,9 +315,9 @@ fn items<'a, 'b>(
     items.push(Box::into_inner(first))?;
     'more_items: loop {
         match separator_at(rest, closing) {
-            Separator::End(behind) => return Ok((items, behind)),
-            Separator::Comma(behind) => {
-                let (next, after) = expression(alloc, behind)?;
+            Separator::End(beyond) => return Ok((items, beyond)),
+            Separator::Comma(beyond) => {
+                let (next, after) = expression(alloc, beyond)?;
                 items.push(Box::into_inner(next))?;
                 rest = after;
             }
@@ -338,8 +338,8 @@ fn entry<'a, 'b>(
 {
     let (key, rest) = expression(alloc, tokens)?;
     match after(rest, Sign::Colon) {
-        Some(behind) => {
-            let (value, rest) = expression(alloc, behind)?;
+        Some(beyond) => {
+            let (value, rest) = expression(alloc, beyond)?;
             Ok(((Box::into_inner(key), Box::into_inner(value)), rest))
         }
         None => Err(ParseFault::NotInGrammar),
@@ -365,9 +365,9 @@ fn entries<'a, 'b>(
     entries.push(first)?;
     'more_entries: loop {
         match separator_at(rest, Closing::Brace) {
-            Separator::End(behind) => return Ok((entries, behind)),
-            Separator::Comma(behind) => {
-                let (next, after) = entry(alloc, behind)?;
+            Separator::End(beyond) => return Ok((entries, beyond)),
+            Separator::Comma(beyond) => {
+                let (next, after) = entry(alloc, beyond)?;
                 entries.push(next)?;
                 rest = after;
             }

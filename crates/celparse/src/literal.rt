@@ -75,7 +75,7 @@ fn negative_literal<'a, 'b>(tokens: &'b [Token<'a>]) -> Option<(i64, &'b [Token<
     ensures shorter { IfSome result (λ x. length x.1.now < length tokens.now) }
 {
     match after(tokens, Sign::Minus) {
-        Some(behind) => match first(behind) {
+        Some(beyond) => match first(beyond) {
             Some((token, rest)) => match negative_int(token) {
                 Some(value) => Some((value, rest)),
                 None => None,
@@ -98,9 +98,9 @@ pub(crate) fn literal<'a, 'b>(
         Some((token, rest)) => match one_token(alloc, token)? {
             Some(tree) => Ok((Some(tree), rest)),
             None => match negative_literal(tokens) {
-                Some((value, behind)) => {
+                Some((value, beyond)) => {
                     let tree = Box::new(alloc, Tree::Int(value))?;
-                    Ok((Some(tree), behind))
+                    Ok((Some(tree), beyond))
                 }
                 None => Ok((None, tokens)),
             },

@@ -11,7 +11,7 @@ use Rattle.celtokens.specs.declared.class.Class.TheVariants as class_of
 use Rattle.celtokens.specs.declared.run.Kind.{Kind}
 use Rattle.celtokens.specs.declared.run.Kind.TheVariants as kind
 use Rattle.celtokens.specs.Class.{class}
-use Rattle.celtokens.specs.Run.{is_in, Run, stop, more, front, behind}
+use Rattle.celtokens.specs.Run.{is_in, Run, stop, more, front, beyond}
 use Rattle.celtokens.specs.Text.{HasNoText, HasNoRawText}
 use Rattle.celtokens.specs.Terminal.{Terminal, Ident, Reserved, False, In, Null, True, is_reserved, word_of}
 use Rattle.celtokens.specs.Lexeme.{Part, Gap, Whole, Lexeme, blank, word, raw_text, int, uint, text, comment, one_sign, two_signs}
@@ -28,7 +28,7 @@ both true true e = (refl, refl)
 both true false e = absurd (cc)
 both false b e = absurd (cc)
 
-front_all : (k : Kind) (i : List ℕ) → list_all (is_in k) i ≡ true → (front k i ≡ i) × (behind k i ≡ [])
+front_all : (k : Kind) (i : List ℕ) → list_all (is_in k) i ≡ true → (front k i ≡ i) × (beyond k i ≡ [])
 front_all k [] e = (refl, refl)
 front_all k (c ∷ i) e =
     let here = both (is_in k c) (list_all (is_in k) i) e in

@@ -6,12 +6,12 @@ use Rattle.celtokens.specs.declared.class.Class.TheVariants as class_of
 use Rattle.celtokens.specs.declared.run.Kind.TheVariants as kind
 use Rattle.celtokens.specs.declared.sign.Sign.{Sign}
 use Rattle.celtokens.specs.Class.{class, StartsWith}
-use Rattle.celtokens.specs.Run.{behind}
+use Rattle.celtokens.specs.Run.{beyond}
 use Rattle.celtokens.specs.Text.{HasNoText, BestText}
 use Rattle.celtokens.specs.Sign.{one_char, two_chars, IsSignOfTwo, HasNoSignOfTwo, IsSignOfOne, HasNoSignOfOne, IsComment, IsNoComment}
 use Rattle.celtokens.specs.Terminal.{Quoted, Mark}
 use Rattle.celtokens.specs.Lexeme.{Part, Gap, Whole, Lexeme, blank, text, comment, one_sign, two_signs, LongestOf, Longest, HasNoLexeme}
-use Rattle.celtokens.proofs.Runs.{run_is, run_shorter, behind_le}
+use Rattle.celtokens.proofs.Runs.{run_is, run_shorter, beyond_le}
 
 pub starts_class : (l : List ℕ) (c : ℕ) (i : List ℕ) (k : Class) → l ≡ c ∷ i → StartsWith k l → class c ≡ k
 starts_class l c i k e h = rw e at h
@@ -42,12 +42,12 @@ pub no_text_lexeme : (l : List ℕ) → StartsWith class_of.Quote l → HasNoTex
 no_text_lexeme [] starts none = absurd starts
 no_text_lexeme (c ∷ i) starts none = to_none c i class_of.Quote starts (no_text_at none)
 
-comment_others : {i : List ℕ} → (q : Part) (s : List ℕ) → Lexeme class_of.Other 47 (47 ∷ i) q s → (length (behind kind.InLine i) < length s) ⊎ ((q ≡ Gap) × (s ≡ behind kind.InLine i))
+comment_others : {i : List ℕ} → (q : Part) (s : List ℕ) → Lexeme class_of.Other 47 (47 ∷ i) q s → (length (beyond kind.InLine i) < length s) ⊎ ((q ≡ Gap) × (s ≡ beyond kind.InLine i))
 comment_others q s (comment run) = elim (run_shorter kind.InLine run) [ inl w ↦ inl w.0 | inr w ↦ inr (refl, w.1) ]
-comment_others {i = i} q s (one_sign e) = let le = behind_le kind.InLine i in inl (omega arith)
+comment_others {i = i} q s (one_sign e) = let le = beyond_le kind.InLine i in inl (omega arith)
 comment_others q s (two_signs e) = absurd (cc)
 
-pub comment_longest : (l i : List ℕ) → StartsWith class_of.Other l → IsComment l i → Longest l Gap (behind kind.InLine i)
+pub comment_longest : (l i : List ℕ) → StartsWith class_of.Other l → IsComment l i → Longest l Gap (beyond kind.InLine i)
 comment_longest l i starts e =
     to_longest l 47 (47 ∷ i) class_of.Other Gap _ e (starts_class l 47 (47 ∷ i) class_of.Other e starts) (record { lexeme = comment (run_is kind.InLine i); others = comment_others })
 

@@ -10,12 +10,12 @@ use Rattle.celtokens.specs.declared.class.Class.TheVariants as class_of
 use Rattle.celtokens.specs.declared.run.Kind.{Kind}
 use Rattle.celtokens.specs.declared.run.Kind.TheVariants as kind
 use Rattle.celtokens.specs.Class.{class, StartsWith}
-use Rattle.celtokens.specs.Run.{is_in, stop, more, front, behind}
+use Rattle.celtokens.specs.Run.{is_in, stop, more, front, beyond}
 use Rattle.celtokens.specs.Numeral.{Numeral, decimal, hexadecimal, is_u, after_hex_prefix, FirstIs, FirstIsNot, BestNumeral}
 use Rattle.celtokens.specs.Terminal.{Int, Uint}
 use Rattle.celtokens.specs.Lexeme.{Part, Whole, Lexeme, int, uint, Longest}
 use Rattle.celtokens.proofs.Lexemes.{starts_class, to_longest}
-use Rattle.celtokens.proofs.Runs.{Continues, run_is, run_shorter, behind_le}
+use Rattle.celtokens.proofs.Runs.{Continues, run_is, run_shorter, beyond_le}
 
 -- a digit is below its base
 pub digit_in_base : (c : ℕ) → is_in kind.Digit c ≡ true → nat_lt (digit_value c) 10 ≡ true
@@ -39,7 +39,7 @@ class_digit : (c : ℕ) → class c ≡ class_of.Digit → is_in kind.Digit c �
 class_digit c h = grind (arith, nat_tests)
 
 -- where no `0x` with a digit begins, the run of digits is the longest numeral
-decimal_others : (c : ℕ) (i : List ℕ) → after_hex_prefix (c ∷ i) ≡ None → (m : ℕ) (s : List ℕ) → Numeral c i m s → ((length (behind kind.Digit i) < length s) × FirstIsNot is_u s) ⊎ ((m ≡ digits_value 10 (c ∷ front kind.Digit i)) × (s ≡ behind kind.Digit i))
+decimal_others : (c : ℕ) (i : List ℕ) → after_hex_prefix (c ∷ i) ≡ None → (m : ℕ) (s : List ℕ) → Numeral c i m s → ((length (beyond kind.Digit i) < length s) × FirstIsNot is_u s) ⊎ ((m ≡ digits_value 10 (c ∷ front kind.Digit i)) × (s ≡ beyond kind.Digit i))
 decimal_others c i none m s (decimal ds run) =
     elim (run_shorter kind.Digit run) [
       | inl w ↦ inl (w.0, continues_not_u kind.Digit digit_not_u s w.1)
@@ -47,7 +47,7 @@ decimal_others c i none m s (decimal ds run) =
     ]
 decimal_others c i none m s (hexadecimal h hs e run) = absurd (let n = rw e at none in cc)
 
-pub decimal_best : (l : List ℕ) → StartsWith class_of.Digit l → after_hex_prefix l ≡ None → BestNumeral l (digits_value 10 (front kind.Digit l)) (behind kind.Digit l)
+pub decimal_best : (l : List ℕ) → StartsWith class_of.Digit l → after_hex_prefix l ≡ None → BestNumeral l (digits_value 10 (front kind.Digit l)) (beyond kind.Digit l)
 decimal_best [] starts none = absurd starts
 decimal_best (c ∷ i) starts none =
     let first : is_in kind.Digit c ≡ true = class_digit c starts in
@@ -60,9 +60,9 @@ decimal_best (c ∷ i) starts none =
     })
 
 -- where it begins, the run of hexadecimal digits is
-hexadecimal_others : (z x d : ℕ) (i : List ℕ) → z ≡ 48 → x ≡ 120 → (m : ℕ) (s : List ℕ) → Numeral z (x ∷ d ∷ i) m s → ((length (behind kind.HexDigit i) < length s) × FirstIsNot is_u s) ⊎ ((m ≡ digits_value 16 (d ∷ front kind.HexDigit i)) × (s ≡ behind kind.HexDigit i))
+hexadecimal_others : (z x d : ℕ) (i : List ℕ) → z ≡ 48 → x ≡ 120 → (m : ℕ) (s : List ℕ) → Numeral z (x ∷ d ∷ i) m s → ((length (beyond kind.HexDigit i) < length s) × FirstIsNot is_u s) ⊎ ((m ≡ digits_value 16 (d ∷ front kind.HexDigit i)) × (s ≡ beyond kind.HexDigit i))
 hexadecimal_others z x d i ez ex m s (decimal ds stop) =
-    let le : length (behind kind.HexDigit i) ≤ length i = behind_le kind.HexDigit i in
+    let le : length (beyond kind.HexDigit i) ≤ length i = beyond_le kind.HexDigit i in
     inl (omega arith, λ c j e. let p : x ≡ c = cc in rw (← p, ex) refl)
 hexadecimal_others z x d i ez ex m s (decimal ds (more e run)) = absurd (let n = rw ex at e in cc)
 hexadecimal_others z x d i ez ex m s (hexadecimal h hs e run) =
@@ -71,10 +71,10 @@ hexadecimal_others z x d i ez ex m s (hexadecimal h hs e run) =
       | inr w ↦ inr (ap (λ l. digits_value 16 (d ∷ l)) w.0, w.1)
     ]
 
-hexadecimal_numeral : (z x d : ℕ) (i : List ℕ) → z ≡ 48 → x ≡ 120 → is_in kind.HexDigit d ≡ true → Numeral z (x ∷ d ∷ i) (digits_value 16 (d ∷ front kind.HexDigit i)) (behind kind.HexDigit i)
+hexadecimal_numeral : (z x d : ℕ) (i : List ℕ) → z ≡ 48 → x ≡ 120 → is_in kind.HexDigit d ≡ true → Numeral z (x ∷ d ∷ i) (digits_value 16 (d ∷ front kind.HexDigit i)) (beyond kind.HexDigit i)
 hexadecimal_numeral z x d i ez ex digit = rw (ez, ex) (hexadecimal d (front kind.HexDigit i) digit (run_is kind.HexDigit i))
 
-hexadecimal_step : (z x d : ℕ) (i ds : List ℕ) → (z == 48 && (x == 120 && is_in kind.HexDigit d)) ≡ true → d ∷ i ≡ ds → BestNumeral (z ∷ x ∷ d ∷ i) (digits_value 16 (front kind.HexDigit ds)) (behind kind.HexDigit ds)
+hexadecimal_step : (z x d : ℕ) (i ds : List ℕ) → (z == 48 && (x == 120 && is_in kind.HexDigit d)) ≡ true → d ∷ i ≡ ds → BestNumeral (z ∷ x ∷ d ∷ i) (digits_value 16 (front kind.HexDigit ds)) (beyond kind.HexDigit ds)
 hexadecimal_step z x d i ds test e =
     let both = and_parts (z == 48) (x == 120 && is_in kind.HexDigit d) test in
     let parts = and_parts (x == 120) (is_in kind.HexDigit d) both.1 in
@@ -89,7 +89,7 @@ hexadecimal_step z x d i ds test e =
       others = hexadecimal_others z x d i ez ex;
     })
 
-pub hexadecimal_best : (l ds : List ℕ) → after_hex_prefix l ≡ Some ds → BestNumeral l (digits_value 16 (front kind.HexDigit ds)) (behind kind.HexDigit ds)
+pub hexadecimal_best : (l ds : List ℕ) → after_hex_prefix l ≡ Some ds → BestNumeral l (digits_value 16 (front kind.HexDigit ds)) (beyond kind.HexDigit ds)
 hexadecimal_best [] ds e = absurd (cc)
 hexadecimal_best (z ∷ []) ds e = absurd (cc)
 hexadecimal_best (z ∷ x ∷ []) ds e = absurd (cc)

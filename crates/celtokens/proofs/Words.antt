@@ -4,7 +4,7 @@ use Rattle.std.proofs.lemmas.Bool.Decides.{nat_tests}
 use Rattle.celtokens.specs.declared.class.Class.TheVariants as class_of
 use Rattle.celtokens.specs.declared.run.Kind.TheVariants as kind
 use Rattle.celtokens.specs.Class.{class, is_quote, StartsWith}
-use Rattle.celtokens.specs.Run.{is_in, Run, stop, more, front, behind}
+use Rattle.celtokens.specs.Run.{is_in, Run, stop, more, front, beyond}
 use Rattle.celtokens.specs.Numeral.{FirstIs, FirstIsNot}
 use Rattle.celtokens.specs.Text.{is_r, HasNoText, BestText, IsRawText, HasNoRawText}
 use Rattle.celtokens.specs.Terminal.{Terminal, Quoted, word_of}
@@ -33,7 +33,7 @@ raw_others {i = i} {t = t} {r = r} best q s (word cs run) =
 raw_others best q s (raw_text mark other) =
     elim (best.others _ s other) [ inl w ↦ inl w | inr w ↦ inr (ap (λ u. Whole (Quoted u)) w.0, w.1) ]
 
-word_others : (c : ℕ) (i : List ℕ) → (is_r c ≡ true → HasNoText true i) → (q : Part) (s : List ℕ) → Lexeme class_of.Letter c i q s → (length (behind kind.InWord i) < length s) ⊎ ((q ≡ Whole (word_of (c ∷ front kind.InWord i))) × (s ≡ behind kind.InWord i))
+word_others : (c : ℕ) (i : List ℕ) → (is_r c ≡ true → HasNoText true i) → (q : Part) (s : List ℕ) → Lexeme class_of.Letter c i q s → (length (beyond kind.InWord i) < length s) ⊎ ((q ≡ Whole (word_of (c ∷ front kind.InWord i))) × (s ≡ beyond kind.InWord i))
 word_others c i none q s (word cs run) =
     elim (run_shorter kind.InWord run) [ inl w ↦ inl w.0 | inr w ↦ inr (ap (λ l. Whole (word_of (c ∷ l))) w.0, w.1) ]
 word_others c i none q s (raw_text mark other) = absurd (none mark _ s other)
@@ -43,12 +43,12 @@ raw_longest l t r starts raw =
     to_longest l raw.first raw.rest class_of.Letter _ r raw.is (starts_class l raw.first raw.rest class_of.Letter raw.is starts)
     (record { lexeme = raw_text raw.mark raw.best.text; others = raw_others raw.best })
 
-pub word_longest : (l : List ℕ) (t : Terminal) → StartsWith class_of.Letter l → HasNoRawText l → t ≡ word_of (front kind.InWord l) → Longest l (Whole t) (behind kind.InWord l)
+pub word_longest : (l : List ℕ) (t : Terminal) → StartsWith class_of.Letter l → HasNoRawText l → t ≡ word_of (front kind.InWord l) → Longest l (Whole t) (beyond kind.InWord l)
 word_longest [] t starts none e = absurd starts
 word_longest (c ∷ i) t starts none e =
     let in_word : is_in kind.InWord c ≡ true = letter_in_word c starts in
     let same : t ≡ word_of (c ∷ front kind.InWord i) = rw in_word at e in
-    rw (same, in_word) (to_longest (c ∷ i) c i class_of.Letter _ (behind kind.InWord i) refl starts
+    rw (same, in_word) (to_longest (c ∷ i) c i class_of.Letter _ (beyond kind.InWord i) refl starts
     (record { lexeme = word (front kind.InWord i) (run_is kind.InWord i); others = word_others c i (none c i refl) }))
 
 pub raw_from_mark : (l m t r : List ℕ) → FirstIs is_r l m → BestText true m t r → IsRawText l t r

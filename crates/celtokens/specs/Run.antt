@@ -26,6 +26,6 @@ front k [] = []
 front k (c ∷ i) = if is_in k c then c ∷ front k i else []
 
 -- what follows all the characters of a kind at the front
-abbrev pub behind : Kind → List ℕ → List ℕ
-behind k [] = []
-behind k (c ∷ i) = if is_in k c then behind k i else c ∷ i
+abbrev pub beyond : Kind → List ℕ → List ℕ
+beyond k [] = []
+beyond k (c ∷ i) = if is_in k c then beyond k i else c ∷ i

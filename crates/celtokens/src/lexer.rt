@@ -32,11 +32,11 @@ pub fn tokens<'a>(alloc: Global, chars: &'a [char]) -> Result<Option<Vec<Token<'
     let mut rest = chars;
     'lexemes: while !rest.is_empty() {
         match lexeme(alloc, rest)? {
-            Some((part, behind)) => {
+            Some((part, beyond)) => {
                 if let Some(token) = part {
                     tokens.push(token)?;
                 }
-                rest = behind;
+                rest = beyond;
             }
             None => return Ok(None),
         }

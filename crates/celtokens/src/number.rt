@@ -72,7 +72,7 @@ pub(crate) fn number(chars: &[char]) -> (Token<'_>, &[char])
 {
     let (digits, rest) = numeral(chars);
     match after_u(rest) {
-        Some(behind) => (Token::Uint(digits), behind),
+        Some(beyond) => (Token::Uint(digits), beyond),
         None => (Token::Int(digits), rest),
     }
 }

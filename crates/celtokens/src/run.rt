@@ -1,7 +1,7 @@
 //! Runs of characters of one kind.
 
 ghost use Rattle.std.specs.Prelude.{◌≡◌};
-ghost use Rattle.celtokens.specs.Run.{is_in, is_line_end, front, behind};
+ghost use Rattle.celtokens.specs.Run.{is_in, is_line_end, front, beyond};
 
 /// A kind of character, of which a run is made.
 #[derive(Clone, Copy)]
@@ -36,10 +36,10 @@ pub(crate) fn is_in(kind: Kind, c: char) -> bool
 }
 
 /// All the characters of the kind at the front, and what follows them.
-#[tactic(auto, using(crate::proofs::Runs::front_take, crate::proofs::Runs::behind_drop))]
+#[tactic(auto, using(crate::proofs::Runs::front_take, crate::proofs::Runs::beyond_drop))]
 pub(crate) fn split_run(chars: &[char], kind: Kind) -> (&[char], &[char])
     ensures run { result.0.now ≡ front kind chars.now }
-    ensures rest { result.1.now ≡ behind kind chars.now }
+    ensures rest { result.1.now ≡ beyond kind chars.now }
 {
     for (i, c) in chars.iter().enumerate() {
         if !is_in(kind, *c) {

@@ -78,7 +78,7 @@ fn inside(
     let mut rest = chars;
     'characters: loop {
         match after_delimiter(rest, style) {
-            Some(behind) => return Ok(Some((text, behind))),
+            Some(beyond) => return Ok(Some((text, beyond))),
             None => match character(rest, style) {
                 Some((next, after)) => {
                     text.push(next)?;

@@ -35,13 +35,13 @@ pub(crate) enum Awaited {
 
 impl Awaited {
     // What is awaited after these bytes, of which so many must be there.
-    fn behind(bytes: &[u8], need: usize) -> Awaited
+    fn next(bytes: &[u8], need: usize) -> Awaited
         ensures { Awaits bytes.now need → IsAwaited bytes.now result }
     {
         if bytes.is_empty() || bytes.len() >= HEAD_LIMIT || bytes.len() + 1 < need {
             return Awaited::Bytes(need);
         }
-        match Place::BeforeRequest.behind(bytes) {
+        match Place::BeforeRequest.after(bytes) {
             Some(place) => Awaited::Head(place),
             None => Awaited::Bytes(need),
         }
@@ -54,7 +54,7 @@ impl Awaited {
     {
         match self {
             Awaited::Bytes(need) if len < need => Some(self),
-            Awaited::Head(place) if len < HEAD_LIMIT => place.behind(bytes).map(Awaited::Head),
+            Awaited::Head(place) if len < HEAD_LIMIT => place.after(bytes).map(Awaited::Head),
             _ => None,
         }
     }
@@ -170,7 +170,7 @@ impl Cutter {
         match cut_all(alloc, &self.pending, &mut self.room) {
             Ok(run) => {
                 remove_front(&mut self.pending, run.at);
-                self.awaited = Awaited::behind(&self.pending, run.awaited);
+                self.awaited = Awaited::next(&self.pending, run.awaited);
                 self.end = run.end;
                 told(run.messages, run.end)
             }

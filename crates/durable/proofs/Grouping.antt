@@ -469,8 +469,8 @@ module _ {D : Type 0} {g : Ghosts D} (old mid new : Store D g) (all group later 
       (run_stopped old mid new (take (length given) all) given next.more so_far group later all (sym (length-take-le (length given) all inside)) split failed.0 failed.1)
 
   -- what is left after a group that is answered whole
-  pub left_behind : stop ≡ None → all ≡ take (length now) all ++ later
-  left_behind none =
+  pub left_after : stop ≡ None → all ≡ take (length now) all ++ later
+  left_after none =
       split ∙ sym (append_assoc (take (length given) all) group later)
       ∙ ap (λ (rs : List Request). (take (length given) all ++ rs) ++ later) (sym (take_all (length next.more) group (omega (arith, next.all none))))
       ∙ ap (λ (rs : List Request). rs ++ later) (sym front_is)

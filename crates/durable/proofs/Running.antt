@@ -29,8 +29,8 @@ found_wider rules h kept ws tail c found = record {
   stands = found.stands;
 }
 
-pub found_behind : (rules : Rules) (h : History) (us ws : List Write) (c : List ℕ) → IsFound rules (h ++ us) [] ws c → IsFound rules h us (us ++ ws) c
-found_behind rules h us ws c found = record {
+pub found_after : (rules : Rules) (h : History) (us ws : List Write) (c : List ℕ) → IsFound rules (h ++ us) [] ws c → IsFound rules h us (us ++ ws) c
+found_after rules h us ws c found = record {
   more = found.more;
   rest = found.rest;
   parts = ap (λ (w : List Write). us ++ w) found.parts;
@@ -110,7 +110,7 @@ module _ {D : Type 0} {g : Ghosts D} (rules : Rules) (old mid new : Store D g) (
       record {
         settled = subst At (append_assoc h us ws ∙ ap (λ (w : List Write). h ++ w) (sym both)) next.settled;
         moments = subst Leaves (sym both) (moments_then ws (us ++ ws) next.moments (λ c found. found_wider rules h [] us ws c found)
-            (λ c found. found_first rules h us (us ++ ws) c (found_behind rules h us ws c found)));
+            (λ c found. found_first rules h us (us ++ ws) c (found_after rules h us ws c found)));
       }
 
   -- the device failed in further requests
@@ -131,7 +131,7 @@ module _ {D : Type 0} {g : Ghosts D} (rules : Rules) (old mid new : Store D g) (
               left = λ c l. found_further rules h us kept ws c (next.left.left c l);
             }));
         moments = subst Leaves (sym both) (moments_then ws (us ++ ws) next.moments (λ c found. found_wider rules h [] us ws c found)
-            (λ c found. found_first rules h us (us ++ ws) c (found_behind rules h us ws c found)));
+            (λ c found. found_first rules h us (us ++ ws) c (found_after rules h us ws c found)));
       }
 
 -- a run that has answered nothing

@@ -73,22 +73,22 @@ conditions_meant p (c ∷ cs) ss (e ∷ es) w env typed f =
     ap (λ (o : Outcome). and_then c.name o (conditions_by cs (each_plan [] (map of_condition cs ++ ss) es) w)) first
     ∙ ap (λ (r : Conditions). and_then c.name (mean e env) r) (conditions_meant p cs ss es w env typed.2 f)
 
-behind_conditions : (p : Policy) (cs : List Named) (ss : List Source) (trees : List Expr)
+after_conditions : (p : Policy) (cs : List Named) (ss : List Source) (trees : List Expr)
     → AreTyped p [] (map of_condition cs ++ ss) trees → AreTyped p [] ss (drop (length cs) trees)
-behind_conditions p [] ss trees typed = typed
-behind_conditions p (c ∷ cs) ss [] typed = absurd typed
-behind_conditions p (c ∷ cs) ss (e ∷ es) typed = behind_conditions p cs ss es typed.2
+after_conditions p [] ss trees typed = typed
+after_conditions p (c ∷ cs) ss [] typed = absurd typed
+after_conditions p (c ∷ cs) ss (e ∷ es) typed = after_conditions p cs ss es typed.2
 
-plans_behind_conditions : (p : Policy) (cs : List Named) (ss : List Source) (trees : List Expr) → AreTyped p [] (map of_condition cs ++ ss) trees
+plans_after_conditions : (p : Policy) (cs : List Named) (ss : List Source) (trees : List Expr) → AreTyped p [] (map of_condition cs ++ ss) trees
     → drop (length cs) (each_plan [] (map of_condition cs ++ ss) trees) ≡ each_plan [] ss (drop (length cs) trees)
-plans_behind_conditions p [] ss trees typed = refl
-plans_behind_conditions p (c ∷ cs) ss [] typed = absurd typed
-plans_behind_conditions p (c ∷ cs) ss (e ∷ es) typed = plans_behind_conditions p cs ss es typed.2
+plans_after_conditions p [] ss trees typed = refl
+plans_after_conditions p (c ∷ cs) ss [] typed = absurd typed
+plans_after_conditions p (c ∷ cs) ss (e ∷ es) typed = plans_after_conditions p cs ss es typed.2
 
 -- ---- variables
 
 -- What stands after variables: the trees with their types, their plans, and the variables with their outcomes.
-record Behind (p : Policy) (ns : List Named) (ss : List Source) (trees : List Expr) (earlier : List Text) (names : Name → Outcome) (env : Environment) (os : List Outcome) : Type 0 where
+record After (p : Policy) (ns : List Named) (ss : List Source) (trees : List Expr) (earlier : List Text) (names : Name → Outcome) (env : Environment) (os : List Outcome) : Type 0 where
   pub declared : Variables
   pub typed : AreTyped p declared ss (drop (length ns) trees)
   pub plans : drop (length ns) (each_plan earlier (map of_variable ns ++ ss) trees) ≡ each_plan (map (λ v. v.0) declared) ss (drop (length ns) trees)
@@ -99,17 +99,17 @@ record Behind (p : Policy) (ns : List Named) (ss : List Source) (trees : List Ex
 one_more : {A : Type 0} (f : A → Text) (xs : List A) (x : A) (names : List Text) → map f xs ≡ names → map f (xs ++ x ∷ []) ≡ names ++ f x ∷ []
 one_more f xs x names e = map-append f xs (x ∷ []) ∙ ap (λ (l : List Text). l ++ f x ∷ []) e
 
-behind_variables : (p : Policy) (ns : List Named) (ss : List Source) (trees : List Expr) (vs : Variables) (earlier : List Text) (names : Name → Outcome) (env : Environment) (os : List Outcome)
+after_variables : (p : Policy) (ns : List Named) (ss : List Source) (trees : List Expr) (vs : Variables) (earlier : List Text) (names : Name → Outcome) (env : Environment) (os : List Outcome)
     → AreTyped p vs (map of_variable ns ++ ss) trees → map (λ v. v.0) vs ≡ earlier → Fits earlier (record { names = names; variables = os }) env
-    → Behind p ns ss trees earlier names env os
-behind_variables p [] ss trees vs earlier names env os typed declared f = record {
+    → After p ns ss trees earlier names env os
+after_variables p [] ss trees vs earlier names env os typed declared f = record {
   declared = vs;
   typed = typed;
   plans = ap (λ (l : List Text). each_plan l ss trees) (sym declared);
   fits = record { agree = f.agree; names_are = f.names_are ∙ sym declared; outcomes_are = f.outcomes_are };
 }
-behind_variables p (n ∷ ns) ss [] vs earlier names env os typed declared f = absurd typed
-behind_variables p (n ∷ ns) ss (e ∷ es) vs earlier names env os typed declared f =
+after_variables p (n ∷ ns) ss [] vs earlier names env os typed declared f = absurd typed
+after_variables p (n ∷ ns) ss (e ∷ es) vs earlier names env os typed declared f =
     let w : World = record { names = names; variables = os } in
     let o : Outcome = given_by (plan_of earlier e) w in
     let first : o ≡ mean e env =
@@ -122,7 +122,7 @@ behind_variables p (n ∷ ns) ss (e ∷ es) vs earlier names env os typed declar
           ∙ (ap (λ (x : Outcome). map (λ b. b.1) env.variables ++ x ∷ []) first
           ∙ sym (map-append (λ b. b.1) env.variables ((n.name, mean e env) ∷ [])));
     } in
-    let rest = behind_variables p ns ss es (vs ++ (n.name, typed.0) ∷ []) (earlier ++ n.name ∷ []) names
+    let rest = after_variables p ns ss es (vs ++ (n.name, typed.0) ∷ []) (earlier ++ n.name ∷ []) names
     (record { names = env.names; variables = env.variables ++ (n.name, mean e env) ∷ [] }) (os ++ o ∷ []) typed.2
     (one_more (λ v. v.0) vs (n.name, typed.0) earlier declared) then_fits in
     record { declared = rest.declared; typed = rest.typed; plans = rest.plans; fits = rest.fits }
@@ -176,9 +176,9 @@ pub evaluate_meant : (p : Policy) (trees : List Expr) (js : List Judged) (names 
 evaluate_meant p trees js names env ready f =
     let others : List Source = map of_variable p.variables ++ flat_map of_validation p.validations in
     let left : List Expr = drop (length p.conditions) trees in
-    let typed = behind_conditions p p.conditions others trees ready.typed in
-    let plans = ap (λ (l : List Judged). drop (length p.conditions) l) ready.compiled ∙ plans_behind_conditions p p.conditions others trees ready.typed in
-    let b = behind_variables p p.variables (flat_map of_validation p.validations) left [] [] names env [] typed refl f in
+    let typed = after_conditions p p.conditions others trees ready.typed in
+    let plans = ap (λ (l : List Judged). drop (length p.conditions) l) ready.compiled ∙ plans_after_conditions p p.conditions others trees ready.typed in
+    let b = after_variables p p.variables (flat_map of_validation p.validations) left [] [] names env [] typed refl f in
     let w : World = record { names = names; variables = outcomes_by (take (length p.variables) (each_plan [] others left)) names [] } in
     ap (λ (l : List Judged). evaluate_by p l names) plans
     ∙ (ap (λ (l : List Judged). tests_by p.failure_policy p.validations l w) b.plans

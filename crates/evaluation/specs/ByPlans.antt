@@ -37,10 +37,10 @@ message_plan None js = None
 message_plan (Some text) [] = None
 message_plan (Some text) (j ∷ js) = Some j
 
-abbrev pub behind_plan : (expression : Option Text) → List Judged → List Judged
-behind_plan None js = js
-behind_plan (Some text) [] = []
-behind_plan (Some text) (j ∷ js) = js
+abbrev pub after_plan : (expression : Option Text) → List Judged → List Judged
+after_plan None js = js
+after_plan (Some text) [] = []
+after_plan (Some text) (j ∷ js) = js
 
 -- the line that the message expression gives, if there is one
 abbrev pub line_by : Option Judged → World → Option Text
@@ -61,7 +61,7 @@ abbrev pub tests_by : FailurePolicy → List Validation → List Judged → Worl
 tests_by f [] js w = None
 tests_by f (v ∷ vs) [] w = None
 tests_by f (v ∷ vs) (j ∷ js) w =
-    option_map_or Some (told f v (line_by (message_plan v.message_expression js) w) (given_by j w)) (tests_by f vs (behind_plan v.message_expression js) w)
+    option_map_or Some (told f v (line_by (message_plan v.message_expression js) w) (given_by j w)) (tests_by f vs (after_plan v.message_expression js) w)
 
 -- what variables and validations say by their plans, which stand after those of the conditions
 abbrev pub evaluate_by : Policy → List Judged → (names : Name → Outcome) → Option Denial

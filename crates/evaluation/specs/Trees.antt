@@ -25,16 +25,16 @@ message_tree None es = None
 message_tree (Some text) [] = None
 message_tree (Some text) (e ∷ es) = Some e
 
-abbrev pub behind_message : (expression : Option Text) → List Expr → List Expr
-behind_message None es = es
-behind_message (Some text) [] = []
-behind_message (Some text) (e ∷ es) = es
+abbrev pub after_message : (expression : Option Text) → List Expr → List Expr
+after_message None es = es
+after_message (Some text) [] = []
+after_message (Some text) (e ∷ es) = es
 
 abbrev pub tests : List Validation → List Expr → List Test
 tests [] es = []
 tests (v ∷ vs) [] = []
 tests (v ∷ vs) (e ∷ es) =
-    record { validation = v; tree = e; message = message_tree v.message_expression es } ∷ tests vs (behind_message v.message_expression es)
+    record { validation = v; tree = e; message = message_tree v.message_expression es } ∷ tests vs (after_message v.message_expression es)
 
 -- ---- of a policy with its trees
 

@@ -33,7 +33,7 @@ fn conditions_by<'p>(
     let mut kept = Conditions::Met;
     let mut rest = conditions;
     let mut plans_left = plans;
-    'all: while let (Some((condition, others)), Some((plan, behind))) = (
+    'all: while let (Some((condition, others)), Some((plan, after))) = (
         rest.split_first(),
         plans_left.split_first(),
     ) {
@@ -45,7 +45,7 @@ fn conditions_by<'p>(
             kept = Conditions::Neither(condition.name.as_str());
         }
         rest = others;
-        plans_left = behind;
+        plans_left = after;
     }
     Ok(kept)
 }

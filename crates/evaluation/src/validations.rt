@@ -9,7 +9,7 @@ ghost use Rattle.evaluation.specs.Environment.{request_of, seen};
 ghost use Rattle.evaluation.specs.Denials.{evaluate};
 ghost use Rattle.evaluation.specs.Ready.{AreReady};
 ghost use Rattle.evaluation.specs.Seen.{denial_seen, names_of, world_of};
-ghost use Rattle.evaluation.specs.ByPlans.{given_by, message_plan, behind_plan, line_by, told, tests_by, evaluate_by};
+ghost use Rattle.evaluation.specs.ByPlans.{given_by, message_plan, after_plan, line_by, told, tests_by, evaluate_by};
 
 use crate::answers::Denial;
 use crate::messages::{failure, line_of, prefixed, said};
@@ -27,13 +27,13 @@ fn message_plan<'a>(
     plans: &'a [Verified],
 ) -> (Option<&'a Verified>, &'a [Verified])
     ensures plan { option_map (λ p. p.now) result.0 ≡ message_plan (option_map string_bytes validation.now.message_expression) plans.now }
-    ensures behind { result.1.now ≡ behind_plan (option_map string_bytes validation.now.message_expression) plans.now }
+    ensures after { result.1.now ≡ after_plan (option_map string_bytes validation.now.message_expression) plans.now }
 {
     if validation.message_expression.is_none() {
         return (None, plans);
     }
     match plans.split_first() {
-        Some((plan, behind)) => (Some(plan), behind),
+        Some((plan, after)) => (Some(plan), after),
         None => (None, plans),
     }
 }
@@ -97,16 +97,16 @@ fn tests_by(
 {
     let mut rest = validations;
     let mut left = plans;
-    'all: while let (Some((validation, others)), Some((plan, behind))) = (
+    'all: while let (Some((validation, others)), Some((plan, after))) = (
         rest.split_first(),
         left.split_first(),
     ) {
-        let (message, behind) = message_plan(validation, behind);
+        let (message, after) = message_plan(validation, after);
         match denial_by(alloc, policy, validation, plan, message, scene, variables)? {
             Some(denial) => return Ok(Some(denial)),
             None => {
                 rest = others;
-                left = behind;
+                left = after;
             }
         }
     }

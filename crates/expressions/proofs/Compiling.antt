@@ -23,19 +23,19 @@ names_in_scope p vs (variable n) = refl
 names_in_scope p vs validation = refl
 names_in_scope p vs message = refl
 
-names_behind : (vs : Variables) (place : Place) (t : ValueType) → names_in (and_declared place t vs) ≡ and_named place (names_in vs)
-names_behind vs condition t = refl
-names_behind vs (variable n) t = map_push (λ v. v.0) vs (n, t)
-names_behind vs validation t = refl
-names_behind vs message t = refl
+names_after : (vs : Variables) (place : Place) (t : ValueType) → names_in (and_declared place t vs) ≡ and_named place (names_in vs)
+names_after vs condition t = refl
+names_after vs (variable n) t = map_push (λ v. v.0) vs (n, t)
+names_after vs validation t = refl
+names_after vs message t = refl
 
 -- ---- numbers of variables
 
-count_behind : (vs : Variables) (place : Place) (t : ValueType) → length (and_declared place t vs) ≡ length vs + declared_by place
-count_behind vs condition t = omega arith
-count_behind vs (variable n) t = omega (arith, length-append vs ((n, t) ∷ []))
-count_behind vs validation t = omega arith
-count_behind vs message t = omega arith
+count_after : (vs : Variables) (place : Place) (t : ValueType) → length (and_declared place t vs) ≡ length vs + declared_by place
+count_after vs condition t = omega arith
+count_after vs (variable n) t = omega (arith, length-append vs ((n, t) ∷ []))
+count_after vs validation t = omega arith
+count_after vs message t = omega arith
 
 count_append : (ss ts : List Source) → variables_among (ss ++ ts) ≡ variables_among ss + variables_among ts
 count_append [] ts = omega arith
@@ -88,11 +88,11 @@ pub goes_on : {p : Policy} {ss : List Source} {es : List Expr} {vs ws : Variable
     → Planning p ss es ws (done ++ v ∷ []) rest later
 goes_on {p} {ss} {es} {vs} {ws} {done} {s} {rest} {e} {later} so_far v is declares =
     let t : ValueType = so_far.typed.0 in
-    let behind : ws ≡ and_declared s.place t vs = declares t so_far.typed.1 in
-    let names : and_named s.place (names_in vs) ≡ names_in ws = sym (names_behind vs s.place t) ∙ ap names_in (sym behind) in
-    let few : length ws + variables_among rest ≤ 65535 = omega (arith, so_far.few, ap length behind, count_behind vs s.place t) in
+    let after : ws ≡ and_declared s.place t vs = declares t so_far.typed.1 in
+    let names : and_named s.place (names_in vs) ≡ names_in ws = sym (names_after vs s.place t) ∙ ap names_in (sym after) in
+    let few : length ws + variables_among rest ≤ 65535 = omega (arith, so_far.few, ap length after, count_after vs s.place t) in
     record {
-      typed = subst (λ (x : Variables). AreTyped p x rest later) (sym behind) so_far.typed.2;
+      typed = subst (λ (x : Variables). AreTyped p x rest later) (sym after) so_far.typed.2;
       small = so_far.small.1;
       few = few;
       plans =

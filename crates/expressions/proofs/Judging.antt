@@ -19,9 +19,9 @@ typed_alone p vs s e u t tree h = subst (λ (x : Expr). HasType (scope_at p vs s
 pub unsuited_is_bad : (p : Policy) (vs : Variables) (s : Source) (e : Expr) → IsTreeOf s.text e → IsUnsuited p vs s.place e → IsBad p vs s
 unsuited_is_bad p vs s e tree none = λ u t h. none t (typed_alone p vs s e u t tree h) h.suits
 
-pub is_next : (p : Policy) (vs behind : Variables) (s : Source) (e : Expr) (t : ValueType)
-    → IsTreeOf s.text e → IsSuited p vs s.place e t → behind ≡ and_declared s.place t vs → IsNext p vs s e behind
-is_next p vs behind s e t tree suited declared = record {
+pub is_next : (p : Policy) (vs after : Variables) (s : Source) (e : Expr) (t : ValueType)
+    → IsTreeOf s.text e → IsSuited p vs s.place e t → after ≡ and_declared s.place t vs → IsNext p vs s e after
+is_next p vs after s e t tree suited declared = record {
   type = t;
   typed = record { read = tree.read; typed = suited.typed; suits = suited.suits };
   declared = declared;

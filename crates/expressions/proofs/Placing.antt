@@ -18,15 +18,15 @@ place_at n (variable name) = n
 place_at n validation = n
 place_at n message = n
 
-abbrev behind : (earlier : ℕ) → Place → ℕ
-behind n condition = n
-behind n (variable name) = n + 1
-behind n validation = n
-behind n message = n
+abbrev after : (earlier : ℕ) → Place → ℕ
+after n condition = n
+after n (variable name) = n + 1
+after n validation = n
+after n message = n
 
 abbrev each_place : (earlier : ℕ) → List Source → List ℕ
 each_place n [] = []
-each_place n (s ∷ ss) = place_at n s.place ∷ each_place (behind n s.place) ss
+each_place n (s ∷ ss) = place_at n s.place ∷ each_place (after n s.place) ss
 
 named_places : (names : List Text) (place : Place) → length (names_at names place) ≡ place_at (length names) place
 named_places names condition = refl
@@ -34,11 +34,11 @@ named_places names (variable name) = refl
 named_places names validation = refl
 named_places names message = refl
 
-named_behind : (names : List Text) (place : Place) → length (and_named place names) ≡ behind (length names) place
-named_behind names condition = refl
-named_behind names (variable name) = length-append names (name ∷ [])
-named_behind names validation = refl
-named_behind names message = refl
+named_after : (names : List Text) (place : Place) → length (and_named place names) ≡ after (length names) place
+named_after names condition = refl
+named_after names (variable name) = length-append names (name ∷ [])
+named_after names validation = refl
+named_after names message = refl
 
 planned_places : (p : Policy) (vs : Variables) (names : List Text) (ss : List Source) (es : List Expr) → AreTyped p vs ss es
     → map (λ j. j.vars) (each_plan names ss es) ≡ each_place (length names) ss
@@ -48,7 +48,7 @@ planned_places p vs names (s ∷ ss) [] typed = absurd typed
 planned_places p vs names (s ∷ ss) (e ∷ es) typed =
     ap (λ (n : ℕ). n ∷ map (λ j. j.vars) (each_plan (and_named s.place names) ss es)) (named_places names s.place)
     ∙ ap (λ (ns : List ℕ). place_at (length names) s.place ∷ ns) (planned_places p _ (and_named s.place names) ss es typed.2)
-    ∙ ap (λ (n : ℕ). place_at (length names) s.place ∷ each_place n ss) (named_behind names s.place)
+    ∙ ap (λ (n : ℕ). place_at (length names) s.place ∷ each_place n ss) (named_after names s.place)
 
 -- ---- the same by the parts of a policy
 

@@ -39,8 +39,8 @@ alone_more : (p : Policy) (vs ws : Variables) (s : Source) (e : Expr) (rest : Li
 alone_more p vs ws s e rest [] next h = absurd h
 alone_more p vs ws s e rest (u ∷ us) next h =
     let same = next.alone u h.0 h.1 in
-    let behind : and_declared s.place h.0 vs ≡ ws = ap (λ (t : ValueType). and_declared s.place t vs) same.1 ∙ sym next.declared in
-    (us, ap (λ (x : Expr). x ∷ us) same.0, subst (λ (v : Variables). AreTyped p v rest us) behind h.2)
+    let after : and_declared s.place h.0 vs ≡ ws = ap (λ (t : ValueType). and_declared s.place t vs) same.1 ∙ sym next.declared in
+    (us, ap (λ (x : Expr). x ∷ us) same.0, subst (λ (v : Variables). AreTyped p v rest us) after h.2)
 
 goes_on_alone : (p : Policy) (ss : List Source) (vs ws : Variables) (done : List Expr) (s : Source) (e : Expr) (rest : List Source)
     → IsNext p vs s e ws → (us es : List Expr) → us ≡ done ++ es → AreTyped p vs (s ∷ rest) es
@@ -93,5 +93,5 @@ goes_on_at f xs i d {p} {ss} {vs} {ws} {done} more e inside so_far next is =
 
 pub ends_typed_at : {A : Type 0} (f : A → Source) (xs : List A) (i : ℕ) {p : Policy} {ss : List Source} {vs : Variables} {done : List Expr}
     → length xs ≤ i → Progress p ss vs done (map f (drop i xs)) → AreTyped p [] ss done
-ends_typed_at f xs i {p} {ss} {vs} {done} behind so_far =
-    ends_typed (subst (λ (r : List Source). Progress p ss vs done r) (at_drop_all (map f) xs i behind) so_far)
+ends_typed_at f xs i {p} {ss} {vs} {done} after so_far =
+    ends_typed (subst (λ (r : List Source). Progress p ss vs done r) (at_drop_all (map f) xs i after) so_far)

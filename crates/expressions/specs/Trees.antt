@@ -26,9 +26,9 @@ pub record IsSuited (p : Policy) (vs : Variables) (place : Place) (e : Expr) (t 
   pub alone : (u : ValueType) → HasType (scope_at p vs place) e u → u ≡ t
 
 -- the expression spells this tree and no other, and these variables are declared after it
-pub record IsNext (p : Policy) (vs : Variables) (s : Source) (e : Expr) (behind : Variables) : Type 0 where
+pub record IsNext (p : Policy) (vs : Variables) (s : Source) (e : Expr) (after : Variables) : Type 0 where
   pub type : ValueType
   pub typed : IsTyped p vs s e type
-  pub declared : behind ≡ and_declared s.place type vs
+  pub declared : after ≡ and_declared s.place type vs
   pub alone : (u : Expr) (t : ValueType) → IsTyped p vs s u t → (u ≡ e) × (t ≡ type)
   pub small : IsSmall e

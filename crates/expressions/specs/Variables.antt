@@ -15,8 +15,8 @@ abbrev pub HasItsType : Policy → Variables → Source → Expr → Type 0
 HasItsType p vs s e = (t : ValueType) × IsTyped p vs s e t
 
 -- these variables are declared after the expression
-abbrev pub Declares : Policy → Variables → Source → Expr → (behind : Variables) → Type 0
-Declares p vs s e behind = (t : ValueType) → IsTyped p vs s e t → behind ≡ and_declared s.place t vs
+abbrev pub Declares : Policy → Variables → Source → Expr → (after : Variables) → Type 0
+Declares p vs s e after = (t : ValueType) → IsTyped p vs s e t → after ≡ and_declared s.place t vs
 
 -- how many variables an expression declares, and how many expressions do
 abbrev pub declared_by : Place → ℕ

@@ -23,7 +23,7 @@ pub fn short_field(bytes: &[u8]) -> Option<(&[u8], &[u8])>
     if bytes.len() < 2 {
         return None;
     }
-    split_behind(&bytes[2..], BigEndian::read_u16(bytes) as usize)
+    split_after(&bytes[2..], BigEndian::read_u16(bytes) as usize)
 }
 
 /// The bytes whose number stands in four bytes, and what stands after them: `None` where there are fewer.
@@ -35,11 +35,11 @@ pub fn long_field(bytes: &[u8]) -> Option<(&[u8], &[u8])>
     if bytes.len() < 4 {
         return None;
     }
-    split_behind(&bytes[4..], BigEndian::read_u32(bytes) as usize)
+    split_after(&bytes[4..], BigEndian::read_u32(bytes) as usize)
 }
 
 // This many bytes, and what stands after them, if there are as many.
-fn split_behind(bytes: &[u8], size: usize) -> Option<(&[u8], &[u8])>
+fn split_after(bytes: &[u8], size: usize) -> Option<(&[u8], &[u8])>
     ensures parts { IfSome result (λ parts. bytes.now ≡ parts.0.now ++ parts.1.now) }
     ensures size { IfSome result (λ parts. length parts.0.now ≡ size) }
     ensures none { result ≡ None → length bytes.now < size }

@@ -21,9 +21,9 @@ pub refused_alone : (fs ts : List Condition) (r : Refusal) → first_of fs ≡ S
 unfolding either
 refused_alone fs ts r is = first_append fs ts ∙ ap (λ (x : Option Refusal). either x (first_of ts)) is
 
-pub none_behind : (fs ts : List Condition) → first_of fs ≡ None → first_of (fs ++ ts) ≡ first_of ts
+pub none_after : (fs ts : List Condition) → first_of fs ≡ None → first_of (fs ++ ts) ≡ first_of ts
 unfolding either
-none_behind fs ts none = first_append fs ts ∙ ap (λ (x : Option Refusal). either x (first_of ts)) none
+none_after fs ts none = first_append fs ts ∙ ap (λ (x : Option Refusal). either x (first_of ts)) none
 
 pub first_of_table : (cs : List table.Condition) → first_of (of_table cs) ≡ option_map known (table.first_of cs)
 first_of_table [] = refl

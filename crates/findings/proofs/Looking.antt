@@ -31,16 +31,16 @@ module _ {S : Type 0} (holds : S → Base → Type 0) (goes_to : S → S → Typ
   }
 
   -- after looks that failed not, where nothing but memory is wanting
-  pub looked_behind : {A : Type 0} (before after : S) (result : Result A LookupFault) → ((base : Base) → holds before base → holds after base) → goes_to before after
+  pub looked_after : {A : Type 0} (before after : S) (result : Result A LookupFault) → ((base : Base) → holds before base → holds after base) → goes_to before after
       → failures before ≤ failures after → OnErr result (IsErrOf result Memory) → HasLooked holds goes_to failures core before after result
-  looked_behind before after (Ok x) kept goes counts memory = record {
+  looked_after before after (Ok x) kept goes counts memory = record {
     kept = kept;
     goes = goes;
     counts = counts;
     device = λ told. let never : ◌≡◌ {A = Result _ LookupFault} (Ok x) (Err Device) = told in cc;
     damaged = λ part told held v over. let never : ◌≡◌ {A = Result _ LookupFault} (Ok x) (Err (Damaged part)) = told in cc;
   }
-  looked_behind before after (Err fault) kept goes counts memory = record {
+  looked_after before after (Err fault) kept goes counts memory = record {
     kept = kept;
     goes = goes;
     counts = counts;
@@ -50,7 +50,7 @@ module _ {S : Type 0} (holds : S → Base → Type 0) (goes_to : S → S → Typ
 
   -- without a look
   pub looked_not : {A : Type 0} (s : S) (result : Result A LookupFault) → goes_to s s → OnErr result (IsErrOf result Memory) → HasLooked holds goes_to failures core s s result
-  looked_not s result stays memory = looked_behind s s result (λ base below. below) stays (omega arith) memory
+  looked_not s result stays memory = looked_after s s result (λ base below. below) stays (omega arith) memory
 
   -- after a look that failed not
   pub looked_on : {A : Type 0} (before between after : S) (result : Result A LookupFault) → ((base : Base) → holds before base → holds between base) → failures before ≤ failures between

@@ -26,7 +26,7 @@ use Rattle.recovery.specs.Shown.{Shows}
 use Rattle.recovery.specs.Standing.{View}
 use Rattle.findings.specs.Attempts.{attempt_of, shown_at}
 use Rattle.findings.specs.Conditions.{Refusal, Condition, known, with_bad_expression, first_of, form_conditions, own_conditions, create_conditions, replace_conditions, delete_conditions, create_limits, replace_limits, update_conflicts, update_conflicts_at, deletion_conflicts}
-use Rattle.findings.proofs.First.{none_of_both, refused_alone, none_behind, is_there, is_not}
+use Rattle.findings.proofs.First.{none_of_both, refused_alone, none_after, is_there, is_not}
 use Rattle.findings.proofs.Found.{IsFound, replace_found, first_missing}
 use Rattle.findings.proofs.Showing.{exists_shown, shown_at_shown, replace_shown, delete_shown, create_limits_shown, replace_limits_shown}
 
@@ -47,17 +47,17 @@ module _ (rules : Rules) (held : seen.View Beside) (m : Manifest) (v : View) (sh
   create_free free = is_not (exists v m.key) (known AlreadyExists) (sym (exists_shown held v m.key shows) ∙ free)
 
   pub create_bad_spec : exists held m.key ≡ false → first_of (own_conditions rules v (create m) stands.bad_spec) ≡ Some (known BadSpec)
-  create_bad_spec free = none_behind (create_conditions v m.key) (rest_of rules v m stands.bad_spec) (create_free free)
+  create_bad_spec free = none_after (create_conditions v m.key) (rest_of rules v m stands.bad_spec) (create_free free)
 
   pub create_bad_expression : (t : List ℕ) → exists held m.key ≡ false → first_of (own_conditions rules v (create m) (stands.bad_expression t)) ≡ Some (with_bad_expression t)
-  create_bad_expression t free = none_behind (create_conditions v m.key) (rest_of rules v m (stands.bad_expression t)) (create_free free)
+  create_bad_expression t free = none_after (create_conditions v m.key) (rest_of rules v m (stands.bad_expression t)) (create_free free)
 
   create_limits_at : {x : Option Refusal} → x ≡ first_of (create_limits rules held (document_in m.body)) → first_of (create_limits rules v (document_in m.body)) ≡ x
   create_limits_at is = sym (ap first_of (create_limits_shown rules held v (document_in m.body) shows)) ∙ sym is
 
   pub create_limited : (trees : List Expr) (r : code_refusal.Refusal) → exists held m.key ≡ false → option_map known (Some r) ≡ first_of (create_limits rules held (document_in m.body))
       → first_of (own_conditions rules v (create m) (stands.sound trees)) ≡ Some (known r)
-  create_limited trees r free is = none_behind (create_conditions v m.key) (create_limits rules v (document_in m.body)) (create_free free) ∙ create_limits_at is
+  create_limited trees r free is = none_after (create_conditions v m.key) (create_limits rules v (document_in m.body)) (create_free free) ∙ create_limits_at is
 
   -- where none does, and what the creation attempts
   pub create_clear : (trees : List Expr) → exists held m.key ≡ false → option_map known None ≡ first_of (create_limits rules held (document_in m.body))
@@ -97,19 +97,19 @@ module _ (rules : Rules) (held : seen.View Beside) (m : Manifest) (v : View) (sh
   replace_conflicting f found s conflicts = replace_refused s VersionNotCurrent (replace_found held m.key f found m.version true conflicts)
 
   pub replace_bad_spec : first_of (replace_conditions held m.key m.version) ≡ None → first_of (own_conditions rules v (replace m) stands.bad_spec) ≡ Some (known BadSpec)
-  replace_bad_spec free = none_behind (replace_conditions v m.key m.version) (form_conditions stands.bad_spec ++ replace_limits rules v (document_in m.body)) (replaced free)
+  replace_bad_spec free = none_after (replace_conditions v m.key m.version) (form_conditions stands.bad_spec ++ replace_limits rules v (document_in m.body)) (replaced free)
 
   pub replace_bad_expression : (t : List ℕ) → first_of (replace_conditions held m.key m.version) ≡ None
       → first_of (own_conditions rules v (replace m) (stands.bad_expression t)) ≡ Some (with_bad_expression t)
   replace_bad_expression t free =
-      none_behind (replace_conditions v m.key m.version) (form_conditions (stands.bad_expression t) ++ replace_limits rules v (document_in m.body)) (replaced free)
+      none_after (replace_conditions v m.key m.version) (form_conditions (stands.bad_expression t) ++ replace_limits rules v (document_in m.body)) (replaced free)
 
   replace_limits_at : {x : Option Refusal} → x ≡ first_of (replace_limits rules held (document_in m.body)) → first_of (replace_limits rules v (document_in m.body)) ≡ x
   replace_limits_at is = sym (ap first_of (replace_limits_shown rules held v (document_in m.body) shows)) ∙ sym is
 
   pub replace_limited : (trees : List Expr) (r : code_refusal.Refusal) → first_of (replace_conditions held m.key m.version) ≡ None
       → option_map known (Some r) ≡ first_of (replace_limits rules held (document_in m.body)) → first_of (own_conditions rules v (replace m) (stands.sound trees)) ≡ Some (known r)
-  replace_limited trees r free is = none_behind (replace_conditions v m.key m.version) (replace_limits rules v (document_in m.body)) (replaced free) ∙ replace_limits_at is
+  replace_limited trees r free is = none_after (replace_conditions v m.key m.version) (replace_limits rules v (document_in m.body)) (replaced free) ∙ replace_limits_at is
 
   -- where nothing refuses it, and what the replacement attempts
   pub replace_clear : (trees : List Expr) → first_of (replace_conditions held m.key m.version) ≡ None → option_map known None ≡ first_of (replace_limits rules held (document_in m.body))

@@ -106,7 +106,7 @@ impl<P: Drop> Holdings<P> {
         Ok(Holdings {
             rules,
             changes: Changes::over(alloc, count),
-            window: Window::behind(alloc, rules, revision)?,
+            window: Window::after(alloc, rules, revision)?,
         })
     }
 

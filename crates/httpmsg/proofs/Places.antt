@@ -10,9 +10,9 @@ use Rattle.httparse.specs.Grammar.{is_value_byte, LineEnd, crlf, lf, print_end, 
 use Rattle.httparse.proofs.GrammarLemmas.{cons-append, print_request-append, request_unique, ReadsRequest-append}
 use Rattle.httparse.proofs.OpenLemmas.{letter_is_token}
 use Rattle.httpmsg.specs.declared.place.Place.{Place}
-use Rattle.httpmsg.specs.declared.place.Place.TheVariants.{BeforeRequest, InEmptyLine, InMethod, BeforeTarget, InTarget, InVersion, BehindVersion, BehindReturn, BeforeLine, InLastLine, InName, InValue}
+use Rattle.httpmsg.specs.declared.place.Place.TheVariants.{BeforeRequest, InEmptyLine, InMethod, BeforeTarget, InTarget, InVersion, AfterVersion, AfterReturn, BeforeLine, InLastLine, InName, InValue}
 use Rattle.httpmsg.specs.Stream.{BeginsWith}
-use Rattle.httpmsg.specs.Place.{IsHead, IsSection, IsLineEnd, IsValue, IsWord, IsVersion, IsTokenByte, IsTargetByte, IsTarget, IsBehind, Follows, IsAt}
+use Rattle.httpmsg.specs.Place.{IsHead, IsSection, IsLineEnd, IsValue, IsWord, IsVersion, IsTokenByte, IsTargetByte, IsTarget, IsAfter, Follows, IsAt}
 
 -- one more byte of a word
 pub word_more : (Byte : ℕ → Type 0) (stop : ℕ) (Next : List ℕ → Type 0) (b : ℕ) (text : List ℕ) → Byte b → IsWord Byte stop Next text
@@ -35,7 +35,7 @@ value_end text next = ([], text, refl, All-nil (λ v. is_value_byte v ≡ true),
 pub line_lf : (text : List ℕ) → IsSection text → IsLineEnd (10 ∷ text)
 line_lf text next = (lf, text, refl, next)
 
-pub line_cr : (text : List ℕ) → IsBehind (λ b. b ≡ 10) IsSection text → IsLineEnd (13 ∷ text)
+pub line_cr : (text : List ℕ) → IsAfter (λ b. b ≡ 10) IsSection text → IsLineEnd (13 ∷ text)
 line_cr text (b, rest, is, ten, next) = (crlf, rest, ap (λ x. 13 ∷ x) (is ∙ ap (λ n. n ∷ rest) ten), next)
 
 pub last_line : (text : List ℕ) → text ≡ 10 ∷ [] → IsSection (13 ∷ text)
@@ -80,15 +80,15 @@ empty_line end text (h, is, text_is) =
       k,
       record { method = is.method; target = is.target; target_text = is.target_text; minor = is.minor; fields = is.fields },
       ap (λ x. print_end end ++ x) (text_is ∙ sym (append-nil (print_request h)) ∙ print_request-append h [])
-          ∙ sym (append_assoc (print_end end) (print_blank h.blank) (behind h))
-          ∙ ap (λ x. x ++ behind h) (sym (flat_map-cons print_end end h.blank))
+          ∙ sym (append_assoc (print_end end) (print_blank h.blank) (after h))
+          ∙ ap (λ x. x ++ after h) (sym (flat_map-cons print_end end h.blank))
           ∙ sym (print_request-append k []) ∙ append-nil (print_request k),
     )
   where
-    behind : RequestHead → List ℕ
-    behind h = h.method ++ 32 ∷ (h.target ++ 32 ∷ (print_version h.minor ++ (print_end h.line_end ++ (print_section h.fields h.last ++ []))))
+    after : RequestHead → List ℕ
+    after h = h.method ++ 32 ∷ (h.target ++ 32 ∷ (print_version h.minor ++ (print_end h.line_end ++ (print_section h.fields h.last ++ []))))
 
-pub empty_line_cr : (text : List ℕ) → IsBehind (λ b. b ≡ 10) IsHead text → IsHead (13 ∷ text)
+pub empty_line_cr : (text : List ℕ) → IsAfter (λ b. b ≡ 10) IsHead text → IsHead (13 ∷ text)
 empty_line_cr text (b, rest, is, ten, head) =
     let Here : List ℕ → Type 0 = λ x. IsHead (13 ∷ x) in subst Here (sym (is ∙ ap (λ n. n ∷ rest) ten)) (empty_line crlf rest head)
 
@@ -96,7 +96,7 @@ pub empty_line_lf : (text : List ℕ) → IsHead text → IsHead (10 ∷ text)
 empty_line_lf text head = empty_line lf text head
 
 -- the first byte of a method
-pub method_first : (b : ℕ) (text : List ℕ) → IsTokenByte b → IsWord IsTokenByte 32 (IsBehind IsTargetByte IsTarget) text → IsHead (b ∷ text)
+pub method_first : (b : ℕ) (text : List ℕ) → IsTokenByte b → IsWord IsTokenByte 32 (IsAfter IsTargetByte IsTarget) text → IsHead (b ∷ text)
 method_first b text passes (name, rest, is, all, (d, others, rest_is, first, (word, later, word_is, words, (minor, line, version_is, small, (end, lines, line_is, (fields, last, are, section_is)))))) =
     let target : List ℕ = d ∷ word in
     let bytes : All IsTargetByte target = All-cons IsTargetByte d word first words in
@@ -132,11 +132,11 @@ some_version count = (0, 10 ∷ 10 ∷ [], refl, omega arith, some_end)
 some_target : IsTarget (32 ∷ version_text 0)
 some_target = word_stop IsTargetByte 32 (IsVersion 0) (version_text 0) (some_version 0)
 
-before_target : IsBehind IsTargetByte IsTarget (47 ∷ 32 ∷ version_text 0)
+before_target : IsAfter IsTargetByte IsTarget (47 ∷ 32 ∷ version_text 0)
 before_target = (47, 32 ∷ version_text 0, refl, (refl, omega arith), some_target)
 
-some_method : IsWord IsTokenByte 32 (IsBehind IsTargetByte IsTarget) (32 ∷ 47 ∷ 32 ∷ version_text 0)
-some_method = word_stop IsTokenByte 32 (IsBehind IsTargetByte IsTarget) (47 ∷ 32 ∷ version_text 0) before_target
+some_method : IsWord IsTokenByte 32 (IsAfter IsTargetByte IsTarget) (32 ∷ 47 ∷ 32 ∷ version_text 0)
+some_method = word_stop IsTokenByte 32 (IsAfter IsTargetByte IsTarget) (47 ∷ 32 ∷ version_text 0) before_target
 
 some_head : IsHead (65 ∷ 32 ∷ 47 ∷ 32 ∷ version_text 0)
 some_head = method_first 65 (32 ∷ 47 ∷ 32 ∷ version_text 0) letter_is_token some_method
@@ -148,8 +148,8 @@ some_follows InMethod = (_, omega arith, some_method)
 some_follows BeforeTarget = (_, omega arith, before_target)
 some_follows InTarget = (_, omega arith, some_target)
 some_follows (InVersion count) = (_, omega (arith, length-append (drop count (codes "HTTP/1.")) (48 ∷ 10 ∷ 10 ∷ [])), some_version count)
-some_follows BehindVersion = (_, omega arith, some_end)
-some_follows BehindReturn = (_, omega arith, (10, _, refl, refl, some_section))
+some_follows AfterVersion = (_, omega arith, some_end)
+some_follows AfterReturn = (_, omega arith, (10, _, refl, refl, some_section))
 some_follows BeforeLine = (_, omega arith, some_section)
 some_follows InLastLine = (10 ∷ [], omega arith, refl)
 some_follows InName = (_, omega arith, word_stop IsTokenByte 58 IsValue (10 ∷ 10 ∷ []) (value_end (10 ∷ 10 ∷ []) some_end))

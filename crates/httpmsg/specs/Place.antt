@@ -2,7 +2,7 @@
 use Rattle.std.specs.Prelude.{◌≡◌, true, ℕ, ◌+◌, ◌<◌, ◌≤◌, List, [], ◌∷◌, ◌++◌, drop, codes, All}
 use Rattle.httparse.specs.Grammar.{is_token_byte, is_uri_byte, is_value_byte, AllPass, LineEnd, print_end, Field, IsField, print_section, RequestHead, IsRequestHead, print_request}
 use Rattle.httpmsg.specs.declared.place.Place.{Place}
-use Rattle.httpmsg.specs.declared.place.Place.TheVariants.{BeforeRequest, InEmptyLine, InMethod, BeforeTarget, InTarget, InVersion, BehindVersion, BehindReturn, BeforeLine, InLastLine, InName, InValue}
+use Rattle.httpmsg.specs.declared.place.Place.TheVariants.{BeforeRequest, InEmptyLine, InMethod, BeforeTarget, InTarget, InVersion, AfterVersion, AfterReturn, BeforeLine, InLastLine, InName, InValue}
 
 -- the text is a head
 abbrev pub IsHead : List ℕ → Type 0
@@ -41,19 +41,19 @@ abbrev pub IsTarget : List ℕ → Type 0
 IsTarget = IsWord IsTargetByte 32 (IsVersion 0)
 
 -- the text after a byte
-abbrev pub IsBehind : (ℕ → Type 0) → (List ℕ → Type 0) → List ℕ → Type 0
-IsBehind Byte Next text = (b : ℕ) × (rest : List ℕ) × (text ≡ b ∷ rest) × Byte b × Next rest
+abbrev pub IsAfter : (ℕ → Type 0) → (List ℕ → Type 0) → List ℕ → Type 0
+IsAfter Byte Next text = (b : ℕ) × (rest : List ℕ) × (text ≡ b ∷ rest) × Byte b × Next rest
 
 -- what may follow the place
 abbrev pub Follows : Place → List ℕ → Type 0
 Follows BeforeRequest text = IsHead text
-Follows InEmptyLine text = IsBehind (λ b. b ≡ 10) IsHead text
-Follows InMethod text = IsWord IsTokenByte 32 (IsBehind IsTargetByte IsTarget) text
-Follows BeforeTarget text = IsBehind IsTargetByte IsTarget text
+Follows InEmptyLine text = IsAfter (λ b. b ≡ 10) IsHead text
+Follows InMethod text = IsWord IsTokenByte 32 (IsAfter IsTargetByte IsTarget) text
+Follows BeforeTarget text = IsAfter IsTargetByte IsTarget text
 Follows InTarget text = IsTarget text
 Follows (InVersion count) text = IsVersion count text
-Follows BehindVersion text = IsLineEnd text
-Follows BehindReturn text = IsBehind (λ b. b ≡ 10) IsSection text
+Follows AfterVersion text = IsLineEnd text
+Follows AfterReturn text = IsAfter (λ b. b ≡ 10) IsSection text
 Follows BeforeLine text = IsSection text
 Follows InLastLine text = text ≡ 10 ∷ []
 Follows InName text = IsWord IsTokenByte 58 IsValue text

@@ -17,9 +17,9 @@ pub enum Place {
     InTarget,
     /// After so many bytes of [`VERSION`].
     InVersion(usize),
-    BehindVersion,
+    AfterVersion,
     /// After the CR of a line.
-    BehindReturn,
+    AfterReturn,
     /// Before a field, or the empty line that ends the head.
     BeforeLine,
     /// After the CR of the empty line.
@@ -97,24 +97,24 @@ fn in_version(count: usize, byte: u8) -> Option<Place>
             None
         }
     } else if byte == b'0' || byte == b'1' {
-        Some(Place::BehindVersion)
+        Some(Place::AfterVersion)
     } else {
         None
     }
 }
 
-fn behind_version(byte: u8) -> Option<Place>
-    ensures { IfSome result (Steps Place.BehindVersion byte) }
+fn after_version(byte: u8) -> Option<Place>
+    ensures { IfSome result (Steps Place.AfterVersion byte) }
 {
     match byte {
-        b'\r' => Some(Place::BehindReturn),
+        b'\r' => Some(Place::AfterReturn),
         b'\n' => Some(Place::BeforeLine),
         _ => None,
     }
 }
 
-fn behind_return(byte: u8) -> Option<Place>
-    ensures { IfSome result (Steps Place.BehindReturn byte) }
+fn after_return(byte: u8) -> Option<Place>
+    ensures { IfSome result (Steps Place.AfterReturn byte) }
 {
     if byte == b'\n' {
         Some(Place::BeforeLine)
@@ -151,7 +151,7 @@ fn in_value(byte: u8) -> Option<Place>
     ensures { IfSome result (Steps Place.InValue byte) }
 {
     match byte {
-        b'\r' => Some(Place::BehindReturn),
+        b'\r' => Some(Place::AfterReturn),
         b'\n' => Some(Place::BeforeLine),
         _ if is_header_value_token(byte) => Some(Place::InValue),
         _ => None,
@@ -160,7 +160,7 @@ fn in_value(byte: u8) -> Option<Place>
 
 impl Place {
     // The place after one more byte, where that neither ends the head nor may break it.
-    fn behind_byte(self, byte: u8) -> Option<Place>
+    fn after_byte(self, byte: u8) -> Option<Place>
         ensures { IfSome result (Steps self byte) }
     {
         match self {
@@ -170,8 +170,8 @@ impl Place {
             Place::BeforeTarget => before_target(byte),
             Place::InTarget => in_target(byte),
             Place::InVersion(count) => in_version(count, byte),
-            Place::BehindVersion => behind_version(byte),
-            Place::BehindReturn => behind_return(byte),
+            Place::AfterVersion => after_version(byte),
+            Place::AfterReturn => after_return(byte),
             Place::BeforeLine => before_line(byte),
             Place::InLastLine => None,
             Place::InName => in_name(byte),
@@ -180,12 +180,12 @@ impl Place {
     }
 
     /// The place after these further bytes, where they neither end the head nor may break it.
-    pub fn behind(self, bytes: &[u8]) -> Option<Place>
+    pub fn after(self, bytes: &[u8]) -> Option<Place>
         ensures { IfSome result (λ place. (text : List ℕ) → Follows place text → Follows self (bytes.now ++ text)) }
     {
         let mut place = self;
         for byte in bytes {
-            match place.behind_byte(*byte) {
+            match place.after_byte(*byte) {
                 Some(next) => place = next,
                 None => return None,
             }

@@ -100,7 +100,7 @@ known_to vars code wf (suc limit) le = λ n k.
     let on = further vars code wf limit (omega arith) known last.bodies last.runs in
     elim (cases_lt n (suc limit)) [
       | inl lt ↦ known n (omega arith)
-      | inr past ↦ (let e : limit + 1 ≡ n = omega arith in subst (λ (m : ℕ). At vars code m) e (record { bodies = on.behind; runs = on.runs }))
+      | inr past ↦ (let e : limit + 1 ≡ n = omega arith in subst (λ (m : ℕ). At vars code m) e (record { bodies = on.later; runs = on.runs }))
     ]
 
 took : (vars n : ℕ) (code : List Op) (o : Option Op) (x y : Body × List Body) → at_op vars n code o x ≡ Ok y → (op : Op) × (o ≡ Some op) × (step vars n op (drop (n + 1) code) x.0 x.1 ≡ Ok y)

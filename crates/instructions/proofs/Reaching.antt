@@ -40,9 +40,9 @@ drop_here (suc n) (x ∷ xs) lt =
 pub record Next (vars : ℕ) (code : List Op) (n : ℕ) (x : Body × List Body) : Type 0 where
   pub op : Op
   pub here : slice_get code n ≡ Some op
-  pub behind : Body × List Body
-  pub steps : Steps vars n op (drop (n + 1) code) x.0 x.1 behind
-  pub passes : Passes vars code (n + 1) behind
+  pub later : Body × List Body
+  pub steps : Steps vars n op (drop (n + 1) code) x.0 x.1 later
+  pub passes : Passes vars code (n + 1) later
 
 pub next_of : (vars : ℕ) (code : List Op) (n : ℕ) (x : Body × List Body) → Passes vars code n x → n < length code → Next vars code n x
 next_of vars code n x p lt =
@@ -54,7 +54,7 @@ next_of vars code n x p lt =
     record {
       op = d.0;
       here = d.1;
-      behind = b.0;
+      later = b.0;
       steps = s;
       passes = record {
         is = subst (λ (k : ℕ). states vars code k ≡ Ok b.0) (sym (add-one n)) here;
@@ -89,7 +89,7 @@ reach vars code sound zero le = record { bodies = (whole code, []); passes = sta
 reach vars code sound (suc n) le =
     let before = reach vars code sound n (omega arith) in
     let after = next_of vars code n before.bodies before.passes (omega arith) in
-    record { bodies = after.behind; passes = subst (λ (k : ℕ). Passes vars code k after.behind) (add-one n) after.passes }
+    record { bodies = after.later; passes = subst (λ (k : ℕ). Passes vars code k after.later) (add-one n) after.passes }
 
 -- control is awaited at its place
 pub record Here (vars : ℕ) (code : List Op) (c : Control) : Type 0 where
@@ -101,7 +101,7 @@ keep : (vars : ℕ) (code : List Op) (k n : ℕ) (c : Control) (x : Body × List
 keep vars code zero n c x e le p m = let k : n ≡ c.place = omega arith in record { bodies = x; passes = subst (λ (j : ℕ). Passes vars code j x) k p; awaits = m }
 keep vars code (suc k) n c x e le p m =
     let on = next_of vars code n x p (omega arith) in
-    keep vars code k (n + 1) c on.behind (omega arith) le on.passes (stays_awaited vars n on.op code c x.0 x.1 on.behind (omega arith) p.nested on.steps m)
+    keep vars code k (n + 1) c on.later (omega arith) le on.passes (stays_awaited vars n on.op code c x.0 x.1 on.later (omega arith) p.nested on.steps m)
 
 awaited_within : (vars : ℕ) (code : List Op) (n : ℕ) (c : Control) (x : Body × List Body) → Passes vars code n x → Awaits c x.0 x.1 → c.place ≤ length code
 awaited_within vars code n c x p m =
@@ -114,9 +114,9 @@ from vars code c d op inside is m h =
     let on = next_of vars code c.place h.bodies h.passes (slice_get_within code c.place op is) in
     let same : op ≡ on.op = same_Some op on.op (sym is ∙ on.here) in
     let there = subst (λ (o : Op). Among d (next o c)) same m in
-    let awaited = leads_on vars c.place on.op code c d h.bodies.0 h.bodies.1 on.behind on.steps refl inside on.here h.passes.nested h.awaits there in
-    let le : c.place + 1 ≤ d.place = awaits_low code (c.place + 1) (c.place + 1) d on.behind.0 on.behind.1 on.passes.nested awaited in
-    keep vars code (d.place - (c.place + 1)) (c.place + 1) d on.behind (omega arith) (awaited_within vars code (c.place + 1) d on.behind on.passes awaited) on.passes awaited
+    let awaited = leads_on vars c.place on.op code c d h.bodies.0 h.bodies.1 on.later on.steps refl inside on.here h.passes.nested h.awaits there in
+    let le : c.place + 1 ≤ d.place = awaits_low code (c.place + 1) (c.place + 1) d on.later.0 on.later.1 on.passes.nested awaited in
+    keep vars code (d.place - (c.place + 1)) (c.place + 1) d on.later (omega arith) (awaited_within vars code (c.place + 1) d on.later on.passes awaited) on.passes awaited
 
 -- wherever control comes, it is awaited
 pub comes_here : (vars : ℕ) (code : List Op) → first_fault vars code ≡ Ok tt → {c : Control} → Comes code c → Here vars code c

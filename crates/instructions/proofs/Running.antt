@@ -68,9 +68,9 @@ Known vars code limit = (n : ℕ) → n ≤ limit → At vars code n
 pub record Further (vars : ℕ) (code : List Op) (n : ℕ) (x : Body × List Body) : Type 0 where
   pub op : Op
   pub here : slice_get code n ≡ Some op
-  pub behind : Body × List Body
-  pub steps : Steps vars n op (drop (n + 1) code) x.0 x.1 behind
-  pub runs : Runs vars code (n + 1) behind
+  pub later : Body × List Body
+  pub steps : Steps vars n op (drop (n + 1) code) x.0 x.1 later
+  pub runs : Runs vars code (n + 1) later
 
 pub start_runs : (vars : ℕ) (code : List Op) → Runs vars code 0 (whole code, [])
 start_runs vars code = record { is = refl; nested = (start_fine code, refl); real = start_real code; live = record { control = record { place = 0; end = length code; outer = []; height = 0 }; comes = begins; is = record { end_is = refl; outer_is = refl } } }
@@ -82,7 +82,7 @@ stepped vars code n x y op r here e =
     record {
       op = op;
       here = here;
-      behind = y;
+      later = y;
       steps = s;
       runs = record {
         is = subst (λ (k : ℕ). states vars code k ≡ Ok y) (sym (add-one n)) there;
@@ -112,7 +112,7 @@ keep : (vars : ℕ) (code : List Op) (limit : ℕ) → Known vars code limit →
 keep vars code limit known zero n c x e le r m = let k : n ≡ c.place = omega arith in record { bodies = x; runs = subst (λ (j : ℕ). Runs vars code j x) k r; awaits = m }
 keep vars code limit known (suc k) n c x e le r m =
     let on = further_of vars code n x r (known (n + 1) (omega arith)) in
-    keep vars code limit known k (n + 1) c on.behind (omega arith) le on.runs (stays_awaited vars n on.op code c x.0 x.1 on.behind (omega arith) r.nested on.steps m)
+    keep vars code limit known k (n + 1) c on.later (omega arith) le on.runs (stays_awaited vars n on.op code c x.0 x.1 on.later (omega arith) r.nested on.steps m)
 
 inner_ahead : (op : Op) (c d : Control) → Among d (begins_body op c) → c.place < d.place
 inner_ahead (Over m end) c d (inl e) = let p : c.place + 1 ≡ d.place = ap (λ (z : Control). z.place) e in omega arith
@@ -138,8 +138,8 @@ from vars code limit known c d op inside is m lt le t =
     let on = further_of vars code c.place t.bodies t.runs (known (c.place + 1) (omega arith)) in
     let same : op ≡ on.op = same_Some op on.op (sym is ∙ on.here) in
     let there = subst (λ (o : Op). Among d (next o c)) same m in
-    let awaited = leads_on vars c.place on.op code c d t.bodies.0 t.bodies.1 on.behind on.steps refl inside on.here t.runs.nested t.awaits there in
-    keep vars code limit known (d.place - (c.place + 1)) (c.place + 1) d on.behind (omega arith) le on.runs awaited
+    let awaited = leads_on vars c.place on.op code c d t.bodies.0 t.bodies.1 on.later on.steps refl inside on.here t.runs.nested t.awaits there in
+    keep vars code limit known (d.place - (c.place + 1)) (c.place + 1) d on.later (omega arith) le on.runs awaited
 
 -- wherever control comes, it is awaited
 pub comes_there : (vars : ℕ) (code : List Op) → IsWellFormed vars code → (limit : ℕ) → Known vars code limit → {c : Control} → Comes code c → c.place ≤ limit → There vars code c

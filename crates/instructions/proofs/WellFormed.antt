@@ -25,7 +25,7 @@ record Judged (vars : ℕ) (code : List Op) (c : Control) (op : Op) : Type 0 whe
 judged_next : (vars : ℕ) (code : List Op) (c : Control) (op : Op) (h : Here vars code c) (on : Next vars code c.place h.bodies) → StandsAt code c op → op ≡ on.op → Judged vars code c on.op
 judged_next vars code c op h on st same =
     let s = on.steps in
-    let at = standing vars c.place on.op code c h.bodies.0 h.bodies.1 on.behind s refl st.inside on.here h.passes.nested h.awaits in
+    let at = standing vars c.place on.op code c h.bodies.0 h.bodies.1 on.later s refl st.inside on.here h.passes.nested h.awaits in
     let depth : length s.stays.1 ≡ length c.outer = sym (length-map s.stays.1 (λ (b : Body). b.end)) ∙ ap (λ (o : List ℕ). length o) at.own.is.outer_is in
     record {
       end = s.stays.0.end;
@@ -46,8 +46,8 @@ judged vars code sound c op st =
 
 alike_next : (vars : ℕ) (code : List Op) (n : ℕ) (x : Body × List Body) (on : Next vars code n x) → Passes vars code n x → (c d : Control) → c.place ≡ n → d.place ≡ n → c.place < c.end → d.place < d.end → Awaits c x.0 x.1 → Awaits d x.0 x.1 → c ≡ d
 alike_next vars code n x on p c d same other inside within_end m k =
-    let first = standing vars n on.op code c x.0 x.1 on.behind on.steps same inside on.here p.nested m in
-    let second = standing vars n on.op code d x.0 x.1 on.behind on.steps other within_end on.here p.nested k in
+    let first = standing vars n on.op code c x.0 x.1 on.later on.steps same inside on.here p.nested m in
+    let second = standing vars n on.op code d x.0 x.1 on.later on.steps other within_end on.here p.nested k in
     first.is ∙ sym second.is
 
 with_bodies : (vars : ℕ) (code : List Op) (c d : Control) → c.place ≡ d.place → c.place < c.end → d.place < d.end → (x y : Body × List Body) → Passes vars code c.place x → Passes vars code d.place y → Awaits c x.0 x.1 → Awaits d y.0 y.1 → c ≡ d
@@ -176,7 +176,7 @@ ends_from : (vars : ℕ) (code : List Op) (k n : ℕ) (c : Control) (x : Body ×
 ends_from vars code zero n c x e le p m = let k : n ≡ c.end = omega arith in ends_at vars code c x le (subst (λ (j : ℕ). Passes vars code j x) k p) m
 ends_from vars code (suc k) n c x e le p m =
     let on = next_of vars code n x p (omega arith) in
-    ends_from vars code k (n + 1) c on.behind (omega arith) le on.passes (stays_open vars n on.op code c x.0 x.1 on.behind (omega arith) on.steps m)
+    ends_from vars code k (n + 1) c on.later (omega arith) le on.passes (stays_open vars n on.op code c x.0 x.1 on.later (omega arith) on.steps m)
 
 ends : (vars : ℕ) (code : List Op) → first_fault vars code ≡ Ok tt → (c : Control) → Comes code c → Ends code c
 ends vars code sound c comes =

@@ -18,7 +18,7 @@ pub enum CodeFault {
     #[error("text is not UTF-8")]
     TextNotUtf8,
     /// Bytes stand after the last instruction.
-    #[error("bytes behind the last instruction")]
+    #[error("bytes after the last instruction")]
     TrailingBytes,
     /// A target lies not ahead, or past the end of the body that the instruction stands in, or in another body.
     #[error("bad target")]

@@ -1,21 +1,18 @@
 -- Objects with the trees of their expressions, and with their plans, as they are held.
 use Rattle.std.specs.Prelude.{◌≡◌, ℕ, List, [], map, Option, Some}
 use Rattle.std.specs.List.{AllByRecursion}
-use Rattle.std.specs.Option.{option_map_or}
 use Rattle.names.specs.Key.{Key, key_of}
 use Rattle.names.specs.declared.resource.Resource.{Resource}
 use Rattle.names.specs.declared.resource.Resource.TheVariants.{ConfigMap, Node, Pod, Service, Deployment, ValidatingAdmissionPolicy, ValidatingAdmissionPolicyBinding}
 use Rattle.celtree.specs.Tree.{Expr}
 use Rattle.documents.specs.Document.{Document, shown}
-use Rattle.plancode.specs.Plans.{Judged}
 use Rattle.policy.specs.Forms.{Text}
 use Rattle.policy.specs.Bindings.{binding_of}
 use Rattle.policy.specs.Policies.{policy_of}
 use Rattle.policy.specs.Spec.{Policy, Binding}
 use Rattle.expressions.specs.Expressions.{sources}
 use Rattle.expressions.specs.Typed.{AreTyped}
-use Rattle.expressions.specs.Plans.{plans_of}
-use Rattle.expressions.specs.Specification.{Plans, these}
+use Rattle.expressions.specs.Specification.{Plans, these, plans_in}
 use Rattle.lookup.specs.Listed.{Shown}
 
 -- a stored document, the trees that its expressions spell if it is a policy, and the revision of its last write
@@ -42,14 +39,11 @@ pub record Held : Type 0 where
   pub binding : Option Binding
   pub revision : ℕ
 
-abbrev pub plans_in : Document → List Expr → List Judged
-plans_in d trees = option_map_or (λ p. plans_of p trees) (policy_of d.json) []
-
 abbrev pub held : Object → Held
 held o = record {
   document = o.document;
   policy = policy_of o.document.json;
-  plans = these (plans_in o.document o.trees);
+  plans = these (plans_in o.document.json o.trees);
   binding = binding_of o.document.json;
   revision = o.revision;
 }

@@ -50,32 +50,32 @@ module _ {X : Type 0} where
 module _ {X : Type 0} (p : X → Bool) where
   filter-all : (xs : List X) (k : ℕ) → ((j : ℕ) (d : X) → j < k → j < length xs → p (get_or xs j d) ≡ true)
       → ((j : ℕ) (d : X) → k ≤ j → j < length xs → p (get_or xs j d) ≡ false) → filter p xs ≡ take k xs
-  filter-all [] zero inside behind = refl
-  filter-all [] (suc k) inside behind = refl
-  filter-all (x ∷ xs) zero inside behind =
-      ap (λ b. cond b (x ∷ filter p xs) (filter p xs)) (behind 0 x (omega arith) (omega arith))
-      ∙ filter-all xs zero (λ j d l m. absurd (omega arith)) (λ j d l m. behind (suc j) d (omega arith) (omega arith))
-  filter-all (x ∷ xs) (suc k) inside behind =
+  filter-all [] zero inside end = refl
+  filter-all [] (suc k) inside end = refl
+  filter-all (x ∷ xs) zero inside end =
+      ap (λ b. cond b (x ∷ filter p xs) (filter p xs)) (end 0 x (omega arith) (omega arith))
+      ∙ filter-all xs zero (λ j d l m. absurd (omega arith)) (λ j d l m. end (suc j) d (omega arith) (omega arith))
+  filter-all (x ∷ xs) (suc k) inside end =
       ap (λ b. cond b (x ∷ filter p xs) (filter p xs)) (inside 0 x (omega arith) (omega arith))
-      ∙ ap (λ es. x ∷ es) (filter-all xs k (λ j d l m. inside (suc j) d (omega arith) (omega arith)) (λ j d l m. behind (suc j) d (omega arith) (omega arith)))
+      ∙ ap (λ es. x ∷ es) (filter-all xs k (λ j d l m. inside (suc j) d (omega arith) (omega arith)) (λ j d l m. end (suc j) d (omega arith) (omega arith)))
 
   take-none : (k : ℕ) (none : List X) → none ≡ [] → take k none ≡ []
   take-none zero none h = refl
   take-none (suc k) none h = λ i. take (suc k) (h i)
 
   -- what passes is what lies in a range
-  filter-range : (xs : List X) (first behind : ℕ) → first ≤ behind → ((j : ℕ) (d : X) → j < first → p (get_or xs j d) ≡ false)
-      → ((j : ℕ) (d : X) → first ≤ j → j < behind → j < length xs → p (get_or xs j d) ≡ true)
-      → ((j : ℕ) (d : X) → behind ≤ j → j < length xs → p (get_or xs j d) ≡ false) → filter p xs ≡ take (behind - first) (drop first xs)
-  filter-range xs zero behind le before inside after =
-      let same : behind ≡ behind - 0 = omega arith in
-      filter-all xs behind (λ j d l m. inside j d (omega arith) l m) after ∙ ap (λ k. take k xs) same
+  filter-range : (xs : List X) (first end : ℕ) → first ≤ end → ((j : ℕ) (d : X) → j < first → p (get_or xs j d) ≡ false)
+      → ((j : ℕ) (d : X) → first ≤ j → j < end → j < length xs → p (get_or xs j d) ≡ true)
+      → ((j : ℕ) (d : X) → end ≤ j → j < length xs → p (get_or xs j d) ≡ false) → filter p xs ≡ take (end - first) (drop first xs)
+  filter-range xs zero end le before inside after =
+      let same : end ≡ end - 0 = omega arith in
+      filter-all xs end (λ j d l m. inside j d (omega arith) l m) after ∙ ap (λ k. take k xs) same
   filter-range xs (suc first) zero le before inside after = absurd (omega arith)
-  filter-range [] (suc first) (suc behind) le before inside after = sym (take-none (suc behind - suc first) [] refl)
-  filter-range (x ∷ xs) (suc first) (suc behind) le before inside after =
-      let same : behind - first ≡ suc behind - suc first = omega arith in
+  filter-range [] (suc first) (suc end) le before inside after = sym (take-none (suc end - suc first) [] refl)
+  filter-range (x ∷ xs) (suc first) (suc end) le before inside after =
+      let same : end - first ≡ suc end - suc first = omega arith in
       ap (λ b. cond b (x ∷ filter p xs) (filter p xs)) (before 0 x (omega arith))
-      ∙ filter-range xs first behind (omega arith) (λ j d l. before (suc j) d (omega arith)) (λ j d l m n. inside (suc j) d (omega arith) (omega arith) (omega arith))
+      ∙ filter-range xs first end (omega arith) (λ j d l. before (suc j) d (omega arith)) (λ j d l m n. inside (suc j) d (omega arith) (omega arith) (omega arith))
       (λ j d l m. after (suc j) d (omega arith) (omega arith))
       ∙ ap (λ k. take k (drop first xs)) same
 
@@ -91,19 +91,19 @@ pub IsUpTo-from_tests : {X : Type 0} (entries : List (Key × X)) (resource : Res
 IsUpTo-from_tests entries resource place point = (λ k d l m. leb-true _ _ (point.0 k d l m), λ k d l m. leb-false _ _ (point.1 k d l m))
 
 module _ {X : Type 0} where
-  pub places_rise : (entries : List (Key × X)) (resource : Resource) (first behind : ℕ) → first ≤ length entries → IsBefore entries resource first → IsUpTo entries resource behind → first ≤ behind
-  places_rise [] resource first behind bound before upto = omega arith
-  places_rise (entry ∷ entries) resource first behind bound before upto =
+  pub places_rise : (entries : List (Key × X)) (resource : Resource) (first end : ℕ) → first ≤ length entries → IsBefore entries resource first → IsUpTo entries resource end → first ≤ end
+  places_rise [] resource first end bound before upto = omega arith
+  places_rise (entry ∷ entries) resource first end bound before upto =
       ⊎_elim
-      (λ less. let low = before.0 behind entry (omega arith) less in let high = upto.1 behind entry (omega arith) (omega arith) in absurd (omega arith))
+      (λ less. let low = before.0 end entry (omega arith) less in let high = upto.1 end entry (omega arith) (omega arith) in absurd (omega arith))
       (λ le. le)
-      (cases_lt behind first)
+      (cases_lt end first)
 
-  pub between_places : (entries : List (Key × X)) (resource : Resource) (first behind : ℕ) → first ≤ length entries → IsBefore entries resource first → IsUpTo entries resource behind
-      → take (behind - first) (drop first entries) ≡ filter (λ entry. is_of resource None entry.0) entries
-  between_places entries resource first behind bound before upto =
+  pub between_places : (entries : List (Key × X)) (resource : Resource) (first end : ℕ) → first ≤ length entries → IsBefore entries resource first → IsUpTo entries resource end
+      → take (end - first) (drop first entries) ≡ filter (λ entry. is_of resource None entry.0) entries
+  between_places entries resource first end bound before upto =
       let n = (row resource).number in
-      sym (filter-range (λ entry. number_of entry.0 == n) entries first behind (places_rise entries resource first behind bound before upto)
+      sym (filter-range (λ entry. number_of entry.0 == n) entries first end (places_rise entries resource first end bound before upto)
       (λ j d l. below _ n (before.0 j d (omega arith) l))
       (λ j d l m k. within _ n (before.1 j d l k) (upto.0 j d (omega arith) m))
       (λ j d l k. above _ n (upto.1 j d l k)))

@@ -3,4 +3,5 @@ pub mod Reading
 pub mod Readiness
 pub mod Bases
 pub mod Settling
-pub mod Found
+pub mod Finding
+pub mod Driving

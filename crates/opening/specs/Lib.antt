@@ -1,3 +1,4 @@
 pub mod Opened
 pub mod CreateFaults
 pub mod Laws
+pub mod Lives

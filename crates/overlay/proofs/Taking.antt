@@ -76,12 +76,12 @@ module _ {X : Type 0} where
       let left_sorted : is_sorted key_cmp (entry ∷ back) ≡ true = subst Sorted next (sorted_drop index base base_sorted) in
       let above = all_above entry back left_sorted in
       let further : drop count rest ≡ drop (done + count) changes = drop-drop count done changes in
-      let behind : drop more (drop (done + count) changes) ≡ drop (done + count + more) changes = drop-drop more (done + count) changes in
+      let after : drop more (drop (done + count) changes) ≡ drop (done + count + more) changes = drop-drop more (done + count) changes in
       let None : List (Key × Option X) → Type 0 = λ cs. NoneBelow entry.0 cs in
       let parts : front ++ drop count rest ≡ rest = take-append-drop count rest in
       let Whole : List (Key × Option X) → Type 0 = λ cs. is_sorted key_cmp cs ≡ true in
-      ap (λ (cs : List (Key × Option X)). new ++ merged cs back) (sym behind)
-      ∙ step back (sorted_drop (done + count) changes changes_sorted) (subst None further split.behind) above
+      ap (λ (cs : List (Key × Option X)). new ++ merged cs back) (sym after)
+      ∙ step back (sorted_drop (done + count) changes changes_sorted) (subst None further split.after) above
       ∙ ap (λ (cs : List (Key × Option X)). mid ++ merged cs (entry ∷ back)) (sym further)
       ∙ ap (λ (es : List (Key × X)). es ++ merged (drop count rest) (entry ∷ back)) below
       ∙ append_assoc kept (puts_of front) (merged (drop count rest) (entry ∷ back))

@@ -187,16 +187,16 @@ module _ {X : Type 0} where
     split_below key lent count (omega arith) (λ k d l m. test (suc k) d (omega arith) (omega arith)),
   )
 
-  split_behind : (key : Key) (lent : List (Bor (Key × Option X))) (count : ℕ)
+  split_after : (key : Key) (lent : List (Bor (Key × Option X))) (count : ℕ)
       → ((k : ℕ) (d : Bor (Key × Option X)) → count ≤ k → k < length lent → is_lt (key_cmp (get_or lent k d).now.0 key) ≡ false)
       → NoneBelow key (drop count (changes_of lent))
-  split_behind key [] zero test = tt
-  split_behind key [] (suc count) test = tt
-  split_behind key (c ∷ lent) zero test =
-      (not_less_from_test (key_cmp c.now.0 key) (test 0 c (omega arith) (omega arith)), split_behind key lent zero (λ k d l m. test (suc k) d (omega arith) (omega arith)))
-  split_behind key (c ∷ lent) (suc count) test = split_behind key lent count (λ k d l m. test (suc k) d (omega arith) (omega arith))
+  split_after key [] zero test = tt
+  split_after key [] (suc count) test = tt
+  split_after key (c ∷ lent) zero test =
+      (not_less_from_test (key_cmp c.now.0 key) (test 0 c (omega arith) (omega arith)), split_after key lent zero (λ k d l m. test (suc k) d (omega arith) (omega arith)))
+  split_after key (c ∷ lent) (suc count) test = split_after key lent count (λ k d l m. test (suc k) d (omega arith) (omega arith))
 
   pub split_at : (key : Key) (lent : List (Bor (Key × Option X))) (count : ℕ) → count ≤ length lent
       → IsPartitionPoint (λ (change : Bor (Key × Option X)). is_lt (key_cmp change.now.0 key) ≡ true) (λ change. is_lt (key_cmp change.now.0 key) ≡ false) lent count
       → IsSplitAt key (changes_of lent) count
-  split_at key lent count within point = record { below = split_below key lent count within point.0; behind = split_behind key lent count point.1 }
+  split_at key lent count within point = record { below = split_below key lent count within point.0; after = split_after key lent count point.1 }

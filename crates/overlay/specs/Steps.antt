@@ -34,4 +34,4 @@ module _ {X : Type 0} where
 -- So many changes are below the key, and no other.
 pub record IsSplitAt {X : Type 0} (key : Key) (changes : List (Key × Option X)) (count : ℕ) : Type 0 where
   pub below : AllByRecursion (λ change. key_cmp change.0 key ≡ Less) (take count changes)
-  pub behind : NoneBelow key (drop count changes)
+  pub after : NoneBelow key (drop count changes)

@@ -62,8 +62,8 @@ pub ahead_before : (at to : ℕ) (l : List Arrival) → at ≤ to → Ahead to l
 ahead_before at to l le ahead = λ a m. (let n : to ≤ a.place = ahead a m in omega arith)
 
 -- what is awaited after an instruction: what was awaited further on, and what the instruction leads to
-pub behind : (at h : ℕ) (further awaited more : List Arrival) → Ahead (at + 1) further → Same awaited (come at h ∷ further) → Same (filter (λ a. not (comes_to at a)) awaited ++ more) (more ++ further)
-behind at h further awaited more ahead same = record {
+pub comes_next : (at h : ℕ) (further awaited more : List Arrival) → Ahead (at + 1) further → Same awaited (come at h ∷ further) → Same (filter (λ a. not (comes_to at a)) awaited ++ more) (more ++ further)
+comes_next at h further awaited more ahead same = record {
   into = λ a m. among_either a (filter (λ x. not (comes_to at x)) awaited) more m
       (λ k. let f = among_filter (λ x. not (comes_to at x)) a awaited k in
       elim (same.into a f.0) [
@@ -123,9 +123,9 @@ left_one at b o os e one =
     ap (λ t. cond t (cond (has_one at b) (left at o os) (Err fault.BadStack)) (Ok (b, o ∷ os))) (eq-eqb _ _ e)
     ∙ ap (λ t. cond t (left at o os) (Err fault.BadStack)) one
 
-pub left_behind : (vars at : ℕ) (b o : Body) (os : List Body) (ops : List Op) → b.end ≡ at → has_one at b ≡ true → judge vars at ops b (o ∷ os) ≡ judge vars at ops o os
-left_behind vars at b o os [] e one = ap (λ r. r >>= λ x. ended at x) (left_one at b o os e one)
-left_behind vars at b o os (op ∷ ops) e one =
+pub left_after : (vars at : ℕ) (b o : Body) (os : List Body) (ops : List Op) → b.end ≡ at → has_one at b ≡ true → judge vars at ops b (o ∷ os) ≡ judge vars at ops o os
+left_after vars at b o os [] e one = ap (λ r. r >>= λ x. ended at x) (left_one at b o os e one)
+left_after vars at b o os (op ∷ ops) e one =
     ap (λ r. (r >>= λ x. judged vars at op ops x.0 x.1) >>= λ y. judge vars (at + 1) ops y.0 y.1) (left_one at b o os e one)
 
 pub ends_before : (place end : ℕ) → end ≤ place → not (nat_lt place end) ≡ true

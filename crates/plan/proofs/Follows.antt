@@ -47,18 +47,18 @@ has_back code at (i ∷ a) b h =
     subst (λ n. HasAt code n b) e (has_back code (at + 1) a b h.1)
 
 -- what stands after the code of an expression
-behind : (code : List Op) (at : ℕ) (t : Expr) (d : Names) (b : List Op) → HasAt code at (compiled t at d ++ b) → HasAt code (at + size t) b
-behind code at t d b h = subst (λ n. HasAt code (at + n) b) (length-compiled t at d) (has_back code at (compiled t at d) b h)
+after : (code : List Op) (at : ℕ) (t : Expr) (d : Names) (b : List Op) → HasAt code at (compiled t at d ++ b) → HasAt code (at + size t) b
+after code at t d b h = subst (λ n. HasAt code (at + n) b) (length-compiled t at d) (has_back code at (compiled t at d) b h)
 
-behind_items : (code : List Op) (at : ℕ) (es : Exprs) (d : Names) (b : List Op) → HasAt code at (compiled_items es at d ++ b) → HasAt code (at + size_of_items es) b
-behind_items code at es d b h = subst (λ n. HasAt code (at + n) b) (length-compiled_items es at d) (has_back code at (compiled_items es at d) b h)
+after_items : (code : List Op) (at : ℕ) (es : Exprs) (d : Names) (b : List Op) → HasAt code at (compiled_items es at d ++ b) → HasAt code (at + size_of_items es) b
+after_items code at es d b h = subst (λ n. HasAt code (at + n) b) (length-compiled_items es at d) (has_back code at (compiled_items es at d) b h)
 
 seam : (pre : List Op) (i : Op) (is : List Op) → slice_get (pre ++ i ∷ is) (length pre) ≡ Some i
 seam [] i is = refl
 seam (j ∷ pre) i is = seam pre i is
 
-behind_pairs : (code : List Op) (at : ℕ) (ps : Pairs) (d : Names) (b : List Op) → HasAt code at (compiled_pairs ps at d ++ b) → HasAt code (at + size_of_pairs ps) b
-behind_pairs code at ps d b h = subst (λ n. HasAt code (at + n) b) (length-compiled_pairs ps at d) (has_back code at (compiled_pairs ps at d) b h)
+after_pairs : (code : List Op) (at : ℕ) (ps : Pairs) (d : Names) (b : List Op) → HasAt code at (compiled_pairs ps at d ++ b) → HasAt code (at + size_of_pairs ps) b
+after_pairs code at ps d b h = subst (λ n. HasAt code (at + n) b) (length-compiled_pairs ps at d) (has_back code at (compiled_pairs ps at d) b h)
 
 all_at : (code pre : List Op) (at : ℕ) (is : List Op) → pre ++ is ≡ code → length pre ≡ at → HasAt code at is
 all_at code pre at [] e l = tt
@@ -221,7 +221,7 @@ module _ (w : World) (code : List Op) where
       (λ next. refl) (ap (λ v. v ∷ os) place)
   field_goes stop at to items os d env e f false is m h end le goes =
       on (goes refl (has_front code at (compiled e at d) (TakeField f ∷ []) h))
-      (simple (TakeField f) stop (at + size e) to items (mean e env ∷ os) (with_value (member f) (mean e env) ∷ os) (behind code at e d (TakeField f ∷ []) h).0 (omega arith) le (λ next. refl))
+      (simple (TakeField f) stop (at + size e) to items (mean e env ∷ os) (with_value (member f) (mean e env) ∷ os) (after code at e d (TakeField f ∷ []) h).0 (omega arith) le (λ next. refl))
 
   -- `&&` and `||`: the left side decides, or both are taken
   decides : (op last : Op) (test : Outcome → Bool) (f : Outcome → Outcome → Outcome) (stop p r q to : ℕ) (items : List Value) (os : List Outcome) (a b : Outcome) (t : Bool)
@@ -297,32 +297,32 @@ module _ (w : World) (code : List Op) where
         (λ no_variable has. runs e at (at + size e) stop k d env items os (known.1 no_variable) nest deep m has refl (field_end (is_variables e) at to stop (size e) no_variable end le))
     runs (expr.Has e f) at to stop k d env items os known nest deep m h end le =
         on (runs e at (at + size e) stop k d env items os known nest deep m (has_front code at (compiled e at d) (TakeHas f ∷ []) h) refl (omega arith))
-        (simple (TakeHas f) stop (at + size e) to items (mean e env ∷ os) (with_value (has_member f) (mean e env) ∷ os) (behind code at e d (TakeHas f ∷ []) h).0 (omega arith) le (λ next. refl))
+        (simple (TakeHas f) stop (at + size e) to items (mean e env ∷ os) (with_value (has_member f) (mean e env) ∷ os) (after code at e d (TakeHas f ∷ []) h).0 (omega arith) le (λ next. refl))
     runs (expr.Index e i) at to stop k d env items os known nest deep m h end le =
         let p = at + size e in
         let nests = and_parts (nests_within e k) (nests_within i k) nest in
-        let second = behind code at e d (compiled i p d ++ TakeIndex ∷ []) h in
+        let second = after code at e d (compiled i p d ++ TakeIndex ∷ []) h in
         on (runs e at p stop k d env items os known.0 nests.0 deep m (has_front code at (compiled e at d) (compiled i p d ++ TakeIndex ∷ []) h) refl (omega arith))
         (on (runs i p (p + size i) stop k d env items (mean e env ∷ os) known.1 nests.1 deep m (has_front code p (compiled i p d) (TakeIndex ∷ []) second) refl (omega arith))
         (simple TakeIndex stop (p + size i) to items (mean i env ∷ mean e env ∷ os) (with_values indexed (mean e env) (mean i env) ∷ os)
-        (behind code p i d (TakeIndex ∷ []) second).0 (omega arith) le (λ next. refl)))
+        (after code p i d (TakeIndex ∷ []) second).0 (omega arith) le (λ next. refl)))
     runs (expr.Sequence es) at to stop k d env items os known nest deep m h end le =
         let n = count es in
         let p = at + size_of_items es in
         let ms = all_means es env in
         on (runs_all es at p stop k d env items os known nest deep m (has_front code at (compiled_items es at d) (TakeItems n ∷ []) h) refl (omega arith))
         (simple_as (TakeItems n) stop p to items (reverse ms ++ os) (list_of (reverse (take n (reverse ms ++ os))) ∷ drop n (reverse ms ++ os)) (list_of ms ∷ os)
-        (behind_items code at es d (TakeItems n ∷ []) h).0 (omega arith) le (λ next. refl) (list_taken ms os n (means_count es env)))
+        (after_items code at es d (TakeItems n ∷ []) h).0 (omega arith) le (λ next. refl) (list_taken ms os n (means_count es env)))
     runs (expr.Mapping ps) at to stop k d env items os known nest deep m h end le =
         let n = pair_count ps in
         let p = at + size_of_pairs ps in
         let ms = both_means ps env in
         on (runs_pairs ps at p stop k d env items os known.0 known.1 nest deep m (has_front code at (compiled_pairs ps at d) (TakePairs n ∷ []) h) refl (omega arith))
         (simple_as (TakePairs n) stop p to items (reverse ms ++ os) (map_of (in_pairs (reverse (take (n + n) (reverse ms ++ os)))) ∷ drop (n + n) (reverse ms ++ os)) (map_of (pair_means ps env) ∷ os)
-        (behind_pairs code at ps d (TakePairs n ∷ []) h).0 (omega arith) le (λ next. refl) (map_taken ms os (pair_means ps env) (n + n) (both_count ps env) (in_pairs-both ps env)))
+        (after_pairs code at ps d (TakePairs n ∷ []) h).0 (omega arith) le (λ next. refl) (map_taken ms os (pair_means ps env) (n + n) (both_count ps env) (in_pairs-both ps env)))
     runs (expr.Unary p e) at to stop k d env items os known nest deep m h end le =
         on (runs e at (at + size e) stop k d env items os known nest deep m (has_front code at (compiled e at d) (TakeUnary p ∷ []) h) refl (omega arith))
-        (simple (TakeUnary p) stop (at + size e) to items (mean e env ∷ os) (with_value (prefixed p) (mean e env) ∷ os) (behind code at e d (TakeUnary p ∷ []) h).0 (omega arith) le (λ next. refl))
+        (simple (TakeUnary p) stop (at + size e) to items (mean e env ∷ os) (with_value (prefixed p) (mean e env) ∷ os) (after code at e d (TakeUnary p ∷ []) h).0 (omega arith) le (λ next. refl))
     runs (expr.Infix o a b) at to stop k d env items os known nest deep m h end le =
         let p = at + size a in
         let r = at + size a + steps_between o in
@@ -330,11 +330,11 @@ module _ (w : World) (code : List Op) where
         let last = infix_op o ∷ [] in
         let target = at + size (expr.Infix o a b) in
         let nests = and_parts (nests_within a k) (nests_within b k) nest in
-        let middle = behind code at a d (between o target ++ (compiled b r d ++ last)) h in
+        let middle = after code at a d (between o target ++ (compiled b r d ++ last)) h in
         let jump = has_front code p (between o target) (compiled b r d ++ last) middle in
         let right = subst (λ n. HasAt code (p + n) (compiled b r d ++ last)) (length-between o target) (has_back code p (between o target) (compiled b r d ++ last) middle) in
         on (runs a at p stop k d env items os known.0 nests.0 deep m (has_front code at (compiled a at d) (between o target ++ (compiled b r d ++ last)) h) refl (omega arith))
-        (infix_goes o stop p r q to items os (mean a env) (mean b env) (subst (λ n. HasAt code p (between o n)) end jump) (behind code r b d last right).0 refl (omega arith) (omega arith) le
+        (infix_goes o stop p r q to items os (mean a env) (mean b env) (subst (λ n. HasAt code p (between o n)) end jump) (after code r b d last right).0 refl (omega arith) (omega arith) le
         (λ ps. runs b r q stop k d env items ps known.1 nests.1 deep m (has_front code r (compiled b r d) last right) refl (omega arith)))
     runs (expr.Conditional c a b) at to stop k d env items os known nest deep m h end le =
         let p = at + size c in
@@ -344,8 +344,8 @@ module _ (w : World) (code : List Op) where
         let target = at + size (expr.Conditional c a b) in
         let nests = and_parts (nests_within c k) (nests_within a k && nests_within b k) nest in
         let nested = and_parts (nests_within a k) (nests_within b k) nests.1 in
-        let branch = behind code at c d (Branch s target ∷ (compiled a r d ++ (Jump target ∷ compiled b s d))) h in
-        let jump = behind code r a d (Jump target ∷ compiled b s d) branch.1 in
+        let branch = after code at c d (Branch s target ∷ (compiled a r d ++ (Jump target ∷ compiled b s d))) h in
+        let jump = after code r a d (Jump target ∷ compiled b s d) branch.1 in
         on (runs c at p stop k d env items os known.0 nests.0 deep m (has_front code at (compiled c at d) (Branch s target ∷ (compiled a r d ++ (Jump target ∷ compiled b s d))) h) refl (omega arith))
         (chooses stop p r q s to items os (mean c env) (mean a env) (mean b env) (is_true (mean c env)) (is_false (mean c env))
         (branch.0 ∙ ap (λ n. Some (Branch s n)) end) (jump.0 ∙ ap (λ n. Some (Jump n)) end) refl (omega arith) refl (omega arith) le refl refl
@@ -358,7 +358,7 @@ module _ (w : World) (code : List Op) where
         let op = TakeCall (function_named f) in
         let nests = and_parts (nests_within e k) true nest in
         on (runs e at q stop k d env items os known.1.0 nests.0 deep m (has_front code at (compiled e at d) [] (has_front code at (compiled_items es at d) (op ∷ []) h)) (omega arith) (omega arith))
-        (simple op stop q to items (mean e env ∷ os) (called f (mean e env ∷ []) ∷ os) (behind_items code at es d (op ∷ []) h).0 (omega arith) le
+        (simple op stop q to items (mean e env ∷ os) (called f (mean e env ∷ []) ∷ os) (after_items code at es d (op ∷ []) h).0 (omega arith) le
         (λ next. ap (λ l. next (q + 1) stop items l) (known.0.1 (mean e env) os)))
     runs (expr.Call f (item e (item g es))) at to stop k d env items os known nest deep m h end le = absurd known.0
     runs (expr.Method e f no_items) at to stop k d env items os known nest deep m h end le =
@@ -366,7 +366,7 @@ module _ (w : World) (code : List Op) where
         let op = TakeCall (method_named f) in
         let nests = and_parts (nests_within e k) true nest in
         on (runs e at p stop k d env items os known.1 nests.0 deep m (has_front code at (compiled e at d) (op ∷ []) h) refl (omega arith))
-        (simple op stop p to items (mean e env ∷ os) (method_called f (mean e env) [] ∷ os) (behind code at e d (op ∷ []) h).0 (omega arith) le
+        (simple op stop p to items (mean e env ∷ os) (method_called f (mean e env) [] ∷ os) (after code at e d (op ∷ []) h).0 (omega arith) le
         (λ next. ap (λ l. next (p + 1) stop items l) (known.0.1 (mean e env) os)))
     runs (expr.Method e f (item g no_items)) at to stop k d env items os known nest deep m h end le =
         let es = item g no_items in
@@ -375,10 +375,10 @@ module _ (w : World) (code : List Op) where
         let op = TakeCall (method_named f) in
         let nests = and_parts (nests_within e k) (nests_within g k && true) nest in
         let nested = and_parts (nests_within g k) true nests.1 in
-        let second = behind code at e d (compiled_items es p d ++ op ∷ []) h in
+        let second = after code at e d (compiled_items es p d ++ op ∷ []) h in
         on (runs e at p stop k d env items os known.1 nests.0 deep m (has_front code at (compiled e at d) (compiled_items es p d ++ op ∷ []) h) refl (omega arith))
         (on (runs g p q stop k d env items (mean e env ∷ os) known.2.0 nested.0 deep m (has_front code p (compiled g p d) [] (has_front code p (compiled_items es p d) (op ∷ []) second)) (omega arith) (omega arith))
-        (simple op stop q to items (mean g env ∷ mean e env ∷ os) (method_called f (mean e env) (mean g env ∷ []) ∷ os) (behind_items code p es d (op ∷ []) second).0 (omega arith) le
+        (simple op stop q to items (mean g env ∷ mean e env ∷ os) (method_called f (mean e env) (mean g env ∷ []) ∷ os) (after_items code p es d (op ∷ []) second).0 (omega arith) le
         (λ next. ap (λ l. next (q + 1) stop items l) (known.0.1 (mean e env) (mean g env) os))))
     runs (expr.Method e f (item g (item i es))) at to stop k d env items os known nest deep m h end le = absurd known.0
     runs (expr.Over c e x body) at to stop zero d env items os known nest deep m h end le = absurd (false≢true nest)
@@ -387,7 +387,7 @@ module _ (w : World) (code : List Op) where
         let r = at + size e + 1 in
         let target = at + size (expr.Over c e x body) in
         let nests = and_parts (nests_within e (suc k)) (nests_within body k) nest in
-        let loop = behind code at e d (Over c target ∷ compiled body r (bind x d)) h in
+        let loop = after code at e d (Over c target ∷ compiled body r (bind x d)) h in
         on (runs e at p stop (suc k) d env items os known.0 nests.0 deep m (has_front code at (compiled e at d) (Over c target ∷ compiled body r (bind x d)) h) refl (omega arith))
         (over_goes c (λ v. mean body (meaning.bind x v env)) stop p r to items (mean e env) os (loop.0 ∙ ap (λ n. Some (Over c n)) end) refl (omega arith) le
         (λ v. runs body r to to k (bind x d) (meaning.bind x v env) (items ++ v ∷ []) [] known.1 nests.1 (omega arith) (meets_inside w d env items x v (omega arith) m) loop.1 (omega arith) (omega arith)))
@@ -401,7 +401,7 @@ module _ (w : World) (code : List Op) where
         let nests = and_parts (nests_within e k) (all_within es k) nest in
         on (runs e at p stop k d env items os known.0 nests.0 deep m (has_front code at (compiled e at d) (compiled_items es p d) h) refl (omega arith))
         (subst (λ l. Goes stop items p (mean e env ∷ os) to l) (pushed (mean e env) (all_means es env) os)
-        (runs_all es p to stop k d env items (mean e env ∷ os) known.1 nests.1 deep m (behind code at e d (compiled_items es p d) h) (omega arith) le))
+        (runs_all es p to stop k d env items (mean e env ∷ os) known.1 nests.1 deep m (after code at e d (compiled_items es p d) h) (omega arith) le))
 
     runs_pairs : (ps : Pairs) (at to stop k : ℕ) (d : Names) (env : Environment) (items : List Value) (os : List Outcome) → KeysHaveCode ps d → ValuesHaveCode ps d → pairs_within ps k ≡ true
         → length d.locals + k ≤ 2 → Meets w d env items → HasAt code at (compiled_pairs ps at d) → at + size_of_pairs ps ≡ to → to ≤ stop
@@ -412,11 +412,11 @@ module _ (w : World) (code : List Op) where
         let q = at + size a + size b in
         let nests = and_parts (nests_within a k && nests_within b k) (pairs_within ps k) nest in
         let nested = and_parts (nests_within a k) (nests_within b k) nests.0 in
-        let second = behind code at a d (compiled b p d ++ compiled_pairs ps q d) h in
+        let second = after code at a d (compiled b p d ++ compiled_pairs ps q d) h in
         on (runs a at p stop k d env items os ks.0 nested.0 deep m (has_front code at (compiled a at d) (compiled b p d ++ compiled_pairs ps q d) h) refl (omega arith))
         (on (runs b p q stop k d env items (mean a env ∷ os) vs.0 nested.1 deep m (has_front code p (compiled b p d) (compiled_pairs ps q d) second) refl (omega arith))
         (subst (λ l. Goes stop items q (mean b env ∷ mean a env ∷ os) to l) (pushed (mean b env) (both_means ps env) (mean a env ∷ os) ∙ pushed (mean a env) (mean b env ∷ both_means ps env) os)
-        (runs_pairs ps q to stop k d env items (mean b env ∷ mean a env ∷ os) ks.1 vs.1 nests.1 deep m (behind code p b d (compiled_pairs ps q d) second) (omega arith) le)))
+        (runs_pairs ps q to stop k d env items (mean b env ∷ mean a env ∷ os) ks.1 vs.1 nests.1 deep m (after code p b d (compiled_pairs ps q d) second) (omega arith) le)))
 
 pub code_means : RunsAsMeant
 code_means g e w env none typed nest world =

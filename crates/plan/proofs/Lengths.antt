@@ -15,7 +15,7 @@ length-between operator_of.And end = refl
 length-between operator_of.Or end = refl
 length-between o end = refl
 
--- one instruction after
+-- one instruction further
 one_more : (a : List Op) (op : Op) (m : ℕ) → length a ≡ m → length (a ++ op ∷ []) ≡ m + 1
 one_more a op m e = omega (arith, length-append a (op ∷ []))
 

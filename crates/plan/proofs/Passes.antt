@@ -9,7 +9,7 @@ use Rattle.instructions.specs.Op.{Op, IfFalse, IfTrue, Branch, Jump, Over}
 use Rattle.instructions.specs.Faults.{◌>>=◌}
 use Rattle.instructions.specs.Judging.{takes, targets, Arrival, arrivals, Body, comes_to, is_one, goes_past, is_fair, are_fair, is_named, goes_on, opens, judge, first_fault}
 use Rattle.instructions.proofs.Converse.{and_true}
-use Rattle.plan.proofs.Arriving.{come, same_come, Same, same_itself, same_over, once_only, swapped, one_more, Ahead, none_ahead, ahead_too, ahead_before, behind, height_here, is_judged, fair_to, all_both, left_behind, ends_before}
+use Rattle.plan.proofs.Arriving.{come, same_come, Same, same_itself, same_over, once_only, swapped, one_more, Ahead, none_ahead, ahead_too, ahead_before, comes_next, height_here, is_judged, fair_to, all_both, left_after, ends_before}
 
 -- an instruction that takes its operands, puts one outcome, and goes on to the next
 pub record IsPlain (op : Op) : Type 0 where
@@ -97,7 +97,7 @@ module _ (vars : ℕ) where
       let more = filter (λ a. not (comes_to at a)) awaited ++ leads in
       let near = ahead_before (at + 1) to further (omega (arith, next)) ahead in
       let judged = is_judged vars at end h op further awaited rest outer (omega arith) near fair named enough same in
-      let p = then more (same_over more (leads ++ further) after (behind at h further awaited leads near same) on) in
+      let p = then more (same_over more (leads ++ further) after (comes_next at h further awaited leads near same) on) in
       record {
         is = ap (λ r. r >>= λ y. judge vars (at + 1) rest y.0 y.1) (judged ∙ ap (λ (x : Body × List Body). Ok x) (plain (goes_on op at h b) outer))
             ∙ ap (λ (n : ℕ). judge vars n rest (record { end = end; awaited = more }) outer) next ∙ p.is;
@@ -207,7 +207,7 @@ module _ (vars : ℕ) where
       → Passes at rest at now (record { end = end; awaited = awaited } ∷ outer)
   leaves at end now awaited rest outer same p =
       let one = ap is_one (height_here at 1 [] now (none_ahead (at + 1)) same) in
-      record { is = left_behind vars at (record { end = at; awaited = now }) (record { end = end; awaited = awaited }) outer rest refl one ∙ p.is }
+      record { is = left_after vars at (record { end = at; awaited = now }) (record { end = end; awaited = awaited }) outer rest refl one ∙ p.is }
 
   -- the body of a macro, with the body around it
   enters : (deeper from to end : ℕ) (body rest : List Op) (more : List Arrival) (outer : List Body) → length outer + 1 ≡ deeper → Leads deeper from body 0 to 1 → Passes to rest end more outer
@@ -229,9 +229,9 @@ module _ (vars : ℕ) where
         let fair : are_fair at end (body ++ rest) (to ∷ []) ≡ true = and_true _ true (fair_to at end to body rest long le (inside.clear to (omega arith))) refl in
         let named : nat_lt (length outer) 2 ≡ true = grind (arith, nat_tests) in
         let judged = is_judged vars at end (h + 1) (Over m to) further awaited (body ++ rest) outer (omega (arith, long, le)) near fair named (omega arith) same in
-        let behind_it = then more (behind at (h + 1) further awaited (come to (h + 1) ∷ []) near same) in
+        let after_it = then more (comes_next at (h + 1) further awaited (come to (h + 1) ∷ []) near same) in
         let p = subst (λ (n : ℕ). Passes n (body ++ rest) to (come n 0 ∷ []) (record { end = end; awaited = more } ∷ outer)) (sym next)
-        (enters deeper from to end body rest more outer (omega (arith, deep, one_deeper)) inside behind_it) in
+        (enters deeper from to end body rest more outer (omega (arith, deep, one_deeper)) inside after_it) in
         record { is = ap (λ r. r >>= λ y. judge vars (at + 1) (body ++ rest) y.0 y.1) judged ∙ p.is };
   }
 

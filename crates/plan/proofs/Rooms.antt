@@ -27,7 +27,7 @@ both_fit : (a b : List Op) → Fit a → Fit b → Fit (a ++ b)
 both_fit [] b e f = f
 both_fit (op ∷ a) b e f = (e.0, both_fit a b e.1 f)
 
--- one instruction after
+-- one instruction further
 one_more : (a : List Op) (op : Op) → Fit a → Fits op → Fit (a ++ op ∷ [])
 one_more a op e f = both_fit a (op ∷ []) e (f, tt)
 
@@ -37,9 +37,9 @@ two_and_one a b op e f g = both_fit a (b ++ op ∷ []) e (one_more b op f g)
 between_two : (a b : List Op) (op : Op) → Fit a → Fit b → Fits op → Fit (a ++ op ∷ b)
 between_two a b op e f g = both_fit a (op ∷ b) e (g, f)
 
-alone_or_behind : (b : Bool) (a : List Op) (op last : Op) → (b ≡ false → Fit a) → Fits op → Fits last → Fit (cond b (op ∷ []) (a ++ last ∷ []))
-alone_or_behind true a op last e f g = (f, tt)
-alone_or_behind false a op last e f g = one_more a last (e refl) g
+alone_or_after : (b : Bool) (a : List Op) (op last : Op) → (b ≡ false → Fit a) → Fits op → Fits last → Fit (cond b (op ∷ []) (a ++ last ∷ []))
+alone_or_after true a op last e f g = (f, tt)
+alone_or_after false a op last e f g = one_more a last (e refl) g
 
 -- a part of a tree stays within the bound of the whole
 within : (b : Bool) (at n : ℕ) → b ≡ false → at + cond b 1 (n + 1) ≤ 65535 → at + n ≤ 65535
@@ -86,7 +86,7 @@ mutual
   compiled_fits (expr.Text x) at d v r s w = ((omega arith, v), tt)
   compiled_fits (expr.Name x) at d v r s w = (name_fits (slot_of x d.locals) (declared_name x), tt)
   compiled_fits (expr.Field e f) at d v r s w =
-      alone_or_behind (is_variables e) (compiled e at d) (PushVariable (place_of f d.variables)) (TakeField f)
+      alone_or_after (is_variables e) (compiled e at d) (PushVariable (place_of f d.variables)) (TakeField f)
       (λ no. compiled_fits e at d v.0 (within (is_variables e) at (size e) no r) (omega arith) w) (omega (arith, place_of_within f d.variables)) (omega arith, v.1)
   compiled_fits (expr.Has e f) at d v r s w = one_more (compiled e at d) (TakeHas f) (compiled_fits e at d v.0 (omega arith) (omega arith) w) (omega arith, v.1)
   compiled_fits (expr.Index e i) at d v r s w =

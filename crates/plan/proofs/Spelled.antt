@@ -29,13 +29,13 @@ bytes-cons op b = length-append (spelled op) (flat_map spelled b)
 bytes-one : (op : Op) → bytes (op ∷ []) ≡ length (spelled op)
 bytes-one op = omega (arith, bytes-cons op [])
 
--- one instruction after
+-- one instruction further
 one_more : (a : List Op) (op : Op) (m k : ℕ) → bytes a ≤ m → length (spelled op) ≤ k → bytes (a ++ op ∷ []) ≤ m + k
 one_more a op m k e f = omega (arith, bytes-append a (op ∷ []), bytes-one op)
 
-alone_or_behind : (b : Bool) (a : List Op) (op last : Op) (m k : ℕ) → bytes a ≤ m → length (spelled op) ≤ k → length (spelled last) ≤ k → bytes (cond b (op ∷ []) (a ++ last ∷ [])) ≤ m + k
-alone_or_behind true a op last m k e f g = omega (arith, bytes-one op)
-alone_or_behind false a op last m k e f g = one_more a last m k e g
+alone_or_after : (b : Bool) (a : List Op) (op last : Op) (m k : ℕ) → bytes a ≤ m → length (spelled op) ≤ k → length (spelled last) ≤ k → bytes (cond b (op ∷ []) (a ++ last ∷ [])) ≤ m + k
+alone_or_after true a op last m k e f g = omega (arith, bytes-one op)
+alone_or_after false a op last m k e f g = one_more a last m k e g
 
 two_and_one : (a b : List Op) (op : Op) (m n k : ℕ) → bytes a ≤ m → bytes b ≤ n → length (spelled op) ≤ k → bytes (a ++ (b ++ op ∷ [])) ≤ m + n + k
 two_and_one a b op m n k e f g = omega (arith, bytes-append a (b ++ op ∷ []), one_more b op n k f g)
@@ -79,7 +79,7 @@ mutual
   bytes_within (expr.Name x) at d = omega (arith, name_bytes (slot_of x d.locals) (declared_name x))
   bytes_within (expr.Field e f) at d =
       let text = length-append (short (length f)) f in
-      let h = alone_or_behind (is_variables e) (compiled e at d) (PushVariable (place_of f d.variables)) (TakeField f) (16 * nodes e + text_bytes e) (3 + length f) (bytes_within e at d) (omega arith) (omega (arith, text)) in
+      let h = alone_or_after (is_variables e) (compiled e at d) (PushVariable (place_of f d.variables)) (TakeField f) (16 * nodes e + text_bytes e) (3 + length f) (bytes_within e at d) (omega arith) (omega (arith, text)) in
       omega (arith, h)
   bytes_within (expr.Has e f) at d =
       let text = length-append (short (length f)) f in

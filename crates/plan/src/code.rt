@@ -81,7 +81,7 @@ fn leading(
     }
 }
 
-/// The instructions of `a + b` and the like, by those of `a` and `b`, and the number of the instruction after.
+/// The instructions of `a + b` and the like, by those of `a` and `b`, and the number of the instruction that follows.
 pub(crate) fn infix_code(
     operator: Operator,
     left: Vec<Instruction>,
@@ -112,7 +112,7 @@ pub(crate) fn conditional_code(
     joined(test, branches)
 }
 
-/// The instructions of a macro, by those of what it goes over and of its body, and the number of the instruction after.
+/// The instructions of a macro, by those of what it goes over and of its body, and the number of the instruction that follows.
 pub(crate) fn macro_code(
     kind: Macro,
     of: Vec<Instruction>,

@@ -23,7 +23,7 @@ use instructions::{Instruction, Plan};
 use std::alloc::{AllocError, Global};
 
 // The place after the instructions of a tree that begin at `at`. The tree is named for the contract.
-fn behind_tree(at: usize, _tree: &Tree, code: &Vec<Instruction>) -> usize
+fn after_tree(at: usize, _tree: &Tree, code: &Vec<Instruction>) -> usize
     requires whole { length code.now.items ≡ size (view _tree.now) }
     requires room { at + size (view _tree.now) ≤ 65535 }
     ensures { result ≡ at + size (view _tree.now) }
@@ -31,12 +31,12 @@ fn behind_tree(at: usize, _tree: &Tree, code: &Vec<Instruction>) -> usize
     at + code.len()
 }
 
-fn behind(at: usize, tree: &Box<Tree>, code: &Vec<Instruction>) -> usize
+fn after(at: usize, tree: &Box<Tree>, code: &Vec<Instruction>) -> usize
     requires whole { length code.now.items ≡ size (view tree.now.value) }
     requires room { at + size (view tree.now.value) ≤ 65535 }
     ensures { result ≡ at + size (view tree.now.value) }
 {
-    behind_tree(at, tree, code)
+    after_tree(at, tree, code)
 }
 
 // The instructions of the tree, from the place `at`. The clause `values` is on the tree: it was read to its end, so that its numbers
@@ -140,7 +140,7 @@ fn code_of_index(
     ensures values { OnOk result (HasValues (expr.Index (view of.now.value) (view index.now.value))) }
 {
     let operand = code_of(alloc, of, at, names)?;
-    let index_at = behind(at, of, &operand);
+    let index_at = after(at, of, &operand);
     let index = code_of(alloc, index, index_at, names)?;
     gathered(operand, index, Instruction::Index)
 }
@@ -213,9 +213,9 @@ fn code_of_infix(
     ensures values { OnOk result (HasValues (expr.Infix operator (view left.now.value) (view right.now.value))) }
 {
     let first = code_of(alloc, left, at, names)?;
-    let right_at = behind(at, left, &first) + steps_between(operator);
+    let right_at = after(at, left, &first) + steps_between(operator);
     let second = code_of(alloc, right, right_at, names)?;
-    let end = behind(right_at, right, &second) + 1;
+    let end = after(right_at, right, &second) + 1;
     infix_code(operator, first, second, end as u16)
 }
 
@@ -235,11 +235,11 @@ fn code_of_conditional(
     ensures values { OnOk result (HasValues (expr.Conditional (view test.now.value) (view first.now.value) (view second.now.value))) }
 {
     let start = code_of(alloc, test, at, names)?;
-    let first_at = behind(at, test, &start) + 1;
+    let first_at = after(at, test, &start) + 1;
     let middle = code_of(alloc, first, first_at, names)?;
-    let second_at = behind(first_at, first, &middle) + 1;
+    let second_at = after(first_at, first, &middle) + 1;
     let rest = code_of(alloc, second, second_at, names)?;
-    let end = behind(second_at, second, &rest);
+    let end = after(second_at, second, &rest);
     conditional_code(start, middle, rest, second_at as u16, end as u16)
 }
 
@@ -277,7 +277,7 @@ fn code_of_method(
     ensures values { OnOk result (HasValues (expr.Method (view of.now.value) (string_bytes name.now) (views arguments.now.items))) }
 {
     let operand = code_of(alloc, of, at, names)?;
-    let arguments_at = behind(at, of, &operand);
+    let arguments_at = after(at, of, &operand);
     let rest = code_of_items(alloc, arguments, arguments_at, names)?;
     gathered(operand, rest, Instruction::Call(method_named(name)))
 }
@@ -299,9 +299,9 @@ fn code_of_macro(
     ensures values { OnOk result (HasValues (expr.Over kind (view of.now.value) (string_bytes variable.now) (view body.now.value))) }
 {
     let operand = code_of(alloc, of, at, names)?;
-    let body_at = behind(at, of, &operand) + 1;
+    let body_at = after(at, of, &operand) + 1;
     let inside = code_of_body(alloc, body, variable, body_at, names)?;
-    let end = behind(body_at, body, &inside);
+    let end = after(body_at, body, &inside);
     macro_code(kind, operand, inside, end as u16)
 }
 
@@ -385,7 +385,7 @@ fn code_of_pair(
     ensures values { OnOk result (HasValues (view entry.now.0) × HasValues (view entry.now.1)) }
 {
     let key = code_of(alloc, &entry.0, at, names)?;
-    let value_at = behind_tree(at, &entry.0, &key);
+    let value_at = after_tree(at, &entry.0, &key);
     let value = code_of(alloc, &entry.1, value_at, names)?;
     joined(key, value)
 }

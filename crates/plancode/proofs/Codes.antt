@@ -17,7 +17,7 @@ use Rattle.instructions.specs.Judging.{first_fault}
 use Rattle.instructions.specs.WellFormed.{IsWellFormed}
 use Rattle.instructions.proofs.WellFormed.{sound_is_well_formed}
 use Rattle.instructions.proofs.Passing.{well_formed_is_sound}
-use Rattle.plancode.specs.Reading.{number_at, op_at, ops_at, nothing_behind, plan_of, decoded}
+use Rattle.plancode.specs.Reading.{number_at, op_at, ops_at, nothing_after, plan_of, decoded}
 use Rattle.plancode.specs.Plans.{NamesUpTo, UsesNamesUpTo, Judged}
 use Rattle.plancode.proofs.Low.{bind_ok}
 use Rattle.plancode.proofs.Fields.{IsBytes, test_ok, ok_is, Takes, Takes-then, wide16, number_takes, short_again}
@@ -58,8 +58,8 @@ known_of g (op ∷ ops) room = (room.0.1, known_of g ops room.1)
 pub plan_takes : (g : Name) (bytes : List ℕ) (ops : List Op) → IsBytes bytes → plan_of g bytes ≡ Ok ops → HaveRoom ops × UsesNamesUpTo g ops × (bytes ≡ code ops)
 unfolding plan_of
 plan_takes g bytes ops fits e =
-    let a = bind_ok (number_at w16 bytes) (λ n. ops_at g n.0 n.1 >>= λ x. nothing_behind x) ops e in
-    let b = bind_ok (ops_at g a.0.0 a.0.1) (λ x. nothing_behind x) ops a.2 in
+    let a = bind_ok (number_at w16 bytes) (λ n. ops_at g n.0 n.1 >>= λ x. nothing_after x) ops e in
+    let b = bind_ok (ops_at g a.0.0 a.0.1) (λ x. nothing_after x) ops a.2 in
     let nothing_more = test_ok (eqb (length b.0.1) 0) fault.TrailingBytes b.0.0 ops b.2 in
     let first = number_takes w16 (2 ^ 16) wide16 bytes a.0.0 a.0.1 fits a.1 in
     let second = ops_take g a.0.0 a.0.1 b.0 first.0.rest_fits b.1 in
@@ -72,8 +72,8 @@ pub plan_again : (g : Name) (ops : List Op) → HaveRoom ops → UsesNamesUpTo g
 unfolding plan_of
 plan_again g ops room known =
     let rest : ops_at g (length ops) (flat_map spelled ops) ≡ Ok (ops, []) = ap (ops_at g (length ops)) (sym (append-nil (flat_map spelled ops))) ∙ ops_again g ops [] room.operands known in
-    ap (λ r. r >>= λ n. ops_at g n.0 n.1 >>= λ x. nothing_behind x) (short_again (length ops) (flat_map spelled ops) room.count)
-    ∙ ap (λ r. r >>= λ x. nothing_behind x) rest
+    ap (λ r. r >>= λ n. ops_at g n.0 n.1 >>= λ x. nothing_after x) (short_again (length ops) (flat_map spelled ops) room.count)
+    ∙ ap (λ r. r >>= λ x. nothing_after x) rest
 
 -- each plan uses declared names up to the last
 up_to_params : (x : Name) → name_number x ≤ name_number name.Params

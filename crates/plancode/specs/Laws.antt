@@ -40,4 +40,4 @@ pub record FirstFaults : Type 0 where
   pub two_outcomes : Refused (0 ∷ 2 ∷ 4 ∷ 1 ∷ 4 ∷ 1 ∷ []) fault.BadStack
   pub no_such_variable : Refused (0 ∷ 1 ∷ 7 ∷ 0 ∷ 0 ∷ []) fault.BadName
   pub no_macro : Refused (0 ∷ 1 ∷ 8 ∷ 0 ∷ []) fault.BadName
-  pub byte_behind : Refused (0 ∷ 1 ∷ 4 ∷ 1 ∷ 0 ∷ []) fault.TrailingBytes
+  pub byte_after : Refused (0 ∷ 1 ∷ 4 ∷ 1 ∷ 0 ∷ []) fault.TrailingBytes

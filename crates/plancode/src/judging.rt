@@ -86,8 +86,8 @@ fn all_fair(at: usize, end: usize, starts: &[usize], instruction: &Instruction) 
     match instruction {
         Instruction::IfFalse(target) => fair(at, end, starts, *target as usize),
         Instruction::IfTrue(target) => fair(at, end, starts, *target as usize),
-        Instruction::Branch(otherwise, behind) => {
-            fair(at, end, starts, *otherwise as usize) && fair(at, end, starts, *behind as usize)
+        Instruction::Branch(otherwise, after) => {
+            fair(at, end, starts, *otherwise as usize) && fair(at, end, starts, *after as usize)
         }
         Instruction::Jump(target) => fair(at, end, starts, *target as usize),
         Instruction::Macro(_, target) => fair(at, end, starts, *target as usize),

@@ -22,9 +22,9 @@ fn instructions(
     let mut read = Vec::new(alloc);
     let mut rest = bytes;
     for _ in 0..count {
-        let (first, behind) = instruction(alloc, greatest, rest)?;
+        let (first, after) = instruction(alloc, greatest, rest)?;
         read.push(first)?;
-        rest = behind;
+        rest = after;
     }
     Ok((read, rest))
 }

@@ -18,9 +18,9 @@ same_plan n p q a b same =
     λ i. record { vars = vars i; ops = ops i }
 
 -- what a field that was found says of a plan in front
-pub same_code : (n : ℕ) (p : Judged) (bytes rest inside behind : List ℕ) → IsFor n p → length inside < 256 ^ 4 → bytes ≡ field 4 inside ++ behind
-    → plan_bytes p ++ rest ≡ bytes → (code p.ops ≡ inside) × (rest ≡ behind)
-same_code n p bytes rest inside behind fits short parts same = same-fields 4 (code p.ops) inside rest behind fits.short short (same ∙ parts)
+pub same_code : (n : ℕ) (p : Judged) (bytes rest inside after : List ℕ) → IsFor n p → length inside < 256 ^ 4 → bytes ≡ field 4 inside ++ after
+    → plan_bytes p ++ rest ≡ bytes → (code p.ops ≡ inside) × (rest ≡ after)
+same_code n p bytes rest inside after fits short parts same = same-fields 4 (code p.ops) inside rest after fits.short short (same ∙ parts)
 
 pub same_fronts : (n : ℕ) (p q : Judged) (rest more : List ℕ) → IsFor n p → IsFor n q → plan_bytes p ++ rest ≡ plan_bytes q ++ more → (p ≡ q) × (rest ≡ more)
 same_fronts n p q rest more a b same =
@@ -38,11 +38,11 @@ same_each (n ∷ ns) (p ∷ ps) (q ∷ qs) a b same =
     let others : ps ≡ qs = same_each ns ps qs a.1 b.1 fronts.1 in
     λ i. fronts.0 i ∷ others i
 
-behind_count : (a b c d : ℕ) (xs ys : List ℕ) → a ∷ b ∷ xs ≡ c ∷ d ∷ ys → xs ≡ ys
-behind_count a b c d xs ys same = cc
+after_count : (a b c d : ℕ) (xs ys : List ℕ) → a ∷ b ∷ xs ≡ c ∷ d ∷ ys → xs ≡ ys
+after_count a b c d xs ys same = cc
 
 pub one_list : (places : List ℕ) (ps qs : List Judged) → IsListFor places ps → IsListFor places qs → list_bytes ps ≡ list_bytes qs → ps ≡ qs
-one_list places ps qs a b same = same_each places ps qs a.each b.each (behind_count _ _ _ _ (flat_map plan_bytes ps) (flat_map plan_bytes qs) same)
+one_list places ps qs a b same = same_each places ps qs a.each b.each (after_count _ _ _ _ (flat_map plan_bytes ps) (flat_map plan_bytes qs) same)
 
 pub same_length : (places : List ℕ) (ps : List Judged) → AreFor places ps → length ps ≡ length places
 same_length [] [] a = refl
@@ -56,14 +56,14 @@ pub same_count : (places : List ℕ) (ps : List Judged) (bytes rest : List ℕ) 
 same_count places ps bytes rest n list fits parts same =
     let counts : length ps ≡ n =
     sym (big_number-reads_back 2 (length ps) (flat_map plan_bytes ps) list.count) ∙ ap (big_number 2) (same ∙ parts) ∙ big_number-reads_back 2 n rest fits in
-    (sym counts ∙ same_length places ps list.each, behind_count _ _ _ _ (flat_map plan_bytes ps) rest (same ∙ parts))
+    (sym counts ∙ same_length places ps list.each, after_count _ _ _ _ (flat_map plan_bytes ps) rest (same ∙ parts))
 
 -- a plan that was read is the only one
-pub only_plan : (n : ℕ) (q : Judged) (bytes inside behind : List ℕ) → length inside < 256 ^ 4 → bytes ≡ field 4 inside ++ behind
+pub only_plan : (n : ℕ) (q : Judged) (bytes inside after : List ℕ) → length inside < 256 ^ 4 → bytes ≡ field 4 inside ++ after
     → q.vars ≡ n → IsVerified q.vars q.ops → code q.ops ≡ inside
-    → (p : Judged) (rest : List ℕ) → IsFor n p → plan_bytes p ++ rest ≡ bytes → (p ≡ q) × (rest ≡ behind)
-only_plan n q bytes inside behind short parts place verified is p rest fits same =
-    let found = same_code n p bytes rest inside behind fits short parts same in
+    → (p : Judged) (rest : List ℕ) → IsFor n p → plan_bytes p ++ rest ≡ bytes → (p ≡ q) × (rest ≡ after)
+only_plan n q bytes inside after short parts place verified is p rest fits same =
+    let found = same_code n p bytes rest inside after fits short parts same in
     let ops : p.ops ≡ q.ops = one_spelling p.ops q.ops fits.verified.room verified.room (found.0 ∙ sym is) in
     let vars : p.vars ≡ q.vars = fits.place ∙ sym place in
     (λ i. record { vars = vars i; ops = ops i }, found.1)

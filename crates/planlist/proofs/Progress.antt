@@ -19,28 +19,28 @@ flat_map-append (p ∷ ps) q rest =
     ∙ ap (λ bytes. plan_bytes p ++ bytes) (flat_map-append ps q rest)
     ∙ sym (append_assoc (plan_bytes p) (flat_map plan_bytes ps) (plan_bytes q ++ rest))
 
-left_behind : (n : ℕ) (left rest behind : List ℕ) (q : Judged) → IsFor n q → plan_bytes q ++ behind ≡ rest
-    → (x : (later : List Judged) × AreFor (n ∷ left) later × (flat_map plan_bytes later ≡ rest)) → (later : List Judged) × AreFor left later × (flat_map plan_bytes later ≡ behind)
-left_behind n left rest behind q is front ([], fits, same) = absurd fits
-left_behind n left rest behind q is front (p ∷ ps, fits, same) =
-    (ps, fits.1, (same_fronts n p q (flat_map plan_bytes ps) behind fits.0 is (same ∙ sym front)).1)
+left_after : (n : ℕ) (left rest after : List ℕ) (q : Judged) → IsFor n q → plan_bytes q ++ after ≡ rest
+    → (x : (later : List Judged) × AreFor (n ∷ left) later × (flat_map plan_bytes later ≡ rest)) → (later : List Judged) × AreFor left later × (flat_map plan_bytes later ≡ after)
+left_after n left rest after q is front ([], fits, same) = absurd fits
+left_after n left rest after q is front (p ∷ ps, fits, same) =
+    (ps, fits.1, (same_fronts n p q (flat_map plan_bytes ps) after fits.0 is (same ∙ sym front)).1)
 
-pub one_more : (places bytes : List ℕ) (n : ℕ) (left rest : List ℕ) (plans : List Judged) (q : Judged) (behind : List ℕ) → IsRead places bytes (n ∷ left) rest plans
-    → IsFor n q → plan_bytes q ++ behind ≡ rest → IsRead places bytes left behind (plans ++ q ∷ [])
-one_more places bytes n left rest plans q behind is fits front = record {
-  read = flat_map-append plans q behind ∙ ap (λ more. flat_map plan_bytes plans ++ more) front ∙ is.read;
+pub one_more : (places bytes : List ℕ) (n : ℕ) (left rest : List ℕ) (plans : List Judged) (q : Judged) (after : List ℕ) → IsRead places bytes (n ∷ left) rest plans
+    → IsFor n q → plan_bytes q ++ after ≡ rest → IsRead places bytes left after (plans ++ q ∷ [])
+one_more places bytes n left rest plans q after is fits front = record {
+  read = flat_map-append plans q after ∙ ap (λ more. flat_map plan_bytes plans ++ more) front ∙ is.read;
   fits = λ later are. let P : List Judged → Type 0 = AreFor places in subst P (sym (append_assoc plans (q ∷ []) later)) (is.fits (q ∷ later) (fits, are));
-  only = λ all are same. left_behind n left rest behind q fits front (is.only all are same);
+  only = λ all are same. left_after n left rest after q fits front (is.only all are same);
 }
 
-no_front : (n : ℕ) (left rest : List ℕ) → ((p : Judged) (behind : List ℕ) → IsFor n p → plan_bytes p ++ behind ≢ rest)
+no_front : (n : ℕ) (left rest : List ℕ) → ((p : Judged) (after : List ℕ) → IsFor n p → plan_bytes p ++ after ≢ rest)
     → (x : (later : List Judged) × AreFor (n ∷ left) later × (flat_map plan_bytes later ≡ rest)) → ⊥
 no_front n left rest none ([], fits, same) = absurd fits
 no_front n left rest none (p ∷ ps, fits, same) = none p (flat_map plan_bytes ps) fits.0 same
 
 -- no plans are found where none is found next
 pub none_next : (places bytes : List ℕ) (n : ℕ) (left rest : List ℕ) (plans : List Judged) → IsRead places bytes (n ∷ left) rest plans
-    → ((p : Judged) (behind : List ℕ) → IsFor n p → plan_bytes p ++ behind ≢ rest) → (all : List Judged) → AreFor places all → flat_map plan_bytes all ≢ bytes
+    → ((p : Judged) (after : List ℕ) → IsFor n p → plan_bytes p ++ after ≢ rest) → (all : List Judged) → AreFor places all → flat_map plan_bytes all ≢ bytes
 none_next places bytes n left rest plans is none all fits same = no_front n left rest none (is.only all fits same)
 
 -- the plans are found where nothing is left

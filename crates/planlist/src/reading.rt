@@ -88,9 +88,9 @@ fn read_each(alloc: Global, places: &[u16], bytes: &[u8]) -> Result<Vec<Verified
     let mut rest = bytes;
     let mut left = places;
     'each: while let Some((variables, others)) = left.split_first() {
-        let (plan, behind) = read_plan(alloc, *variables, rest)?;
+        let (plan, after) = read_plan(alloc, *variables, rest)?;
         plans.push(plan)?;
-        rest = behind;
+        rest = after;
         left = others;
     }
     if !rest.is_empty() {

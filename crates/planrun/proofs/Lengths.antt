@@ -70,7 +70,7 @@ leads_next (Over k end) at height tall t e = absurd cc
 leads_next op at height tall t e = inl (ap (λ (h : ℕ). record { place = at + 1; height = h }) (sym e))
 
 pub leads_on : (w : World) (items : List Value) (op : Op) (at height tall : ℕ) (os new : List Outcome) → targets op ≡ [] → takes op ≤ height → length os ≡ height → length new ≡ tall → new ≡ after w items op os → Leads op at (at + 1) height tall
-leads_on w items op at height tall os new t m before behind e =
+leads_on w items op at height tall os new t m before past e =
     let l : length (after w items op os) ≡ length os - takes op + 1 = after_length w items op os t (omega (arith, m, before)) in
     let same : length new ≡ length (after w items op os) = ap (λ (x : List Outcome). length x) e in
-    leads_next op at height tall t (omega (arith, l, same, before, behind))
+    leads_next op at height tall t (omega (arith, l, same, before, past))

@@ -34,15 +34,15 @@ onward m left n p stop to os new whole more less was goes_on =
 
 at_end : (m : Machine) (n p stop : ℕ) (os : List Outcome) → stop ≤ p → next_of m (suc n) p stop (items_of m) os ≡ os
 at_end m n p stop os more =
-    let behind : nat_lt p stop ≡ false = grind (arith, nat_tests) in
-    rw behind refl
+    let after : nat_lt p stop ≡ false = grind (arith, nat_tests) in
+    rw after refl
 
 -- where a body ends, its stack is what it gives
 pub ended : (m : Machine) (left p stop : ℕ) (os whole : List Outcome) → stop < p + left → p ≤ stop → stop ≤ p → next_of m left p stop (items_of m) os ≡ whole → whole ≡ os
-ended m left p stop os whole enough inside behind was =
+ended m left p stop os whole enough inside after was =
     let more : left ≡ suc (left - 1) = omega arith in
     let before = rw more at was in
-    sym before ∙ at_end m (left - 1) p stop os behind
+    sym before ∙ at_end m (left - 1) p stop os after
 
 -- the whole code, run from its first instruction
 pub whole_run : (w : World) (is : List Instruction) → top (exec w (ops_of is) (length is + 1) 0 (length is) [] []) ≡ outcome w (ops_of is)

@@ -42,9 +42,9 @@ fn read_each(alloc: Global, count: u16, bytes: &[u8]) -> Result<Vec<StoredWrite<
     let mut writes = Vec::new(alloc);
     let mut rest = bytes;
     for _ in 0..count {
-        let (write, behind) = read_one(alloc, rest)?;
+        let (write, after) = read_one(alloc, rest)?;
         writes.push(write)?;
-        rest = behind;
+        rest = after;
     }
     if !rest.is_empty() {
         return Err(RecordFault::Damaged);

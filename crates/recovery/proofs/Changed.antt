@@ -30,9 +30,9 @@ module _ {X : Type 0} where
       ap (λ r. cond (is_eq r) (Some e.1) (value_at k es)) (less_from (key_cmp k e.0) parts.0) ∙ below_none k es parts.1
 
   -- also after one that comes before all of them
-  behind : (first : Key × X) (rest : List (Key × X)) (e : Key × X) → below_all key_cmp first.0 rest ≡ true → value_at e.0 rest ≡ Some e.1
+  after : (first : Key × X) (rest : List (Key × X)) (e : Key × X) → below_all key_cmp first.0 rest ≡ true → value_at e.0 rest ≡ Some e.1
       → value_at e.0 (first ∷ rest) ≡ Some e.1
-  behind first rest e below found =
+  after first rest e below found =
       elim (eq_by_cmp key_cmp e.0 first.0) as (λ b. eq_by_cmp key_cmp e.0 first.0 ≡ b → cond b (Some first.1) (value_at e.0 rest) ≡ Some e.1) [
         | true ↦ λ tied.
             let none : ◌≡◌ {A = Option X} None (Some e.1) =
@@ -42,17 +42,17 @@ module _ {X : Type 0} where
         | false ↦ λ apart. found
       ] refl
 
-  all_behind : (first : Key × X) (rest es : List (Key × X)) → below_all key_cmp first.0 rest ≡ true → AllByRecursion (λ e. value_at e.0 rest ≡ Some e.1) es
+  all_after : (first : Key × X) (rest es : List (Key × X)) → below_all key_cmp first.0 rest ≡ true → AllByRecursion (λ e. value_at e.0 rest ≡ Some e.1) es
       → AllByRecursion (λ e. value_at e.0 (first ∷ rest) ≡ Some e.1) es
-  all_behind first rest [] below all = tt
-  all_behind first rest (e ∷ es) below all = (behind first rest e below all.0, all_behind first rest es below all.1)
+  all_after first rest [] below all = tt
+  all_after first rest (e ∷ es) below all = (after first rest e below all.0, all_after first rest es below all.1)
 
   pub all_stand : (es : List (Key × X)) → is_sorted key_cmp es ≡ true → AllByRecursion (λ e. value_at e.0 es ≡ Some e.1) es
   all_stand [] sorted = tt
   all_stand (e ∷ es) sorted =
       let parts = and_parts (below_all key_cmp e.0 es) (is_sorted key_cmp es) sorted in (
         ap (λ r. cond (is_eq r) (Some e.1) (value_at e.0 es)) (tied_itself key_cmp_total e.0),
-        all_behind e es es parts.0 (all_stand es parts.1),
+        all_after e es es parts.0 (all_stand es parts.1),
       )
 
 -- ---- what holds of all entries

@@ -34,9 +34,9 @@ contains_at {X} {Y} f xs i x inside is =
     subst Has (sym (map-at f xs i x inside is))
     (Contains-append_right (map f (take i xs)) (f x ∷ map f (drop (i + 1) xs)) (f x) (contains_first (f x) (map f (drop (i + 1) xs))))
 
-all_behind : {X : Type 0} (P : X → Type 0) (xs ys : List X) → AllByRecursion P (xs ++ ys) → AllByRecursion P ys
-all_behind P [] ys all = all
-all_behind P (x ∷ xs) ys all = all_behind P xs ys all.1
+all_after : {X : Type 0} (P : X → Type 0) (xs ys : List X) → AllByRecursion P (xs ++ ys) → AllByRecursion P ys
+all_after P [] ys all = all
+all_after P (x ∷ xs) ys all = all_after P xs ys all.1
 
 -- what holds of each key that is written holds by the writes
 each_written : (P : Key → Type 0) (ws : List Raw) → ((key : Key) → Contains (map written_key ws) key → P key) → AllByRecursion (λ w. P (written_key w)) ws
@@ -60,8 +60,8 @@ module _ (core : State Beside) (base : Base) where
       → KnowsEach core base all → IsKnown core base (written_key raw)
   next_known rules v now all left raw rest taken step knows =
       let Knows : List Raw → Type 0 = λ ws. KnowsEach core base ws in
-      let behind : KnowsEach core base left = all_behind (λ (w : Raw). IsKnown core base (written_key w)) (map recorded taken.writes) left (subst Knows (sym taken.parts) knows) in
-      let first : KnowsEach core base (raw ∷ rest) = subst Knows step behind in
+      let after : KnowsEach core base left = all_after (λ (w : Raw). IsKnown core base (written_key w)) (map recorded taken.writes) left (subst Knows (sym taken.parts) knows) in
+      let first : KnowsEach core base (raw ∷ rest) = subst Knows step after in
       first.0
 
 abbrev items : Vec ℕ Global → List ℕ

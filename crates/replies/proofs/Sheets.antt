@@ -13,7 +13,7 @@ use Rattle.httpmsg.specs.Flow.{TookSome, Writes}
 use Rattle.httpmsg.specs.Stream.{Message}
 use Rattle.httpmsg.proofs.Flows.{HasTaken, some_then, some_front, writes_then}
 use Rattle.replies.specs.ReplyBytes.{reply_bytes}
-use Rattle.replies.specs.AnswerBytes.{answers_bytes, CanAnswer, CanAnswerAll, PutsBehind}
+use Rattle.replies.specs.AnswerBytes.{answers_bytes, CanAnswer, CanAnswerAll, PutsAfter}
 
 -- what holds, holds on success
 on_ok : {T E : Type 0} (r : Result T E) (P : Type 0) → P → OnOk r P
@@ -24,7 +24,7 @@ module _ {S : Type 0} (took : S → S → List ℕ → Type 0)
     (took_none : (s : S) → took s s [])
     (took_then : (old mid new : S) (front back : List ℕ) → took old mid front → took mid new back → took old new (front ++ back)) where
   -- all of it is held
-  pub puts_held : {T E : Type 0} (s : S) (held kept bytes : List ℕ) (r : Result T E) → kept ≡ held ++ bytes → PutsBehind took s s held kept bytes r
+  pub puts_held : {T E : Type 0} (s : S) (held kept bytes : List ℕ) (r : Result T E) → kept ≡ held ++ bytes → PutsAfter took s s held kept bytes r
   puts_held s held kept bytes r is = record {
     some = record { front = []; rest = held ++ bytes; split = refl; taken = took_none s };
     kept_is = on_ok r (held ++ bytes ≡ kept) (sym is);
@@ -32,7 +32,7 @@ module _ {S : Type 0} (took : S → S → List ℕ → Type 0)
 
   -- what was held is written, and then the bytes, and nothing is held
   pub puts_written : {T E : Type 0} (old mid new : S) (held kept bytes : List ℕ) (r : Result T E) → took old mid held → Writes took mid new bytes r
-      → kept ≡ [] → PutsBehind took old new held kept bytes r
+      → kept ≡ [] → PutsAfter took old new held kept bytes r
   puts_written old mid new held kept bytes (Ok x) first second none = record {
     some = record { front = held ++ bytes; rest = []; split = sym (append-nil (held ++ bytes)); taken = took_then old mid new held bytes first second };
     kept_is = sym none;
@@ -43,7 +43,7 @@ module _ {S : Type 0} (took : S → S → List ℕ → Type 0)
   }
 
   -- a beginning of what was held is written
-  pub puts_some : {T E : Type 0} (old new : S) (held kept bytes : List ℕ) (e : E) → TookSome took old new held → PutsBehind {T = T} {E = E} took old new held kept bytes (Err e)
+  pub puts_some : {T E : Type 0} (old new : S) (held kept bytes : List ℕ) (e : E) → TookSome took old new held → PutsAfter {T = T} {E = E} took old new held kept bytes (Err e)
   puts_some old new held kept bytes e some = record {
     some = some_front took took_none took_then old new held bytes (held ++ bytes) some refl;
     kept_is = tt;
@@ -51,7 +51,7 @@ module _ {S : Type 0} (took : S → S → List ℕ → Type 0)
 
   -- some bytes, and then more
   pub held_more : {T E : Type 0} (old mid new : S) (bytes held kept more : List ℕ) (x : T) → HasTaken took old mid bytes held
-      → PutsBehind {T = T} {E = E} took mid new held kept more (Ok x) → HasTaken took old new (bytes ++ more) kept
+      → PutsAfter {T = T} {E = E} took mid new held kept more (Ok x) → HasTaken took old new (bytes ++ more) kept
   held_more old mid new bytes held kept more x has puts = record {
     front = has.front ++ puts.some.front;
     split = ap (λ b. b ++ more) has.split ∙ append_assoc has.front held more ∙ ap (λ w. has.front ++ w) puts.some.split
@@ -61,7 +61,7 @@ module _ {S : Type 0} (took : S → S → List ℕ → Type 0)
 
   -- or a beginning of them
   pub held_some : {T E : Type 0} (old mid new : S) (bytes held kept more rest whole : List ℕ) (e : E) → HasTaken took old mid bytes held
-      → PutsBehind {T = T} {E = E} took mid new held kept more (Err e) → whole ≡ (bytes ++ more) ++ rest → TookSome took old new whole
+      → PutsAfter {T = T} {E = E} took mid new held kept more (Err e) → whole ≡ (bytes ++ more) ++ rest → TookSome took old new whole
   held_some old mid new bytes held kept more rest whole e has puts is =
       some_then took took_none took_then old mid new has.front (held ++ more) rest whole has.taken puts.some
       (is ∙ ap (λ b. (b ++ more) ++ rest) has.split ∙ ap (λ w. w ++ rest) (append_assoc has.front held more) ∙ append_assoc has.front (held ++ more) rest)

@@ -27,6 +27,6 @@ pub record CanAnswerAll (ms : List Message) (replies : List Reply) (allows : Lis
       → option_map (λ methods. methods.now) (slice_index_or allows i None) ≡ allow_of (slice_index_or ms i m)
 
 -- Bytes were put after those that were held: a beginning of all was taken, and but for an error the rest of them is held now.
-pub record PutsBehind {S T E : Type 0} (took : S → S → List ℕ → Type 0) (old new : S) (held kept bytes : List ℕ) (result : Result T E) : Type 0 where
+pub record PutsAfter {S T E : Type 0} (took : S → S → List ℕ → Type 0) (old new : S) (held kept bytes : List ℕ) (result : Result T E) : Type 0 where
   pub some : TookSome took old new (held ++ bytes)
   pub kept_is : OnOk result (some.rest ≡ kept)

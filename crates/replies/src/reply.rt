@@ -10,7 +10,7 @@ ghost use Rattle.httpmsg.specs.Response.{response_bytes};
 ghost use Rattle.httpmsg.specs.Sheet.{gathered};
 ghost use Rattle.httpmsg.specs.Stream.{is_head};
 ghost use Rattle.replies.specs.ReplyBytes.{refusal_of, response_of, allow_in, reply_bytes, closing_bytes, end_bytes};
-ghost use Rattle.replies.specs.AnswerBytes.{answers_bytes, CanAnswer, CanAnswerAll, PutsBehind};
+ghost use Rattle.replies.specs.AnswerBytes.{answers_bytes, CanAnswer, CanAnswerAll, PutsAfter};
 
 use crate::bodies::fault_body;
 use history::Reply;
@@ -94,12 +94,12 @@ fn out_of_memory(message: &Message) -> Response<'static>
 }
 
 // Puts a response after what the sheet holds. Where the sheet has no room for it, what it holds is written, and then the response.
-fn put_behind<O: Output>(
+fn put_after<O: Output>(
     output: &mut O,
     sheet: &mut Sheet,
     response: &Response,
 ) -> Result<(), StreamFault>
-    ensures puts { PutsBehind O.took output.old output.new (gathered sheet.old) (gathered sheet.new) (response_bytes response.now) result }
+    ensures puts { PutsAfter O.took output.old output.new (gathered sheet.old) (gathered sheet.new) (response_bytes response.now) result }
     ensures cause { HasCause (O.failures output.old) (O.failures output.new) result }
 {
     let held = sheet.bytes().len();
@@ -125,13 +125,13 @@ fn put_answer<O: Output>(
     allow: Option<&'static str>,
 ) -> Result<(), StreamFault>
     ensures puts { IfSome reply.entry (λ r. CanAnswer message.now r.now allow.entry)
-        → PutsBehind O.took output.old output.new (gathered sheet.old) (gathered sheet.new)
+        → PutsAfter O.took output.old output.new (gathered sheet.old) (gathered sheet.new)
         (reply_bytes message.now (unwrap_or (option_map (λ r. r.now) reply.entry) (status refusal.OutOfMemory))) result }
     ensures cause { HasCause (O.failures output.old) (O.failures output.new) result }
 {
     match reply {
-        Some(reply) => put_behind(output, sheet, &response_to(message, reply, allow)),
-        None => put_behind(output, sheet, &out_of_memory(message)),
+        Some(reply) => put_after(output, sheet, &response_to(message, reply, allow)),
+        None => put_after(output, sheet, &out_of_memory(message)),
     }
 }
 

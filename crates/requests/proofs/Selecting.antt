@@ -1,7 +1,7 @@
 -- Reading selectors part by part.
 use Rattle.std.proofs.Common.{◌≡◌, ◌≢◌, ℕ, Bool, true, false, cond, List, [], ◌∷◌, ◌++◌, append_assoc, Option, Some, None, MatchOption, Bor, option_map, option_and_then, ◌==◌, refl, sym, ap, ◌∙◌, eq-eqb, eqb-true}
 use Rattle.documents.specs.Requirement.{Requirement}
-use Rattle.requests.specs.Selector.{behind}
+use Rattle.requests.specs.Selector.{rest_after}
 
 begins_otherwise : (v : Bool) (byte b : ℕ) (bs : List ℕ) → (b == byte) ≡ v → ((rest : List ℕ) → b ∷ bs ≢ byte ∷ rest)
     → None ≡ cond v (Some bs) None
@@ -9,12 +9,12 @@ begins_otherwise true byte b bs is otherwise = absurd (otherwise bs (ap (λ x. x
 begins_otherwise false byte b bs is otherwise = refl
 
 -- what a text begins with, told by an equation
-pub behind_is : (byte : ℕ) (text : List ℕ) (r : Option (Bor (List ℕ)))
-    → MatchOption r ((rest : List ℕ) → text ≢ byte ∷ rest) (λ x. text ≡ byte ∷ x.now) → option_map (λ x. x.now) r ≡ behind byte text
-behind_is byte [] None is = refl
-behind_is byte [] (Some x) is = absurd (let never : [] ≡ byte ∷ x.now = is in cc)
-behind_is byte (b ∷ bs) None is = begins_otherwise (b == byte) byte b bs refl is
-behind_is byte (b ∷ bs) (Some x) is =
+pub after_is : (byte : ℕ) (text : List ℕ) (r : Option (Bor (List ℕ)))
+    → MatchOption r ((rest : List ℕ) → text ≢ byte ∷ rest) (λ x. text ≡ byte ∷ x.now) → option_map (λ x. x.now) r ≡ rest_after byte text
+after_is byte [] None is = refl
+after_is byte [] (Some x) is = absurd (let never : [] ≡ byte ∷ x.now = is in cc)
+after_is byte (b ∷ bs) None is = begins_otherwise (b == byte) byte b bs refl is
+after_is byte (b ∷ bs) (Some x) is =
     let same : b ≡ byte = cc in let rest : bs ≡ x.now = cc in ap Some (sym rest) ∙ ap (λ v. cond v (Some bs) None) (sym (eq-eqb b byte same))
 
 -- these requirements, and then those of the rest

@@ -5,7 +5,7 @@ use Rattle.std.specs.List.{list_all, position_or_len}
 use Rattle.std.specs.Option.{option_map_or}
 use Rattle.jsondoc.proofs.Documents.{both}
 use Rattle.documents.specs.Requirement.{Requirement, is_one_of, is_none_of, is_there, is_absent}
-use Rattle.requests.specs.Selector.{equals, differs, is_label, is_label_byte, is_value, is_value_byte, parted, behind, on_label, on_pair, negated, equated, affirmed, requirement_of}
+use Rattle.requests.specs.Selector.{equals, differs, is_label, is_label_byte, is_value, is_value_byte, parted, rest_after, on_label, on_pair, negated, equated, affirmed, requirement_of}
 use Rattle.requests.specs.Spelling.{IsWellFormed, Spells}
 
 and_true : (a b : Bool) → a ≡ true → b ≡ true → (a && b) ≡ true
@@ -79,16 +79,16 @@ back_of (Some p) = p.1
 
 later_is : (o : Option (List ℕ × List ℕ)) (byte b : ℕ) (bs : List ℕ) (p : List ℕ × List ℕ) → in_front b o ≡ Some p
     → ((q : List ℕ × List ℕ) → o ≡ Some q → bs ≡ q.0 ++ byte ∷ q.1) → b ∷ bs ≡ p.0 ++ byte ∷ p.1
-later_is None byte b bs p is behind = absurd (let never : None ≡ Some p = is in cc)
-later_is (Some q) byte b bs p is behind =
-    ap (λ x. b ∷ x) (behind q refl) ∙ ap (λ f. f ++ byte ∷ q.1) (ap front_of is) ∙ ap (λ x. p.0 ++ byte ∷ x) (ap back_of is)
+later_is None byte b bs p is rest_after = absurd (let never : None ≡ Some p = is in cc)
+later_is (Some q) byte b bs p is rest_after =
+    ap (λ x. b ∷ x) (rest_after q refl) ∙ ap (λ f. f ++ byte ∷ q.1) (ap front_of is) ∙ ap (λ x. p.0 ++ byte ∷ x) (ap back_of is)
 
 is_test : (v : Bool) (byte b : ℕ) (bs : List ℕ) (p : List ℕ × List ℕ) → (b == byte) ≡ v → parted byte (b ∷ bs) ≡ Some p
     → ((q : List ℕ × List ℕ) → parted byte bs ≡ Some q → bs ≡ q.0 ++ byte ∷ q.1) → b ∷ bs ≡ p.0 ++ byte ∷ p.1
-is_test true byte b bs p here is behind =
+is_test true byte b bs p here is rest_after =
     let whole = sym (parted_first byte b bs here) ∙ is in
     ap (λ x. x ∷ bs) (eqb-true b byte here) ∙ ap (λ f. f ++ byte ∷ bs) (ap front_of whole) ∙ ap (λ x. p.0 ++ byte ∷ x) (ap back_of whole)
-is_test false byte b bs p here is behind = later_is (parted byte bs) byte b bs p (sym (parted_later byte b bs here) ∙ is) behind
+is_test false byte b bs p here is rest_after = later_is (parted byte bs) byte b bs p (sym (parted_later byte b bs here) ∙ is) rest_after
 
 parted_is : (byte : ℕ) (text : List ℕ) (p : List ℕ × List ℕ) → parted byte text ≡ Some p → text ≡ p.0 ++ byte ∷ p.1
 parted_is byte [] p is = absurd (let never : None ≡ Some p = is in cc)
@@ -96,18 +96,18 @@ parted_is byte (b ∷ bs) p is = is_test (b == byte) byte b bs p refl is (λ q e
 
 -- ---- what stands after a byte
 
-behind_none : (byte : ℕ) (text : List ℕ) → lacks_byte byte text ≡ true → behind byte text ≡ None
-behind_none byte [] all = refl
-behind_none byte (b ∷ bs) all =
+rest_after_none : (byte : ℕ) (text : List ℕ) → lacks_byte byte text ≡ true → rest_after byte text ≡ None
+rest_after_none byte [] all = refl
+rest_after_none byte (b ∷ bs) all =
     let parts = both (not (b == byte)) (lacks_byte byte bs) all in ap (λ v. cond v (Some bs) None) (not_true (b == byte) parts.0)
 
 some_test : (v : Bool) (byte b : ℕ) (bs rest : List ℕ) → (b == byte) ≡ v → cond v (Some bs) None ≡ Some rest → b ∷ bs ≡ byte ∷ rest
 some_test true byte b bs rest here is = let same : bs ≡ rest = cc in ap (λ x. x ∷ bs) (eqb-true b byte here) ∙ ap (λ x. byte ∷ x) same
 some_test false byte b bs rest here is = absurd (let never : None ≡ Some rest = is in cc)
 
-behind_some : (byte : ℕ) (text rest : List ℕ) → behind byte text ≡ Some rest → text ≡ byte ∷ rest
-behind_some byte [] rest is = absurd (let never : None ≡ Some rest = is in cc)
-behind_some byte (b ∷ bs) rest is = some_test (b == byte) byte b bs rest refl is
+rest_after_some : (byte : ℕ) (text rest : List ℕ) → rest_after byte text ≡ Some rest → text ≡ byte ∷ rest
+rest_after_some byte [] rest is = absurd (let never : None ≡ Some rest = is in cc)
+rest_after_some byte (b ∷ bs) rest is = some_test (b == byte) byte b bs rest refl is
 
 -- ---- the bytes of labels and values
 
@@ -156,7 +156,7 @@ equals_spelled : (label value : List ℕ) → is_label label ≡ true → is_val
 equals_spelled label value l v =
     on_whole (label ++ 61 ∷ value) (parted_none 33 (label ++ 61 ∷ value) (in_both 33 label (61 ∷ value) (in_label 33 label refl l) (in_value 33 value refl v)))
     ∙ on_equated (label ++ 61 ∷ value) (label, value) (parted_some 61 label value (in_label 61 label refl l))
-    ∙ ap (λ o. on_pair equals label (unwrap_or o value)) (behind_none 61 value (in_value 61 value refl v)) ∙ made_pair equals label value l v
+    ∙ ap (λ o. on_pair equals label (unwrap_or o value)) (rest_after_none 61 value (in_value 61 value refl v)) ∙ made_pair equals label value l v
 
 twice_spelled : (label value : List ℕ) → is_label label ≡ true → is_value value ≡ true
     → requirement_of (label ++ 61 ∷ 61 ∷ value) ≡ Some (equals label value)
@@ -178,7 +178,7 @@ has_spelled label l =
 lacks_spelled : (label : List ℕ) → is_label label ≡ true → requirement_of (33 ∷ label) ≡ Some (is_absent label)
 lacks_spelled label l =
     on_parted (33 ∷ label) ([], label) (parted_some 33 [] label refl)
-    ∙ ap (λ o. option_map_or (on_pair differs []) o (on_label is_absent label)) (behind_none 61 label (in_label 61 label refl l)) ∙ made_label is_absent label l
+    ∙ ap (λ o. option_map_or (on_pair differs []) o (on_label is_absent label)) (rest_after_none 61 label (in_label 61 label refl l)) ∙ made_label is_absent label l
 
 spelled : (part : List ℕ) (r : Requirement) → IsWellFormed r → Spells r part → requirement_of part ≡ Some r
 spelled part (is_one_of label []) form is = absurd is
@@ -221,27 +221,27 @@ empty_asked true part before after r empty whole is =
     label_asked is_absent after part r is (λ l. (l, whole ∙ ap (λ b. b ++ 33 ∷ after) (no_length before empty)))
 empty_asked false part before after r empty whole is = absurd (let never : None ≡ Some r = is in cc)
 
-negated_asked : (o : Option (List ℕ)) (part before after : List ℕ) (r : Requirement) → behind 61 after ≡ o → part ≡ before ++ 33 ∷ after
+negated_asked : (o : Option (List ℕ)) (part before after : List ℕ) (r : Requirement) → rest_after 61 after ≡ o → part ≡ before ++ 33 ∷ after
     → option_map_or (on_pair differs before) o (cond (length before == 0) (on_label is_absent after) None) ≡ Some r → Asks part r
 negated_asked None part before after r at whole is = empty_asked (length before == 0) part before after r refl whole is
 negated_asked (Some value) part before after r at whole is =
-    pair_asked differs before value part r is (λ l v. ((l, v), whole ∙ ap (λ a. before ++ 33 ∷ a) (behind_some 61 after value at)))
+    pair_asked differs before value part r is (λ l v. ((l, v), whole ∙ ap (λ a. before ++ 33 ∷ a) (rest_after_some 61 after value at)))
 
-equated_asked : (o : Option (List ℕ)) (part before after : List ℕ) (r : Requirement) → behind 61 after ≡ o → part ≡ before ++ 61 ∷ after
+equated_asked : (o : Option (List ℕ)) (part before after : List ℕ) (r : Requirement) → rest_after 61 after ≡ o → part ≡ before ++ 61 ∷ after
     → on_pair equals before (unwrap_or o after) ≡ Some r → Asks part r
 equated_asked None part before after r at whole is = pair_asked equals before after part r is (λ l v. ((l, v), inl whole))
 equated_asked (Some value) part before after r at whole is =
-    pair_asked equals before value part r is (λ l v. ((l, v), inr (whole ∙ ap (λ a. before ++ 61 ∷ a) (behind_some 61 after value at))))
+    pair_asked equals before value part r is (λ l v. ((l, v), inr (whole ∙ ap (λ a. before ++ 61 ∷ a) (rest_after_some 61 after value at))))
 
 affirmed_asked : (o : Option (List ℕ × List ℕ)) (part : List ℕ) (r : Requirement) → parted 61 part ≡ o
     → option_map_or (λ q. equated q.0 q.1) o (on_label is_there part) ≡ Some r → Asks part r
 affirmed_asked None part r at is = label_asked is_there part part r is (λ l. (l, refl))
-affirmed_asked (Some p) part r at is = equated_asked (behind 61 p.1) part p.0 p.1 r refl (parted_is 61 part p at) is
+affirmed_asked (Some p) part r at is = equated_asked (rest_after 61 p.1) part p.0 p.1 r refl (parted_is 61 part p at) is
 
 part_asked : (o : Option (List ℕ × List ℕ)) (part : List ℕ) (r : Requirement) → parted 33 part ≡ o
     → option_map_or (λ q. negated q.0 q.1) o (affirmed part) ≡ Some r → Asks part r
 part_asked None part r at is = affirmed_asked (parted 61 part) part r refl is
-part_asked (Some p) part r at is = negated_asked (behind 61 p.1) part p.0 p.1 r refl (parted_is 33 part p at) is
+part_asked (Some p) part r at is = negated_asked (rest_after 61 p.1) part p.0 p.1 r refl (parted_is 33 part p at) is
 
 -- a part asks something just where it spells it
 pub parts_are_spelled : (part : List ℕ) (r : Requirement)

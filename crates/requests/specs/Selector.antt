@@ -50,9 +50,9 @@ parted byte text =
     if nat_lt (position_or_len (λ b. b == byte) text) (length text) then Some (before_first (λ b. b == byte) text, after_first (λ b. b == byte) text) else None
 
 -- the text after this byte, where it begins with it
-abbrev pub behind : ℕ → List ℕ → Option (List ℕ)
-behind byte [] = None
-behind byte (b ∷ bs) = if b == byte then Some bs else None
+abbrev pub rest_after : ℕ → List ℕ → Option (List ℕ)
+rest_after byte [] = None
+rest_after byte (b ∷ bs) = if b == byte then Some bs else None
 
 -- a requirement on a label, if it is one
 abbrev pub on_label : (List ℕ → Requirement) → (label : List ℕ) → Option Requirement
@@ -65,11 +65,11 @@ on_pair asks label value = if is_label label && is_value value then Some (asks l
 -- a part with an exclamation mark: `LABEL!=VALUE`, or `!LABEL`
 abbrev pub negated : (before after : List ℕ) → Option Requirement
 negated before after =
-    option_map_or (on_pair differs before) (behind equals_sign after) (if length before == 0 then on_label is_absent after else None)
+    option_map_or (on_pair differs before) (rest_after equals_sign after) (if length before == 0 then on_label is_absent after else None)
 
 -- a part with an equals sign: `LABEL=VALUE`, or `LABEL==VALUE`
 abbrev pub equated : (before after : List ℕ) → Option Requirement
-equated before after = on_pair equals before (unwrap_or (behind equals_sign after) after)
+equated before after = on_pair equals before (unwrap_or (rest_after equals_sign after) after)
 
 -- a part without exclamation mark: one with an equals sign, or `LABEL`
 abbrev pub affirmed : (part : List ℕ) → Option Requirement

@@ -2,7 +2,7 @@
 ghost use Rattle.std.specs.Prelude.{◌≡◌, ◌==◌, ◌∷◌, [], map, string_bytes, IfOk, option_map};
 ghost use Rattle.std.specs.List.{list_all, slice_split};
 ghost use Rattle.documents.specs.Requirement.{is_there, is_absent, requirement_seen};
-ghost use Rattle.requests.specs.Selector.{equals, differs, exclamation_mark, equals_sign, comma, is_value_byte, is_value, is_label_byte, is_label, parted, behind, on_label, on_pair, negated, equated, affirmed, requirement_of, requirements_of, selector_of, selects, selector_seen};
+ghost use Rattle.requests.specs.Selector.{equals, differs, exclamation_mark, equals_sign, comma, is_value_byte, is_value, is_label_byte, is_label, parted, rest_after, on_label, on_pair, negated, equated, affirmed, requirement_of, requirements_of, selector_of, selects, selector_seen};
 
 use documents::{Document, Requirement};
 use std::alloc::{AllocError, Global};
@@ -85,7 +85,7 @@ fn affirmed(alloc: Global, part: &str) -> Result<Option<Requirement>, AllocError
 fn negated(alloc: Global, before: &str, after: &str) -> Result<Option<Requirement>, AllocError>
     ensures { IfOk result (λ read. option_map requirement_seen read ≡ negated before.now after.now) }
 {
-    match behind_equals_sign(after) {
+    match after_equals_sign(after) {
         Some(value) => differs(alloc, before, value),
         None => {
             if before.is_empty() {
@@ -101,7 +101,7 @@ fn negated(alloc: Global, before: &str, after: &str) -> Result<Option<Requiremen
 fn equated(alloc: Global, before: &str, after: &str) -> Result<Option<Requirement>, AllocError>
     ensures { IfOk result (λ read. option_map requirement_seen read ≡ equated before.now after.now) }
 {
-    match behind_equals_sign(after) {
+    match after_equals_sign(after) {
         Some(value) => equals(alloc, before, value),
         None => equals(alloc, before, after),
     }
@@ -173,8 +173,8 @@ fn at_equals_sign(text: &str) -> Option<(&str, &str)>
     text.split_once('=')
 }
 
-fn behind_equals_sign(text: &str) -> Option<&str>
-    ensures { option_map (λ rest. rest.now) result ≡ behind equals_sign text.now }
+fn after_equals_sign(text: &str) -> Option<&str>
+    ensures { option_map (λ rest. rest.now) result ≡ rest_after equals_sign text.now }
 {
     text.strip_prefix('=')
 }

@@ -22,18 +22,27 @@ use Rattle.routes.specs.Query.{has_pairs, pairs_of, Question, objects, events, q
 abbrev pub unless_refused : List Condition → Request → Request
 unless_refused conditions request = option_map_or refused (first_of conditions) request
 
--- ---- GET of an item
+-- ---- an item
 
--- each refusal of a GET, in order, and whether its condition holds
-abbrev pub get_conditions : Message → Target → List Condition
-get_conditions m t =
+-- each refusal of a GET or a DELETE that its target shows, in order, and whether its condition holds
+abbrev pub item_conditions : Message → Target → List Condition
+item_conditions m t =
     (BadQuery, has_pairs (query_of m.target))
     ∷ (BadNameInPath, not (is_target t))
-    ∷ (UnexpectedBody, not (is_empty m.body))
     ∷ []
 
+-- ---- GET of an item
+
+-- the refusal of a GET that its body shows, and whether its condition holds
+abbrev pub get_body_conditions : (body : List ℕ) → List Condition
+get_body_conditions body = (UnexpectedBody, not (is_empty body)) ∷ []
+
+-- the look at a key, or what refuses the body
+abbrev pub look : Key → (body : List ℕ) → Request
+look k body = unless_refused (get_body_conditions body) (get k)
+
 abbrev pub get_request : Message → Target → (name : List ℕ) → Request
-get_request m t name = unless_refused (get_conditions m t) (get (key_of t.resource t.namespace name))
+get_request m t name = unless_refused (item_conditions m t) (look (key_of t.resource t.namespace name) m.body)
 
 -- ---- POST to a collection
 
@@ -67,15 +76,8 @@ replace_request m t = unless_refused (object_conditions m t) (replacement t (rea
 abbrev pub deletion : Key → (body : List ℕ) → Request
 deletion k body = unless_refused (delete_body_conditions body) (delete k (version_of_body body))
 
--- each refusal of a DELETE that its target shows, in order, and whether its condition holds
-abbrev pub delete_conditions : Message → Target → List Condition
-delete_conditions m t =
-    (BadQuery, has_pairs (query_of m.target))
-    ∷ (BadNameInPath, not (is_target t))
-    ∷ []
-
 abbrev pub delete_request : Message → Target → (name : List ℕ) → Request
-delete_request m t name = unless_refused (delete_conditions m t) (deletion (key_of t.resource t.namespace name) m.body)
+delete_request m t name = unless_refused (item_conditions m t) (deletion (key_of t.resource t.namespace name) m.body)
 
 -- ---- GET of a collection
 

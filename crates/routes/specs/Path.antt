@@ -61,14 +61,14 @@ pieces_in group (version ∷ rest) = pieces_under (Some group) version rest
 pieces_in group [] = None
 
 -- the parts after a path's first slash: `api` begins those of the core group, `apis` those of the others
-abbrev pub pieces_behind : List (List ℕ) → Option Pieces
-pieces_behind (word ∷ part ∷ rest) =
+abbrev pub pieces_after : List (List ℕ) → Option Pieces
+pieces_after (word ∷ part ∷ rest) =
     if bytes_eq word (codes "api") then pieces_under None part rest else (if bytes_eq word (codes "apis") then pieces_in part rest else None)
-pieces_behind other = None
+pieces_after other = None
 
 -- a path begins with a slash
 abbrev pub pieces_of : List (List ℕ) → Option Pieces
-pieces_of (root ∷ rest) = if is_empty root then pieces_behind rest else None
+pieces_of (root ∷ rest) = if is_empty root then pieces_after rest else None
 pieces_of [] = None
 
 -- ---- the table of routes

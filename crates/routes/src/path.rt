@@ -2,7 +2,7 @@
 
 ghost use Rattle.std.specs.Prelude.{◌≡◌, ◌||◌, map, IfOk, Some, None, option_map, codes, string_bytes, if◌then◌else◌};
 ghost use Rattle.std.specs.Str.{bytes_eq};
-ghost use Rattle.routes.specs.Path.{path_of, query_of, parts_of, is_left_out, pieces, pieces_of, pieces_behind, pieces_in, pieces_under, literal};
+ghost use Rattle.routes.specs.Path.{path_of, query_of, parts_of, is_left_out, pieces, pieces_of, pieces_after, pieces_in, pieces_under, literal};
 
 use std::alloc::{AllocError, Global};
 use std::marker::Model;
@@ -113,11 +113,11 @@ fn pieces_in<'p>(group: &'p str, parts: &[&'p str]) -> Option<Pieces<'p>>
 }
 
 // What stands after the first slash.
-fn pieces_behind<'p>(parts: &[&'p str]) -> Option<Pieces<'p>>
-    ensures { result ≡ pieces_behind (map (λ part. part.now) parts.now) }
+fn pieces_after<'p>(parts: &[&'p str]) -> Option<Pieces<'p>>
+    ensures { result ≡ pieces_after (map (λ part. part.now) parts.now) }
 {
-    let (word, behind) = parts.split_first()?;
-    let (part, rest) = behind.split_first()?;
+    let (word, after) = parts.split_first()?;
+    let (part, rest) = after.split_first()?;
     match *word {
         "api" => pieces_under(None, part, rest),
         "apis" => pieces_in(part, rest),
@@ -131,7 +131,7 @@ pub(crate) fn pieces_of<'p>(alloc: Global, path: &'p str) -> Result<Option<Piece
 {
     let parts = parts_of(alloc, path)?;
     Ok(match parts.split_first() {
-        Some((root, rest)) if root.is_empty() => pieces_behind(rest),
+        Some((root, rest)) if root.is_empty() => pieces_after(rest),
         _ => None,
     })
 }

@@ -1,6 +1,7 @@
 //! From a message to its request.
 
 ghost use Rattle.std.specs.Prelude.{◌≡◌, IfOk, Some, None, Err, false, if◌then◌else◌, option_map, is_some, unwrap_or};
+ghost use Rattle.names.specs.Key.{key_of};
 ghost use Rattle.requests.specs.declared.refusal.Refusal.TheVariants.{MethodNotAllowed};
 ghost use Rattle.requests.specs.declared.refusal.Refusal.{Refusal as RefusalData};
 ghost use Rattle.requests.specs.declared.manifest.BodyFault.TheVariants as BodyFault;
@@ -11,7 +12,7 @@ ghost use Rattle.requests.specs.RequestOf.{request_of};
 ghost use Rattle.routes.specs.Path.{query_of};
 ghost use Rattle.routes.specs.PlaceOf.{seen};
 ghost use Rattle.routes.specs.Query.{has_pairs};
-ghost use Rattle.routes.specs.Asked.{object_conditions, get_request, create_request, replace_request, delete_request, deletion, collection_request, collection_at, of_item, of_collection, of_everywhere, asked_at, asked};
+ghost use Rattle.routes.specs.Asked.{object_conditions, item_conditions, get_request, create_request, replace_request, delete_request, deletion, collection_request, collection_at, of_item, of_collection, of_everywhere, asked_at, asked};
 ghost use Rattle.routes.specs.Allow.{allowed, allow_of};
 
 use crate::collection::collection_request;
@@ -163,6 +164,30 @@ fn of_everywhere(
     })
 }
 
+// The key of an item, or what refuses each request for it by its target alone.
+fn item_key(
+    alloc: Global,
+    message: &Message,
+    target: &Target,
+    name: &str,
+    query: &str,
+) -> Result<Key, BodyFault>
+    requires query { query.now ≡ query_of message.now.target }
+    requires name { target.now.name ≡ Some name.now }
+    ensures key { IfOk result (λ key. key ≡ key_of target.now.resource target.now.namespace name.now) }
+    ensures free { IfOk result (λ _. first_of (item_conditions message.now target.now) ≡ None) }
+    ensures refused { (r : RefusalData) → result ≡ Err (BodyFault.Refused r) → first_of (item_conditions message.now target.now) ≡ Some r }
+{
+    if has_pairs(query) {
+        return Err(BodyFault::Refused(Refusal::BadQuery));
+    }
+    match Key::new(alloc, target.resource, target.namespace, name) {
+        Ok(key) => Ok(key),
+        Err(KeyFault::NoKey) => Err(BodyFault::Refused(Refusal::BadNameInPath)),
+        Err(KeyFault::Memory) => Err(BodyFault::Memory),
+    }
+}
+
 // GET of an item.
 fn get_request(
     alloc: Global,
@@ -175,18 +200,11 @@ fn get_request(
     requires name { target.now.name ≡ Some name.now }
     ensures { IfOk result (λ request. request_of request ≡ get_request message.now target.now name.now) }
 {
-    if has_pairs(query) {
-        return Ok(Request::Refused(Refusal::BadQuery));
+    match item_key(alloc, message, target, name, query) {
+        Ok(_) if !message.body().is_empty() => Ok(Request::Refused(Refusal::UnexpectedBody)),
+        Ok(key) => Ok(Request::Get(key)),
+        Err(fault) => refused_for(fault),
     }
-    let key = match Key::new(alloc, target.resource, target.namespace, name) {
-        Ok(key) => key,
-        Err(KeyFault::NoKey) => return Ok(Request::Refused(Refusal::BadNameInPath)),
-        Err(KeyFault::Memory) => return Err(AllocError),
-    };
-    if !message.body().is_empty() {
-        return Ok(Request::Refused(Refusal::UnexpectedBody));
-    }
-    Ok(Request::Get(key))
 }
 
 // What a POST or a PUT asks to be stored.
@@ -267,13 +285,9 @@ fn delete_request(
     requires name { target.now.name ≡ Some name.now }
     ensures { IfOk result (λ request. request_of request ≡ delete_request message.now target.now name.now) }
 {
-    if has_pairs(query) {
-        return Ok(Request::Refused(Refusal::BadQuery));
-    }
-    match Key::new(alloc, target.resource, target.namespace, name) {
+    match item_key(alloc, message, target, name, query) {
         Ok(key) => deletion(alloc, key, message.body()),
-        Err(KeyFault::NoKey) => Ok(Request::Refused(Refusal::BadNameInPath)),
-        Err(KeyFault::Memory) => Err(AllocError),
+        Err(fault) => refused_for(fault),
     }
 }
 

@@ -5,7 +5,7 @@ use crate::looks::{crash_leaves, is_look, leaves, push_look};
 use crate::place::Place;
 use crate::steps::{Stop, crash_words, push_steps, stop_step};
 use cases::{TextBuilder, WordReader, Wrong, shown, wanted};
-use lives::{Episode, Found};
+use opening::{Episode, Found};
 use std::alloc::Global;
 
 const ROOM_SECTORS: u64 = 160;

@@ -2,7 +2,7 @@
 
 use cases::{Wrong, first_word, number};
 use device::Pick;
-use lives::Episode;
+use opening::Episode;
 use routes::Routes;
 use rowcases::routed_first;
 use std::alloc::{AllocError, Global};

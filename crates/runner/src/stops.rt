@@ -4,7 +4,7 @@ use crate::looks::{crash_leaves, push_look};
 use crate::place::Place;
 use crate::steps::Stop;
 use cases::Wrong;
-use lives::Episode;
+use opening::Episode;
 use records::GROUP_LIMIT;
 use std::alloc::Global;
 

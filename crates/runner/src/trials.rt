@@ -6,7 +6,7 @@ use crate::steps::{Stop, push_steps, stop_step};
 use crate::stops::{push_write_looks, writes_stopped};
 use cases::{WordReader, Wrong, shown};
 use device::Pick;
-use lives::Episode;
+use opening::Episode;
 use std::alloc::{AllocError, Global};
 
 // No crash of these devices leaves so many sectors open.

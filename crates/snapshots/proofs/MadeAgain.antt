@@ -13,7 +13,7 @@ use Rattle.recovery.specs.Beside.{Beside}
 use Rattle.snapshots.specs.declared.fault.SnapshotFault.TheVariants as SnapshotFault
 use Rattle.snapshots.specs.Faults.{of_entry_fault}
 use Rattle.snapshots.specs.Keeping.{held_plans, held_entries, HasLastEvents, IsHeld}
-use Rattle.snapshots.specs.Restoring.{AreHeldOf, CanKeep, behind, with_events, with_objects}
+use Rattle.snapshots.specs.Restoring.{AreHeldOf, CanKeep, without_events, with_events, with_objects}
 use Rattle.snapshots.proofs.Held.{Core, Object, Kept, held_objects}
 use Rattle.snapshots.proofs.InBytes.{entries_in_bytes}
 
@@ -37,15 +37,15 @@ made_again kept objects = record { objects = objects; revision = kept.revision; 
 
 -- its events are kept after what lies below
 pub can_keep : (rules : Rules) (core : Core) (base : List Object) (kept : KeptView) (events : List Told) → core.rules ≡ rules
-    → Shows core base (behind base kept) → IsReadView kept → HasLastEvents rules kept → events ≡ kept.events → CanKeep core base (behind base kept) events
+    → Shows core base (without_events base kept) → IsReadView kept → HasLastEvents rules kept → events ≡ kept.events → CanKeep core base (without_events base kept) events
 can_keep rules core base kept events same shows read last are =
-    let can : CanKeep core base (behind base kept) kept.events = record {
+    let can : CanKeep core base (without_events base kept) kept.events = record {
       shows = shows;
       numbered = read.numbered;
       places = omega (arith, last.events, ap (λ (r : Rules). r.window_events) same);
     }
     in
-    subst (CanKeep core base (behind base kept)) (sym are) can
+    subst (CanKeep core base (without_events base kept)) (sym are) can
 
 -- there is room for their revisions
 pub has_room : (rules : Rules) (core : Core) (kept : KeptView) (events : List Told) → core.revision ≡ kept.revision - length kept.events → HasLastEvents rules kept
@@ -54,7 +54,7 @@ has_room rules core kept events at last small are = omega (arith, at, last.begun
 
 -- with the objects that are left then over what lies below, the revision and the events are those of the view
 pub shown_again : (rules : Rules) (kept : KeptView) (base left : List Object) (events : List Told) → HasLastEvents rules kept → events ≡ kept.events
-    → with_objects (with_events (behind base kept) events) left ≡ made_again kept left
+    → with_objects (with_events (without_events base kept) events) left ≡ made_again kept left
 shown_again rules kept base left events last are =
     let revision : (kept.revision - length kept.events) + length events ≡ kept.revision = omega (arith, last.begun, last.events, ap length are) in
     λ i. record { objects = left; revision = revision i; events = are i }

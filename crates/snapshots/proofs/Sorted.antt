@@ -37,8 +37,8 @@ module _ {X : Type 0} where
   -- so it goes on with the second, where that is after the first
   pub goes_on : (x y : Key × X) (left es all : List (Key × X)) (b : Bool) → left ≡ y ∷ es → is_sorted key_cmp (x ∷ left) ≡ is_sorted key_cmp all
       → b ≡ is_lt (key_cmp x.0 y.0) → b ≡ true → is_sorted key_cmp (y ∷ es) ≡ is_sorted key_cmp all
-  goes_on x y left es all b step so is behind =
-      ap (λ (t : Bool). t && is_sorted key_cmp (y ∷ es)) (sym behind ∙ is)
+  goes_on x y left es all b step so is after =
+      ap (λ (t : Bool). t && is_sorted key_cmp (y ∷ es)) (sym after ∙ is)
       ∙ sym (first_decides x y es)
       ∙ ap (λ (rest : List (Key × X)). is_sorted key_cmp (x ∷ rest)) (sym step)
       ∙ so

@@ -51,8 +51,8 @@ pub record AreHeldOf (os : List (Key × Stored Beside)) (kept : List (Key × Sto
 -- ---- what is shown
 
 -- so many objects as lie below, and the revision before the events of a view that entries keep
-abbrev pub behind : List (Key × Stored Beside) → View (List ℕ) → View Beside
-behind base kept = record { objects = base; revision = kept.revision - length kept.events; events = [] }
+abbrev pub without_events : List (Key × Stored Beside) → View (List ℕ) → View Beside
+without_events base kept = record { objects = base; revision = kept.revision - length kept.events; events = [] }
 
 -- the view with these objects
 abbrev pub with_objects : View Beside → List (Key × Stored Beside) → View Beside

@@ -13,7 +13,7 @@ ghost use Rattle.base.specs.Sieve.{chosen_of};
 ghost use Rattle.recovery.specs.Beside.{Beside as BesideData};
 ghost use Rattle.snapshots.specs.LyingBelow.{base_of, AreChosen};
 ghost use Rattle.snapshots.specs.Keeping.{held_entries, HasLastEvents, IsHeld};
-ghost use Rattle.snapshots.specs.Restoring.{IsDamaged, IsHeldOf, AreHeldOf, HasTaken, AreRestored, CanKeep, IsRestored, behind, with_events};
+ghost use Rattle.snapshots.specs.Restoring.{IsDamaged, IsHeldOf, AreHeldOf, HasTaken, AreRestored, CanKeep, IsRestored, without_events, with_events};
 
 use crate::below::Below;
 use crate::fault::SnapshotFault;
@@ -29,7 +29,7 @@ use std::alloc::{AllocError, Global};
 use window::Event;
 
 // Whether the key of an object comes after that of another.
-fn is_behind(object: &KeptObject, before: &KeptObject) -> bool
+fn is_after(object: &KeptObject, before: &KeptObject) -> bool
     ensures { result ≡ is_lt (key_cmp before.now.0 object.now.0) }
 {
     before.manifest.key() < object.manifest.key()
@@ -44,7 +44,7 @@ fn ascends(objects: &[KeptObject]) -> bool
     };
     let mut before = first;
     for object in rest {
-        if !is_behind(object, before) {
+        if !is_after(object, before) {
             return false;
         }
         before = object;
@@ -151,7 +151,7 @@ fn has_last_events(rules: Rules, view: &KeptView) -> bool
 
 // Nothing is held yet, over so many objects that lie below, at the revision before the first event of a view: its keys ascend, and it has the events
 // of its last writes.
-fn core_behind(
+fn core_without_events(
     alloc: Global,
     rules: Rules,
     view: &KeptView,
@@ -161,7 +161,7 @@ fn core_behind(
     ensures revision { IfOk result (λ core. core.revision ≡ view.now.revision - length view.now.events) }
     ensures none { IfOk result (λ core. core.changes.made ≡ []) }
     ensures shows { (base : List (KeyData × StoredData BesideData)) → IsTrue (is_sorted key_cmp base) → length base ≡ count
-        → IfOk result (λ core. Shows core base (behind base view.now)) }
+        → IfOk result (λ core. Shows core base (without_events base view.now)) }
     ensures ascends { OnOk result (IsTrue (is_sorted key_cmp view.now.objects)) }
     ensures last { OnOk result (HasLastEvents rules view.now) }
     ensures damaged { IsDamaged result → IsTrue (is_sorted key_cmp view.now.objects) → HasLastEvents rules view.now → ⊥ }
@@ -202,7 +202,7 @@ pub fn restored<B: Below>(
     ensures restored { IfOk result (IsRestored rules (B.lies below.now) kept.now count revision) }
 {
     let view = read_view(alloc, kept, revision)?;
-    let mut core = core_behind(alloc, rules, &view, count)?;
+    let mut core = core_without_events(alloc, rules, &view, count)?;
     let KeptView {
         objects,
         events,

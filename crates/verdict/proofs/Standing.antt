@@ -10,9 +10,9 @@ use Rattle.names.specs.declared.resource.Resource.{Resource}
 use Rattle.names.specs.declared.resource.Resource.TheVariants.{ConfigMap, Node, Pod, Service, Deployment, ValidatingAdmissionPolicy, ValidatingAdmissionPolicyBinding}
 use Rattle.objects.specs.Objects.{value_at}
 use Rattle.plancode.specs.Plans.{Judged}
-use Rattle.expressions.specs.Specification.{these}
+use Rattle.expressions.specs.Specification.{these, plans_in}
 use Rattle.policy.specs.Forms.{Text}
-use Rattle.lookup.specs.Objects.{Object, Objects, Held, held, plans_in, all_held, policy_key, HasTrees, HaveTrees}
+use Rattle.lookup.specs.Objects.{Object, Objects, Held, held, all_held, policy_key, HasTrees, HaveTrees}
 use Rattle.lookup.specs.Listed.{listed}
 use Rattle.lookup.proofs.Standing.{listed-map, value_at-map}
 use Rattle.verdict.specs.Admission.{bindings, bound}
@@ -74,7 +74,7 @@ pub plans_held : (objects : Objects) (name : Text) (h : Held) → Some h ≡ val
 plans_held objects name h is =
     elim (value_at (policy_key name) objects) as (λ v. Some h ≡ option_map held v → (plans : List Judged) × (h.plans ≡ these plans)) [
       | None ↦ λ i. cc
-      | Some o ↦ λ i. let same : h ≡ held o = cc in (plans_in o.document o.trees, ap (λ (x : Held). x.plans) same)
+      | Some o ↦ λ i. let same : h ≡ held o = cc in (plans_in o.document.json o.trees, ap (λ (x : Held). x.plans) same)
     ] (is ∙ policy_held objects (policy_key name))
 
 pub no_policy : (objects : Objects) (name : Text) → None ≡ value_at (policy_key name) (all_held objects) → value_at (policy_key name) objects ≡ None

@@ -65,12 +65,12 @@ impl<D: Drop> Window<D> {
     pub fn new(alloc: Global, rules: Rules) -> Result<Window<D>, AllocError>
         ensures { IfOk result (IsWindowOf rules []) }
     {
-        Window::behind(alloc, rules, 1)
+        Window::after(alloc, rules, 1)
     }
 
     /// The window of a store at a revision of which no event is known, with room for as many events as the rules keep. What is
     /// pushed has the next revisions.
-    pub fn behind(alloc: Global, rules: Rules, revision: u64) -> Result<Window<D>, AllocError>
+    pub fn after(alloc: Global, rules: Rules, revision: u64) -> Result<Window<D>, AllocError>
         requires { 0 < revision }
         ensures { IfOk result (λ window. window ≡ record { events = []; revision = revision; places = rules.window_events }) }
     {

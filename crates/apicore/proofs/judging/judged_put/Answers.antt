@@ -7,7 +7,7 @@ use Rattle.requests.specs.Codes.{document_in}
 use Rattle.history.specs.History.{put}
 use Rattle.history.specs.Reply.{Reply, showing}
 use Rattle.verdict.specs.Seen.{verdict_seen}
-use Rattle.findings.proofs.Looking.{looked_behind}
+use Rattle.findings.proofs.Looking.{looked_after}
 use Rattle.apicore.proofs.Deciding.{admitted_judged, denied_judged, put_planned, some_mapped}
 use Rattle.apicore.proofs.judging.judged_put.Goals as goal
 
@@ -36,12 +36,12 @@ returns-in-Denied-clause-judged g c = λ held v trees over stands same.
 
 pub returns-in-Admitted-clause-looked : goal.returns-in-Admitted-clause-looked
 returns-in-Admitted-clause-looked g c =
-    looked_behind g.S.Source.holds g.S.Source.goes_to g.S.Source.failures c.args.core.now c.args.source.now c.verdict_of.new.source c.admitted_put.result
+    looked_after g.S.Source.holds g.S.Source.goes_to g.S.Source.failures c.args.core.now c.args.source.now c.verdict_of.new.source c.admitted_put.result
     c.in_ok-warnings.ensures.kept c.in_ok-warnings.ensures.goes c.in_ok-warnings.ensures.counts c.admitted_put.ensures.memory
 
 pub returns-in-Denied-clause-looked : goal.returns-in-Denied-clause-looked
 returns-in-Denied-clause-looked g c =
-    looked_behind g.S.Source.holds g.S.Source.goes_to g.S.Source.failures c.args.core.now c.args.source.now c.verdict_of.new.source c.denied.result
+    looked_after g.S.Source.holds g.S.Source.goes_to g.S.Source.failures c.args.core.now c.args.source.now c.verdict_of.new.source c.denied.result
     c.in_ok-warnings.ensures.kept c.in_ok-warnings.ensures.goes c.in_ok-warnings.ensures.counts c.denied.ensures.memory
 
 pub returns-in_err-warnings-clause-looked : goal.returns-in_err-warnings-clause-looked

@@ -1,7 +1,7 @@
 use Rattle.std.proofs.Common.{rules, ◌∙◌, sym, inl, inr}
 use Rattle.requests.specs.Request.{create}
 use Rattle.recovery.proofs.Over.{over_kept}
-use Rattle.findings.proofs.Looking.{looked_on, looked_behind}
+use Rattle.findings.proofs.Looking.{looked_on, looked_after}
 use Rattle.findings.proofs.Found.{there_found, none_found}
 use Rattle.findings.proofs.Own.{create_there}
 use Rattle.apicore.proofs.Deciding.{refused_own, prepared_of}
@@ -46,5 +46,5 @@ returns-in-None-clause-looked g c =
 
 pub returns-in-Some-clause-looked : goal.returns-in-Some-clause-looked
 returns-in-Some-clause-looked g c =
-    looked_behind g.S.Source.holds g.S.Source.goes_to g.S.Source.failures c.args.core.now c.args.source.now c.find.new.source c.refused.result
+    looked_after g.S.Source.holds g.S.Source.goes_to g.S.Source.failures c.args.core.now c.args.source.now c.find.new.source c.refused.result
     c.in_ok-find.ensures.kept c.in_ok-find.ensures.goes c.in_ok-find.ensures.counts c.refused.ensures.memory

@@ -1,7 +1,7 @@
 use Rattle.std.proofs.Common.{rules, ◌∙◌, sym, inl, inr}
 use Rattle.requests.specs.Request.{replace}
 use Rattle.recovery.proofs.Over.{over_kept}
-use Rattle.findings.proofs.Looking.{looked_on, looked_behind}
+use Rattle.findings.proofs.Looking.{looked_on, looked_after}
 use Rattle.findings.proofs.Own.{replace_missing}
 use Rattle.apicore.proofs.Deciding.{refused_own, prepared_of}
 use Rattle.apicore.proofs.preparing.prepare_replace.Goals as goal
@@ -45,5 +45,5 @@ returns-in-Some-clause-looked g c =
 
 pub returns-in-None-clause-looked : goal.returns-in-None-clause-looked
 returns-in-None-clause-looked g c =
-    looked_behind g.S.Source.holds g.S.Source.goes_to g.S.Source.failures c.args.core.now c.args.source.now c.find.new.source c.refused.result
+    looked_after g.S.Source.holds g.S.Source.goes_to g.S.Source.failures c.args.core.now c.args.source.now c.find.new.source c.refused.result
     c.in_ok-found.ensures.kept c.in_ok-found.ensures.goes c.in_ok-found.ensures.counts c.refused.ensures.memory

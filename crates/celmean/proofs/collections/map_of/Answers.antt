@@ -14,6 +14,6 @@ returns-in-None c =
     let o = c.index.result.now in
     let is : o ≡ get_or os n o = c.index.ensures in
     let step = map_of-step n os o within is in
-    let behind = rw (← place) at c.entries.invariant.behind in
+    let after = rw (← place) at c.entries.invariant.after in
     let none = rw c.in-None.is at c.in_ok-more.ensures in
-    sym (map_of-error n (outcome_pairs_seen os) (map_of-drop n os ∙ (step ∙ (ap (λ (m : Outcome). put_entry (outcome_of o.0) (outcome_of o.1) m) behind ∙ sym none))))
+    sym (map_of-error n (outcome_pairs_seen os) (map_of-drop n os ∙ (step ∙ (ap (λ (m : Outcome). put_entry (outcome_of o.0) (outcome_of o.1) m) after ∙ sym none))))

@@ -7,7 +7,7 @@ use Rattle.celmean.proofs.collections.map_of.Given as goal
 abbrev pub invariant-entries : goal.invariant-entries
 invariant-entries l = record {
   within : l.left ≤ length l.outcomes.items;
-  behind : map_of (outcome_pairs_seen (drop l.left l.outcomes.items)) ≡ Gives (Mapping (mapping (entries_seen l.entries.items)));
+  after : map_of (outcome_pairs_seen (drop l.left l.outcomes.items)) ≡ Gives (Mapping (mapping (entries_seen l.entries.items)));
 }
 
 abbrev pub decreases-entries : goal.decreases-entries

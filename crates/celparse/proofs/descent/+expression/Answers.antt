@@ -32,7 +32,7 @@ pub composite-returns-in-Some-after-clause-tree : goal.composite-returns-in-Some
 composite-returns-in-Some-after-clause-tree t c = composite_brackets (terminals c.in-Parenthesis.inside.now) (terminals c.args.tokens.now) c.in-Parenthesis.ensures.0 (view c.in_ok-tree-in-Parenthesis.tree.value) (terminals c.in-Some-after.rest.now) (rw c.in-Some-after.ensures.value at c.in_ok-tree-in-Parenthesis.ensures.tree)
 
 pub composite-returns-in-None-after-clause-none : goal.composite-returns-in-None-after-clause-none
-composite-returns-in-None-after-clause-none t c = composite_open (terminals c.in-Parenthesis.inside.now) (terminals c.args.tokens.now) c.in-Parenthesis.ensures.0 (view c.in_ok-tree-in-Parenthesis.tree.value) (terminals c.in_ok-tree-in-Parenthesis.behind.now) c.in_ok-tree-in-Parenthesis.ensures.tree c.in-None-after.ensures.value
+composite-returns-in-None-after-clause-none t c = composite_open (terminals c.in-Parenthesis.inside.now) (terminals c.args.tokens.now) c.in-Parenthesis.ensures.0 (view c.in_ok-tree-in-Parenthesis.tree.value) (terminals c.in_ok-tree-in-Parenthesis.beyond.now) c.in_ok-tree-in-Parenthesis.ensures.tree c.in-None-after.ensures.value
 
 pub composite-returns-in_ok-tree-in-Bracket-clause-tree : goal.composite-returns-in_ok-tree-in-Bracket-clause-tree
 composite-returns-in_ok-tree-in-Bracket-clause-tree t c = rw c.in_ok-tree-in-Bracket.ensures (composite_list (terminals c.in-Bracket.inside.now) (terminals c.args.tokens.now) c.in-Bracket.ensures.0 (views c.in_ok-items-in-Bracket.items.items) (terminals c.in_ok-items-in-Bracket.rest.now) c.in_ok-items-in-Bracket.ensures.items)
@@ -53,14 +53,14 @@ entries-more_entries-init t c = record {
 }
 
 pub entries-returns-in-End-clause-entries : goal.entries-returns-in-End-clause-entries
-entries-returns-in-End-clause-entries t c = entries_end (terminals c.args.tokens.now) (map pair_view c.more_entries.entries.items) (terminals c.more_entries.rest.now) c.more_entries.invariant.going (terminals c.in-End.behind.now) c.in-End.ensures.0
+entries-returns-in-End-clause-entries t c = entries_end (terminals c.args.tokens.now) (map pair_view c.more_entries.entries.items) (terminals c.more_entries.rest.now) c.more_entries.invariant.going (terminals c.in-End.beyond.now) c.in-End.ensures.0
 
 pub entries-returns-in_err-next-in-Comma-clause-none : goal.entries-returns-in_err-next-in-Comma-clause-none
-entries-returns-in_err-next-in-Comma-clause-none t c = handed_on c.from_residual-in_err-next-in-Comma.result c.in_err-next-in-Comma.field-0.0 c.from_residual-in_err-next-in-Comma.ensures.1 (entries_next_none (terminals c.args.tokens.now) (map pair_view c.more_entries.entries.items) (terminals c.more_entries.rest.now) c.more_entries.invariant.going (terminals c.in-Comma.behind.now) c.in-Comma.ensures.0 c.in-Comma.ensures.1) c.in_err-next-in-Comma.ensures.none
+entries-returns-in_err-next-in-Comma-clause-none t c = handed_on c.from_residual-in_err-next-in-Comma.result c.in_err-next-in-Comma.field-0.0 c.from_residual-in_err-next-in-Comma.ensures.1 (entries_next_none (terminals c.args.tokens.now) (map pair_view c.more_entries.entries.items) (terminals c.more_entries.rest.now) c.more_entries.invariant.going (terminals c.in-Comma.beyond.now) c.in-Comma.ensures.0 c.in-Comma.ensures.1) c.in_err-next-in-Comma.ensures.none
 
 pub entries-more_entries-preserved : goal.entries-more_entries-preserved
 entries-more_entries-preserved t c = record {
-  going = rw (c.in_ok-push-in-Comma.ensures.items, map-pair_view c.more_entries.entries.items c.in_ok-next-in-Comma.next) (entries_next (terminals c.args.tokens.now) (map pair_view c.more_entries.entries.items) (terminals c.more_entries.rest.now) c.more_entries.invariant.going (terminals c.in-Comma.behind.now) (view c.in_ok-next-in-Comma.next.0) (view c.in_ok-next-in-Comma.next.1) (terminals c.in_ok-next-in-Comma.after.now) c.in-Comma.ensures.0 c.in-Comma.ensures.1 c.in_ok-next-in-Comma.ensures.entry);
+  going = rw (c.in_ok-push-in-Comma.ensures.items, map-pair_view c.more_entries.entries.items c.in_ok-next-in-Comma.next) (entries_next (terminals c.args.tokens.now) (map pair_view c.more_entries.entries.items) (terminals c.more_entries.rest.now) c.more_entries.invariant.going (terminals c.in-Comma.beyond.now) (view c.in_ok-next-in-Comma.next.0) (view c.in_ok-next-in-Comma.next.1) (terminals c.in_ok-next-in-Comma.after.now) c.in-Comma.ensures.0 c.in-Comma.ensures.1 c.in_ok-next-in-Comma.ensures.entry);
   shorter = omega (arith, c.in-Comma.ensures.2, c.in_ok-next-in-Comma.ensures.shorter);
 }
 
@@ -74,16 +74,16 @@ pub expression-returns-in-None-clause-tree : goal.expression-returns-in-None-cla
 expression-returns-in-None-clause-tree t c = whole_simple (terminals c.args.tokens.now) (view c.in_ok-test.test.value) (terminals c.in_ok-test.rest.now) c.in_ok-test.ensures.tree c.in-None.ensures.value
 
 pub expression-returns-in_err-first-in-Some-clause-none : goal.expression-returns-in_err-first-in-Some-clause-none
-expression-returns-in_err-first-in-Some-clause-none t c = handed_on c.from_residual-in_err-first-in-Some.result c.in_err-first-in-Some.field-0.0 c.from_residual-in_err-first-in-Some.ensures.1 (branches_none (terminals c.args.tokens.now) (view c.in_ok-test.test.value) (terminals c.in-Some.behind.now) (branches (terminals c.args.tokens.now) (view c.in_ok-test.test.value) (terminals c.in_ok-test.rest.now) (terminals c.in-Some.behind.now) c.in_ok-test.ensures.tree c.in-Some.ensures.value)) c.in_err-first-in-Some.ensures.none
+expression-returns-in_err-first-in-Some-clause-none t c = handed_on c.from_residual-in_err-first-in-Some.result c.in_err-first-in-Some.field-0.0 c.from_residual-in_err-first-in-Some.ensures.1 (branches_none (terminals c.args.tokens.now) (view c.in_ok-test.test.value) (terminals c.in-Some.beyond.now) (branches (terminals c.args.tokens.now) (view c.in_ok-test.test.value) (terminals c.in_ok-test.rest.now) (terminals c.in-Some.beyond.now) c.in_ok-test.ensures.tree c.in-Some.ensures.value)) c.in_err-first-in-Some.ensures.none
 
 pub expression-returns-in-None-after-clause-none : goal.expression-returns-in-None-after-clause-none
-expression-returns-in-None-after-clause-none t c = branches_no_colon (terminals c.args.tokens.now) (view c.in_ok-test.test.value) (terminals c.in-Some.behind.now) (branches (terminals c.args.tokens.now) (view c.in_ok-test.test.value) (terminals c.in_ok-test.rest.now) (terminals c.in-Some.behind.now) c.in_ok-test.ensures.tree c.in-Some.ensures.value) (view c.in_ok-first-in-Some.first.value) (terminals c.in_ok-first-in-Some.rest.now) c.in_ok-first-in-Some.ensures.tree c.in-None-after.ensures.value
+expression-returns-in-None-after-clause-none t c = branches_no_colon (terminals c.args.tokens.now) (view c.in_ok-test.test.value) (terminals c.in-Some.beyond.now) (branches (terminals c.args.tokens.now) (view c.in_ok-test.test.value) (terminals c.in_ok-test.rest.now) (terminals c.in-Some.beyond.now) c.in_ok-test.ensures.tree c.in-Some.ensures.value) (view c.in_ok-first-in-Some.first.value) (terminals c.in_ok-first-in-Some.rest.now) c.in_ok-first-in-Some.ensures.tree c.in-None-after.ensures.value
 
 pub expression-returns-in_err-second-in-Some-after-clause-none : goal.expression-returns-in_err-second-in-Some-after-clause-none
-expression-returns-in_err-second-in-Some-after-clause-none t c = handed_on c.from_residual-in_err-second-in-Some-after.result c.in_err-second-in-Some-after.field-0.0 c.from_residual-in_err-second-in-Some-after.ensures.1 (branches_no_second (terminals c.args.tokens.now) (view c.in_ok-test.test.value) (terminals c.in-Some.behind.now) (branches (terminals c.args.tokens.now) (view c.in_ok-test.test.value) (terminals c.in_ok-test.rest.now) (terminals c.in-Some.behind.now) c.in_ok-test.ensures.tree c.in-Some.ensures.value) (view c.in_ok-first-in-Some.first.value) (terminals c.in_ok-first-in-Some.rest.now) (terminals c.in-Some-after.behind.now) c.in_ok-first-in-Some.ensures.tree c.in-Some-after.ensures.value) c.in_err-second-in-Some-after.ensures.none
+expression-returns-in_err-second-in-Some-after-clause-none t c = handed_on c.from_residual-in_err-second-in-Some-after.result c.in_err-second-in-Some-after.field-0.0 c.from_residual-in_err-second-in-Some-after.ensures.1 (branches_no_second (terminals c.args.tokens.now) (view c.in_ok-test.test.value) (terminals c.in-Some.beyond.now) (branches (terminals c.args.tokens.now) (view c.in_ok-test.test.value) (terminals c.in_ok-test.rest.now) (terminals c.in-Some.beyond.now) c.in_ok-test.ensures.tree c.in-Some.ensures.value) (view c.in_ok-first-in-Some.first.value) (terminals c.in_ok-first-in-Some.rest.now) (terminals c.in-Some-after.beyond.now) c.in_ok-first-in-Some.ensures.tree c.in-Some-after.ensures.value) c.in_err-second-in-Some-after.ensures.none
 
 pub expression-returns-in_ok-tree-in-Some-after-clause-tree : goal.expression-returns-in_ok-tree-in-Some-after-clause-tree
-expression-returns-in_ok-tree-in-Some-after-clause-tree t c = rw c.in_ok-tree-in-Some-after.ensures (branches_both (terminals c.args.tokens.now) (view c.in_ok-test.test.value) (terminals c.in-Some.behind.now) (branches (terminals c.args.tokens.now) (view c.in_ok-test.test.value) (terminals c.in_ok-test.rest.now) (terminals c.in-Some.behind.now) c.in_ok-test.ensures.tree c.in-Some.ensures.value) (view c.in_ok-first-in-Some.first.value) (terminals c.in_ok-first-in-Some.rest.now) (terminals c.in-Some-after.behind.now) c.in_ok-first-in-Some.ensures.tree c.in-Some-after.ensures.value (view c.in_ok-second-in-Some-after.second.value) (terminals c.in_ok-second-in-Some-after.rest.now) c.in_ok-second-in-Some-after.ensures.tree)
+expression-returns-in_ok-tree-in-Some-after-clause-tree t c = rw c.in_ok-tree-in-Some-after.ensures (branches_both (terminals c.args.tokens.now) (view c.in_ok-test.test.value) (terminals c.in-Some.beyond.now) (branches (terminals c.args.tokens.now) (view c.in_ok-test.test.value) (terminals c.in_ok-test.rest.now) (terminals c.in-Some.beyond.now) c.in_ok-test.ensures.tree c.in-Some.ensures.value) (view c.in_ok-first-in-Some.first.value) (terminals c.in_ok-first-in-Some.rest.now) (terminals c.in-Some-after.beyond.now) c.in_ok-first-in-Some.ensures.tree c.in-Some-after.ensures.value (view c.in_ok-second-in-Some-after.second.value) (terminals c.in_ok-second-in-Some-after.rest.now) c.in_ok-second-in-Some-after.ensures.tree)
 
 pub infix-returns-in_err-left-clause-none : goal.infix-returns-in_err-left-clause-none
 infix-returns-in_err-left-clause-none t c = handed_on c.from_residual.result c.in_err-left.field-0.0 c.from_residual.ensures.1 (λ none. no_tree_at c.args.height (c.args.height - 1) (terminals c.args.tokens.now) (let e : c.args.height ≡ suc (c.args.height - 1) = omega arith in e) (start_none (c.args.height - 1) (terminals c.args.tokens.now) none)) c.in_err-left.ensures.none
@@ -92,13 +92,13 @@ pub infix-operators-init : goal.infix-operators-init
 infix-operators-init t c = record { going = going_start (c.args.height - 1) (terminals c.args.tokens.now) (view c.in_ok-left.left.value) (terminals c.in_ok-left.rest.now) c.in_ok-left.ensures.tree; shorter = c.in_ok-left.ensures.shorter }
 
 pub infix-operators-preserved : goal.infix-operators-preserved
-infix-operators-preserved t c = record { going = rw c.in_ok-tree-in-Some.ensures (going_next (c.args.height - 1) c.in-Some.ensures.value.0 c.in-Some.operator (terminals c.in-Some.behind.now) c.in-Some.ensures.value.2 (terminals c.args.tokens.now) (view c.operators.left.value) (terminals c.operators.rest.now) (view c.in_ok-right-in-Some.right.value) (terminals c.in_ok-right-in-Some.after.now) c.operators.invariant.going c.in-Some.ensures.value.1 c.in_ok-right-in-Some.ensures.tree); shorter = omega (arith, c.in-Some.ensures.shorter, c.in_ok-right-in-Some.ensures.shorter, c.operators.invariant.shorter) }
+infix-operators-preserved t c = record { going = rw c.in_ok-tree-in-Some.ensures (going_next (c.args.height - 1) c.in-Some.ensures.value.0 c.in-Some.operator (terminals c.in-Some.beyond.now) c.in-Some.ensures.value.2 (terminals c.args.tokens.now) (view c.operators.left.value) (terminals c.operators.rest.now) (view c.in_ok-right-in-Some.right.value) (terminals c.in_ok-right-in-Some.after.now) c.operators.invariant.going c.in-Some.ensures.value.1 c.in_ok-right-in-Some.ensures.tree); shorter = omega (arith, c.in-Some.ensures.shorter, c.in_ok-right-in-Some.ensures.shorter, c.operators.invariant.shorter) }
 
 pub infix-returns-in-None-clause-tree : goal.infix-returns-in-None-clause-tree
 infix-returns-in-None-clause-tree t c = read_at c.args.height (c.args.height - 1) (terminals c.args.tokens.now) (view c.operators.left.value) (terminals c.operators.rest.now) (let e : c.args.height ≡ suc (c.args.height - 1) = omega arith in e) (going_end (c.args.height - 1) (terminals c.args.tokens.now) (view c.operators.left.value) (terminals c.operators.rest.now) c.operators.invariant.going c.in-None.ensures.value)
 
 pub infix-returns-in_err-right-in-Some-clause-none : goal.infix-returns-in_err-right-in-Some-clause-none
-infix-returns-in_err-right-in-Some-clause-none t c = handed_on c.from_residual-in_err-right-in-Some.result c.in_err-right-in-Some.field-0.0 c.from_residual-in_err-right-in-Some.ensures.1 (λ none. no_tree_at c.args.height (c.args.height - 1) (terminals c.args.tokens.now) (let e : c.args.height ≡ suc (c.args.height - 1) = omega arith in e) (next_none (c.args.height - 1) c.in-Some.ensures.value.0 c.in-Some.operator (terminals c.in-Some.behind.now) c.in-Some.ensures.value.2 (terminals c.args.tokens.now) (view c.operators.left.value) (terminals c.operators.rest.now) c.operators.invariant.going c.in-Some.ensures.value.1 none)) c.in_err-right-in-Some.ensures.none
+infix-returns-in_err-right-in-Some-clause-none t c = handed_on c.from_residual-in_err-right-in-Some.result c.in_err-right-in-Some.field-0.0 c.from_residual-in_err-right-in-Some.ensures.1 (λ none. no_tree_at c.args.height (c.args.height - 1) (terminals c.args.tokens.now) (let e : c.args.height ≡ suc (c.args.height - 1) = omega arith in e) (next_none (c.args.height - 1) c.in-Some.ensures.value.0 c.in-Some.operator (terminals c.in-Some.beyond.now) c.in-Some.ensures.value.2 (terminals c.args.tokens.now) (view c.operators.left.value) (terminals c.operators.rest.now) c.operators.invariant.going c.in-Some.ensures.value.1 none)) c.in_err-right-in-Some.ensures.none
 
 pub items-returns-in-Some-clause-items : goal.items-returns-in-Some-clause-items
 items-returns-in-Some-clause-items t c = rw c.new-items.ensures.items (items_empty c.args.closing (terminals c.args.tokens.now) (terminals c.in-Some.rest.now) (rw c.close_sign.ensures at c.in-Some.ensures.value))
@@ -113,14 +113,14 @@ items-more_items-init t c = record {
 }
 
 pub items-returns-in-End-clause-items : goal.items-returns-in-End-clause-items
-items-returns-in-End-clause-items t c = items_end c.args.closing (terminals c.args.tokens.now) (map view c.more_items.items.items) (terminals c.more_items.rest.now) c.more_items.invariant.going (terminals c.in-End.behind.now) c.in-End.ensures.0
+items-returns-in-End-clause-items t c = items_end c.args.closing (terminals c.args.tokens.now) (map view c.more_items.items.items) (terminals c.more_items.rest.now) c.more_items.invariant.going (terminals c.in-End.beyond.now) c.in-End.ensures.0
 
 pub items-returns-in_err-next-in-Comma-clause-none : goal.items-returns-in_err-next-in-Comma-clause-none
-items-returns-in_err-next-in-Comma-clause-none t c = handed_on c.from_residual-in_err-next-in-Comma.result c.in_err-next-in-Comma.field-0.0 c.from_residual-in_err-next-in-Comma.ensures.1 (items_next_none c.args.closing (terminals c.args.tokens.now) (map view c.more_items.items.items) (terminals c.more_items.rest.now) c.more_items.invariant.going (terminals c.in-Comma.behind.now) c.in-Comma.ensures.0 c.in-Comma.ensures.1) c.in_err-next-in-Comma.ensures.none
+items-returns-in_err-next-in-Comma-clause-none t c = handed_on c.from_residual-in_err-next-in-Comma.result c.in_err-next-in-Comma.field-0.0 c.from_residual-in_err-next-in-Comma.ensures.1 (items_next_none c.args.closing (terminals c.args.tokens.now) (map view c.more_items.items.items) (terminals c.more_items.rest.now) c.more_items.invariant.going (terminals c.in-Comma.beyond.now) c.in-Comma.ensures.0 c.in-Comma.ensures.1) c.in_err-next-in-Comma.ensures.none
 
 pub items-more_items-preserved : goal.items-more_items-preserved
 items-more_items-preserved t c = record {
-  going = rw (c.in_ok-push-in-Comma.ensures.items, c.into_inner-in-Comma.ensures, view-push c.more_items.items.items c.in_ok-next-in-Comma.next.value) (items_next c.args.closing (terminals c.args.tokens.now) (map view c.more_items.items.items) (terminals c.more_items.rest.now) c.more_items.invariant.going (terminals c.in-Comma.behind.now) (view c.in_ok-next-in-Comma.next.value) (terminals c.in_ok-next-in-Comma.after.now) c.in-Comma.ensures.0 c.in-Comma.ensures.1 c.in_ok-next-in-Comma.ensures.tree);
+  going = rw (c.in_ok-push-in-Comma.ensures.items, c.into_inner-in-Comma.ensures, view-push c.more_items.items.items c.in_ok-next-in-Comma.next.value) (items_next c.args.closing (terminals c.args.tokens.now) (map view c.more_items.items.items) (terminals c.more_items.rest.now) c.more_items.invariant.going (terminals c.in-Comma.beyond.now) (view c.in_ok-next-in-Comma.next.value) (terminals c.in_ok-next-in-Comma.after.now) c.in-Comma.ensures.0 c.in-Comma.ensures.1 c.in_ok-next-in-Comma.ensures.tree);
   shorter = omega (arith, c.in-Comma.ensures.2, c.in_ok-next-in-Comma.ensures.shorter);
 }
 
@@ -134,25 +134,25 @@ pub member-suffixes-init : goal.member-suffixes-init
 member-suffixes-init t c = record { going = member_start (terminals c.args.tokens.now) (view c.in_ok-of.of.value) (terminals c.in_ok-of.rest.now) c.in_ok-of.ensures.tree; shorter = c.in_ok-of.ensures.shorter }
 
 pub member-suffixes-preserved-in-Field : goal.member-suffixes-preserved-in-Field
-member-suffixes-preserved-in-Field t c = record { going = rw c.in_ok-tree-in-Field.ensures (member_field (terminals c.args.tokens.now) (view c.suffixes.of.value) (terminals c.suffixes.rest.now) c.suffixes.invariant.going c.in-Field.ensures.0 (encode_utf8_all c.in-Field.name.now) c.in-Field.ensures.2 (terminals c.in-Field.behind.now) c.in-Field.ensures.1 c.in-Field.ensures.3); shorter = omega (arith, c.in-Field.ensures.4, c.suffixes.invariant.shorter) }
+member-suffixes-preserved-in-Field t c = record { going = rw c.in_ok-tree-in-Field.ensures (member_field (terminals c.args.tokens.now) (view c.suffixes.of.value) (terminals c.suffixes.rest.now) c.suffixes.invariant.going c.in-Field.ensures.0 (encode_utf8_all c.in-Field.name.now) c.in-Field.ensures.2 (terminals c.in-Field.beyond.now) c.in-Field.ensures.1 c.in-Field.ensures.3); shorter = omega (arith, c.in-Field.ensures.4, c.suffixes.invariant.shorter) }
 
 pub member-suffixes-preserved : goal.member-suffixes-preserved
-member-suffixes-preserved t c = record { going = rw c.in_ok-tree-in-Some-after.ensures (member_index (terminals c.args.tokens.now) (view c.suffixes.of.value) (terminals c.suffixes.rest.now) c.suffixes.invariant.going (terminals c.in-Index.behind.now) (view c.in_ok-index-in-Index.index.value) (terminals c.in-Some-after.behind.now) c.in-Index.ensures.0 (rw c.in-Some-after.ensures.value at c.in_ok-index-in-Index.ensures.tree)); shorter = omega (arith, c.in-Index.ensures.1, c.in_ok-index-in-Index.ensures.shorter, c.in-Some-after.ensures.shorter, c.suffixes.invariant.shorter) }
+member-suffixes-preserved t c = record { going = rw c.in_ok-tree-in-Some-after.ensures (member_index (terminals c.args.tokens.now) (view c.suffixes.of.value) (terminals c.suffixes.rest.now) c.suffixes.invariant.going (terminals c.in-Index.beyond.now) (view c.in_ok-index-in-Index.index.value) (terminals c.in-Some-after.beyond.now) c.in-Index.ensures.0 (rw c.in-Some-after.ensures.value at c.in_ok-index-in-Index.ensures.tree)); shorter = omega (arith, c.in-Index.ensures.1, c.in_ok-index-in-Index.ensures.shorter, c.in-Some-after.ensures.shorter, c.suffixes.invariant.shorter) }
 
 pub member-suffixes-preserved-in-Some : goal.member-suffixes-preserved-in-Some
-member-suffixes-preserved-in-Some t c = record { going = member_method (terminals c.args.tokens.now) (view c.suffixes.of.value) (terminals c.suffixes.rest.now) c.suffixes.invariant.going c.in-Method.ensures.0 (encode_utf8_all c.in-Method.name.now) c.in-Method.ensures.2 (terminals c.in-Method.behind.now) (views c.in_ok-arguments-in-Method.arguments.items) (view c.in-Some.tree.value) (terminals c.in_ok-arguments-in-Method.after.now) c.in-Method.ensures.1 c.in_ok-arguments-in-Method.ensures.items (sym (rw (c.in-Some.is, c.in_ok-name-in-Method.ensures) at c.in_ok-tree-in-Method.ensures)); shorter = omega (arith, c.in-Method.ensures.3, c.in_ok-arguments-in-Method.ensures.shorter, c.suffixes.invariant.shorter) }
+member-suffixes-preserved-in-Some t c = record { going = member_method (terminals c.args.tokens.now) (view c.suffixes.of.value) (terminals c.suffixes.rest.now) c.suffixes.invariant.going c.in-Method.ensures.0 (encode_utf8_all c.in-Method.name.now) c.in-Method.ensures.2 (terminals c.in-Method.beyond.now) (views c.in_ok-arguments-in-Method.arguments.items) (view c.in-Some.tree.value) (terminals c.in_ok-arguments-in-Method.after.now) c.in-Method.ensures.1 c.in_ok-arguments-in-Method.ensures.items (sym (rw (c.in-Some.is, c.in_ok-name-in-Method.ensures) at c.in_ok-tree-in-Method.ensures)); shorter = omega (arith, c.in-Method.ensures.3, c.in_ok-arguments-in-Method.ensures.shorter, c.suffixes.invariant.shorter) }
 
 pub member-returns-in_err-arguments-in-Method-clause-none : goal.member-returns-in_err-arguments-in-Method-clause-none
-member-returns-in_err-arguments-in-Method-clause-none t c = handed_on c.from_residual-in_err-arguments-in-Method.result c.in_err-arguments-in-Method.field-0.0 c.from_residual-in_err-arguments-in-Method.ensures.1 (member_no_arguments (terminals c.args.tokens.now) (view c.suffixes.of.value) (terminals c.suffixes.rest.now) c.suffixes.invariant.going c.in-Method.ensures.0 (encode_utf8_all c.in-Method.name.now) c.in-Method.ensures.2 (terminals c.in-Method.behind.now) c.in-Method.ensures.1) c.in_err-arguments-in-Method.ensures.none
+member-returns-in_err-arguments-in-Method-clause-none t c = handed_on c.from_residual-in_err-arguments-in-Method.result c.in_err-arguments-in-Method.field-0.0 c.from_residual-in_err-arguments-in-Method.ensures.1 (member_no_arguments (terminals c.args.tokens.now) (view c.suffixes.of.value) (terminals c.suffixes.rest.now) c.suffixes.invariant.going c.in-Method.ensures.0 (encode_utf8_all c.in-Method.name.now) c.in-Method.ensures.2 (terminals c.in-Method.beyond.now) c.in-Method.ensures.1) c.in_err-arguments-in-Method.ensures.none
 
 pub member-returns-in-None-clause-none : goal.member-returns-in-None-clause-none
-member-returns-in-None-clause-none t c = member_no_call (terminals c.args.tokens.now) (view c.suffixes.of.value) (terminals c.suffixes.rest.now) c.suffixes.invariant.going c.in-Method.ensures.0 (encode_utf8_all c.in-Method.name.now) c.in-Method.ensures.2 (terminals c.in-Method.behind.now) (views c.in_ok-arguments-in-Method.arguments.items) (terminals c.in_ok-arguments-in-Method.after.now) c.in-Method.ensures.1 c.in_ok-arguments-in-Method.ensures.items (sym (rw (c.in-None.is, c.in_ok-name-in-Method.ensures) at c.in_ok-tree-in-Method.ensures))
+member-returns-in-None-clause-none t c = member_no_call (terminals c.args.tokens.now) (view c.suffixes.of.value) (terminals c.suffixes.rest.now) c.suffixes.invariant.going c.in-Method.ensures.0 (encode_utf8_all c.in-Method.name.now) c.in-Method.ensures.2 (terminals c.in-Method.beyond.now) (views c.in_ok-arguments-in-Method.arguments.items) (terminals c.in_ok-arguments-in-Method.after.now) c.in-Method.ensures.1 c.in_ok-arguments-in-Method.ensures.items (sym (rw (c.in-None.is, c.in_ok-name-in-Method.ensures) at c.in_ok-tree-in-Method.ensures))
 
 pub member-returns-in_err-index-in-Index-clause-none : goal.member-returns-in_err-index-in-Index-clause-none
-member-returns-in_err-index-in-Index-clause-none t c = handed_on c.from_residual-in_err-index-in-Index.result c.in_err-index-in-Index.field-0.0 c.from_residual-in_err-index-in-Index.ensures.1 (member_no_index (terminals c.args.tokens.now) (view c.suffixes.of.value) (terminals c.suffixes.rest.now) c.suffixes.invariant.going (terminals c.in-Index.behind.now) c.in-Index.ensures.0) c.in_err-index-in-Index.ensures.none
+member-returns-in_err-index-in-Index-clause-none t c = handed_on c.from_residual-in_err-index-in-Index.result c.in_err-index-in-Index.field-0.0 c.from_residual-in_err-index-in-Index.ensures.1 (member_no_index (terminals c.args.tokens.now) (view c.suffixes.of.value) (terminals c.suffixes.rest.now) c.suffixes.invariant.going (terminals c.in-Index.beyond.now) c.in-Index.ensures.0) c.in_err-index-in-Index.ensures.none
 
 pub member-returns-in-None-after-clause-none : goal.member-returns-in-None-after-clause-none
-member-returns-in-None-after-clause-none t c = member_open_index (terminals c.args.tokens.now) (view c.suffixes.of.value) (terminals c.suffixes.rest.now) c.suffixes.invariant.going (terminals c.in-Index.behind.now) (view c.in_ok-index-in-Index.index.value) (terminals c.in_ok-index-in-Index.inside.now) c.in-Index.ensures.0 c.in_ok-index-in-Index.ensures.tree c.in-None-after.ensures.value
+member-returns-in-None-after-clause-none t c = member_open_index (terminals c.args.tokens.now) (view c.suffixes.of.value) (terminals c.suffixes.rest.now) c.suffixes.invariant.going (terminals c.in-Index.beyond.now) (view c.in_ok-index-in-Index.index.value) (terminals c.in_ok-index-in-Index.inside.now) c.in-Index.ensures.0 c.in_ok-index-in-Index.ensures.tree c.in-None-after.ensures.value
 
 pub member-returns-in-Nothing-clause-tree : goal.member-returns-in-Nothing-clause-tree
 member-returns-in-Nothing-clause-tree t c = member_end (terminals c.args.tokens.now) (view c.suffixes.of.value) (terminals c.suffixes.rest.now) c.suffixes.invariant.going c.in-Nothing.ensures.0 c.in-Nothing.ensures.1 c.in-Nothing.ensures.2
@@ -161,10 +161,10 @@ pub member-returns-in-Wrong-clause-none : goal.member-returns-in-Wrong-clause-no
 member-returns-in-Wrong-clause-none t c = member_wrong (terminals c.args.tokens.now) (view c.suffixes.of.value) (terminals c.suffixes.rest.now) c.suffixes.invariant.going c.in-Wrong.ensures.0 c.in-Wrong.ensures.1
 
 pub prefixed-returns-in_err-of-in-Some-clause-none : goal.prefixed-returns-in_err-of-in-Some-clause-none
-prefixed-returns-in_err-of-in-Some-clause-none t c = handed_on c.from_residual.result c.in_err-of-in-Some.field-0.0 c.from_residual.ensures.1 (prefixed_again_none c.args.prefix (terminals c.args.tokens.now) (terminals c.in-Some.behind.now) (sym c.in-Some.ensures.value)) c.in_err-of-in-Some.ensures.none
+prefixed-returns-in_err-of-in-Some-clause-none t c = handed_on c.from_residual.result c.in_err-of-in-Some.field-0.0 c.from_residual.ensures.1 (prefixed_again_none c.args.prefix (terminals c.args.tokens.now) (terminals c.in-Some.beyond.now) (sym c.in-Some.ensures.value)) c.in_err-of-in-Some.ensures.none
 
 pub prefixed-returns-in_ok-tree-in-Some-clause-tree : goal.prefixed-returns-in_ok-tree-in-Some-clause-tree
-prefixed-returns-in_ok-tree-in-Some-clause-tree t c = rw c.in_ok-tree-in-Some.ensures (prefixed_again c.args.prefix (terminals c.args.tokens.now) (terminals c.in-Some.behind.now) (sym c.in-Some.ensures.value) (view c.in_ok-of-in-Some.of.value) (terminals c.in_ok-of-in-Some.rest.now) c.in_ok-of-in-Some.ensures.tree)
+prefixed-returns-in_ok-tree-in-Some-clause-tree t c = rw c.in_ok-tree-in-Some.ensures (prefixed_again c.args.prefix (terminals c.args.tokens.now) (terminals c.in-Some.beyond.now) (sym c.in-Some.ensures.value) (view c.in_ok-of-in-Some.of.value) (terminals c.in_ok-of-in-Some.rest.now) c.in_ok-of-in-Some.ensures.tree)
 
 pub prefixed-returns-in-None-clause-tree : goal.prefixed-returns-in-None-clause-tree
 prefixed-returns-in-None-clause-tree t c = IfOk-weaker c.member.result (λ x. Read Member (terminals c.args.tokens.now) (view x.0.value) (terminals x.1.now)) _ (λ x g. prefixed_bare c.args.prefix (terminals c.args.tokens.now) (view x.0.value) (terminals x.1.now) (sym c.in-None.ensures.value) g) c.member.ensures.tree
@@ -173,10 +173,10 @@ pub primary-returns-in-Some-clause-tree : goal.primary-returns-in-Some-clause-tr
 primary-returns-in-Some-clause-tree t c = primary_literal (terminals c.args.tokens.now) (view c.in-Some.tree.value) (terminals c.in_ok-found.rest.now) (MatchOption-at_some (HasNoLiteral (terminals c.args.tokens.now)) (λ t. Literal (terminals c.args.tokens.now) (view t.value) (terminals c.in_ok-found.rest.now)) c.in-Some.tree c.in-Some.is c.in_ok-found.ensures.value)
 
 pub unary-returns-in_err-of-in-Some-clause-none : goal.unary-returns-in_err-of-in-Some-clause-none
-unary-returns-in_err-of-in-Some-clause-none t c = handed_on c.from_residual.result c.in_err-of-in-Some.field-0.0 c.from_residual.ensures.1 (unary_prefixed_none c.in-Some.prefix (terminals c.args.tokens.now) (terminals c.in-Some.behind.now) c.in-Some.ensures.value) c.in_err-of-in-Some.ensures.none
+unary-returns-in_err-of-in-Some-clause-none t c = handed_on c.from_residual.result c.in_err-of-in-Some.field-0.0 c.from_residual.ensures.1 (unary_prefixed_none c.in-Some.prefix (terminals c.args.tokens.now) (terminals c.in-Some.beyond.now) c.in-Some.ensures.value) c.in_err-of-in-Some.ensures.none
 
 pub unary-returns-in_ok-tree-in-Some-clause-tree : goal.unary-returns-in_ok-tree-in-Some-clause-tree
-unary-returns-in_ok-tree-in-Some-clause-tree t c = rw c.in_ok-tree-in-Some.ensures (unary_prefixed c.in-Some.prefix (terminals c.args.tokens.now) (terminals c.in-Some.behind.now) c.in-Some.ensures.value (view c.in_ok-of-in-Some.of.value) (terminals c.in_ok-of-in-Some.rest.now) c.in_ok-of-in-Some.ensures.tree)
+unary-returns-in_ok-tree-in-Some-clause-tree t c = rw c.in_ok-tree-in-Some.ensures (unary_prefixed c.in-Some.prefix (terminals c.args.tokens.now) (terminals c.in-Some.beyond.now) c.in-Some.ensures.value (view c.in_ok-of-in-Some.of.value) (terminals c.in_ok-of-in-Some.rest.now) c.in_ok-of-in-Some.ensures.tree)
 
 pub unary-returns-in-None-clause-tree : goal.unary-returns-in-None-clause-tree
 unary-returns-in-None-clause-tree t c = IfOk-weaker c.member.result (λ x. Read Member (terminals c.args.tokens.now) (view x.0.value) (terminals x.1.now)) _ (λ x g. unary_plain (terminals c.args.tokens.now) (view x.0.value) (terminals x.1.now) c.in-None.ensures.value g) c.member.ensures.tree

@@ -18,4 +18,4 @@ pub returns-in_ok-tree-in-Some-negative_literal-clause-value : goal.returns-in_o
 returns-in_ok-tree-in-Some-negative_literal-clause-value c =
     let v = c.in-Some-negative_literal.value in
     let fits : SFits w64 v = search rules in
-    rw (c.in_ok-tree-in-Some-negative_literal.ensures.ok, to_z-of_z w64 v fits, view-Int v) (negative_literal (terminals c.args.tokens.now) v (terminals c.in-Some-negative_literal.behind.now) c.in-Some-negative_literal.ensures.value)
+    rw (c.in_ok-tree-in-Some-negative_literal.ensures.ok, to_z-of_z w64 v fits, view-Int v) (negative_literal (terminals c.args.tokens.now) v (terminals c.in-Some-negative_literal.beyond.now) c.in-Some-negative_literal.ensures.value)

@@ -11,11 +11,11 @@ use Rattle.celtokens.proofs.lexer.tokens.Goals as goal
 use Rattle.celtokens.proofs.lexer.tokens.Goals.{In-Some}
 
 -- what the call gave at the rest
-longest_here : (c : In-Some) → Longest c.lexemes.rest.now (part c.in-Some.part) c.in-Some.behind.now
-longest_here c = MatchOption-at_some (HasNoLexeme c.lexemes.rest.now) (λ x. Longest c.lexemes.rest.now (part x.0) x.1.now) (c.in-Some.part, c.in-Some.behind) c.in-Some.is c.in_ok-part.ensures
+longest_here : (c : In-Some) → Longest c.lexemes.rest.now (part c.in-Some.part) c.in-Some.beyond.now
+longest_here c = MatchOption-at_some (HasNoLexeme c.lexemes.rest.now) (λ x. Longest c.lexemes.rest.now (part x.0) x.1.now) (c.in-Some.part, c.in-Some.beyond) c.in-Some.is c.in_ok-part.ensures
 
-shorter_here : (c : In-Some) → length c.in-Some.behind.now < length c.lexemes.rest.now
-shorter_here c = longest_shorter c.lexemes.rest.now (part c.in-Some.part) c.in-Some.behind.now (longest_here c)
+shorter_here : (c : In-Some) → length c.in-Some.beyond.now < length c.lexemes.rest.now
+shorter_here c = longest_shorter c.lexemes.rest.now (part c.in-Some.part) c.in-Some.beyond.now (longest_here c)
 
 pub lexemes-smaller-in_ok-push-in-Some : goal.lexemes-smaller-in_ok-push-in-Some
 lexemes-smaller-in_ok-push-in-Some c = shorter_here (goal.at.lexemes-smaller-in_ok-push-in-Some c).In-Some
@@ -27,7 +27,7 @@ pushed i ts new m r p t lexed is h e =
 
 pub lexemes-preserved-in_ok-push-in-Some : goal.lexemes-preserved-in_ok-push-in-Some
 lexemes-preserved-in_ok-push-in-Some c =
-    pushed c.args.chars.now c.lexemes.tokens.items c.push.new.self.items c.lexemes.rest.now c.in-Some.behind.now c.in-Some.part c.in-Some-part.token c.lexemes.invariant c.in-Some-part.is
+    pushed c.args.chars.now c.lexemes.tokens.items c.push.new.self.items c.lexemes.rest.now c.in-Some.beyond.now c.in-Some.part c.in-Some-part.token c.lexemes.invariant c.in-Some-part.is
     (longest_here (goal.at.lexemes-preserved-in_ok-push-in-Some c).In-Some) c.in_ok-push-in-Some.ensures.items
 
 pub lexemes-smaller : goal.lexemes-smaller
@@ -38,7 +38,7 @@ dropped i ts m r p lexed is h = lexed_gap i (terminals ts) m r lexed (rw is at h
 
 pub lexemes-preserved : goal.lexemes-preserved
 lexemes-preserved c =
-    dropped c.args.chars.now c.lexemes.tokens.items c.lexemes.rest.now c.in-Some.behind.now c.in-Some.part c.lexemes.invariant c.in_default.is (longest_here (goal.at.lexemes-preserved c).In-Some)
+    dropped c.args.chars.now c.lexemes.tokens.items c.lexemes.rest.now c.in-Some.beyond.now c.in-Some.part c.lexemes.invariant c.in_default.is (longest_here (goal.at.lexemes-preserved c).In-Some)
 
 at_end : (i m : List ℕ) (ts : List Terminal) → Lexed i ts m → true ≡ (length m == 0) → Lexes i ts
 at_end i [] ts lexed e = lexed_end i ts lexed

@@ -3,7 +3,7 @@ use Rattle.celtokens.proofs.Texts.{going_next, going_end, going_none}
 use Rattle.celtokens.proofs.text.inside.Goals as goal
 
 pub returns-in-Some : goal.returns-in-Some
-returns-in-Some c = going_end c.args.style c.args.chars.now c.characters.text.items c.characters.rest.now c.in-Some.behind.now c.characters.invariant (sym c.in-Some.ensures)
+returns-in-Some c = going_end c.args.style c.args.chars.now c.characters.text.items c.characters.rest.now c.in-Some.beyond.now c.characters.invariant (sym c.in-Some.ensures)
 
 pub characters-preserved : goal.characters-preserved
 characters-preserved c =

@@ -26,7 +26,7 @@ use Rattle.durable.proofs.Unwritten.{read_then}
 use Rattle.opening.specs.declared.content.Opened.{Opened}
 use Rattle.opening.specs.Opened.{IsRedone, HasRead}
 use Rattle.opening.proofs.Bases.{read_thrice}
-use Rattle.opening.proofs.Found.{err_of, found_none, found_no_root}
+use Rattle.opening.proofs.Finding.{err_of, found_none, found_no_root}
 use Rattle.opening.proofs.Reading.{base_is, base_here, no_log_here, written_here, opened_shows}
 use Rattle.opening.proofs.content.read_store.Goals as goal
 

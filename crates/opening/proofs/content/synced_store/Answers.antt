@@ -1,5 +1,5 @@
 use Rattle.std.proofs.Common.{◌∙◌, sym}
-use Rattle.opening.proofs.Found.{found_behind, found_no_device}
+use Rattle.opening.proofs.Finding.{found_after, found_no_device}
 use Rattle.opening.proofs.content.synced_store.Goals as goal
 
 pub returns-then-is_err-clause-read : goal.returns-then-is_err-clause-read
@@ -8,4 +8,4 @@ returns-then-is_err-clause-read g c =
 
 pub returns-clause-read : goal.returns-clause-read
 returns-clause-read g c =
-    found_behind g.D.Device.disk c.args.device.now c.sync.new.self c.read_store.new.device c.read_store.result c.sync.ensures.ran c.read_store.ensures
+    found_after g.D.Device.disk c.args.device.now c.sync.new.self c.read_store.new.device c.read_store.result c.sync.ensures.ran c.read_store.ensures

@@ -18,7 +18,7 @@ loop-entry-preserved g c =
     let entry = c.entry-item.result in
     let changes = changes_of lent in
     let rest : changes_of (take (length lent - done) (drop done lent)) ≡ drop done changes = ap changes_of (take_rest lent done) ∙ changes_of-drop done lent in
-    let behind : changes_of (take (length lent - (done + n)) (drop (done + n) lent)) ≡ drop (done + n) changes =
+    let after : changes_of (take (length lent - (done + n)) (drop (done + n) lent)) ≡ drop (done + n) changes =
     ap changes_of (take_rest lent (done + n)) ∙ changes_of-drop (done + n) lent
     in
     let size : done + n - done ≡ n = omega arith in
@@ -34,9 +34,9 @@ loop-entry-preserved g c =
           (subst (λ cs. IsSplitAt entry.0 cs n) rest (c.count_below.ensures.split (subst (λ cs. is_sorted key_cmp cs ≡ true) (sym rest) (sorted_drop done changes changes_sorted))))
           (c.in_ok-push_puts.ensures ∙ ap (λ cs. c.loop-entry.kept.items ++ puts_of cs) front)
           (λ back sorted none above.
-          ap (λ cs. c.push_entry.new.kept.items ++ merged (drop more cs) back) (sym behind)
-          ∙ c.in_ok-done.ensures.pushed back (subst (λ cs. is_sorted key_cmp cs ≡ true) (sym behind) sorted) (subst (λ cs. NoneBelow entry.0 cs) (sym behind) none) above
-          ∙ ap (λ cs. c.push_puts.new.kept.items ++ merged cs (entry ∷ back)) behind)
+          ap (λ cs. c.push_entry.new.kept.items ++ merged (drop more cs) back) (sym after)
+          ∙ c.in_ok-done.ensures.pushed back (subst (λ cs. is_sorted key_cmp cs ≡ true) (sym after) sorted) (subst (λ cs. NoneBelow entry.0 cs) (sym after) none) above
+          ∙ ap (λ cs. c.push_puts.new.kept.items ++ merged cs (entry ∷ back)) after)
           (c.loop-entry.invariant.1 changes_sorted base_sorted),
     )
 

@@ -21,7 +21,7 @@ code_of_index-returns-clause-code t c =
     let at = c.args.at in
     let e = c.args.of.now.value in
     let first = placed c.in_ok-operand.operand.items c.deref.result.now e at at d c.in_ok-operand.ensures.code c.deref.ensures refl in
-    let second = placed c.in_ok-index.index.items c.deref-2.result.now c.args.index.now.value c.behind-index_at.result (at + size (view e)) d c.in_ok-index.ensures.code c.deref-2.ensures c.behind-index_at.ensures in
+    let second = placed c.in_ok-index.index.items c.deref-2.result.now c.args.index.now.value c.after-index_at.result (at + size (view e)) d c.in_ok-index.ensures.code c.deref-2.ensures c.after-index_at.ensures in
     gathered_by c.gathered.result first second refl c.gathered.ensures.code
 
 pub code_of_list-overflow_cast-len : goal.code_of_list-overflow_cast-len
@@ -49,9 +49,9 @@ code_of_infix-returns-clause-code t c =
     let a = c.args.left.now.value in
     let b = c.args.right.now.value in
     let at = c.args.at in
-    let p = c.behind.result + c.steps_between.result in
-    let place : p ≡ at + size (view a) + steps_between o = omega (arith, c.behind.ensures, c.steps_between.ensures) in
-    let target : c.behind-end.result + 1 ≡ at + size (expr.Infix o (view a) (view b)) = omega (arith, place, c.behind-end.ensures) in
+    let p = c.after.result + c.steps_between.result in
+    let place : p ≡ at + size (view a) + steps_between o = omega (arith, c.after.ensures, c.steps_between.ensures) in
+    let target : c.after-end.result + 1 ≡ at + size (expr.Infix o (view a) (view b)) = omega (arith, place, c.after-end.ensures) in
     let first = placed c.in_ok-first.first.items c.deref.result.now a at at d c.in_ok-first.ensures.code c.deref.ensures refl in
     let second = placed c.in_ok-second.second.items c.deref-2.result.now b p (at + size (view a) + steps_between o) d c.in_ok-second.ensures.code c.deref-2.ensures place in
     infix_by c.infix_code.result o first second target c.infix_code.ensures.code
@@ -63,13 +63,13 @@ code_of_conditional-returns-clause-code t c =
     let e = c.args.test.now.value in
     let a = c.args.first.now.value in
     let b = c.args.second.now.value in
-    let p = c.behind-first_at.result + 1 in
-    let q = c.behind-second_at.result + 1 in
+    let p = c.after-first_at.result + 1 in
+    let q = c.after-second_at.result + 1 in
     let p' = at + size (view e) + 1 in
     let q' = at + size (view e) + 1 + size (view a) + 1 in
-    let pp : p ≡ p' = omega (arith, c.behind-first_at.ensures) in
-    let qq : q ≡ q' = omega (arith, pp, c.behind-second_at.ensures) in
-    let target : c.behind-end.result ≡ at + size (expr.Conditional (view e) (view a) (view b)) = omega (arith, qq, c.behind-end.ensures) in
+    let pp : p ≡ p' = omega (arith, c.after-first_at.ensures) in
+    let qq : q ≡ q' = omega (arith, pp, c.after-second_at.ensures) in
+    let target : c.after-end.result ≡ at + size (expr.Conditional (view e) (view a) (view b)) = omega (arith, qq, c.after-end.ensures) in
     let x = placed c.in_ok-start.start.items c.deref.result.now e at at d c.in_ok-start.ensures.code c.deref.ensures refl in
     let y = placed c.in_ok-middle.middle.items c.deref-2.result.now a p p' d c.in_ok-middle.ensures.code c.deref-2.ensures pp in
     let z = placed c.in_ok-rest.rest.items c.deref-3.result.now b q q' d c.in_ok-rest.ensures.code c.deref-3.ensures qq in
@@ -80,7 +80,7 @@ code_of_method-returns-clause-code t c =
     let d = names_seen c.args.names.now in
     let at = c.args.at in
     let first = placed c.in_ok-operand.operand.items c.deref.result.now c.args.of.now.value at at d c.in_ok-operand.ensures.code c.deref.ensures refl in
-    let second = c.in_ok-rest.ensures.code ∙ ap (λ n. compiled_items (views c.args.arguments.now.items) n d) c.behind-arguments_at.ensures in
+    let second = c.in_ok-rest.ensures.code ∙ ap (λ n. compiled_items (views c.args.arguments.now.items) n d) c.after-arguments_at.ensures in
     gathered_by c.gathered.result first second (ap TakeCall (c.method_named.ensures ∙ ap method_named c.deref-2.ensures)) c.gathered.ensures.code
 
 pub code_of_macro-returns-clause-code : goal.code_of_macro-returns-clause-code
@@ -90,9 +90,9 @@ code_of_macro-returns-clause-code t c =
     let e = c.args.of.now.value in
     let b = c.args.body.now.value in
     let x = string_bytes c.args.variable.now in
-    let p = c.behind-body_at.result + 1 in
-    let place : p ≡ at + size (view e) + 1 = omega (arith, c.behind-body_at.ensures) in
-    let target : c.behind-end.result ≡ at + size (expr.Over c.args.kind (view e) x (view b)) = omega (arith, place, c.behind-end.ensures) in
+    let p = c.after-body_at.result + 1 in
+    let place : p ≡ at + size (view e) + 1 = omega (arith, c.after-body_at.ensures) in
+    let target : c.after-end.result ≡ at + size (expr.Over c.args.kind (view e) x (view b)) = omega (arith, place, c.after-end.ensures) in
     let first = placed c.in_ok-operand.operand.items c.deref.result.now e at at d c.in_ok-operand.ensures.code c.deref.ensures refl in
     let second = c.in_ok-inside.ensures.code ∙ (ap (λ y. compiled (view b) p (bind y d)) c.deref-2.ensures ∙ ap (λ n. compiled (view b) n (bind x d)) place) in
     macro_by c.macro_code.result c.args.kind first second target c.macro_code.ensures.code
@@ -102,36 +102,36 @@ code_of_pair-returns-clause-code t c =
     let d = names_seen c.args.names.now in
     let k = c.args.entry.now.0 in
     let v = c.args.entry.now.1 in
-    let second = placed c.in_ok-value.value.items v v c.behind_tree-value_at.result (c.args.at + size (view k)) d c.in_ok-value.ensures.code refl c.behind_tree-value_at.ensures in
+    let second = placed c.in_ok-value.value.items v v c.after_tree-value_at.result (c.args.at + size (view k)) d c.in_ok-value.ensures.code refl c.after_tree-value_at.ensures in
     joined_by c.joined.result c.in_ok-key.ensures.code second c.joined.ensures.code
 
 pub code_of_index-code_of-requires-2 : goal.code_of_index-code_of-requires-2
 code_of_index-code_of-requires-2 t c =
     let e = ap (λ (t : Tree). size (view t)) c.deref-2.ensures in
-    (omega (arith, e), (omega (arith, e, c.behind-index_at.ensures), c.requires.few))
+    (omega (arith, e), (omega (arith, e, c.after-index_at.ensures), c.requires.few))
 
 pub code_of_infix-code_of-requires-2 : goal.code_of_infix-code_of-requires-2
 code_of_infix-code_of-requires-2 t c =
     let e = ap (λ (t : Tree). size (view t)) c.deref-2.ensures in
-    (omega (arith, e), (omega (arith, e, c.behind.ensures, c.steps_between.ensures), c.requires.few))
+    (omega (arith, e), (omega (arith, e, c.after.ensures, c.steps_between.ensures), c.requires.few))
 
 pub code_of_conditional-code_of-requires-2 : goal.code_of_conditional-code_of-requires-2
 code_of_conditional-code_of-requires-2 t c =
     let e = ap (λ (t : Tree). size (view t)) c.deref-2.ensures in
-    (omega (arith, e), (omega (arith, e, c.behind-first_at.ensures), c.requires.few))
+    (omega (arith, e), (omega (arith, e, c.after-first_at.ensures), c.requires.few))
 
 pub code_of_conditional-code_of-requires-3 : goal.code_of_conditional-code_of-requires-3
 code_of_conditional-code_of-requires-3 t c =
     let e = ap (λ (t : Tree). size (view t)) c.deref-3.ensures in
-    (omega (arith, e), (omega (arith, e, c.behind-first_at.ensures, c.behind-second_at.ensures), c.requires.few))
+    (omega (arith, e), (omega (arith, e, c.after-first_at.ensures, c.after-second_at.ensures), c.requires.few))
 
 pub code_of_method-code_of_items-requires : goal.code_of_method-code_of_items-requires
 code_of_method-code_of_items-requires t c =
-    (omega (arith), (omega (arith, c.behind-arguments_at.ensures), c.requires.few))
+    (omega (arith), (omega (arith, c.after-arguments_at.ensures), c.requires.few))
 
 pub code_of_macro-code_of_body-requires : goal.code_of_macro-code_of_body-requires
 code_of_macro-code_of_body-requires t c =
-    (omega (arith), (omega (arith, c.behind-body_at.ensures), c.requires.few))
+    (omega (arith), (omega (arith, c.after-body_at.ensures), c.requires.few))
 
 pub code_of_pairs-code_of_pair-requires : goal.code_of_pairs-code_of_pair-requires
 code_of_pairs-code_of_pair-requires t c =

@@ -21,5 +21,5 @@ returns c = record {
   two_outcomes = refl;
   no_such_variable = refl;
   no_macro = refl;
-  byte_behind = refl;
+  byte_after = refl;
 }

@@ -15,7 +15,7 @@ pub loop-preserved : goal.loop-preserved
 loop-preserved c =
     let n = c.in_ok-first.first in
     let e : ops_of c.push.new.self.items ≡ ops_of c.loop.read.items ++ op_of n ∷ [] = rw c.in_ok-push.ensures.items (map_push _ c.loop.read.items n) in
-    rw e (goes_on c.args.greatest (ops_of c.loop.read.items) c.args.count c.loop.counter c.loop.rest.now (op_of n) c.in_ok-first.behind.now (ops_at c.args.greatest c.args.count c.args.bytes.now) c.loop-test.true c.in_ok-first.ensures c.loop.invariant)
+    rw e (goes_on c.args.greatest (ops_of c.loop.read.items) c.args.count c.loop.counter c.loop.rest.now (op_of n) c.in_ok-first.after.now (ops_at c.args.greatest c.args.count c.args.bytes.now) c.loop-test.true c.in_ok-first.ensures c.loop.invariant)
 
 pub returns : goal.returns
 returns c = is_done c.args.greatest (ops_of c.loop.read.items) c.args.count c.loop.counter c.loop.rest.now (ops_at c.args.greatest c.args.count c.args.bytes.now) c.loop-test.false c.loop.invariant

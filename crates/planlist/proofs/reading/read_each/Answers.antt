@@ -14,9 +14,9 @@ pub each-preserved : goal.each-preserved
 each-preserved c =
     let left : c.each.left.now ≡ c.in-Some.variables.now ∷ c.in-Some.others.now = search rules in
     let P : List ℕ → Type 0 = λ left. IsRead c.args.places.now c.args.bytes.now left c.each.rest.now c.each.plans.items in
-    let Q : List Judged → Type 0 = λ plans. IsRead c.args.places.now c.args.bytes.now c.in-Some.others.now c.in_ok-plan.behind.now plans in
+    let Q : List Judged → Type 0 = λ plans. IsRead c.args.places.now c.args.bytes.now c.in-Some.others.now c.in_ok-plan.after.now plans in
     subst Q (sym c.in_ok-push.ensures.items)
-    (one_more c.args.places.now c.args.bytes.now c.in-Some.variables.now c.in-Some.others.now c.each.rest.now c.each.plans.items c.in_ok-plan.plan c.in_ok-plan.behind.now
+    (one_more c.args.places.now c.args.bytes.now c.in-Some.variables.now c.in-Some.others.now c.each.rest.now c.each.plans.items c.in_ok-plan.plan c.in_ok-plan.after.now
     (subst P left c.each.invariant) c.in_ok-plan.ensures.fits c.in_ok-plan.ensures.found)
 
 pub returns-clause-fits : goal.returns-clause-fits

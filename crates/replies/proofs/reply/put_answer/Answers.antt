@@ -6,7 +6,7 @@ use Rattle.httpmsg.specs.Response.{Response, response_bytes}
 use Rattle.httpmsg.specs.Sheet.{gathered}
 use Rattle.httpmsg.specs.Stream.{Message, is_head}
 use Rattle.replies.specs.ReplyBytes.{response_of, allow_in, reply_bytes}
-use Rattle.replies.specs.AnswerBytes.{CanAnswer, PutsBehind}
+use Rattle.replies.specs.AnswerBytes.{CanAnswer, PutsAfter}
 use Rattle.replies.proofs.reply.put_answer.Goals as goal
 
 -- the bytes of the response of a reply that is found
@@ -21,7 +21,7 @@ returns-in-Some-clause-puts g c can =
     let m = c.args.message.now in
     let Can : Option (Bor Reply) → Type 0 = λ o. IfSome o (λ r. CanAnswer m r.now c.args.allow) in
     let Puts : List ℕ → Type 0 =
-    λ b. PutsBehind g.O.Output.took c.args.output.now c.put_behind.new.output (gathered c.args.sheet.now) (gathered c.put_behind.new.sheet) b c.put_behind.result
+    λ b. PutsAfter g.O.Output.took c.args.output.now c.put_after.new.output (gathered c.args.sheet.now) (gathered c.put_after.new.sheet) b c.put_after.result
     in
     subst Puts (bytes_of_found m c.in-Some.reply c.args.reply c.response_to.result c.in-Some.is (c.response_to.ensures (subst Can c.in-Some.is can)))
-    c.put_behind.ensures.puts
+    c.put_after.ensures.puts

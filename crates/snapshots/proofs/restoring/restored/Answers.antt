@@ -13,7 +13,7 @@ use Rattle.snapshots.specs.declared.fault.SnapshotFault.TheVariants as SnapshotF
 use Rattle.snapshots.specs.LyingBelow.{puts_of}
 use Rattle.snapshots.specs.Faults.{of_entry_fault}
 use Rattle.snapshots.specs.Keeping.{held_plans, HasLastEvents}
-use Rattle.snapshots.specs.Restoring.{IsDamaged, view_in_bytes, AreHeldOf, behind, with_events}
+use Rattle.snapshots.specs.Restoring.{IsDamaged, view_in_bytes, AreHeldOf, without_events, with_events}
 use Rattle.snapshots.proofs.Chosen.{ShowsPart, shows_all, knows_chosen}
 use Rattle.snapshots.proofs.Held.{Core, Object, Kept}
 use Rattle.snapshots.proofs.InBytes.{entries_in_bytes}
@@ -35,12 +35,12 @@ returns-in_err-view-clause-damaged g c is_damaged held chosen is all same revisi
 
 pub returns-in_err-core-clause-damaged : goal.returns-in_err-core-clause-damaged
 returns-in_err-core-clause-damaged g c is_damaged held chosen is all same revision counted =
-    let told : IsDamaged c.core_behind.result = search rules in
+    let told : IsDamaged c.core_without_events.result = search rules in
     let part : Held = chosen_of chosen held in
     let may = part_held c.args.rules chosen held is in
     let holdable = held_holdable c.args.rules part may in
     let found = c.in_ok-view.ensures.found (wide part) (view_in_bytes held_plans part) holdable (entries_in_bytes held_plans part ∙ sym same) revision in
-    c.core_behind.ensures.damaged told (subst (λ (u : KeptView). is_sorted key_cmp u.objects ≡ true) (sym found) holdable.ascends)
+    c.core_without_events.ensures.damaged told (subst (λ (u : KeptView). is_sorted key_cmp u.objects ≡ true) (sym found) holdable.ascends)
     (subst (λ (u : KeptView). HasLastEvents c.args.rules u) (sym found) (held_last c.args.rules part may))
 
 pub keep_all-requires : goal.keep_all-requires
@@ -84,14 +84,14 @@ returns g c =
       made = made.made;
       shows = λ base may.
           let left : List Object = merged (puts_of made.objects) base in
-          let first : Shows c.in_ok-core.core base (behind base kept) = c.in_ok-core.ensures.shows base may.ascend may.counted in
-          let told_there : Shows c.keep_all.new.core base (with_events (behind base kept) c.view.inside.events.items) =
-          c.keep_all.ensures.shows base (behind base kept)
+          let first : Shows c.in_ok-core.core base (without_events base kept) = c.in_ok-core.ensures.shows base may.ascend may.counted in
+          let told_there : Shows c.keep_all.new.core base (with_events (without_events base kept) c.view.inside.events.items) =
+          c.keep_all.ensures.shows base (without_events base kept)
           (can_keep c.args.rules c.in_ok-core.core base kept c.view.inside.events.items c.in_ok-core.ensures.rules first c.in_ok-view.ensures.storable
           c.in_ok-core.ensures.last told)
           in
           subst (λ (v : Held). Shows core base v) (shown_again c.args.rules kept base left c.view.inside.events.items c.in_ok-core.ensures.last told)
-          (made.shows base (with_events (behind base kept) c.view.inside.events.items) told_there may.there);
+          (made.shows base (with_events (without_events base kept) c.view.inside.events.items) told_there may.there);
     }
     in
     record {

@@ -7,9 +7,10 @@ use Rattle.plancode.specs.Plans.{Judged}
 use Rattle.policy.specs.Policies.{policy_of}
 use Rattle.policy.specs.Spec.{Policy, Binding, policy_seen, binding_seen}
 use Rattle.expressions.specs.Plans.{plans_of}
+use Rattle.expressions.specs.Specification.{plans_in}
 use Rattle.evaluation.specs.Ready.{AreReady}
 use Rattle.evaluation.specs.Seen.{denial_seen}
-use Rattle.lookup.specs.Objects.{Held, plans_in, shown_objects}
+use Rattle.lookup.specs.Objects.{Held, shown_objects}
 use Rattle.bindings.specs.Verdict.{denial}
 use Rattle.verdict.specs.Turns.{denial_by_policy}
 use Rattle.verdict.proofs.admission.denial_of.Goals as goal
@@ -21,7 +22,7 @@ returns-in-Some-clause-found g c = λ objects object shows trees same.
     let w = attempt_seen c.args.attempt.now in
     let read : option_map (λ q. policy_seen q.now) c.args.found.now.policy ≡ Some p = search rules in
     let is : policy_of object.document.json ≡ Some p = ap (λ (h : Held). h.policy) (sym same) ∙ read in
-    let plans : List Judged = plans_in object.document object.trees in
+    let plans : List Judged = plans_in object.document.json object.trees in
     let ready : AreReady p object.trees plans = record { typed = trees p is; compiled = ap (λ (o : Option Policy). option_map_or (λ q. plans_of q object.trees) o []) is } in
     let bound : binding_seen c.binding-binding.result.now ≡ b = c.binding-binding.ensures in
     IfOk-weaker c.denial.result

@@ -9,7 +9,7 @@ use Rattle.durable.specs.declared.fault.Fault.TheVariants as Faults
 use Rattle.durable.specs.Faults.{MayBeMet}
 use Rattle.durable.specs.Settled.{device_of, HasServed}
 use Rattle.durable.proofs.Runs.{run_none}
-use Rattle.durable.proofs.Grouping.{in_parts, served_so_far, stopped_so_far, left_behind, still_inside}
+use Rattle.durable.proofs.Grouping.{in_parts, served_so_far, stopped_so_far, left_after, still_inside}
 use Rattle.durable.proofs.store.Store.run.Goals as goal
 
 failed_later : {D : Type 0} (disk : Disk D) (old mid new : D) → disk.failures old ≤ disk.failures mid → HasFailed disk mid new → HasFailed disk old new
@@ -50,7 +50,7 @@ loop-rest-preserved g c =
     (in_parts request_of c.loop-rest.rest.now c.split_at.result.0.now c.split_at.result.1.now c.min.result c.split_at.ensures.front c.split_at.ensures.back) in (
       served_so_far c.args.self.now c.loop-rest.self c.answer_group.new.self all group later given now c.answer_group.result inside split c.loop-rest.invariant.0 c.answer_group.ensures.answered
           (inl c.in-None.is),
-      left_behind c.args.self.now c.loop-rest.self c.answer_group.new.self all group later given now c.answer_group.result inside split c.loop-rest.invariant.0 c.answer_group.ensures.answered
+      left_after c.args.self.now c.loop-rest.self c.answer_group.new.self all group later given now c.answer_group.result inside split c.loop-rest.invariant.0 c.answer_group.ensures.answered
           c.in-None.is,
       omega (
         arith,

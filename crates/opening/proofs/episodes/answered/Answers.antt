@@ -4,8 +4,8 @@ use Rattle.requests.specs.RequestOf.{request_of}
 use Rattle.history.specs.View.{view}
 use Rattle.durable.specs.Settled.{added, HasServed, HasStopped}
 use Rattle.durable.proofs.Answering.{on_err, settled_serves}
-use Rattle.lives.proofs.Driving.{episode_leaves, episode_stands}
-use Rattle.lives.proofs.episodes.answered.Goals as goal
+use Rattle.opening.proofs.Driving.{episode_leaves, episode_stands}
+use Rattle.opening.proofs.episodes.answered.Goals as goal
 
 pub returns-then-is_memory-clause-memory : goal.returns-then-is_memory-clause-memory
 returns-then-is_memory-clause-memory c rules h settled =

@@ -4,8 +4,8 @@ use Rattle.device.specs.Memory.{memory_content, memory_disk}
 use Rattle.objects.specs.declared.format.Rules.{Rules}
 use Rattle.recovery.specs.Standing.{History}
 use Rattle.durable.specs.Stands.{StandsFor}
-use Rattle.lives.proofs.Driving.{LivesTo}
-use Rattle.lives.proofs.episodes.drive.Given as goal
+use Rattle.opening.proofs.Driving.{LivesTo}
+use Rattle.opening.proofs.episodes.drive.Given as goal
 
 -- the episodes so far are lived, and the device stands for the history that they lead to
 abbrev pub invariant-loop-episode : goal.invariant-loop-episode

@@ -8,8 +8,8 @@ use Rattle.records.specs.Payload.{group_limit}
 use Rattle.recovery.specs.Standing.{Write, History}
 use Rattle.apicore.specs.Admitted.{AreAdmitted}
 use Rattle.apicore.specs.Step.{Asked, replies}
-use Rattle.lives.specs.declared.episodes.Episode.{Episode}
-use Rattle.lives.specs.declared.episodes.Found.{Found}
+use Rattle.opening.specs.declared.episodes.Episode.{Episode}
+use Rattle.opening.specs.declared.episodes.Found.{Found}
 use Rattle.durable.specs.Stands.{StandsFor}
 use Rattle.durable.specs.Settled.{added, AreAsked}
 

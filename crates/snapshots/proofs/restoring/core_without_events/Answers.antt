@@ -1,8 +1,8 @@
 use Rattle.std.proofs.Common.{arith, ◌≡◌, ◌-◌, ◌∙◌, ap, subst, ℕ, List, [], length}
 use Rattle.history.specs.View.{View}
 use Rattle.holdings.specs.Holdings.{Shows}
-use Rattle.snapshots.specs.Restoring.{behind}
-use Rattle.snapshots.proofs.restoring.core_behind.Goals as goal
+use Rattle.snapshots.specs.Restoring.{without_events}
+use Rattle.snapshots.proofs.restoring.core_without_events.Goals as goal
 
 pub returns-clause-revision : goal.returns-clause-revision
 returns-clause-revision c =
@@ -12,6 +12,6 @@ returns-clause-revision c =
 pub returns-clause-shows : goal.returns-clause-shows
 returns-clause-shows c = λ base ascends counted.
     let count : c.len.result ≡ length c.view.inside.events.items = omega arith in
-    subst (λ (v : View (List ℕ)). Shows c.in_ok-over.field-0 base (behind base v)) c.view.view_is
+    subst (λ (v : View (List ℕ)). Shows c.in_ok-over.field-0 base (without_events base v)) c.view.view_is
     (subst (λ (n : ℕ). Shows c.in_ok-over.field-0 base (record { objects = base; revision = c.view.inside.revision - n; events = [] })) count
     (c.in_ok-over.ensures.shows base ascends counted))

@@ -4,9 +4,9 @@ use Rattle.device.specs.Memory.{memory_disk}
 use Rattle.durable.specs.Ready.{HoldsHistory}
 use Rattle.durable.specs.Settled.{device_of}
 use Rattle.durable.proofs.Answering.{held}
-use Rattle.lives.proofs.Driving.{compacted_holds}
-use Rattle.lives.proofs.episodes.compact_where.Goals as goal
-use Rattle.lives.proofs.episodes.compact_where.Goals.{else-is_asked-via-then-is_asked+else-is_memory, else-is_asked-via-else-is_asked}
+use Rattle.opening.proofs.Driving.{compacted_holds}
+use Rattle.opening.proofs.episodes.compact_where.Goals as goal
+use Rattle.opening.proofs.episodes.compact_where.Goals.{else-is_asked-via-then-is_asked+else-is_memory, else-is_asked-via-else-is_asked}
 
 pub returns-then-is_memory-clause-held : goal.returns-then-is_memory-clause-held
 returns-then-is_memory-clause-held c rules h settled =

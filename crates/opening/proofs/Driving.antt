@@ -13,11 +13,11 @@ use Rattle.durable.specs.declared.compacted.Compacted.{Compacted}
 use Rattle.durable.specs.declared.fault.Damage.{Damage}
 use Rattle.durable.specs.declared.fault.Fault.{Fault}
 use Rattle.durable.specs.declared.fault.Fault.TheVariants as Faults
-use Rattle.lives.specs.declared.episodes.Episode.{Episode}
-use Rattle.lives.specs.declared.episodes.Found.{Found}
+use Rattle.opening.specs.declared.episodes.Episode.{Episode}
+use Rattle.opening.specs.declared.episodes.Found.{Found}
 use Rattle.durable.specs.declared.store.Store.{Store}
 use Rattle.durable.specs.Faults.{MayBeMet}
-use Rattle.lives.specs.Lives.{requests_of, IsEpisode, EpisodeLeaves, LivesFrom}
+use Rattle.opening.specs.Lives.{requests_of, IsEpisode, EpisodeLeaves, LivesFrom}
 use Rattle.durable.specs.Ready.{HoldsHistory}
 use Rattle.durable.specs.Settled.{added, device_of, serves, IsFound, IsSettledAt, IsLeftAt, HasServed, HasStopped}
 use Rattle.durable.specs.Stands.{StandsFor}

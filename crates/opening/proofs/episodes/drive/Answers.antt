@@ -3,11 +3,11 @@ use Rattle.std.proofs.lemmas.List.{append-nil, append_assoc, length-append, take
 use Rattle.std.proofs.lemmas.Grind.{take_at_read}
 use Rattle.device.specs.Memory.{memory_content}
 use Rattle.recovery.specs.Standing.{History}
-use Rattle.lives.specs.declared.episodes.Episode.{Episode}
-use Rattle.lives.specs.declared.episodes.Found.{Found}
+use Rattle.opening.specs.declared.episodes.Episode.{Episode}
+use Rattle.opening.specs.declared.episodes.Found.{Found}
 use Rattle.durable.specs.Stands.{StandsFor}
-use Rattle.lives.proofs.Driving.{LivesTo, one_more, whole_life, lives_further}
-use Rattle.lives.proofs.episodes.drive.Goals as goal
+use Rattle.opening.proofs.Driving.{LivesTo, one_more, whole_life, lives_further}
+use Rattle.opening.proofs.episodes.drive.Goals as goal
 
 pub returns-in-Err-clause-left_err : goal.returns-in-Err-clause-left_err
 returns-in-Err-clause-left_err c rules h stands =

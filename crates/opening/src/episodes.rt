@@ -4,15 +4,15 @@ ghost use Rattle.device.specs.Memory.{memory_content, memory_left, memory_disk};
 ghost use Rattle.objects.specs.declared.format.Rules.{Rules};
 ghost use Rattle.recovery.specs.Standing.{Write, History};
 ghost use Rattle.durable.specs.declared.fault.Fault.TheVariants as Fault;
-ghost use Rattle.lives.specs.Lives.{EpisodeLeaves, LivesFrom};
+ghost use Rattle.opening.specs.Lives.{EpisodeLeaves, LivesFrom};
 ghost use Rattle.durable.specs.Ready.{HoldsHistory};
 ghost use Rattle.durable.specs.Settled.{device_of, serves, IsSettledAt};
 ghost use Rattle.durable.specs.Stands.{StandsFor};
 
+use crate::open_store::open;
 use device::{MemDevice, Pick};
 use durable::{Fault, Store};
 use history::Reply;
-use opening::open;
 use requests::Request;
 use std::alloc::Global;
 

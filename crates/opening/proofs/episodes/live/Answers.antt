@@ -4,7 +4,7 @@ use Rattle.device.specs.declared.memory.MemDevice.{MemDevice}
 use Rattle.device.specs.Memory.{memory_content, memory_left}
 use Rattle.recovery.specs.Standing.{History}
 use Rattle.durable.specs.Stands.{StandsFor}
-use Rattle.lives.proofs.episodes.live.Goals as goal
+use Rattle.opening.proofs.episodes.live.Goals as goal
 
 pub returns-in-Err-clause-refusal : goal.returns-in-Err-clause-refusal
 returns-in-Err-clause-refusal c rules h stands = c.in-Err.ensures.refusal rules h tt stands

@@ -28,8 +28,8 @@ err_of (Err f) e holds = ap Err holds
 
 module _ {D : Type 0} (disk : Disk D) where
   -- what was read after a run that only read
-  pub found_behind : (old mid new : D) (result : Result Opened Fault) → Ran disk old mid Same → HasRead disk mid new result → HasRead disk old new result
-  found_behind old mid new result run read =
+  pub found_after : (old mid new : D) (result : Result Opened Fault) → Ran disk old mid Same → HasRead disk mid new result → HasRead disk old new result
+  found_after old mid new result run read =
       let For : Rules → History → List ℕ → Type 0 = λ rules h x. StandsFor rules x h in
       record {
         rules = read.rules;

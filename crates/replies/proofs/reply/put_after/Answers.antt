@@ -4,7 +4,7 @@ use Rattle.httpmsg.specs.Flow.{TookSome}
 use Rattle.httpmsg.specs.Sheet.{gathered}
 use Rattle.httpmsg.specs.Response.{response_bytes}
 use Rattle.replies.proofs.Sheets.{puts_held, puts_written, puts_some}
-use Rattle.replies.proofs.reply.put_behind.Goals as goal
+use Rattle.replies.proofs.reply.put_after.Goals as goal
 
 pub returns-in-Ok-clause-puts : goal.returns-in-Ok-clause-puts
 returns-in-Ok-clause-puts g c =
