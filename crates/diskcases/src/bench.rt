@@ -9,8 +9,6 @@ use crate::page_lines::{page, page_find, page_room, page_with};
 use crate::root_lines::{log_start, new_store, root, write_sector};
 use crate::scan_lines::{lay, scan_pages};
 use crate::shelf_lines::shelf;
-use crate::sift_lines::sift_pages;
-use crate::stock_lines::stock;
 use crate::writing_lines::write_entries;
 use cases::{Bench, Told, Wrong, run_text};
 use device::MemDevice;
@@ -81,9 +79,7 @@ fn answer(alloc: Global, device: &mut MemDevice, log: &mut LogLines, line: &mut 
         "write" => write_entries(alloc, device, line),
         "lay" => lay(alloc, device, line),
         "scan" => scan_pages(alloc, device, line),
-        "sift" => sift_pages(alloc, device, line),
         "shelf" => shelf(alloc, device, line),
-        "stock" => stock(alloc, device, line),
         word => of_the_log(alloc, word, device, log, line),
     }
 }
@@ -104,10 +100,8 @@ fn of_the_log(
             let done = log.open(device, line.number());
             line.ended(done);
         }
-        "restart" => line.ended(log.restart(device)),
         "append" => log.append_payload(alloc, device, line),
         "append-set" => log.append_set(alloc, device, line),
-        "append-writes" => log.append_writes(alloc, device, line),
         "records" => log.records(alloc, device, line),
         "gate" => log.gate(line),
         _ => of_pages(alloc, word, line),

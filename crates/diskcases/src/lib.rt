@@ -1,7 +1,7 @@
 //! The cases of devices, logs, roots and pages.
 //!
 //! [`run_disk`] runs their files; `README.md` beside the files has their lines. [`check_files`] looks at devices over files of the
-//! operating system. How a [`Line`] is read and answered, and a shelf opened, serves the bench of records too.
+//! operating system. How a [`Line`] is read and answered serves the bench of records too.
 #![tactic(auto)]
 
 mod bench;
@@ -16,11 +16,8 @@ mod page_lines;
 mod root_lines;
 mod scan_lines;
 mod shelf_lines;
-mod sift_lines;
-mod stock_lines;
 mod writing_lines;
 
 pub use bench::run_disk;
 pub use file_devices::check_files;
 pub use line::Line;
-pub use shelf_lines::shelf_at;

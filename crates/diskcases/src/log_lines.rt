@@ -1,55 +1,17 @@
 //! Lines on a log.
 
-ghost use Rattle.std.specs.Prelude.{◌<◌, ◌≤◌, ◌+◌, length};
-ghost use Rattle.records.specs.Gathered.{count_of};
-ghost use Rattle.records.specs.Payload.{group_limit};
+ghost use Rattle.std.specs.Prelude.{◌≤◌, ◌+◌, length};
 
 use crate::line::Line;
 use cases::Wrong;
 use device::{Device, MemDevice};
 use gatelog::{Body, Log, LogFault};
-use names::Resource;
-use records::{GROUP_LIMIT, Group};
 use std::alloc::Global;
 
 /// The log that a case opened.
 #[derive(Drop)]
 pub struct LogLines {
     pub log: Option<Log>,
-}
-
-// Gathers a write of the configmap `a` in `default`, `put TEXT` or `delete`.
-fn gather(alloc: Global, group: &mut Group, line: &mut Line<'_>) -> Result<(), LogFault>
-    requires { count_of group.old < group_limit }
-    ensures { count_of group.new ≤ count_of group.old + 1 }
-{
-    let Some(key) = line.key(alloc, Resource::ConfigMap, "default", "a") else {
-        return Ok(());
-    };
-    match line.word() {
-        "put" => group.put(alloc, &key, line.rest, &[]),
-        "delete" => group.delete(alloc, &key),
-        _ => {
-            line.refuse("no such write");
-            Ok(())
-        }
-    }
-}
-
-// Gathers writes of the configmap, with ` | ` between them.
-fn gathered(alloc: Global, line: &mut Line<'_>) -> Result<Group, LogFault> {
-    let mut group = Group::new(alloc)?;
-    let mut count = 0;
-    for write in line.rest.split(" | ") {
-        if count == GROUP_LIMIT {
-            line.refuse("a record has no more writes");
-            return Ok(group);
-        }
-        line.rest = write;
-        gather(alloc, &mut group, line)?;
-        count += 1;
-    }
-    Ok(group)
 }
 
 impl LogLines {
@@ -66,19 +28,6 @@ impl LogLines {
     pub fn open(&mut self, device: &mut MemDevice, at: u64) -> Result<(), LogFault> {
         self.log = None;
         self.log = Some(Log::open(device, at)?);
-        Ok(())
-    }
-
-    /// The empty log at the last gate.
-    pub fn restart(&mut self, device: &MemDevice) -> Result<(), LogFault> {
-        let gate = match &self.log {
-            Some(log) => log.last_gate(),
-            None => return Err(LogFault::Damaged),
-        };
-        if gate >= 1 << 54 {
-            return Err(LogFault::Damaged);
-        }
-        self.log = Some(Log::restart(device, gate));
         Ok(())
     }
 
@@ -124,17 +73,6 @@ impl LogLines {
             return line.refuse("there is no such place inside");
         }
         line.ended(self.append(alloc, device, &payload, at, with.as_bytes()));
-    }
-
-    /// `append-writes WRITE | ..`: the record of these writes of the configmap.
-    pub fn append_writes(&mut self, alloc: Global, device: &mut MemDevice, line: &mut Line<'_>) {
-        match gathered(alloc, line) {
-            Ok(group) => match group.close() {
-                Some(body) => line.ended(self.add(device, body)),
-                None => line.refuse("there is no write"),
-            },
-            Err(fault) => line.show(&fault),
-        }
     }
 
     /// `records PAYLOAD ; ..`: whether the log has these payloads.

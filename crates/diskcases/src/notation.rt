@@ -3,7 +3,7 @@
 use crate::line::Line;
 use cases::{Wrong, bytes, number};
 use entries::Entry;
-use names::{Key, KeyFault, Resource, ResourceTable};
+use names::{Key, KeyFault, Resource};
 use std::alloc::{AllocError, Global};
 
 // Adds bytes in hex, or `BYTES xN`, so many times those bytes.
@@ -67,21 +67,6 @@ impl Line<'_> {
         };
         let key = self.payload(alloc, key);
         Entry::new(key, self.payload(alloc, cell))
-    }
-
-    /// The resource of the core group with this plural.
-    pub fn resource_of(&mut self, plural: &str) -> Option<Resource> {
-        let resource = ResourceTable::with_plural("v1", plural);
-        if resource.is_none() {
-            self.refuse("no resource");
-        }
-        resource
-    }
-
-    /// The resource of the core group whose plural the next word is.
-    pub fn resource(&mut self) -> Option<Resource> {
-        let word = self.word();
-        self.resource_of(word)
     }
 
     /// The key of an object, if it can have one.

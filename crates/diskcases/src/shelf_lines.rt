@@ -6,8 +6,6 @@ ghost use Rattle.diskcases.specs.Inside.{LiesInside};
 
 use crate::line::Line;
 use crate::scan_lines::{Listing, push_entries, read_pages, root_at};
-use crate::sift_lines::Beginning;
-use base::Sieve;
 use cases::Wrong;
 use device::MemDevice;
 use shelf::{Reading, Shelf, ShelfFault};
@@ -79,27 +77,27 @@ fn ask(alloc: Global, shelf: &mut Shelf, device: &mut MemDevice, line: &mut Line
     }
 }
 
-/// The shelf of so many pages from a sector on, which are read before, each once, and how many objects they have.
-pub fn shelf_at(
+// The shelf of so many pages from a sector on, which are read before, each once.
+fn shelf_at(
     alloc: Global,
     device: &mut MemDevice,
     first: u64,
     pages: u32,
     line: &mut Line<'_>,
-) -> Option<(Shelf, u64)>
-    ensures inside { IfSome result (λ found. LiesInside (root_of found.0) device.new) }
+) -> Option<Shelf>
+    ensures inside { IfSome result (λ shelf. LiesInside (root_of shelf) device.new) }
 {
     let root = root_at(device, first, pages, line)?;
-    let all = Beginning {
-        prefix: Vec::new(alloc),
+    let mut all = Listing {
+        entries: Vec::new(alloc),
+        refused: b"",
     };
-    let mut sieve = Sieve::new(alloc, &all);
-    let Ok(first_keys) = read_pages(alloc, device, &root, &mut sieve) else {
+    let Ok(first_keys) = read_pages(alloc, device, &root, &mut all) else {
         line.refuse("the pages are not read");
         return None;
     };
     match Shelf::new(alloc, device, root, first_keys) {
-        Ok(shelf) => Some((shelf, sieve.objects())),
+        Ok(shelf) => Some(shelf),
         Err(_) => {
             line.fail(Wrong::Memory);
             None
@@ -110,7 +108,7 @@ pub fn shelf_at(
 /// `shelf FIRST PAGES QUESTION ; ..`: the answers of the shelf of so many pages from a sector on, which are read before, each once.
 pub fn shelf(alloc: Global, device: &mut MemDevice, line: &mut Line<'_>) {
     let (first, pages) = (line.number(), line.pages());
-    let Some((mut shelf, _)) = shelf_at(alloc, device, first, pages, line) else {
+    let Some(mut shelf) = shelf_at(alloc, device, first, pages, line) else {
         return;
     };
     for question in line.rest.split(" ; ") {

@@ -1,9 +1,7 @@
 //! The lines of a case, by their words.
 
-use crate::core_lines::{answered, prepares, redo};
+use crate::core_lines::{answered, redo};
 use crate::entry_lines::{pieces, reads_event, reads_object, reads_piece};
-use crate::holdings_lines::{held, held_over_pages, lies};
-use crate::overlay_lines::over;
 use crate::record_lines::{cuts, keys, reads, tell_fault};
 use crate::view_lines::reads_view;
 use cases::{Bench, Told, Wrong, run_text};
@@ -14,7 +12,7 @@ use std::alloc::Global;
 #[derive(Drop)]
 struct Records;
 
-/// What the cases of a file of records, entries and changes come to.
+/// What the cases of a file of records and entries come to.
 pub fn run_records(alloc: Global, file: &str, text: &str) -> Told {
     run_text::<Records>(alloc, file, text)
 }
@@ -45,13 +43,8 @@ fn answer(alloc: Global, line: &mut Line<'_>) {
         "cuts" => cuts(alloc, line),
         "redo" => redo(alloc, line),
         "answered" => answered(alloc, line),
-        "prepares" => prepares(alloc, line),
         "keys" => keys(alloc, line),
         "told" => tell_fault(line),
-        "over" => over(alloc, line),
-        "held" => held(alloc, line),
-        "held-over-pages" => held_over_pages(alloc, line),
-        "lies" => lies(alloc, line),
         "reads-object" => reads_object(alloc, line),
         "reads-event" => reads_event(alloc, line),
         "pieces" => pieces(alloc, line),

@@ -6,9 +6,9 @@ ghost use Rattle.holdings.specs.Prepared.{HasRoomFor};
 use apicore::{Prepared, prepare};
 use cases::{Wrong, first_word, shown};
 use diskcases::Line;
-use holdings::{Nothing, PreparedWrite, Put};
+use holdings::Nothing;
 use objects::{Format, Rules};
-use recovery::{Beside, Core, RecoveryFault, redone};
+use recovery::{Core, RecoveryFault, redone};
 use requests::Request;
 use routes::Routes;
 use rowcases::{message, routed_first};
@@ -147,55 +147,5 @@ pub fn answered(alloc: Global, line: &mut Line<'_>) {
     match store(alloc, rules, line) {
         Ok(mut core) => answer_all(&mut core, alloc, asked, line),
         Err(_) => line.refuse("there is no store"),
-    }
-}
-
-// What is put, under which key.
-fn show_put(alloc: Global, put: &Put<Beside>, line: &mut Line<'_>) {
-    line.answer.word("put");
-    line.show_key(put.key());
-    line.answer.word(put.text());
-    match put.document().json().text(alloc) {
-        Ok(own) => {
-            if own.as_str() != put.text() {
-                line.refuse("its text is another document's");
-            }
-        }
-        Err(_) => line.fail(Wrong::Memory),
-    }
-}
-
-// A write that is prepared: what is put under which key, or what is deleted.
-fn show_write(alloc: Global, write: &Option<PreparedWrite<Beside>>, line: &mut Line<'_>) {
-    match write {
-        Some(PreparedWrite::Put(put)) => show_put(alloc, put, line),
-        Some(PreparedWrite::Delete(deletion)) => {
-            line.answer.word("delete");
-            line.show_key(deletion.key());
-        }
-        None => line.answer.word("no write"),
-    }
-}
-
-// Shows the write that the rest prepares, and what the core counts then.
-fn show_prepared(core: &mut Core, alloc: Global, line: &mut Line<'_>) {
-    let Ok(routes) = Routes::new(alloc) else {
-        return line.fail(Wrong::Memory);
-    };
-    match step(core, alloc, &routes, line.rest) {
-        Ok(prepared) => show_write(alloc, &prepared.write, line),
-        Err(wrong) => line.fail(wrong),
-    }
-    drop(routes);
-    show_counts(core, line);
-}
-
-/// `prepares LIMITS METHOD TARGET [BODY]`: the write that a message prepares over an empty store, which is not taken, and the store's revision and number
-/// of objects then.
-pub fn prepares(alloc: Global, line: &mut Line<'_>) {
-    let rules = rules_of(line);
-    match Core::over(alloc, rules, 1, 0) {
-        Ok(mut core) => show_prepared(&mut core, alloc, line),
-        Err(_) => line.fail(Wrong::Memory),
     }
 }

@@ -43,8 +43,8 @@ pub fn reads_object(alloc: Global, line: &mut Line<'_>) {
     }
 }
 
-/// The word of a change.
-pub(crate) fn change_word(change: Change) -> &'static str {
+// The word of a change.
+fn change_word(change: Change) -> &'static str {
     match change {
         Change::Added => "added",
         Change::Modified => "modified",
@@ -107,7 +107,7 @@ pub fn pieces(alloc: Global, line: &mut Line<'_>) {
 /// `reads-piece PLANS ; KEY ; CELL`: the size of these plans with this piece after them.
 pub fn reads_piece(alloc: Global, line: &mut Line<'_>) {
     let Some((before, piece)) = line.rest.split_once(" ; ") else {
-        return line.refuse("a piece stands behind plans");
+        return line.refuse("a piece stands after plans");
     };
     let Some(policy) = policy(alloc, line) else {
         return;

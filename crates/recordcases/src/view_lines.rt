@@ -59,7 +59,7 @@ fn fill(alloc: Global, holdings: &mut Holdings<Vec<u8>>, view: KeptView, line: &
 }
 
 // Asks that the first of these entries is written, and gives those after it.
-fn behind<'a>(
+fn after<'a>(
     entries: &'a [Entry],
     written: Result<Entry, AllocError>,
     line: &mut Line<'_>,
@@ -77,7 +77,7 @@ fn behind<'a>(
 }
 
 // The same of the pieces of plans.
-fn behind_plans<'a>(
+fn after_plans<'a>(
     alloc: Global,
     entries: &'a [Entry],
     policy: &Key,
@@ -94,7 +94,7 @@ fn behind_plans<'a>(
     };
     let mut rest = entries;
     for piece in pieces {
-        rest = behind(rest, Ok(piece), line);
+        rest = after(rest, Ok(piece), line);
     }
     rest
 }
@@ -113,13 +113,13 @@ fn check_entries(
     for object in &objects {
         let stored = object.value;
         let written = object_entry(alloc, object.key, &stored.document, stored.revision);
-        rest = behind(rest, written, line);
+        rest = after(rest, written, line);
     }
     for object in &objects {
-        rest = behind_plans(alloc, rest, object.key, &object.value.beside, line);
+        rest = after_plans(alloc, rest, object.key, &object.value.beside, line);
     }
     for event in holdings.events() {
-        rest = behind(rest, event_entry(alloc, event), line);
+        rest = after(rest, event_entry(alloc, event), line);
     }
     if !rest.is_empty() {
         line.refuse("what is held has fewer entries");

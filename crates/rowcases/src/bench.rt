@@ -1,21 +1,14 @@
 //! What the rows of a file are asked of, and the questions by their words.
 
-use crate::texts::push_times;
-use crate::{
-    bodies, documents_asked, edits, events, messages, names_asked, requested, responses, stored,
-};
-use cases::{Bench, TextBuilder, Told, Wrong, compare, first_word, number, run_text, shown};
+use crate::{documents_asked, edits, names_asked, stored};
+use cases::{Bench, Told, Wrong, compare, first_word, run_text};
 use jsondoc::Doc;
 use objects::{Format, Objects};
-use routes::Routes;
 use std::alloc::Global;
-use window::Window;
 
-// A document, objects and a window, which the rows change one after the other, and the paths that are served.
+// A document and objects, which the rows change one after the other.
 #[derive(Drop)]
 struct Rows {
-    window: Window<u64>,
-    routes: Routes,
     document: Doc,
     objects: Objects<u64>,
 }
@@ -28,8 +21,6 @@ pub fn run_rows(alloc: Global, file: &str, text: &str) -> Told {
 impl Bench for Rows {
     fn new(alloc: Global, _file: &str) -> Result<Rows, Wrong> {
         Ok(Rows {
-            window: Window::new(alloc, Format::First.rules())?,
-            routes: Routes::new(alloc)?,
             document: Doc::empty_object(alloc),
             objects: Objects::new(alloc),
         })
@@ -37,7 +28,6 @@ impl Bench for Rows {
 
     // A row: `QUESTION => ANSWER`.
     fn line(&mut self, alloc: Global, line: &str) -> Result<u64, Wrong> {
-        let line = unfolded(alloc, line)?;
         let Some((question, wanted)) = line.split_once(" => ") else {
             return Err(Wrong::Told("no row: QUESTION => ANSWER"));
         };
@@ -51,25 +41,6 @@ impl Bench for Rows {
 
     fn end(&mut self, _alloc: Global) -> Result<u64, Wrong> {
         Ok(0)
-    }
-}
-
-// A line in which `«N TEXT»` is the text so many times, and `¶` the end of a line.
-fn unfolded(alloc: Global, line: &str) -> Result<String, Wrong> {
-    let mut made = TextBuilder::new(alloc);
-    for part in line.split('«') {
-        let (folded, behind) = match part.split_once('»') {
-            Some(parts) => parts,
-            None => ("1 ", part),
-        };
-        let (times, piece) = first_word(folded);
-        push_times(&mut made, number(times)?, piece);
-        made.push(behind);
-    }
-    let made = made.end()?;
-    match made.replace(alloc, "¶", "\r\n") {
-        Ok(line) => Ok(line),
-        Err(_) => Err(Wrong::Memory),
     }
 }
 
@@ -93,12 +64,6 @@ impl Rows {
             "found" => stored::found(alloc, &self.objects, rest),
             "delete" => stored::delete(alloc, &mut self.objects, rest),
             "count" => stored::count(alloc, &self.objects),
-            "list" => stored::list(alloc, &self.objects, rest),
-            "fill" => stored::fill(alloc, &mut self.objects, rest),
-            "written" => events::written(alloc, &mut self.window, rest),
-            "since" => events::since(alloc, &self.window, rest),
-            "window-fault" => events::told(alloc, rest),
-            "route" => requested::routed(alloc, &self.routes, rest),
             _ => of_values(alloc, word, rest),
         }
     }
@@ -122,25 +87,7 @@ fn of_values(alloc: Global, word: &str, rest: &str) -> Result<String, Wrong> {
         "has-kind" | "has-metadata" | "metadata" | "copied-metadata" => {
             documents_asked::of_document(alloc, word, rest)
         }
-        _ => of_messages(alloc, word, rest),
-    }
-}
-
-fn of_messages(alloc: Global, word: &str, rest: &str) -> Result<String, Wrong> {
-    match word {
-        "method" => messages::method(alloc, rest),
-        "length" => shown(alloc, &rest.len()),
-        "cut" => messages::cut(alloc, &[rest.as_bytes(), b"".as_slice()]),
-        "pieces" => messages::pieces(alloc, rest.as_bytes()),
-        "response" => responses::response(alloc, rest),
-        "response-length" => match responses::response(alloc, rest) {
-            Ok(response) => shown(alloc, &response.len()),
-            Err(wrong) => Err(wrong),
-        },
-        "full" => responses::full(alloc, rest),
-        "manifest" => bodies::manifest(alloc, rest),
-        "selector" => bodies::selector(alloc, rest),
-        "selects" => bodies::selects(alloc, rest),
+        "selects" => documents_asked::selects(alloc, rest),
         _ => Err(Wrong::Told("no such question")),
     }
 }

@@ -1,10 +1,11 @@
-//! Questions on JSON documents and on objects as documents.
+//! Questions on JSON documents, on objects as documents, and on what selectors make of documents that are no objects.
 
 use crate::names_asked::resource;
-use crate::texts::{document_text, made_text, push_times};
+use crate::texts::{document_text, made_text, or_empty, push_times};
 use cases::{TextBuilder, Wrong, bytes, first_word, number, text, yes_or_no};
 use documents::{Document, has_kind, has_metadata, metadata_copy, metadata_text, shown_document};
 use jsondoc::{Doc, ReadFault};
+use requests::Selector;
 use std::alloc::Global;
 
 /// The document that bytes spell.
@@ -90,6 +91,19 @@ fn copy_shown(alloc: Global, stored: &Document, revision: u64) -> Result<String,
         }
         Err(_) => Err(Wrong::Memory),
     }
+}
+
+/// `selects TEXT JSON`, `-` for the empty text: whether this selector selects the document.
+pub fn selects(alloc: Global, text: &str) -> Result<String, Wrong> {
+    let (selector, json) = first_word(text);
+    let selector = Selector::read(alloc, or_empty(selector))?;
+    let Some(selector) = selector else {
+        return Err(Wrong::Told("no selector"));
+    };
+    let document = Document::new(document(alloc, json.as_bytes())?);
+    let is_selected = selector.selects(&document);
+    drop(document);
+    yes_or_no(alloc, is_selected)
 }
 
 /// What is asked of the document of an object, which stands last in the question.

@@ -24,24 +24,14 @@ fn no_key(fault: KeyFault) -> Wrong {
     }
 }
 
-/// The key of a resource's object.
-pub fn key_of(
-    alloc: Global,
-    resource: Resource,
-    namespace: &str,
-    name: &str,
-) -> Result<Key, Wrong> {
-    match Key::new(alloc, resource, namespace, name) {
-        Ok(key) => Ok(key),
-        Err(fault) => Err(no_key(fault)),
-    }
-}
-
 /// The key that the next words name: `RESOURCE NAMESPACE NAME`.
 pub fn key(alloc: Global, words: &mut WordReader<'_>) -> Result<Key, Wrong> {
     let resource = resource(words.word())?;
     let namespace = or_empty(words.word());
-    key_of(alloc, resource, namespace, words.word())
+    match Key::new(alloc, resource, namespace, words.word()) {
+        Ok(key) => Ok(key),
+        Err(fault) => Err(no_key(fault)),
+    }
 }
 
 // The key that bytes spell.

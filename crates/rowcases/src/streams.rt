@@ -1,17 +1,32 @@
-//! The messages of a stream, and what they ask for.
+//! The messages of a stream, what they ask for, and the words of their faults.
 
 use cases::Wrong;
 use cutter::Cutter;
-use httpmsg::Message;
+use httpmsg::{Message, MessageFault};
 use routes::{Routed, Routes, route};
 use std::alloc::Global;
 
-/// The messages of a stream that ends between two of them.
-pub fn messages_of(alloc: Global, sent: &str) -> Result<Vec<Message>, Wrong> {
+// The messages of a stream that ends between two of them.
+fn messages_of(alloc: Global, sent: &str) -> Result<Vec<Message>, Wrong> {
     let mut cutter = Cutter::new(alloc)?;
     match cutter.feed(alloc, sent.as_bytes()) {
         Ok(messages) if cutter.finish().is_ok() => Ok(messages),
         _ => Err(Wrong::Told("the stream has a fault")),
+    }
+}
+
+/// The word of a message's fault.
+pub fn fault_word(fault: MessageFault) -> &'static str {
+    match fault {
+        MessageFault::Malformed => "malformed",
+        MessageFault::Version => "version",
+        MessageFault::TooManyFields => "fields",
+        MessageFault::TransferCoding => "coding",
+        MessageFault::Host => "host",
+        MessageFault::ContentLength => "length",
+        MessageFault::BodyTooLarge => "body",
+        MessageFault::Expectation => "expectation",
+        MessageFault::Target => "target",
     }
 }
 

@@ -2,7 +2,7 @@
 //!
 //! ```text
 //! runner                           the files of all folders but those that end in .md
-//! runner policies/verdicts.case ..     these files
+//! runner views/verdicts.case ..    these files
 //! ```
 //!
 //! The folder of a file says which bench its lines are given to, and the `README.md` there tells them. The bench of the store and of what is
@@ -29,7 +29,6 @@ use cases::{Report, Told, Wrong, paths, run_text};
 use celcases::{laws_of_expressions, run_expressions};
 use diskcases::{check_files, run_disk};
 use opening::one_view;
-use policycases::{laws_of_policies, run_policies};
 use recordcases::{laws_of_histories, laws_of_records, run_records};
 use rowcases::{Exchange, laws_of_requests, run_rows};
 use std::alloc::Global;
@@ -37,15 +36,7 @@ use std::process::ExitCode;
 use std::rt::{Env, Files};
 use std::{fs, io};
 
-const FOLDERS: [&str; 7] = [
-    "rows",
-    "expressions",
-    "policies",
-    "views",
-    "disk",
-    "records",
-    "store",
-];
+const FOLDERS: [&str; 6] = ["rows", "expressions", "views", "disk", "records", "store"];
 
 // The folder that a file stands in.
 fn folder_of(path: &str) -> &str {
@@ -61,7 +52,6 @@ fn told(alloc: Global, path: &str, text: &str) -> Told {
     match folder_of(path) {
         "rows" => run_rows(alloc, path, text),
         "expressions" => run_expressions(alloc, path, text),
-        "policies" => run_policies(alloc, path, text),
         "disk" => run_disk(alloc, path, text),
         "records" => run_records(alloc, path, text),
         "views" | "store" => run_text::<Exchange<Stand>>(alloc, path, text),
@@ -100,7 +90,6 @@ fn run_all<R: Files + Env + Print + Alloc<A = Global> + Clone + Drop>(
 fn main(rt: HostRuntime) -> ExitCode {
     laws_of_requests();
     laws_of_expressions();
-    laws_of_policies();
     laws_of_records();
     laws_of_histories();
     // the laws of a store and of what it is served by
