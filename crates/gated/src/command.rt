@@ -112,7 +112,7 @@ fn line<'a>(alloc: Global) -> Result<Command<'a>, AllocError>
 {
     Command::new(alloc, "gated")
         .about("A small Kubernetes-style API server over one crash-safe file")
-        .version("0.14.0")
+        .version("0.15.0")
         .subcommand_required(true)
         .subcommand(over_file(
             alloc,
