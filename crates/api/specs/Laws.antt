@@ -22,9 +22,9 @@ all_asked (a ∷ more) = asked_if a.is_served (asked_of a) (all_asked more)
 
 -- the bytes of the reply to a message, and of what stands after it: a message that was not served has none of these replies
 abbrev pub bytes_if : Bool → Message → List Reply → (List Reply → List ℕ) → List ℕ
-bytes_if true m [] behind = []
-bytes_if true m (r ∷ replies) behind = reply_bytes m r ++ behind replies
-bytes_if false m replies behind = reply_bytes m (status OutOfMemory) ++ behind replies
+bytes_if true m [] after = []
+bytes_if true m (r ∷ replies) after = reply_bytes m r ++ after replies
+bytes_if false m replies after = reply_bytes m (status OutOfMemory) ++ after replies
 
 -- the bytes of these replies to the messages that were served, and of the refusals of the others
 abbrev pub replies_bytes : List Answered → List Reply → List ℕ

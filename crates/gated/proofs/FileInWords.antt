@@ -80,8 +80,8 @@ module _ (W : List Text) (f : Text) where
   fine-at_row id change missing (r ∷ rs) changed m h = go (bytes_eq r.id id) refl (fine-at_row id change missing rs changed m h.1)
     where
       go : (b : Bool) → bytes_eq r.id id ≡ b → Fine (at_row id change missing rs) → Fine (cond b (change r ++ rs) (r ∷ at_row id change missing rs))
-      go true e behind = fine-append (change r) rs (changed r e h.0) h.1
-      go false e behind = (h.0, behind)
+      go true e after = fine-append (change r) rs (changed r e h.0) h.1
+      go false e after = (h.0, after)
 
   fine-without : (id : Text) (rows : List Row) → Fine rows → Fine (without id rows)
   fine-without id rows h = fine-at_row id (λ _. []) [] rows (λ r e k. tt) tt h
@@ -135,8 +135,8 @@ module _ (W : List Text) (f : Text) where
   fine-find p (a ∷ rest) h = go (p a) refl (fine-find p rest h.1)
     where
       go : (b : Bool) → p a ≡ b → FineFound p (find p rest) → FineFound p (cond b (Some a) (find p rest))
-      go true e behind = (h.0, e)
-      go false e behind = behind
+      go true e after = (h.0, e)
+      go false e after = after
 
   long_is_other : (a : Rule) (name : Text) → IsBare a → (not (is_some a.index) && has_long a name) ≡ true → IsOther a
   long_is_other a name bare found is =
@@ -328,8 +328,8 @@ module _ (W : List Text) (f : Text) where
 
       go : (b : Bool) → bytes_eq r.id f ≡ b → (first_of f rs ≡ Some t → Contains W t) → option_and_then (λ (x : Row). slice_get x.values 0) (cond b (Some r) (find (λ (x : Row). bytes_eq x.id f) rs)) ≡ Some t
           → Contains W t
-      go true e behind e2 = head r.values (h.0 e) e2
-      go false e behind e2 = behind e2
+      go true e after e2 = head r.values (h.0 e) e2
+      go false e after e2 = after e2
 
   -- ---- subcommands
 
@@ -344,10 +344,10 @@ module _ (W : List Text) (f : Text) where
     where
       go : (b : Bool) → (option_map (λ s. rows_at s words) (find (λ s. answers_to name (label_of s)) rest) ≡ Some (shown, rows) → Fine rows)
           → option_map (λ s. rows_at s words) (cond b (Some s) (find (λ s. answers_to name (label_of s)) rest)) ≡ Some (shown, rows) → Fine rows
-      go true behind e =
+      go true after e =
           let same : rows_after s.rules [] words ≡ rows = ap (λ (o : Option (Text × List Row)). option_map_or (λ p. p.1) o []) e in
           subst (λ (x : List Row). Fine x) same (fine-rows_after s.rules [] words bare.0 all)
-      go false behind e = behind e
+      go false after e = after e
 
   fine-entered : (a : App) (stop : Option (Text × List Text)) → HaveBare a.subs → FineStop stop → (shown : Text) (rows : List Row)
       → entered a stop ≡ Some (shown, rows) → Fine rows

@@ -88,13 +88,13 @@ impl<S: Service> Exchange<S> {
             self.rest = self.service.serve(alloc, self.sent.as_str())?;
             self.sent.clear();
         }
-        let behind = match self.rest.strip_prefix(text) {
+        let after = match self.rest.strip_prefix(text) {
             Some(rest) => rest.strip_prefix(line_end),
             None => None,
         };
-        match behind {
-            Some(behind) => {
-                self.rest = cases::text(alloc, behind)?;
+        match after {
+            Some(after) => {
+                self.rest = cases::text(alloc, after)?;
                 Ok(1)
             }
             None => Err(Wrong::Found(self.rest.clone()?)),

@@ -33,8 +33,8 @@ pub fn short(alloc: Global, answer: &str) -> Result<String, Wrong> {
         return text(alloc, answer);
     };
     let length = shown(alloc, &body.len())?;
-    let (_, behind) = parted(head, "\r\nContent-Length: ");
-    let is_told = parted(behind, "\r\n").0 == length.as_str();
+    let (_, after) = parted(head, "\r\nContent-Length: ");
+    let is_told = parted(after, "\r\n").0 == length.as_str();
     let (version, status) = first_word(head);
     if version != "HTTP/1.1" || !is_told {
         return text(alloc, answer);

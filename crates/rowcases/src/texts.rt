@@ -41,13 +41,13 @@ pub fn push_times(made: &mut TextBuilder, times: u64, piece: &str) {
 
 /// A text between quotes, in which `\0` is the character 0; with ` xN` after it, N times.
 pub fn quoted(alloc: Global, text: &str) -> Result<String, Wrong> {
-    let Some((front, behind)) = text.rsplit_once('\'') else {
+    let Some((front, after)) = text.rsplit_once('\'') else {
         return Err(Wrong::Told("a text stands between quotes"));
     };
     let Some(inner) = front.strip_prefix('\'') else {
         return Err(Wrong::Told("a text stands between quotes"));
     };
-    let times = number(behind.strip_prefix(" x").unwrap_or("1"))?;
+    let times = number(after.strip_prefix(" x").unwrap_or("1"))?;
     let Ok(inner) = inner.replace(alloc, "\\0", "\0") else {
         return Err(Wrong::Memory);
     };

@@ -86,7 +86,7 @@ fn stops_again(place: &mut Place, probe: &[Episode]) {
 pub fn script_stopped(
     alloc: Global,
     steps: &[Episode],
-    behind: &[Episode],
+    after: &[Episode],
     looks: &[String],
     stop: Stop<'_>,
 ) -> Result<u64, Wrong> {
@@ -94,7 +94,7 @@ pub fn script_stopped(
     place.stop_on(stop.call);
     let count = taken(&mut place, steps);
     crash_leaves(&mut place, looks, [count.saturating_sub(1), count], stop);
-    stops_again(&mut place, behind);
+    stops_again(&mut place, after);
     place.end(u64::from(count < steps.len()))
 }
 

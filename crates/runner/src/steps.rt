@@ -49,7 +49,7 @@ fn push_step(
 pub fn push_steps(
     alloc: Global,
     words: &[String],
-    behind: &[&str],
+    after: &[&str],
     is_group: bool,
     steps: &mut Vec<Episode>,
 ) -> Result<(), Wrong> {
@@ -57,7 +57,7 @@ pub fn push_steps(
     for word in words {
         push_step(alloc, &routes, word.as_str(), is_group, steps)?;
     }
-    for word in behind {
+    for word in after {
         push_step(alloc, &routes, word, is_group, steps)?;
     }
     Ok(())

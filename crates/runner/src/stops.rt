@@ -69,8 +69,8 @@ pub fn writes_stopped(
     let counts = match steps.first() {
         Some(group) if is_group => {
             let count = place.run(&group.requests);
-            let behind = count.saturating_add(GROUP_LIMIT);
-            [count, behind.min(group.requests.len())]
+            let after = count.saturating_add(GROUP_LIMIT);
+            [count, after.min(group.requests.len())]
         }
         _ => {
             let count = run_each(&mut place, writes, steps);

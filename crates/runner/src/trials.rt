@@ -129,8 +129,8 @@ impl<'a> Trial<'a> {
             length: stop.length,
         };
         stop_step(alloc, &mut self.steps, at, further, true)?;
-        let (script, behind) = self.steps.split_at(at);
-        script_stopped(alloc, script, behind, &self.looks, stop)
+        let (script, after) = self.steps.split_at(at);
+        script_stopped(alloc, script, after, &self.looks, stop)
     }
 
     // The same with each crash after a stop at a call.
