@@ -21,7 +21,7 @@ use Rattle.httpmsg.specs.Flow.{HasCause, TookSome, Writes}
 use Rattle.httpmsg.specs.Stream.{Message}
 use Rattle.api.specs.declared.fault.ServeFault.{ServeFault}
 use Rattle.api.specs.declared.fault.ServeFault.TheVariants.{Read, Write as WriteFault, Device, Memory, Damaged, Failed}
-use Rattle.replies.specs.ReplyBytes.{reply_bytes, closing_bytes}
+use Rattle.routes.specs.ReplyBytes.{reply_bytes, closing_bytes}
 use Rattle.objects.specs.Failing.{HasGrown}
 use Rattle.api.specs.Answers.{Answered, ShowsAt, AreRead, messages, writes_of, reply_of, all_writes, all_bytes, AllRefused, WhereSettled, HasApplied, Answers, WritesSome, MeetsFailure, Stops}
 

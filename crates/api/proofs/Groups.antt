@@ -27,8 +27,8 @@ use Rattle.routes.specs.Allow.{allow_of}
 use Rattle.routes.specs.Asked.{asked}
 use Rattle.api.specs.declared.fault.ServeFault.{ServeFault}
 use Rattle.api.specs.declared.fault.ServeFault.TheVariants.{Device, Damaged, Failed}
-use Rattle.replies.specs.ReplyBytes.{reply_bytes, closing_bytes}
-use Rattle.replies.specs.AnswerBytes.{answers_bytes, CanAnswerAll}
+use Rattle.routes.specs.ReplyBytes.{reply_bytes, closing_bytes}
+use Rattle.routes.specs.AnswerBytes.{answers_bytes, CanAnswerAll}
 use Rattle.objects.specs.Failing.{HasGrown}
 use Rattle.api.specs.Answers.{Answered, served, asked_of, messages, AreRead, all_writes, all_bytes, ShowsAt, HasApplied, Answers, WritesSome, MeetsFailure, Stops}
 use Rattle.api.proofs.Codes.{request_code}

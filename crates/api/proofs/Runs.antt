@@ -13,7 +13,7 @@ use Rattle.httpmsg.specs.Stream.{Message, Progress, IsCut}
 use Rattle.httpmsg.proofs.Cuts.{awaits_first, awaits_now}
 use Rattle.api.specs.declared.fault.ServeFault.{ServeFault}
 use Rattle.api.specs.declared.fault.ServeFault.TheVariants.{Read, Write, Device, Memory, Damaged, Failed}
-use Rattle.replies.specs.ReplyBytes.{closing_bytes, end_bytes}
+use Rattle.routes.specs.ReplyBytes.{closing_bytes, end_bytes}
 use Rattle.api.specs.Answers.{ShowsAt, messages, all_bytes, Answers, WritesSome, MeetsFailure}
 use Rattle.api.specs.Piece.{TellsMore, FailsAtMore, Breaks, StepsWrong, Finishes, FinishesInPart}
 use Rattle.api.specs.Serving.{Ends, IsClosing, HasEnded, HasReadSome, HasWrittenSome, HasFailed, HasLackedMemory, HasStopped, HasAllCauses, Exchanged}

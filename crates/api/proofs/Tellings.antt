@@ -18,7 +18,7 @@ use Rattle.api.specs.declared.fault.ServeFault.{ServeFault}
 use Rattle.api.specs.declared.fault.ServeFault.TheVariants.{Read, Write, Device, Memory, Damaged, Failed}
 use Rattle.api.specs.declared.piece.Told.{Told}
 use Rattle.api.specs.declared.piece.Told.TheVariants.{Messages, Nothing, Ends}
-use Rattle.replies.specs.ReplyBytes.{closing_bytes, end_bytes}
+use Rattle.routes.specs.ReplyBytes.{closing_bytes, end_bytes}
 use Rattle.api.specs.Answers.{ShowsAt, Answers, WritesSome, Stops}
 use Rattle.api.specs.Piece.{TellsMore, Tells, Breaks}
 use Rattle.api.proofs.Folds.{applied_none}

@@ -22,7 +22,7 @@ use Rattle.httpmsg.specs.Stream.{Message}
 use Rattle.routes.specs.Asked.{asked}
 use Rattle.api.specs.declared.fault.ServeFault.{ServeFault}
 use Rattle.api.specs.declared.fault.ServeFault.TheVariants as ServeFaults
-use Rattle.replies.specs.ReplyBytes.{reply_bytes, closing_bytes}
+use Rattle.routes.specs.ReplyBytes.{reply_bytes, closing_bytes}
 
 -- A message that is answered, what stands in the document that it asks to be stored, and whether it was served: it was not where memory
 -- was refused to it, or where the store had failed before.

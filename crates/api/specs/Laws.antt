@@ -7,7 +7,7 @@ use Rattle.apicore.specs.Step.{Asked, runs}
 use Rattle.history.specs.View.{view}
 use Rattle.objects.specs.declared.format.Rules.{Rules}
 use Rattle.httpmsg.specs.Stream.{Message}
-use Rattle.replies.specs.ReplyBytes.{reply_bytes}
+use Rattle.routes.specs.ReplyBytes.{reply_bytes}
 use Rattle.api.specs.Answers.{Answered, asked_of, all_writes, all_bytes}
 
 -- one asked more, if it was served

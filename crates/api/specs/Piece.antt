@@ -14,7 +14,7 @@ use Rattle.api.specs.declared.piece.Step.{Step}
 use Rattle.api.specs.declared.piece.Step.TheVariants.{Feed, Finish, End as EndStep}
 use Rattle.api.specs.declared.piece.Told.{Told}
 use Rattle.api.specs.declared.piece.Told.TheVariants.{Messages, Nothing, Ends}
-use Rattle.replies.specs.ReplyBytes.{closing_bytes, end_bytes}
+use Rattle.routes.specs.ReplyBytes.{closing_bytes, end_bytes}
 use Rattle.api.specs.Answers.{Answers, WritesSome, MeetsFailure}
 
 module _ {O D : Type 0} {g : Ghosts D} (rules : Rules) (took : O → O → List ℕ → Type 0) (failures : O → ℕ) (o p : O) (old new : Store D g) (v : View)

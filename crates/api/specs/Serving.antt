@@ -14,7 +14,7 @@ use Rattle.httpmsg.specs.declared.head.End.{End}
 use Rattle.httpmsg.specs.Stream.{Message, IsStream, Progress, IsCut}
 use Rattle.api.specs.declared.fault.ServeFault.{ServeFault}
 use Rattle.api.specs.declared.fault.ServeFault.TheVariants as ServeFaults
-use Rattle.replies.specs.ReplyBytes.{closing_bytes, end_bytes}
+use Rattle.routes.specs.ReplyBytes.{closing_bytes, end_bytes}
 use Rattle.objects.specs.Failing.{HasGrown}
 use Rattle.api.specs.Answers.{Answered, messages, AreRead, all_writes, all_bytes, AllRefused, WhereSettled, HasApplied}
 

@@ -1,7 +1,6 @@
 //! Messages, answered in groups: the writes of a group stand in one record of the store, and its replies go out together.
 
-ghost use Rattle.std.specs.Prelude.{◌≡◌, ◌<◌, ◌≤◌, ◌⊎◌, ◌++◌, [], ◌∷◌, List, length, map, take, option_map, true, false, IfOk, OnOk, IfErr, IsErrOf, MatchResult};
-ghost use Rattle.std.specs.Vec.{vec_len, vec_capacity};
+ghost use Rattle.std.specs.Prelude.{◌≡◌, ◌≤◌, ◌⊎◌, [], List, length, map, take, true, false, IfOk, OnOk, IfErr, IsErrOf, MatchResult};
 ghost use Rattle.requests.specs.RequestOf.{request_of};
 ghost use Rattle.objects.specs.declared.format.Rules.{Rules};
 ghost use Rattle.records.specs.Payload.{group_limit};
@@ -10,8 +9,6 @@ ghost use Rattle.history.specs.Reply.{Reply as ReplyData};
 ghost use Rattle.device.specs.Disk.{HasFailed};
 ghost use Rattle.durable.specs.declared.fault.Damage.{Damage};
 ghost use Rattle.durable.specs.Settled.{device_of, serves, ServesAt, HasServed, HasStopped};
-ghost use Rattle.routes.specs.Asked.{asked};
-ghost use Rattle.routes.specs.Allow.{allow_of};
 ghost use Rattle.api.specs.Answers.{ShowsAt, Answers, Stops, HasCauses};
 
 use crate::fault::ServeFault;
@@ -20,77 +17,9 @@ use durable::{Fault, Store};
 use history::Reply;
 use httpmsg::{Message, Output, Sheet};
 use records::GROUP_LIMIT;
-use replies::{write_answers, write_storage_failed};
 use requests::Request;
-use routes::{Routed, Routes, route};
+use routes::{Routes, route_front, write_answers, write_storage_failed};
 use std::alloc::{AllocError, Global};
-
-// Messages that are routed.
-#[derive(Drop)]
-struct Front {
-    // What they ask.
-    requests: Vec<Request>,
-    // The methods that the path of each allows, where its own is none of them.
-    allows: Vec<Option<&'static str>>,
-}
-
-impl Front {
-    // No message. It takes no memory.
-    fn new(alloc: Global) -> Front
-        ensures requests { result.requests.items ≡ [] }
-        ensures allows { result.allows.items ≡ [] }
-    {
-        Front {
-            requests: Vec::new(alloc),
-            allows: Vec::new(alloc),
-        }
-    }
-
-    // No message, with room for so many.
-    fn with_capacity(alloc: Global, count: usize) -> Result<Front, AllocError>
-        ensures requests { IfOk result (λ front. front.requests.items ≡ []) }
-        ensures allows { IfOk result (λ front. front.allows.items ≡ []) }
-        ensures room { IfOk result (λ front. (count ≤ vec_capacity front.requests) × (count ≤ vec_capacity front.allows)) }
-    {
-        Ok(Front {
-            requests: Vec::with_capacity(alloc, count)?,
-            allows: Vec::with_capacity(alloc, count)?,
-        })
-    }
-
-    // One message more.
-    fn push(&mut self, routed: Routed)
-        requires requests_room { vec_len self.old.requests < vec_capacity self.old.requests }
-        requires allows_room { vec_len self.old.allows < vec_capacity self.old.allows }
-        ensures requests { self.new.requests.items ≡ self.old.requests.items ++ routed.request ∷ [] }
-        ensures allows { self.new.allows.items ≡ self.old.allows.items ++ routed.allow ∷ [] }
-        ensures requests_capacity { vec_capacity self.new.requests ≡ vec_capacity self.old.requests }
-        ensures allows_capacity { vec_capacity self.new.allows ≡ vec_capacity self.old.allows }
-    {
-        let Routed { request, allow } = routed;
-        self.requests.push_reserved(request);
-        self.allows.push_reserved(allow);
-    }
-}
-
-// Routes messages from the first on, up to the first to which memory is refused.
-fn route_front(alloc: Global, routes: &Routes, messages: &[Message]) -> Front
-    ensures few { length result.requests.items ≤ length messages.now }
-    ensures requests { map request_of result.requests.items ≡ map asked (take (length result.requests.items) messages.now) }
-    ensures allows { map (option_map (λ methods. methods.now)) result.allows.items ≡ map allow_of (take (length result.requests.items) messages.now) }
-{
-    let mut front = match Front::with_capacity(alloc, messages.len()) {
-        Ok(front) => front,
-        Err(AllocError) => return Front::new(alloc),
-    };
-    for message in messages {
-        match route(alloc, routes, message) {
-            Ok(routed) => front.push(routed),
-            Err(AllocError) => return front,
-        }
-    }
-    front
-}
 
 // What the store replies to requests, up to the one to which memory was refused.
 fn replies_to<D: Device>(

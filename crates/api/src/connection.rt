@@ -14,7 +14,7 @@ use crate::piece::{Connection, Step, next_step};
 use device::Device;
 use durable::Store;
 use httpmsg::{End, Input, Output};
-use replies::write_no_more;
+use routes::write_no_more;
 use std::alloc::{AllocError, Global};
 
 /// How many bytes are read at once, at most.

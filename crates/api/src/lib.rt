@@ -20,4 +20,4 @@ mod piece;
 pub use connection::serve;
 pub use fault::ServeFault;
 pub use laws::answers_are_runs;
-pub use replies::fault_body;
+pub use routes::fault_body;

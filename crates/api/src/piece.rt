@@ -11,7 +11,7 @@ ghost use Rattle.httpmsg.specs.Stream.{Message as MessageData, IsCut};
 ghost use Rattle.httpmsg.specs.declared.head.End.{End as EndData};
 ghost use Rattle.objects.specs.Failing.{HasGrown};
 ghost use Rattle.api.specs.Answers.{ShowsAt, HasCauses};
-ghost use Rattle.replies.specs.ReplyBytes.{closing_bytes, end_bytes};
+ghost use Rattle.routes.specs.ReplyBytes.{closing_bytes, end_bytes};
 ghost use Rattle.api.specs.Serving.{HasAllCauses};
 ghost use Rattle.api.specs.Piece.{Tells, Breaks, Steps, StepsWrong, Finishes, FinishesInPart};
 
@@ -21,8 +21,7 @@ use cutter::{CutFault, Cutter};
 use device::Device;
 use durable::Store;
 use httpmsg::{End, Input, Message, Output, Sheet};
-use replies::{write_fault, write_no_more};
-use routes::Routes;
+use routes::{Routes, write_fault, write_no_more};
 use std::alloc::{AllocError, Global};
 
 /// What a piece of the input told.

@@ -7,3 +7,11 @@ pub mod WellFormed
 pub mod Converse
 pub mod Running
 pub mod Passing
+pub mod Failing
+pub mod Heights
+pub mod Standing
+pub mod Between
+pub mod Leaving
+pub mod OverTables
+pub mod Low
+pub mod Walking

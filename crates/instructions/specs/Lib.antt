@@ -4,3 +4,5 @@ pub mod Bytes
 pub mod Faults
 pub mod Judging
 pub mod WellFormed
+pub mod Bodies
+pub mod Macros

@@ -5,14 +5,18 @@
 //! names it. `specs/Op.antt` has the instructions as pure data, which the contracts of the crates above speak of.
 //!
 //! `specs/Bytes.antt` has the bytes of each instruction, `specs/WellFormed.antt` which plans are well formed, and
-//! `specs/Judging.antt` the first fault of a plan that is not.
+//! `specs/Judging.antt` the first fault of a plan that is not, which [`check`] finds in two passes over the instructions.
 #![tactic(auto)]
 
+mod bodies;
 mod copying;
 mod fault;
 mod instruction;
+mod judging;
 mod laws;
+mod macros;
 
 pub use fault::CodeFault;
 pub use instruction::{Binary, Function, Instruction, Name, Plan, Slot};
+pub use judging::check;
 pub use laws::sound_where_well_formed;

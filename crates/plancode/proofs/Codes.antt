@@ -19,7 +19,7 @@ use Rattle.instructions.proofs.WellFormed.{sound_is_well_formed}
 use Rattle.instructions.proofs.Passing.{well_formed_is_sound}
 use Rattle.plancode.specs.Reading.{number_at, op_at, ops_at, nothing_after, plan_of, decoded}
 use Rattle.plancode.specs.Plans.{NamesUpTo, UsesNamesUpTo, Judged}
-use Rattle.plancode.proofs.Low.{bind_ok}
+use Rattle.instructions.proofs.Low.{bind_ok}
 use Rattle.plancode.proofs.Fields.{IsBytes, test_ok, ok_is, Takes, Takes-then, wide16, number_takes, short_again}
 use Rattle.plancode.proofs.Spelling.{Room, op_takes}
 use Rattle.plancode.proofs.Again.{op_again}

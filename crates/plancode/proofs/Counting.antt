@@ -6,7 +6,7 @@ use Rattle.instructions.specs.declared.instruction.Name.{Name}
 use Rattle.instructions.specs.Op.{Op}
 use Rattle.instructions.specs.Faults.{◌>>=◌, Fails}
 use Rattle.plancode.specs.Reading.{op_at, ops_at}
-use Rattle.plancode.proofs.Failing.{fails}
+use Rattle.instructions.proofs.Failing.{fails}
 
 -- what was read before, and what is still read
 abbrev pub with_front : List Op → Result (List Op × List ℕ) CodeFault → Result (List Op × List ℕ) CodeFault

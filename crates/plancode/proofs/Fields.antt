@@ -11,7 +11,7 @@ use Rattle.instructions.specs.declared.fault.CodeFault.TheVariants as fault
 use Rattle.instructions.specs.Faults.{◌>>=◌}
 use Rattle.instructions.specs.Bytes.{short, long, text_bytes}
 use Rattle.plancode.specs.Reading.{number_at, text_at, text_of, text_of_length}
-use Rattle.plancode.proofs.Low.{bind_ok}
+use Rattle.instructions.proofs.Low.{bind_ok}
 
 abbrev pub IsBytes : List ℕ → Type 0
 IsBytes bytes = (i : ℕ) → get_or bytes i 0 < 256

@@ -1,13 +1,5 @@
 pub mod Texts
-pub mod Failing
 pub mod Counting
-pub mod Heights
-pub mod Standing
-pub mod Between
-pub mod Leaving
-pub mod Running
-pub mod Low
-pub mod Walking
 pub mod Fields
 pub mod Tables
 pub mod Spelling

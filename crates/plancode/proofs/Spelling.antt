@@ -12,7 +12,7 @@ use Rattle.instructions.specs.Bytes.{short, long, text_bytes, spelled, Fits, tru
 use Rattle.instructions.specs.declared.instruction.Name.{Name}
 use Rattle.plancode.specs.Plans.{NamesUpTo}
 use Rattle.plancode.specs.Reading.{number_at, text_at, truth_of, name_up_to, slot_of, prefix_of, binary_of, function_of, macro_of, with_byte, with_short, with_long, with_text, branch_at, macro_at, leading_at, taking_at, operands_at, op_at}
-use Rattle.plancode.proofs.Low.{bind_ok}
+use Rattle.instructions.proofs.Low.{bind_ok}
 use Rattle.plancode.proofs.Fields.{IsBytes, IsBytes-rest, ok_is, Takes, Takes-then, wide16, wide64, number_takes, text_takes}
 use Rattle.plancode.proofs.Tables.{truth_takes, name_up_to_takes, slot_takes, prefix_takes, binary_takes, function_takes, macro_takes}
 

@@ -1,4 +1,4 @@
-//! The bytes of plans: [`encode`] writes a plan, and [`decode`] reads one and judges it.
+//! The bytes of plans: [`encode`] writes a plan, and [`decode`] reads one and has it judged.
 //!
 //! A plan has one spelling: the number of its instructions in two bytes, and each instruction by its number and its operands, with
 //! numbers big-endian (`specs/Bytes.antt` of `instructions`). [`decode`] gives a [`Verified`] plan exactly where the bytes spell a
@@ -6,10 +6,7 @@
 //! of the stack, and each body of a macro ends with one outcome, so a machine can run it without looking.
 #![tactic(auto)]
 
-mod bodies;
-mod judging;
 mod laws;
-mod macros;
 mod numbers;
 mod operands;
 mod reading;

@@ -9,9 +9,8 @@ ghost use Rattle.plancode.specs.Plans.{IsVerified, UsesNamesUpTo};
 ghost use Rattle.instructions.specs.WellFormed.{IsWellFormed};
 ghost use Rattle.plancode.specs.Reading.{decoded};
 
-use crate::judging::check;
 use crate::reading::plan;
-use instructions::{CodeFault, Instruction, Name, Plan};
+use instructions::{CodeFault, Instruction, Name, Plan, check};
 use std::alloc::{AllocError, Global};
 use std::marker::Model;
 

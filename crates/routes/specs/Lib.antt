@@ -5,3 +5,5 @@ pub mod Query
 pub mod QuestionOf
 pub mod Asked
 pub mod Allow
+pub mod ReplyBytes
+pub mod AnswerBytes

@@ -29,8 +29,9 @@ use cases::{Report, Told, Wrong, paths, run_text};
 use celcases::{laws_of_expressions, run_expressions};
 use diskcases::{check_files, run_disk};
 use opening::one_view;
-use recordcases::{laws_of_histories, laws_of_records, run_records};
-use rowcases::{Exchange, laws_of_requests, run_rows};
+use rowcases::{
+    Exchange, laws_of_histories, laws_of_records, laws_of_requests, run_records, run_rows,
+};
 use std::alloc::Global;
 use std::process::ExitCode;
 use std::rt::{Env, Files};

@@ -9,8 +9,8 @@ use Rattle.durable.specs.Settled.{ServesAt, HasServed}
 use Rattle.httpmsg.specs.Flow.{TookSome}
 use Rattle.httpmsg.specs.Stream.{Message}
 use Rattle.routes.specs.Asked.{asked}
-use Rattle.replies.specs.ReplyBytes.{closing_bytes}
-use Rattle.replies.specs.AnswerBytes.{answers_bytes, CanAnswerAll}
+use Rattle.routes.specs.ReplyBytes.{closing_bytes}
+use Rattle.routes.specs.AnswerBytes.{answers_bytes, CanAnswerAll}
 use Rattle.api.proofs.Folds.{took_some_of, took_whole}
 use Rattle.api.proofs.Groups.{front_can_answer, front_answers, front_writes_some, front_stops}
 use Rattle.api.proofs.answer.answer_front.Given.{Over}

@@ -8,7 +8,7 @@ use Rattle.history.specs.Reply.{status}
 use Rattle.history.specs.View.{view, after_all}
 use Rattle.objects.specs.declared.format.Rules.{Rules}
 use Rattle.httpmsg.specs.Stream.{Message}
-use Rattle.replies.specs.ReplyBytes.{reply_bytes}
+use Rattle.routes.specs.ReplyBytes.{reply_bytes}
 use Rattle.api.specs.Answers.{Answered, asked_of, all_writes, all_bytes}
 use Rattle.api.specs.Laws.{all_asked, replies_bytes}
 use Rattle.api.proofs.laws.answers_are_runs.Goals as goal

@@ -1,2 +1,0 @@
-pub mod ReplyBytes
-pub mod AnswerBytes
