@@ -1,5 +1,5 @@
 -- This moment is one of those since an earlier one, and since it there is no other.
-use Rattle.std.proofs.Common.{arith, ◌≤◌, ◌^◌, ℕ, ◌⊎◌, inl, inr, List, [], ◌∷◌, length}
+use Rattle.std.proofs.Common.{ℕ, ◌⊎◌, inl, inr, List, [], ◌∷◌, length}
 use Rattle.diskmodels.specs.declared.recorded.Recorded.{Recorded}
 use Rattle.diskmodels.specs.Moments.{Moment, present, past, IsLeft, WasLeft}
 
@@ -13,6 +13,3 @@ now_counts d t c left = inl left
 pub now_only : (d : Recorded) (c : List ℕ) → IsLeft (present d) c ⊎ WasLeft (past d) (length (past d)) c → IsLeft (present d) c
 now_only d c (inl left) = left
 now_only d c (inr was) = absurd (none_later (past d) c was)
-
-pub at_most : (bytes : List ℕ) → length bytes ≤ 2 ^ 62 → length bytes ≤ 2 ^ 63
-at_most bytes le = omega (arith, le)

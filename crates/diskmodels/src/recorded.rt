@@ -87,7 +87,8 @@ impl Recorded {
 
 impl Device for Recorded {
     ghost use Rattle.diskmodels.specs.Moments.{present, recorded_disk};
-    ghost use Rattle.diskmodels.specs.PastLaws.{at_most, now_counts, now_only};
+    ghost use Rattle.diskmodels.specs.ChangeLaws.{at_most};
+    ghost use Rattle.diskmodels.specs.PastLaws.{now_counts, now_only};
 
     ghost disk = { recorded_disk };
 

@@ -1,7 +1,7 @@
 //! What a selector asks.
 
 /// What one part of a selector asks of the labels of an object. The first text is the key of a label.
-#[derive(Debug, Drop)]
+#[derive(Drop)]
 pub enum Requirement {
     /// The label is there, and has one of the values.
     IsOneOf(String, Vec<String>),

@@ -1,18 +1,13 @@
 -- What looks leave, one after another.
-use Rattle.std.proofs.Common.{◌≡◌, ◌∙◌, sym, ◌≤◌, ℕ, List, Result, Ok, Err, OnErr, inl, inr, arith}
+use Rattle.std.proofs.Common.{◌≡◌, ◌∙◌, sym, ◌≤◌, ℕ, Result, Ok, Err, OnErr, inl, inr, arith}
 use Rattle.std.specs.Prelude.{IsErrOf}
-use Rattle.names.specs.Key.{Key}
 use Rattle.objects.specs.Failing.{HasGrown}
 use Rattle.objects.specs.declared.fault.LookupFault.{LookupFault}
 use Rattle.objects.specs.declared.fault.LookupFault.TheVariants.{Device, Damaged, Memory}
-use Rattle.history.specs.declared.stored.Stored.{Stored}
 use Rattle.holdings.specs.Holdings.{State}
 use Rattle.recovery.specs.Beside.{Beside}
 use Rattle.recovery.proofs.Over.{over_kept}
-use Rattle.findings.specs.Looked.{HasLooked}
-
-abbrev Base : Type 0
-Base = List (Key × Stored Beside)
+use Rattle.findings.specs.Looked.{Base, HasLooked}
 
 grown_after : (a b c : ℕ) → a ≤ b → HasGrown b c → HasGrown a c
 grown_after a b c before (inl grown) = inl (omega (arith, before, grown))

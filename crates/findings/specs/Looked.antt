@@ -12,7 +12,7 @@ use Rattle.recovery.specs.Beside.{Beside}
 use Rattle.recovery.specs.Shown.{IsOver}
 use Rattle.recovery.specs.Standing.{View}
 
-abbrev Base : Type 0
+abbrev pub Base : Type 0
 Base = List (Key × Stored Beside)
 
 -- What is seen of the core stays.

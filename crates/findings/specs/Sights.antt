@@ -10,15 +10,13 @@ use Rattle.lookup.specs.Objects.{Held, Objects, all_held}
 use Rattle.recovery.specs.Beside.{Beside, found_with}
 use Rattle.recovery.specs.Shown.{HasNoRules}
 use Rattle.findings.specs.declared.sight.Sight.{Sight}
+use Rattle.findings.specs.Looked.{Base}
 
 abbrev pub held_of : Stored Beside → Held
 held_of s = found_with s.document s.beside s.revision
 
 abbrev pub entry_held : Key × Stored Beside → Key × Held
 entry_held o = (o.0, held_of o.1)
-
-abbrev Base : Type 0
-Base = List (Key × Stored Beside)
 
 -- Over what the source holds, the core has these objects, with the plans of their trees, and their keys ascend.
 pub record Sees {S : Type 0} (holds : S → List (Key × Stored Beside) → Type 0) (s : Sight S) (objects : Objects) : Type 0 where

@@ -84,13 +84,6 @@ impl<P: Drop> Put<P> {
         self.entry.value()
     }
 
-    /// The document that is to be stored.
-    pub fn document(&self) -> &Document
-        ensures { Some result.now ≡ option_map (λ s. s.document) self.now.stored }
-    {
-        &self.document
-    }
-
     /// What is to stand beside it.
     pub fn beside(&self) -> &P
         ensures { Some result.now ≡ option_map (λ s. s.beside) self.now.stored }

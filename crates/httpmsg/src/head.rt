@@ -77,7 +77,7 @@ pub enum End {
 
 impl Method {
     /// The method of this name; the case counts.
-    pub fn named(name: &[u8]) -> Method
+    pub(crate) fn named(name: &[u8]) -> Method
         ensures { result ≡ method_of name.now }
     {
         if name == b"GET".as_slice() {

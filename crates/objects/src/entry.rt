@@ -43,7 +43,7 @@ impl<T> Entry<T> {
     }
 
     /// The value, without its key. Takes no memory.
-    pub fn into_value(self) -> T
+    pub(crate) fn into_value(self) -> T
         ensures { result ≡ self.1 }
     {
         let (_key, value) = Box::into_inner(self.pair);

@@ -16,7 +16,7 @@ use serde_json::Value as Json;
 use std::alloc::{AllocError, Global};
 
 /// What becomes of a write that a policy denies.
-#[derive(Clone, Copy, Debug)]
+#[derive(Clone, Copy)]
 pub enum Action {
     /// It is refused.
     Deny,
@@ -26,7 +26,7 @@ pub enum Action {
 
 /// A binding of a policy: where the policy is in force, and with which parameters (Kubernetes,
 /// `ValidatingAdmissionPolicyBindingSpec`).
-#[derive(Debug, Drop)]
+#[derive(Drop)]
 pub struct Binding {
     /// The name of the policy.
     pub policy: String,

@@ -12,7 +12,7 @@ use serde_json::{Map, Value as Json};
 use std::alloc::{AllocError, AllocFailed, Global};
 
 /// Why nothing was read.
-#[derive(Clone, Copy, Debug)]
+#[derive(Clone, Copy)]
 pub enum FormFault {
     /// The document has not the form.
     BadForm,

@@ -3,7 +3,7 @@
 use documents::Requirement;
 
 /// What a write does to its object.
-#[derive(Clone, Copy, Debug, PartialEq, Eq)]
+#[derive(Clone, Copy, PartialEq, Eq)]
 pub enum Operation {
     Create,
     Update,
@@ -11,7 +11,7 @@ pub enum Operation {
 }
 
 /// The operations that an entry of a rule stands for.
-#[derive(Clone, Copy, Debug)]
+#[derive(Clone, Copy)]
 pub enum OperationEntry {
     /// Every operation, written `*`.
     Any,
@@ -20,7 +20,7 @@ pub enum OperationEntry {
 }
 
 /// The texts that an entry of a rule stands for.
-#[derive(Debug, Drop)]
+#[derive(Drop)]
 pub enum Entry {
     /// Every text, written `*`.
     Any,
@@ -29,7 +29,7 @@ pub enum Entry {
 }
 
 /// The resources that a rule is for.
-#[derive(Clone, Copy, Debug)]
+#[derive(Clone, Copy)]
 pub enum RuleScope {
     /// Those whose objects stand in no namespace.
     Cluster,
@@ -40,7 +40,7 @@ pub enum RuleScope {
 }
 
 /// A rule on writes: each part of it must be met.
-#[derive(Debug, Drop)]
+#[derive(Drop)]
 pub struct Rule {
     /// What the write does is one of these.
     pub operations: Vec<OperationEntry>,
@@ -58,7 +58,7 @@ pub struct Rule {
 
 /// The writes that a policy, or a binding, is for. A policy without rules is for none, a binding without rules for all that the
 /// other members leave.
-#[derive(Debug, Drop)]
+#[derive(Drop)]
 pub struct MatchRules {
     /// One of these rules is met.
     pub rules: Vec<Rule>,

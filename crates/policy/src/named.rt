@@ -14,7 +14,7 @@ use serde_json::Value as Json;
 use std::alloc::Global;
 
 /// A match condition or a variable.
-#[derive(Debug, Drop)]
+#[derive(Drop)]
 pub struct Named {
     pub name: String,
     /// A text of the Common Expression Language.

@@ -13,14 +13,14 @@ use serde_json::Value as Json;
 use std::alloc::Global;
 
 /// What becomes of a write where no parameter is found.
-#[derive(Clone, Copy, Debug)]
+#[derive(Clone, Copy)]
 pub enum NotFound {
     Allow,
     Deny,
 }
 
 /// Which objects of the policy's kind are parameters.
-#[derive(Debug, Drop)]
+#[derive(Drop)]
 pub enum Wanted {
     /// The one with this name.
     ByName(String),
@@ -29,7 +29,7 @@ pub enum Wanted {
 }
 
 /// The parameters that a binding asks for.
-#[derive(Debug, Drop)]
+#[derive(Drop)]
 pub struct ParamRef {
     /// Which objects they are.
     pub wanted: Wanted,

@@ -18,7 +18,7 @@ use serde_json::Value as Json;
 use std::alloc::{AllocError, Global};
 
 /// What becomes of a write where a policy cannot be evaluated.
-#[derive(Clone, Copy, Debug)]
+#[derive(Clone, Copy)]
 pub enum FailurePolicy {
     /// It is denied.
     Fail,
@@ -27,7 +27,7 @@ pub enum FailurePolicy {
 }
 
 /// What a policy asks of writes (Kubernetes, `ValidatingAdmissionPolicySpec`).
-#[derive(Debug, Drop)]
+#[derive(Drop)]
 pub struct Policy {
     /// What becomes of a write where the policy cannot be evaluated.
     pub failure_policy: FailurePolicy,

@@ -14,7 +14,7 @@ use serde_json::{Map, Value as Json};
 use std::alloc::Global;
 
 /// What a part of a selector asks of the value of a label (Kubernetes, `LabelSelectorOperator`).
-#[derive(Clone, Copy, Debug)]
+#[derive(Clone, Copy)]
 pub enum Operator {
     In,
     NotIn,

@@ -5,7 +5,7 @@ use serde_json::Value as Json;
 use std::alloc::Global;
 
 /// The reason of a refusal, which decides its status code.
-#[derive(Clone, Copy, Debug)]
+#[derive(Clone, Copy)]
 pub enum Reason {
     Unauthorized,
     Forbidden,
@@ -14,7 +14,7 @@ pub enum Reason {
 }
 
 /// What must hold of a write, and what is said where it does not.
-#[derive(Debug, Drop)]
+#[derive(Drop)]
 pub struct Validation {
     /// What must hold: a text of the Common Expression Language.
     pub expression: String,

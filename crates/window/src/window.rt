@@ -7,29 +7,16 @@ use circular_buffer::{HeapCircularBuffer, Iter};
 use names::Key;
 use objects::Rules;
 use std::alloc::{AllocError, Global};
-use std::error::Error;
-use std::fmt;
 use std::marker::Model;
 
 /// Why the events above a revision cannot be told.
-#[derive(Clone, Copy, Debug)]
+#[derive(Clone, Copy)]
 pub enum WindowFault {
     /// Some of them may have left the window.
     TooOld,
     /// There is no such revision yet.
     TooNew,
 }
-
-impl fmt::Display for WindowFault {
-    fn fmt<W: fmt::Write>(&self, f: &mut fmt::Formatter<W>) -> fmt::Result {
-        f.write_str(match self {
-            WindowFault::TooOld => "the revision has left the window",
-            WindowFault::TooNew => "the revision is above the current one",
-        })
-    }
-}
-
-impl Error for WindowFault {}
 
 /// The last events of a store, and its revision.
 #[derive(Drop)]
