@@ -1,7 +1,7 @@
 //! The command line.
 
-ghost use Rattle.std.specs.Prelude.{◌≡◌, false, [], map, Contains, IfOk, IfSome};
-ghost use Rattle.clap.specs.Words.{app_of, found_of, rows_of, rule_of};
+ghost use Rattle.std.specs.Prelude.{◌≡◌, false, List, [], map, Some, Contains, IfOk, IfSome};
+ghost use Rattle.clap.specs.Words.{Row, Text, app_of, found_of, rows_of, rule_of, subcommand_rows_of, with_subcommand};
 ghost use Rattle.clap.specs.declared.builder.command.Command.TheViews.{out-Command};
 ghost use Rattle.gated.specs.CommandLine.{AskFor, IsAsked, file_of, gated_line, option_rule, over_file, serve_shape};
 
@@ -106,39 +106,64 @@ fn serve_line<'a>(alloc: Global) -> Result<Command<'a>, AllocError>
     )
 }
 
+// The command, with a subcommand more that takes a file.
+fn with_over_file<'a>(
+    alloc: Global,
+    command: Command<'a>,
+    name: &'a str,
+    about: &'a str,
+    example: &'a str,
+) -> Result<Command<'a>, AllocError>
+    ensures { IfOk result (λ c. app_of c ≡ with_subcommand (app_of command.entry) (over_file name.entry.now)) }
+{
+    let subcommand = over_file(alloc, name, about, example)?;
+    command.subcommand(subcommand)
+}
+
+// The command, with `serve` as a subcommand more.
+fn with_serve<'a>(alloc: Global, command: Command<'a>) -> Result<Command<'a>, AllocError>
+    ensures { IfOk result (λ c. app_of c ≡ with_subcommand (app_of command.entry) serve_shape) }
+{
+    let subcommand = serve_line(alloc)?;
+    command.subcommand(subcommand)
+}
+
 // The line that the program understands.
 fn line<'a>(alloc: Global) -> Result<Command<'a>, AllocError>
     ensures { IfOk result (λ c. app_of c ≡ gated_line) }
 {
-    Command::new(alloc, "gated")
+    let alone = Command::new(alloc, "gated")
         .about("A small Kubernetes-style API server over one crash-safe file")
-        .version("0.15.0")
-        .subcommand_required(true)
-        .subcommand(over_file(
-            alloc,
-            "create",
-            "Makes a store in a new file",
-            "Example: gated create store.db",
-        )?)?
-        .subcommand(over_file(
-            alloc,
-            "replay",
-            "Answers the HTTP requests on standard input",
-            "Example: gated replay store.db < requests.http",
-        )?)?
-        .subcommand(serve_line(alloc)?)?
-        .subcommand(over_file(
-            alloc,
-            "compact",
-            "Writes what the store holds anew, without the writes that led there",
-            "Example: gated compact store.db",
-        )?)?
-        .subcommand(over_file(
-            alloc,
-            "check",
-            "Reads the store and tells whether it is whole",
-            "Example: gated check store.db",
-        )?)
+        .version("0.16.0")
+        .subcommand_required(true);
+    let with_create = with_over_file(
+        alloc,
+        alone,
+        "create",
+        "Makes a store in a new file",
+        "Example: gated create store.db",
+    )?;
+    let with_replay = with_over_file(
+        alloc,
+        with_create,
+        "replay",
+        "Answers the HTTP requests on standard input",
+        "Example: gated replay store.db < requests.http",
+    )?;
+    let with_compact = with_over_file(
+        alloc,
+        with_serve(alloc, with_replay)?,
+        "compact",
+        "Writes what the store holds anew, without the writes that led there",
+        "Example: gated compact store.db",
+    )?;
+    with_over_file(
+        alloc,
+        with_compact,
+        "check",
+        "Reads the store and tells whether it is whole",
+        "Example: gated check store.db",
+    )
 }
 
 // The verb of a subcommand.
@@ -161,6 +186,14 @@ fn verb_of<'a>(name: &str, matches: &ArgMatches<'a>) -> Option<Verb<'a>>
     }
 }
 
+// The verb of what was matched, if a subcommand was.
+fn verb_among<'a>(matches: &ArgMatches<'a>) -> Option<Verb<'a>>
+    ensures { IfSome result (λ verb. (name : Text) × (rows : List Row) × (subcommand_rows_of matches.now ≡ Some (name, rows)) × IsAsked name rows verb) }
+{
+    let (name, inner) = matches.subcommand()?;
+    verb_of(name, inner)
+}
+
 /// What the words of a command line ask for, of which the first is the program's name.
 ///
 /// # Errors
@@ -172,11 +205,10 @@ pub fn command<'a, S: AsStr>(alloc: Global, words: &'a [S]) -> Result<Verb<'a>, 
 {
     let mut line = line(alloc)?;
     let matches = line.try_get_matches_from_mut(words)?;
-    match matches.subcommand() {
-        Some((name, inner)) => match verb_of(name, inner) {
-            Some(verb) => Ok(verb),
-            None => Err(line.error(ErrorKind::MissingSubcommand, "no such command")?),
-        },
+    let verb = verb_among(&matches);
+    drop(matches);
+    match verb {
+        Some(verb) => Ok(verb),
         None => Err(line.error(ErrorKind::MissingSubcommand, "no command")?),
     }
 }

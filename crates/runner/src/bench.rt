@@ -88,8 +88,8 @@ impl Stand {
         applied(alloc, &mut self.place, &self.steps)
     }
 
-    // Answers a line on the store, or on its device. The opening before the first step is that of the case.
-    fn answer_of_place(&mut self, alloc: Global, word: &str, rest: &str) -> Result<String, Wrong> {
+    // Keeps the steps that a line on the store is. The opening before the first step is that of the case.
+    fn keep_steps(&mut self, alloc: Global, word: &str) {
         let mut is_kept = true;
         if word == "compact" || word == "again" {
             is_kept = keep(alloc, &mut self.steps, "compact");
@@ -98,18 +98,26 @@ impl Stand {
             is_kept = is_kept && keep(alloc, &mut self.steps, "open");
         }
         self.place.note(is_kept, "out of memory");
+    }
+
+    // `LENGTH PICK ..`: a crash, and what becomes of the sectors that may change.
+    fn crash(&mut self, alloc: Global, rest: &str) -> Result<String, Wrong> {
+        let mut picks = Vec::new(alloc);
+        let length = crash_words(rest, &mut picks)?;
+        self.place.crash(&picks, length);
+        text(alloc, "ok")
+    }
+
+    // Answers a line on the store, or on its device.
+    fn answer_of_place(&mut self, alloc: Global, word: &str, rest: &str) -> Result<String, Wrong> {
+        self.keep_steps(alloc, word);
         match word {
             "open" => self.place.open(),
             "settled" => self.place.settled(),
             "compact" => self.place.compact(),
             "again" => self.place.again(),
             "check" => self.place.check(),
-            "crash" => {
-                let mut picks = Vec::new(alloc);
-                let length = crash_words(rest, &mut picks)?;
-                self.place.crash(&picks, length);
-                return text(alloc, "ok");
-            }
+            "crash" => return self.crash(alloc, rest),
             _ => {
                 return match self.place.device() {
                     Some(device) => of_the_device(alloc, device, word, rest),

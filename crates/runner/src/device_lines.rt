@@ -91,22 +91,36 @@ fn calls(alloc: Global, device: &MemDevice) -> Result<String, Wrong> {
     line.end()
 }
 
+// `SECTOR BYTE`: fills a sector.
+fn put_line(alloc: Global, device: &mut MemDevice, rest: &str) -> Result<String, Wrong> {
+    let mut words = WordReader::new(rest);
+    let at = words.number();
+    words.end()?;
+    let byte = byte(words.rest())?;
+    ended(alloc, put(device, at, &[byte; 512]))
+}
+
+// `SECTOR PLACE BYTES`: overwrites bytes of a sector.
+fn change_line(alloc: Global, device: &mut MemDevice, rest: &str) -> Result<String, Wrong> {
+    let mut words = WordReader::new(rest);
+    let (at, from) = (words.number(), words.number());
+    words.end()?;
+    let with = bytes(alloc, words.rest())?;
+    ended(alloc, change(device, at, from as usize, &with))
+}
+
+// `BYTE`: fills the nine sectors of a new store.
+fn noise(alloc: Global, device: &mut MemDevice, rest: &str) -> Result<String, Wrong> {
+    let byte = byte(rest)?;
+    ended(alloc, device.write(0, &[byte; 4608]))
+}
+
 // Writes to the device, where what is to be overwritten is there.
 fn write(alloc: Global, device: &mut MemDevice, word: &str, rest: &str) -> Result<String, Wrong> {
-    let mut words = WordReader::new(rest);
     match word {
-        "put" => {
-            let at = words.number();
-            words.end()?;
-            ended(alloc, put(device, at, &[byte(words.rest())?; 512]))
-        }
-        "change" => {
-            let (at, from) = (words.number(), words.number());
-            words.end()?;
-            let with = bytes(alloc, words.rest())?;
-            ended(alloc, change(device, at, from as usize, &with))
-        }
-        "noise" => ended(alloc, device.write(0, &[byte(rest)?; 4608])),
+        "put" => put_line(alloc, device, rest),
+        "change" => change_line(alloc, device, rest),
+        "noise" => noise(alloc, device, rest),
         "append" => ended(alloc, append(alloc, device, &bytes(alloc, rest)?)),
         _ => Err(Wrong::Told("no such line")),
     }

@@ -45,6 +45,24 @@ fn push_step(
     Ok(())
 }
 
+// Adds a step for each of these words.
+fn push_each(
+    alloc: Global,
+    routes: &Routes,
+    words: &[String],
+    after: &[&str],
+    is_group: bool,
+    steps: &mut Vec<Episode>,
+) -> Result<(), Wrong> {
+    for word in words {
+        push_step(alloc, routes, word.as_str(), is_group, steps)?;
+    }
+    for word in after {
+        push_step(alloc, routes, word, is_group, steps)?;
+    }
+    Ok(())
+}
+
 /// Adds the steps of a case, and these after them, each an episode, or all in one.
 pub fn push_steps(
     alloc: Global,
@@ -54,13 +72,9 @@ pub fn push_steps(
     steps: &mut Vec<Episode>,
 ) -> Result<(), Wrong> {
     let routes = Routes::new(alloc)?;
-    for word in words {
-        push_step(alloc, &routes, word.as_str(), is_group, steps)?;
-    }
-    for word in after {
-        push_step(alloc, &routes, word, is_group, steps)?;
-    }
-    Ok(())
+    let pushed = push_each(alloc, &routes, words, after, is_group, steps);
+    drop(routes);
+    pushed
 }
 
 /// Stops a step, and crashes; it compacts before, if that is asked.

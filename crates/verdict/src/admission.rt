@@ -183,7 +183,34 @@ fn decide(
     }
 }
 
-// The verdict of the bindings, one after another. The write's document is made where a policy is asked for it, and once.
+// A binding's turn: the verdict where it denies the write; its warning, if it gives one, stands after those before it. The write's document is made
+// where a policy is asked for it, and once.
+fn turn<'a, L: Lookup<'a>>(
+    alloc: Global,
+    lookup: &mut L,
+    named: &Named<'_>,
+    attempt: &Attempt<'_>,
+    request: &mut Option<Json>,
+    warnings: &mut Vec<String>,
+) -> Result<Option<Verdict>, LookupFault>
+    requires told { IfSome request.old (λ d. view d ≡ request_of (attempt_seen attempt.now)) }
+    ensures told { OnOk result (IfSome request.new (λ d. view d ≡ request_of (attempt_seen attempt.now))) }
+    ensures found { (objects : Objects) → L.shows lookup.old objects → HaveTrees objects → (rest : model.Verdict) → IfOk result (λ o.
+        after_warnings (map string_bytes warnings.old.items) (model.decide named.now.0 named.now.1 (denial_by objects (attempt_seen attempt.now) named.now.1) rest)
+        ≡ option_map_or verdict_seen o (after_warnings (map string_bytes warnings.new.items) rest)) }
+    ensures kept { (objects : Objects) → L.shows lookup.old objects → L.shows lookup.new objects }
+    ensures goes { L.goes_to lookup.old lookup.new }
+    ensures counts { L.failures lookup.old ≤ L.failures lookup.new }
+    ensures device { IsErrOf result LookupFault.Device → HasGrown (L.failures lookup.old) (L.failures lookup.new) }
+    ensures damaged { (part : Part) → IsErrOf result (LookupFault.Damaged part) → (objects : Objects) → L.shows lookup.old objects → ⊥ }
+{
+    match denial_by(alloc, lookup, named.bound, attempt, request)? {
+        Some(denial) => Ok(decide(alloc, warnings, named, denial)?),
+        None => Ok(None),
+    }
+}
+
+// The verdict of the bindings, one after another.
 fn verdict_of<'a, L: Lookup<'a>>(
     alloc: Global,
     lookup: &mut L,
@@ -201,10 +228,8 @@ fn verdict_of<'a, L: Lookup<'a>>(
     let mut warnings = Vec::new(alloc);
     let mut request = None;
     for named in bindings {
-        if let Some(denial) = denial_by(alloc, lookup, named.bound, attempt, &mut request)? {
-            if let Some(verdict) = decide(alloc, &mut warnings, named, denial)? {
-                return Ok(verdict);
-            }
+        if let Some(verdict) = turn(alloc, lookup, named, attempt, &mut request, &mut warnings)? {
+            return Ok(verdict);
         }
     }
     Ok(Verdict::Admitted(warnings))
