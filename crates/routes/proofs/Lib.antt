@@ -1,3 +1,4 @@
 pub mod Literals
 pub mod Revisions
 pub mod Sheets
+pub mod Fronts

@@ -1,9 +1,10 @@
-use Rattle.std.proofs.Common.{arith, ◌∙◌, sym, ap, ℕ, List, length, take, Bor}
+use Rattle.std.proofs.Common.{arith, ◌∙◌, sym, ap, ◌≤◌, ℕ, List, length, map, take, Bor}
 use Rattle.std.specs.Prelude.{option_map}
 use Rattle.std.proofs.lemmas.List.{length-map, length-take}
 use Rattle.requests.specs.RequestOf.{request_of}
 use Rattle.routes.specs.Allow.{allow_of}
 use Rattle.routes.specs.Asked.{asked}
+use Rattle.routes.proofs.Fronts.{front_length, up_to}
 use Rattle.routes.proofs.front.route_front.Goals as goal
 
 pub push-requires-clause-requests_room : goal.push-requires-clause-requests_room
@@ -29,3 +30,47 @@ push-requires-clause-allows_room c =
       length-map routed allow_of,
       length-take c.loop-message.message-index c.args.messages.now,
     )
+
+pub loop-message-init : goal.loop-message-init
+loop-message-init c = record {
+  requests = ap (map request_of) c.in-Ok.ensures.requests;
+  allows = ap (map (option_map (λ (methods : Bor (List ℕ)). methods.now))) c.in-Ok.ensures.allows;
+  requests_room = c.in-Ok.ensures.room.0;
+  allows_room = c.in-Ok.ensures.room.1;
+}
+
+pub returns-in-Err-route-clause-few : goal.returns-in-Err-route-clause-few
+returns-in-Err-route-clause-few c =
+    let le : c.loop-message.message-index ≤ length c.args.messages.now = omega (arith, c.loop-message-test.true) in
+    omega (arith, le, front_length request_of asked c.loop-message.message-index c.loop-message.front.requests.items c.args.messages.now c.loop-message.invariant.requests le)
+
+pub returns-in-Err-route-clause-requests : goal.returns-in-Err-route-clause-requests
+returns-in-Err-route-clause-requests c =
+    let routed = c.loop-message.front.requests.items in
+    let many = front_length request_of asked c.loop-message.message-index routed c.args.messages.now c.loop-message.invariant.requests (omega (arith, c.loop-message-test.true)) in
+    up_to request_of asked c.loop-message.message-index (length routed) routed c.args.messages.now (sym many) c.loop-message.invariant.requests
+
+pub returns-in-Err-route-clause-allows : goal.returns-in-Err-route-clause-allows
+returns-in-Err-route-clause-allows c =
+    let routed = c.loop-message.front.requests.items in
+    let many = front_length request_of asked c.loop-message.message-index routed c.args.messages.now c.loop-message.invariant.requests (omega (arith, c.loop-message-test.true)) in
+    up_to (option_map (λ (methods : Bor (List ℕ)). methods.now)) allow_of c.loop-message.message-index (length routed) c.loop-message.front.allows.items c.args.messages.now (sym many)
+    c.loop-message.invariant.allows
+
+pub returns-clause-few : goal.returns-clause-few
+returns-clause-few c =
+    let le = c.loop-message.auto.message-index-end in
+    omega (arith, le, front_length request_of asked c.loop-message.message-index c.loop-message.front.requests.items c.args.messages.now c.loop-message.invariant.requests le)
+
+pub returns-clause-requests : goal.returns-clause-requests
+returns-clause-requests c =
+    let routed = c.loop-message.front.requests.items in
+    let many = front_length request_of asked c.loop-message.message-index routed c.args.messages.now c.loop-message.invariant.requests c.loop-message.auto.message-index-end in
+    up_to request_of asked c.loop-message.message-index (length routed) routed c.args.messages.now (sym many) c.loop-message.invariant.requests
+
+pub returns-clause-allows : goal.returns-clause-allows
+returns-clause-allows c =
+    let routed = c.loop-message.front.requests.items in
+    let many = front_length request_of asked c.loop-message.message-index routed c.args.messages.now c.loop-message.invariant.requests c.loop-message.auto.message-index-end in
+    up_to (option_map (λ (methods : Bor (List ℕ)). methods.now)) allow_of c.loop-message.message-index (length routed) c.loop-message.front.allows.items c.args.messages.now (sym many)
+    c.loop-message.invariant.allows
