@@ -1,5 +1,5 @@
 -- One warning more.
-use Rattle.std.proofs.Common.{◌≡◌, List, [], ◌∷◌, ◌++◌, refl, ap, ◌∙◌, rules}
+use Rattle.std.proofs.Common.{◌≡◌, ℕ, suc, ◌+◌, ◌<◌, List, [], ◌∷◌, ◌++◌, length, get_or, map, drop, drop-cons, add-one, refl, sym, ap, ◌∙◌, rules}
 use Rattle.std.proofs.lemmas.Grind.{common_steps}
 use Rattle.policy.specs.Forms.{Text}
 use Rattle.policy.specs.Spec as spec
@@ -7,7 +7,10 @@ use Rattle.policy.specs.declared.binding.Action.{Action}
 use Rattle.policy.specs.declared.binding.Action.TheVariants.{Warn}
 use Rattle.evaluation.specs.Denials.{Denial}
 use Rattle.bindings.specs.Verdict.{warning}
-use Rattle.verdict.specs.Verdict.{Verdict, admitted, denied, and_warn, on_action}
+use Rattle.lookup.specs.Objects.{Objects}
+use Rattle.policy.specs.Rules.{Attempt}
+use Rattle.verdict.specs.Admission.{denial_by, finding}
+use Rattle.verdict.specs.Verdict.{Verdict, admitted, denied, and_warn, on_action, decide, verdict_of}
 use Rattle.verdict.specs.Turns.{after_warnings}
 
 one_more : (ws : List Text) (t : Text) (rest : Verdict) → after_warnings ws (and_warn t rest) ≡ after_warnings (ws ++ t ∷ []) rest
@@ -17,3 +20,16 @@ one_more ws t (denied policy binding reason message) = refl
 pub warned : (ws : List Text) (a : Action) (name : Text) (b : spec.Binding) (d : Denial) (rest : Verdict) → a ≡ Warn
     → after_warnings ws (on_action a name b d rest) ≡ after_warnings (ws ++ warning b.policy name d.message ∷ []) rest
 warned ws a name b d rest is = ap (λ (x : Action). after_warnings ws (on_action x name b d rest)) is ∙ one_more ws (warning b.policy name d.message) rest
+
+-- the verdict of the bindings that are left is that of the next one, before those after it
+left : (objects : Objects) (w : Attempt) (n : ℕ) (bs : List (Text × spec.Binding)) (b : Text × spec.Binding) → n < length bs → b ≡ get_or bs n b
+    → verdict_of (map (finding objects w) (drop n bs)) ≡ decide b.0 b.1 (denial_by objects w b.1) (verdict_of (map (finding objects w) (drop (n + 1) bs)))
+left objects w n bs b inside is =
+    let next : drop n bs ≡ b ∷ drop (n + 1) bs = rw add-one (drop-cons bs n b inside ∙ ap (λ (x : Text × spec.Binding). x ∷ drop (suc n) bs) (sym is)) in
+    ap (λ (rest : List (Text × spec.Binding)). verdict_of (map (finding objects w) rest)) next
+
+-- the verdict of all, once the next binding had its turn
+pub turn : (objects : Objects) (w : Attempt) (n : ℕ) (bs : List (Text × spec.Binding)) (b : Text × spec.Binding) (ws : List Text) (all after : Verdict) → n < length bs
+    → b ≡ get_or bs n b → all ≡ after_warnings ws (verdict_of (map (finding objects w) (drop n bs)))
+    → after_warnings ws (decide b.0 b.1 (denial_by objects w b.1) (verdict_of (map (finding objects w) (drop (n + 1) bs)))) ≡ after → all ≡ after
+turn objects w n bs b ws all after inside is before turned = before ∙ ap (after_warnings ws) (left objects w n bs b inside is) ∙ turned
