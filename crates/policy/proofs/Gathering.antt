@@ -1,8 +1,11 @@
 -- What was read of a list, item by item.
-use Rattle.std.proofs.Common.{◌≡◌, List, [], ◌∷◌, ◌++◌, Option, Some, None, option_map, map, length, refl, ap, rules}
+use Rattle.std.proofs.Common.{◌≡◌, ◌<◌, ◌+◌, ℕ, suc, List, [], ◌∷◌, ◌++◌, Option, Some, None, option_map, map, length, get_or, drop, drop-cons, add-one, refl, sym, ap, ◌∙◌, rules}
 use Rattle.std.proofs.lemmas.Grind.{common_steps}
-use Rattle.std.proofs.lemmas.List.{length-map}
-use Rattle.policy.specs.Forms.{after}
+use Rattle.std.proofs.lemmas.List.{append-nil, length-map, map_push}
+use Rattle.serde_json.specs.Data.{Data}
+use Rattle.serde_json.specs.View.{view, items_view}
+use Rattle.serde_json.specs.declared.value.Value.{Value}
+use Rattle.policy.specs.Forms.{after, each, given}
 
 pub after_more : {A : Type 0} (xs : List A) (x : A) (o : Option (List A)) → after xs (option_map (λ ys. x ∷ ys) o) ≡ after (xs ++ x ∷ []) o
 after_more xs x None = refl
@@ -21,3 +24,31 @@ mapped_append f xs ys = search (rules, common_steps)
 pub same_option : {A : Type 0} (o : Option A) → option_map (λ x. x) o ≡ o
 same_option None = refl
 same_option (Some x) = refl
+
+-- what is left of a list begins with its next item
+each_next : {A : Type 0} (f : Data → Option A) (xs : List Value) (i : ℕ) (x : Value) → i < length xs → x ≡ get_or xs i x
+    → each f (items_view (drop i xs)) ≡ given (f (view x)) (λ y. option_map (λ ys. y ∷ ys) (each f (items_view (drop (i + 1) xs))))
+each_next f xs i x inside is =
+    let next : drop i xs ≡ x ∷ drop (i + 1) xs = rw add-one (drop-cons xs i x inside ∙ ap (λ (y : Value). y ∷ drop (suc i) xs) (sym is)) in
+    ap (λ (rest : List Value). each f (items_view rest)) next
+
+-- once the next item is read
+pub each_read : {S A : Type 0} (f : Data → Option A) (seen : S → A) (whole : Option (List A)) (xs : List Value) (i : ℕ) (x : Value) (read : List S) (v : S)
+    → i < length xs → x ≡ get_or xs i x → f (view x) ≡ Some (seen v) → whole ≡ after (map seen read) (each f (items_view (drop i xs)))
+    → whole ≡ after (map seen (read ++ v ∷ [])) (each f (items_view (drop (i + 1) xs)))
+each_read {S} {A} f seen whole xs i x read v inside is found before =
+    let rest : Option (List A) = each f (items_view (drop (i + 1) xs)) in
+    before ∙ ap (after (map seen read)) (each_next f xs i x inside is) ∙ ap (λ (o : Option A). after (map seen read) (given o (λ y. option_map (λ ys. y ∷ ys) rest))) found
+    ∙ after_more (map seen read) (seen v) rest ∙ ap (λ (ys : List A). after ys rest) (sym (map_push seen read v))
+
+-- where the next item has not the form
+pub each_refused : {A : Type 0} (f : Data → Option A) (ys : List A) (whole : Option (List A)) (xs : List Value) (i : ℕ) (x : Value) → i < length xs → x ≡ get_or xs i x
+    → f (view x) ≡ None → whole ≡ after ys (each f (items_view (drop i xs))) → whole ≡ None
+each_refused {A} f ys whole xs i x inside is refused before =
+    let rest : Option (List A) = each f (items_view (drop (i + 1) xs)) in
+    before ∙ ap (after ys) (each_next f xs i x inside is) ∙ ap (λ (o : Option A). after ys (given o (λ y. option_map (λ zs. y ∷ zs) rest))) refused
+
+-- once all items are read
+pub each_whole : {S A : Type 0} (f : Data → Option A) (seen : S → A) (whole : Option (List A)) (read : List S)
+    → whole ≡ after (map seen read) (each f (items_view [])) → whole ≡ Some (map seen read)
+each_whole f seen whole read before = before ∙ ap Some (append-nil (map seen read))
