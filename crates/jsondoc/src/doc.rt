@@ -27,9 +27,15 @@ pub enum ReadFault {
 }
 
 /// A document.
-#[derive(Drop)]
 pub struct Doc {
     value: Value,
+}
+
+// Written out, so that other crates call it: what is derived is made again in each of them.
+impl Drop for Doc {
+    fn drop(self) {
+        let Doc { value: _ } = self;
+    }
 }
 
 impl Model for Doc {

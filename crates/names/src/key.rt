@@ -53,11 +53,21 @@ fn split_at_zero(bytes: &[u8]) -> Option<(&str, &str)>
 ///
 /// The namespace of a cluster-scoped resource's key is empty. Keys are ordered by the number of
 /// the resource, then by namespace, then by name, both by bytes.
-#[derive(Drop)]
 pub struct Key {
     resource: Resource,
     namespace: String,
     name: String,
+}
+
+// Written out, so that other crates call it: what is derived is made again in each of them.
+impl Drop for Key {
+    fn drop(self) {
+        let Key {
+            resource: _,
+            namespace: _,
+            name: _,
+        } = self;
+    }
 }
 
 impl Model for Key {

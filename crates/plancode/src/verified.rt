@@ -15,10 +15,16 @@ use std::alloc::{AllocError, Global};
 use std::marker::Model;
 
 /// A well-formed plan, for a place with so many variables.
-#[derive(Drop)]
 pub struct Verified {
     vars: u16,
     plan: Vec<Instruction>,
+}
+
+// Written out, so that other crates call it: what is derived is made again in each of them.
+impl Drop for Verified {
+    fn drop(self) {
+        let Verified { vars: _, plan: _ } = self;
+    }
 }
 
 impl Model for Verified {
@@ -68,9 +74,8 @@ impl Verified {
         ensures same { plan_ops result ≡ self.ops }
         ensures room { HaveRoom (plan_ops result) }
     {
-        Plan {
-            instructions: self.plan,
-        }
+        let Verified { vars: _, plan } = self;
+        Plan { instructions: plan }
     }
 }
 

@@ -26,7 +26,6 @@ pub enum Action {
 
 /// A binding of a policy: where the policy is in force, and with which parameters (Kubernetes,
 /// `ValidatingAdmissionPolicyBindingSpec`).
-#[derive(Drop)]
 pub struct Binding {
     /// The name of the policy.
     pub policy: String,
@@ -36,6 +35,18 @@ pub struct Binding {
     pub resources: MatchRules,
     /// The parameters that it asks for.
     pub param_ref: Option<ParamRef>,
+}
+
+// Written out, so that other crates call it: what is derived is made again in each of them.
+impl Drop for Binding {
+    fn drop(self) {
+        let Binding {
+            policy: _,
+            action: _,
+            resources: _,
+            param_ref: _,
+        } = self;
+    }
 }
 
 impl Binding {

@@ -27,7 +27,6 @@ pub enum FailurePolicy {
 }
 
 /// What a policy asks of writes (Kubernetes, `ValidatingAdmissionPolicySpec`).
-#[derive(Drop)]
 pub struct Policy {
     /// What becomes of a write where the policy cannot be evaluated.
     pub failure_policy: FailurePolicy,
@@ -41,6 +40,20 @@ pub struct Policy {
     pub variables: Vec<Named>,
     /// What must hold of a write, at least one.
     pub validations: Vec<Validation>,
+}
+
+// Written out, so that other crates call it: what is derived is made again in each of them.
+impl Drop for Policy {
+    fn drop(self) {
+        let Policy {
+            failure_policy: _,
+            param_kind: _,
+            constraints: _,
+            conditions: _,
+            variables: _,
+            validations: _,
+        } = self;
+    }
 }
 
 impl Policy {

@@ -15,11 +15,21 @@ use std::alloc::{AllocError, Global};
 use std::marker::Model;
 
 /// What a document spells as a policy and as a binding, and the plans of the policy's expressions.
-#[derive(Drop)]
 pub struct Beside {
     policy: Option<Policy>,
     plans: StoredPlans,
     bound: Option<Bound>,
+}
+
+// Written out, so that other crates call it: what is derived is made again in each of them.
+impl Drop for Beside {
+    fn drop(self) {
+        let Beside {
+            policy: _,
+            plans: _,
+            bound: _,
+        } = self;
+    }
 }
 
 /// What memory holds of what is stored, with what each document spells beside it.
