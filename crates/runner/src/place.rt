@@ -30,7 +30,6 @@ enum Ground {
 }
 
 /// What a case stands on.
-#[derive(Drop)]
 pub struct Place {
     alloc: Global,
     ground: Ground,
@@ -38,6 +37,18 @@ pub struct Place {
     told: String,
     // what was wrong first: empty where nothing was
     wrong: &'static str,
+}
+
+// Written out, so that each function that lets a place go calls it: what is derived stands in each of them.
+impl Drop for Place {
+    fn drop(self) {
+        let Place {
+            alloc: _,
+            ground: _,
+            told: _,
+            wrong: _,
+        } = self;
+    }
 }
 
 // `generation G, P pages at sector S`

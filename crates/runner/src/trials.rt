@@ -55,7 +55,6 @@ enum Kind {
 }
 
 // What is tried, and what it is tried with.
-#[derive(Drop)]
 struct Trial<'a> {
     kind: Kind,
     writes: &'a [String],
@@ -73,6 +72,17 @@ fn picks_of(alloc: Global, pick: Pick, alone: usize) -> Result<Vec<Pick>, AllocE
         *one = pick;
     }
     Ok(picks)
+}
+
+impl Drop for Trial<'_> {
+    fn drop(self) {
+        let Trial {
+            kind: _,
+            writes: _,
+            steps: _,
+            looks: _,
+        } = self;
+    }
 }
 
 impl<'a> Trial<'a> {
