@@ -1,7 +1,8 @@
 //! Lines on a device in memory.
 
 use crate::line::Line;
-use cases::Wrong;
+use crate::notation::byte;
+use cases::{Wrong, first_word, number};
 use device::{Device, DeviceFault, MemDevice, Pick};
 use std::alloc::Global;
 
@@ -130,32 +131,37 @@ pub fn counts(device: &MemDevice, line: &mut Line<'_>) {
     }
 }
 
-fn pick(word: &str, line: &mut Line<'_>) -> Pick {
+fn pick(word: &str) -> Result<Pick, Wrong> {
     match word {
-        "old" => Pick::Old,
-        "new" => Pick::New,
-        _ => match u8::from_str_radix(word, 16) {
-            Ok(byte) => Pick::Fill(byte),
-            Err(_) => {
-                line.refuse("a pick is old, new or a byte");
-                Pick::Old
-            }
-        },
+        "old" => Ok(Pick::Old),
+        "new" => Ok(Pick::New),
+        _ => Ok(Pick::Fill(byte(word)?)),
     }
 }
 
-/// `crash LENGTH PICK ..`: the machine stops. What may change becomes what the picks say, and the length the number, or `all` that there may be.
-pub fn crash(alloc: Global, device: &mut MemDevice, line: &mut Line<'_>) {
-    let length = match line.word() {
-        "all" => u64::MAX,
-        word => line.number_of(word),
-    };
-    let mut picks = Vec::new(alloc);
-    for word in line.rest.split_whitespace() {
-        if picks.push(pick(word, line)).is_err() {
-            line.fail(Wrong::Memory);
-        }
+/// `LENGTH PICK ..`: adds the picks, each `old`, `new` or a byte, and gives the length, a number, or `all` that there may be.
+///
+/// # Errors
+///
+/// Where a word is none of these, and want of memory.
+pub fn crash_words(line: &str, picks: &mut Vec<Pick>) -> Result<u64, Wrong> {
+    let (length, words) = first_word(line);
+    for word in words.split_whitespace() {
+        picks.push(pick(word)?)?;
     }
+    match length {
+        "all" => Ok(u64::MAX),
+        _ => number(length),
+    }
+}
+
+/// `crash LENGTH PICK ..`: the machine stops. What may change becomes what the picks say, and the length the one that is told.
+pub fn crash(alloc: Global, device: &mut MemDevice, line: &mut Line<'_>) {
+    let mut picks = Vec::new(alloc);
+    let length = match crash_words(line.rest, &mut picks) {
+        Ok(length) => length,
+        Err(wrong) => return line.fail(wrong),
+    };
     match MemDevice::new(alloc, 0) {
         Ok(room) => {
             let stopped = std::mem::replace(device, room);

@@ -1,7 +1,7 @@
 //! The cases of devices, logs, roots and pages.
 //!
 //! [`run_disk`] runs their files; `README.md` beside the files has their lines. [`check_files`] looks at devices over files of the
-//! operating system. How a [`Line`] is read and answered serves the bench of records too.
+//! operating system. How a [`Line`] is read and answered serves the bench of records too, and [`on_store_device`] that of the store.
 #![tactic(auto)]
 
 mod bench;
@@ -16,8 +16,12 @@ mod page_lines;
 mod root_lines;
 mod scan_lines;
 mod shelf_lines;
+mod store_device;
 mod writing_lines;
 
 pub use bench::run_disk;
+pub use device_lines::crash_words;
 pub use file_devices::check_files;
 pub use line::Line;
+pub use notation::byte;
+pub use store_device::{on_store_device, put};

@@ -104,14 +104,23 @@ impl<'a> Line<'a> {
         }
     }
 
+    /// The answer.
+    ///
+    /// # Errors
+    ///
+    /// What was wrong first.
+    pub fn end(self) -> Result<String, Wrong> {
+        let Line { answer, .. } = self;
+        answer.end()
+    }
+
     /// Asks that the answer is the one that is wanted, which is one comparison.
     ///
     /// # Errors
     ///
     /// What was wrong first, or the answer, where it is another.
     pub fn compare(self, alloc: Global, wanted: &str) -> Result<u64, Wrong> {
-        let Line { answer, .. } = self;
-        let found = answer.end()?;
+        let found = self.end()?;
         match compare(alloc, found.as_str(), wanted) {
             Ok(()) => Ok(1),
             Err(wrong) => Err(wrong),

@@ -6,6 +6,18 @@ use entries::Entry;
 use names::{Key, KeyFault, Resource};
 use std::alloc::{AllocError, Global};
 
+/// The byte of two hex digits.
+///
+/// # Errors
+///
+/// Where the word is no byte.
+pub fn byte(word: &str) -> Result<u8, Wrong> {
+    match u8::from_str_radix(word, 16) {
+        Ok(byte) => Ok(byte),
+        Err(_) => Err(Wrong::Told("a byte is two hex digits")),
+    }
+}
+
 // Adds bytes in hex, or `BYTES xN`, so many times those bytes.
 fn add_bytes(alloc: Global, payload: &mut Vec<u8>, part: &str) -> Result<(), Wrong> {
     let (hex, times) = part.split_once(" x").unwrap_or((part, "1"));

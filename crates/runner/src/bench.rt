@@ -1,14 +1,13 @@
 //! What a case stands on, what was sent to it, and the questions by their words.
 
 use crate::compactions::compaction_damage;
-use crate::device_lines::of_the_device;
 use crate::place::Place;
 use crate::refusals::{at_hand, fault};
 use crate::scripts::{applied, driven};
-use crate::steps::crash_words;
 use crate::streams::{cuts, readers, writers};
 use crate::trials::trials;
 use cases::{Wrong, shown, text};
+use diskcases::{Line, crash_words, on_store_device};
 use rowcases::{Service, message};
 use std::alloc::Global;
 
@@ -108,6 +107,18 @@ impl Stand {
         text(alloc, "ok")
     }
 
+    // Answers a line on the device, with the store shut.
+    fn answer_of_device(&mut self, alloc: Global, word: &str, rest: &str) -> Result<String, Wrong> {
+        match self.place.device() {
+            Some(device) => {
+                let mut line = Line::new(alloc, rest);
+                on_store_device(alloc, device, word, &mut line);
+                line.end()
+            }
+            None => self.place.answer(),
+        }
+    }
+
     // Answers a line on the store, or on its device.
     fn answer_of_place(&mut self, alloc: Global, word: &str, rest: &str) -> Result<String, Wrong> {
         self.keep_steps(alloc, word);
@@ -117,13 +128,9 @@ impl Stand {
             "compact" => self.place.compact(),
             "again" => self.place.again(),
             "check" => self.place.check(),
+            "create" => self.place.create(),
             "crash" => return self.crash(alloc, rest),
-            _ => {
-                return match self.place.device() {
-                    Some(device) => of_the_device(alloc, device, word, rest),
-                    None => self.place.answer(),
-                };
-            }
+            _ => return self.answer_of_device(alloc, word, rest),
         }
         self.place.answer()
     }

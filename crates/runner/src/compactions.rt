@@ -1,12 +1,12 @@
 //! Compactions that are stopped, or that fail, at a call of the device, and sectors of a compacted store that are overwritten.
 
-use crate::device_lines::put;
 use crate::looks::{is_look, leaves, push_look};
 use crate::place::Place;
-use crate::steps::{Stop, byte};
+use crate::steps::Stop;
 use crate::stops::make;
 use cases::{TextBuilder, Wrong};
 use device::{Device, Pick};
+use diskcases::{byte, put};
 use std::alloc::Global;
 
 const ROOM_SECTORS: u64 = 160;

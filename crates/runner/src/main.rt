@@ -12,7 +12,6 @@
 
 mod bench;
 mod compactions;
-mod device_lines;
 mod endings;
 mod looks;
 mod place;

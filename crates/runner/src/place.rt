@@ -226,6 +226,19 @@ impl Place {
         }
     }
 
+    /// `create`: makes a store on the device.
+    pub fn create(&mut self) {
+        let alloc = self.alloc;
+        let told = match self.device() {
+            Some(device) => match create(device) {
+                Ok(()) => text(alloc, "ok"),
+                Err(fault) => shown(alloc, &fault),
+            },
+            None => return,
+        };
+        self.tell(told);
+    }
+
     /// `open`: opens the store of the device.
     pub fn open(&mut self) {
         let Some(device) = self.taken() else {

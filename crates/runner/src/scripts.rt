@@ -3,8 +3,9 @@
 
 use crate::looks::{crash_leaves, is_look, leaves, push_look};
 use crate::place::Place;
-use crate::steps::{Stop, crash_words, push_steps, stop_step};
+use crate::steps::{Stop, push_steps, stop_step};
 use cases::{TextBuilder, WordReader, Wrong, shown, wanted};
+use diskcases::crash_words;
 use opening::{Episode, Found};
 use std::alloc::Global;
 

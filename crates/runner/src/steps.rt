@@ -1,6 +1,6 @@
 //! The steps of cases, each an episode of a store's life, and the crashes that end one.
 
-use cases::{Wrong, first_word, number};
+use cases::Wrong;
 use device::Pick;
 use opening::Episode;
 use routes::Routes;
@@ -93,32 +93,4 @@ pub fn stop_step(
     step.picks = Vec::from_slice(alloc, stop.picks)?;
     step.length_sectors = stop.length;
     Ok(())
-}
-
-/// The byte of two hex digits.
-pub fn byte(word: &str) -> Result<u8, Wrong> {
-    match u8::from_str_radix(word, 16) {
-        Ok(byte) => Ok(byte),
-        Err(_) => Err(Wrong::Told("a byte is two hex digits")),
-    }
-}
-
-fn pick(word: &str) -> Result<Pick, Wrong> {
-    match word {
-        "old" => Ok(Pick::Old),
-        "new" => Ok(Pick::New),
-        _ => Ok(Pick::Fill(byte(word)?)),
-    }
-}
-
-/// `LENGTH PICK ..`: adds the picks, each `old`, `new` or a byte, and gives the length, a number or `all`.
-pub fn crash_words(line: &str, picks: &mut Vec<Pick>) -> Result<u64, Wrong> {
-    let (length, words) = first_word(line);
-    for word in words.split_whitespace() {
-        picks.push(pick(word)?)?;
-    }
-    match length {
-        "all" => Ok(u64::MAX),
-        _ => number(length),
-    }
 }

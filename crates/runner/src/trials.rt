@@ -74,6 +74,7 @@ fn picks_of(alloc: Global, pick: Pick, alone: usize) -> Result<Vec<Pick>, AllocE
     Ok(picks)
 }
 
+// Written out, as that of a place is.
 impl Drop for Trial<'_> {
     fn drop(self) {
         let Trial {
