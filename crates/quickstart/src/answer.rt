@@ -1,0 +1,45 @@
+//! The whole way, from the bytes of requests to the bytes of replies and to what stands on the device.
+
+ghost use Rattle.std.specs.Prelude.{IfOk, IfErr};
+ghost use Rattle.objects.specs.declared.format.Rules.{Rules};
+ghost use Rattle.objects.specs.Failing.{HasGrown};
+ghost use Rattle.recovery.specs.Standing.{History};
+ghost use Rattle.durable.specs.Ready.{HoldsHistory};
+ghost use Rattle.api.specs.Serving.{Exchanged};
+ghost use Rattle.quickstart.specs.Whole.{HasAnswered, HasEndedEarly, IsCaused};
+
+use crate::problem::Problem;
+use api::serve;
+use device::Device;
+use httpmsg::{Input, Output};
+use opening::open;
+use std::alloc::Global;
+
+/// Opens the store on a device, answers the requests of an input to their end, and gives the device back.
+///
+/// # Errors
+///
+/// `Opening` where no store was opened, `Serving` where one was. Of a device that holds a history only where the input, the output or the device failed in
+/// this call, or memory was wanting.
+pub fn answer<D: Device, I: Input, O: Output>(
+    alloc: Global,
+    device: D,
+    input: &mut I,
+    output: &mut O,
+) -> Result<D, (Problem, D)>
+    ensures answered { (rules : Rules) (h : History) → HoldsHistory rules D.disk device h
+        → IfOk result (λ left. Exchanged I.gave O.took input.old input.new output.old output.new
+        (HasAnswered rules D.disk device left h (I.has_ended input.new))) }
+    ensures caused { (rules : Rules) (h : History) → HoldsHistory rules D.disk device h → IfErr result (λ e. IsCaused e.0 (HasGrown (D.disk.failures device) (D.disk.failures e.1))
+        (HasGrown (I.failures input.old) (I.failures input.new)) (HasGrown (O.failures output.old) (O.failures output.new))) }
+    ensures ended_early { (rules : Rules) (h : History) → HoldsHistory rules D.disk device h → IfErr result (λ e. HasEndedEarly rules D.disk device e.1 h) }
+{
+    let mut store = match open(alloc, device) {
+        Ok(store) => store,
+        Err((fault, device)) => return Err((Problem::Opening(fault), device)),
+    };
+    match serve(alloc, input, output, &mut store) {
+        Ok(_) => Ok(store.into_device()),
+        Err(fault) => Err((Problem::Serving(fault), store.into_device())),
+    }
+}
