@@ -32,7 +32,9 @@ pub fn answer<D: Device, I: Input, O: Output>(
         (HasAnswered rules D.disk device left h (I.has_ended input.new))) }
     ensures caused { (rules : Rules) (h : History) → HoldsHistory rules D.disk device h → IfErr result (λ e. IsCaused e.0 (HasGrown (D.disk.failures device) (D.disk.failures e.1))
         (HasGrown (I.failures input.old) (I.failures input.new)) (HasGrown (O.failures output.old) (O.failures output.new))) }
-    ensures ended_early { (rules : Rules) (h : History) → HoldsHistory rules D.disk device h → IfErr result (λ e. HasEndedEarly rules D.disk device e.1 h) }
+    ensures ended_early { (rules : Rules) (h : History) → HoldsHistory rules D.disk device h
+        → IfErr result (λ e. Exchanged I.gave O.took input.old input.new output.old output.new
+        (HasEndedEarly rules D.disk device e.1 h (HasGrown (D.disk.failures device) (D.disk.failures e.1)) (HasGrown (O.failures output.old) (O.failures output.new)))) }
 {
     let mut store = match open(alloc, device) {
         Ok(store) => store,

@@ -13,7 +13,8 @@ returns-in-Err-clause-caused g c rules h holds = opening_caused _ _ _ c.in-Err.f
 pub returns-in-Err-clause-ended_early : goal.returns-in-Err-clause-ended_early
 returns-in-Err-clause-ended_early g c rules h holds =
     stopped_before rules g.D.Device.disk c.args.device c.in-Err.device h holds (c.in-Err.ensures.any_moment_err holds.keeps) (c.in-Err.ensures.content_err holds.keeps)
-    (c.in-Err.ensures.left_err holds.keeps)
+    (c.in-Err.ensures.left_err holds.keeps) g.I.Input.gave g.O.Output.took c.args.input.now c.args.output.now (g.met.I.Input.gave_none c.args.input.now)
+    (g.met.O.Output.took_none c.args.output.now) _ _
 
 pub returns-in-Ok-serve-clause-answered : goal.returns-in-Ok-serve-clause-answered
 returns-in-Ok-serve-clause-answered g c rules h holds =
@@ -37,8 +38,12 @@ pub returns-in-Err-serve-clause-ended_early : goal.returns-in-Err-serve-clause-e
 returns-in-Err-serve-clause-ended_early g c rules h holds =
     let settled = c.in-Ok.ensures.settled rules h holds.keeps holds.read in
     let serving : ShowsAt rules c.in-Ok.store (view rules h) = λ working. settled_serves rules c.in-Ok.store h settled in
-    stopped_serving rules c.args.device c.in-Ok.store c.serve.new.store h holds settled (c.in-Ok.ensures.any_moment holds.keeps) g.I.Input.gave g.O.Output.took c.args.input.now
-    c.serve.new.input c.args.output.now c.serve.new.output (g.O.Output.failures c.args.output.now) (g.O.Output.failures c.serve.new.output) c.serve.result
-    (c.serve.ensures.read rules (view rules h) serving) (c.serve.ensures.write rules (view rules h) serving) (c.serve.ensures.device rules (view rules h) serving)
-    (c.serve.ensures.memory rules (view rules h) serving) (c.serve.ensures.never_damaged rules (view rules h) serving) c.in-Err-serve.fault c.in-Err-serve.is
+    let Grown : g.row.D.Denot → Type 0 = λ d. HasGrown (g.D.Device.disk.failures c.args.device) (g.D.Device.disk.failures d) in
+    stopped_serving rules c.args.device c.in-Ok.store c.serve.new.store h holds settled (c.in-Ok.ensures.any_moment holds.keeps) g.I.Input.gave g.O.Output.took g.O.Output.failures
+    c.args.input.now c.serve.new.input c.args.output.now c.serve.new.output c.serve.result (c.serve.ensures.read rules (view rules h) serving)
+    (c.serve.ensures.write rules (view rules h) serving) (c.serve.ensures.device rules (view rules h) serving) (c.serve.ensures.memory rules (view rules h) serving)
+    (g.met.I.Input.gave_none c.args.input.now) (g.met.O.Output.took_none c.args.output.now) Grown c.serve.ensures.write_cause
+    (λ is. grown_after (g.D.Device.disk.failures c.args.device) (g.D.Device.disk.failures c.in-Ok.store.device) (g.D.Device.disk.failures c.serve.new.store.device) c.in-Ok.ensures.count
+    (c.serve.ensures.device_cause is))
+    (c.serve.ensures.never_damaged rules (view rules h) serving) (λ is. true≢false (sym settled.working ∙ c.serve.ensures.failed is)) c.in-Err-serve.fault c.in-Err-serve.is
     c.into_device-in-Err-serve.result c.into_device-in-Err-serve.ensures
