@@ -29,6 +29,7 @@ use Rattle.api.specs.declared.fault.ServeFault.TheVariants as serve_fault
 use Rattle.quickstart.specs.declared.problem.Problem.TheVariants as problem
 use Rattle.quickstart.specs.Whole.{HasAnswered, HasEndedEarly, IsCaused}
 
+-- what follows of an exchange from what held of it
 exchanged_as : {I O : Type 0} {gave : I → I → List ℕ → Type 0} {took : O → O → List ℕ → Type 0} {i j : I} {o p : O} {P Q : List ℕ → List ℕ → Type 0}
     → ((read written : List ℕ) → P read written → Q read written) → Exchanged gave took i j o p P → Exchanged gave took i j o p Q
 exchanged_as f e = record { read = e.read; written = e.written; gave_them = e.gave_them; took_them = e.took_them; holds = f e.read e.written e.holds }
@@ -51,7 +52,7 @@ module _ {D : Type 0} (rules : Rules) (disk : Disk D) (old new : D) (h : History
     moments : LeavesOnly disk old new (IsFound rules h [] (all_writes rules (view rules h) all))
 
   -- the device met no failure
-  pub ended_sound : {read written : List ℕ} (answered : List Answered) (waiting : List Message) (cut uncut : List ℕ) → read ≡ cut ++ uncut → (progress : Progress)
+  ended_sound : {read written : List ℕ} (answered : List Answered) (waiting : List Message) (cut uncut : List ℕ) → read ≡ cut ++ uncut → (progress : Progress)
       → IsCut cut (messages answered ++ waiting) progress → (closing : List ℕ) → (closing ≡ []) ⊎ ((waiting ≡ []) × IsClosing cut (messages answered) closing)
       → (unwritten : List ℕ) → all_bytes rules (view rules h) answered ++ closing ≡ written ++ unwritten → (unwritten ≡ []) ⊎ output_failed
       → AreRead answered → AreAdmitted rules (view rules h) (all_writes rules (view rules h) answered) → HoldsHistory rules disk new (h ++ all_writes rules (view rules h) answered)
@@ -91,7 +92,7 @@ module _ {D : Type 0} (rules : Rules) (disk : Disk D) (old new : D) (h : History
       }
 
   -- nothing was read of the input, and nothing written to the output
-  pub ended_before : {I O : Type 0} (gave : I → I → List ℕ → Type 0) (took : O → O → List ℕ → Type 0) (i : I) (o : O) → gave i i [] → took o o []
+  ended_before : {I O : Type 0} (gave : I → I → List ℕ → Type 0) (took : O → O → List ℕ → Type 0) (i : I) (o : O) → gave i i [] → took o o []
       → HoldsHistory rules disk new h → LeavesOnly disk old new (disk.left old) → ((c : List ℕ) → disk.left old c → StandsFor rules c h)
       → Exchanged gave took i i o o (HasEndedEarly rules disk old new h device_failed output_failed)
   ended_before gave took i o given taken holds moments stands =

@@ -23,8 +23,8 @@ use Rattle.quickstart.specs.declared.problem.Problem.TheVariants as problem
 abbrev pub IsKept : Rules → History → (answered failing : List Answered) → (content : List ℕ) → Type 0
 IsKept rules h answered failing c = IsFound rules h (all_writes rules (view rules h) answered) (all_writes rules (view rules h) (answered ++ failing)) c
 
--- What may be written after the replies where the device met no failure: nothing, or with all messages answered the reply of the stream's end, or that memory was
--- refused.
+-- What may be written after the replies where the device met no failure: nothing, or with all messages answered the reply of the stream's end, or that
+-- memory was refused.
 abbrev pub ClosesSound : (answered failing : List Answered) → (waiting : List Message) → (cut closing : List ℕ) → Type 0
 ClosesSound answered failing waiting cut closing = (failing ≡ []) × ((closing ≡ []) ⊎ ((waiting ≡ []) × IsClosing cut (messages answered) closing))
 

@@ -20,7 +20,7 @@ use std::alloc::Global;
 /// # Errors
 ///
 /// `Opening` where no store was opened, `Serving` where one was. Of a device that holds a history only where the input, the output or the device failed in
-/// this call, or memory was wanting.
+/// this call, or memory was wanting. Such a device then holds each write of the requests that were answered, and perhaps some of those at which it failed.
 pub fn answer<D: Device, I: Input, O: Output>(
     alloc: Global,
     device: D,
