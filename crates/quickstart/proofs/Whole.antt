@@ -1,5 +1,5 @@
 -- What serving leaves of a store that was opened, seen from the device.
-use Rattle.std.proofs.Common.{◌≡◌, ◌∙◌, ap, sym, subst, refl, ◌++◌, ℕ, List, [], false, None, inl, inr, ⊎_elim, ◌⊎◌, Result, Err, IsErrOf}
+use Rattle.std.proofs.Common.{◌≡◌, ◌≢◌, ◌∙◌, ap, sym, subst, refl, ◌++◌, ℕ, List, [], false, None, inl, inr, ⊎_elim, ◌⊎◌, Result, Err, IsErrOf}
 use Rattle.std.proofs.lemmas.List.{append-nil, append_assoc}
 use Rattle.device.specs.Disk.{Disk, LeavesOnly}
 use Rattle.device.specs.declared.device.Device.{Ghosts}
@@ -8,7 +8,7 @@ use Rattle.objects.specs.declared.format.Rules.{Rules}
 use Rattle.objects.specs.Failing.{HasGrown}
 use Rattle.requests.specs.declared.refusal.Refusal.TheVariants.{OutOfMemory, StorageFailed}
 use Rattle.history.specs.View.{view}
-use Rattle.recovery.specs.Standing.{Write, History}
+use Rattle.recovery.specs.Standing.{Write, History, View}
 use Rattle.apicore.specs.Admitted.{AreAdmitted}
 use Rattle.durable.specs.declared.fault.Damage.{Damage}
 use Rattle.durable.specs.declared.fault.Fault.{Fault}
@@ -27,7 +27,7 @@ use Rattle.api.specs.Serving.{IsClosing, HasEnded, HasReadSome, HasWrittenSome, 
 use Rattle.api.specs.declared.fault.ServeFault.{ServeFault}
 use Rattle.api.specs.declared.fault.ServeFault.TheVariants as serve_fault
 use Rattle.quickstart.specs.declared.problem.Problem.TheVariants as problem
-use Rattle.quickstart.specs.Whole.{HasAnswered, HasEndedEarly, IsCaused}
+use Rattle.quickstart.specs.Whole.{HasAnswered, HasEndedEarly, IsCaused, IsUndamaged, HasStoppedAt}
 
 -- what follows of an exchange from what held of it
 exchanged_as : {I O : Type 0} {gave : I → I → List ℕ → Type 0} {took : O → O → List ℕ → Type 0} {i j : I} {o p : O} {P Q : List ℕ → List ℕ → Type 0}
@@ -242,18 +242,50 @@ module _ {D : Type 0} {g : Ghosts D} (rules : Rules) (old : D) (opened new : Sto
 
 -- ---- why a call ends early
 
-pub opening_caused : (d i o : Type 0) (f : Fault) → (f ≡ fault.Device) ⊎ (f ≡ fault.Memory) → (f ≡ fault.Device → d) → IsCaused (problem.Opening f) d i o
-opening_caused d i o fault.Device which failed = failed refl
-opening_caused d i o fault.Memory which failed = tt
-opening_caused d i o (fault.Damaged damage) which failed = ⊎_elim (λ is. cc) (λ is. cc) which
-opening_caused d i o fault.Failed which failed = ⊎_elim (λ is. cc) (λ is. cc) which
-opening_caused d i o fault.Exhausted which failed = ⊎_elim (λ is. cc) (λ is. cc) which
+pub opening_caused : (d i o : Type 0) (f : Fault) → (f ≢ fault.Failed) × (f ≢ fault.Exhausted) → (f ≡ fault.Device → d) → IsCaused (problem.Opening f) d i o
+opening_caused d i o fault.Device never failed = failed refl
+opening_caused d i o fault.Memory never failed = tt
+opening_caused d i o (fault.Damaged damage) never failed = tt
+opening_caused d i o fault.Failed never failed = absurd (never.0 refl)
+opening_caused d i o fault.Exhausted never failed = absurd (never.1 refl)
+
+pub opening_undamaged : (f : Fault) → (f ≡ fault.Device) ⊎ (f ≡ fault.Memory) → IsUndamaged (problem.Opening f)
+opening_undamaged fault.Device which = tt
+opening_undamaged fault.Memory which = tt
+opening_undamaged (fault.Damaged damage) which = ⊎_elim (λ is. cc) (λ is. cc) which
+opening_undamaged fault.Failed which = tt
+opening_undamaged fault.Exhausted which = tt
 
 pub serving_caused : (d i o : Type 0) (r : Result End ServeFault) (f : ServeFault) → r ≡ Err f → (IsErrOf r serve_fault.Read → i) → (IsErrOf r serve_fault.Write → o) → (IsErrOf r serve_fault.Device → d)
-    → ((damage : Damage) → r ≡ Err (serve_fault.Damaged damage) → ⊥) → (IsErrOf r serve_fault.Failed → ⊥) → IsCaused (problem.Serving f) d i o
-serving_caused d i o r serve_fault.Read is read written device damaged failed = read is
-serving_caused d i o r serve_fault.Write is read written device damaged failed = written is
-serving_caused d i o r serve_fault.Device is read written device damaged failed = device is
-serving_caused d i o r serve_fault.Memory is read written device damaged failed = tt
-serving_caused d i o r (serve_fault.Damaged damage) is read written device damaged failed = damaged damage is
-serving_caused d i o r serve_fault.Failed is read written device damaged failed = failed is
+    → (IsErrOf r serve_fault.Failed → ⊥) → IsCaused (problem.Serving f) d i o
+serving_caused d i o r serve_fault.Read is read written device failed = read is
+serving_caused d i o r serve_fault.Write is read written device failed = written is
+serving_caused d i o r serve_fault.Device is read written device failed = device is
+serving_caused d i o r serve_fault.Memory is read written device failed = tt
+serving_caused d i o r (serve_fault.Damaged damage) is read written device failed = tt
+serving_caused d i o r serve_fault.Failed is read written device failed = failed is
+
+pub serving_undamaged : (r : Result End ServeFault) (f : ServeFault) → r ≡ Err f → ((damage : Damage) → r ≡ Err (serve_fault.Damaged damage) → ⊥) → IsUndamaged (problem.Serving f)
+serving_undamaged r serve_fault.Read is never = tt
+serving_undamaged r serve_fault.Write is never = tt
+serving_undamaged r serve_fault.Device is never = tt
+serving_undamaged r serve_fault.Memory is never = tt
+serving_undamaged r (serve_fault.Damaged damage) is never = absurd (never damage is)
+serving_undamaged r serve_fault.Failed is never = tt
+
+-- ---- whatever the device
+
+-- how serving stops, by its fault
+pub stopped_at : {I O D : Type 0} {g : Ghosts D} (gave : I → I → List ℕ → Type 0) (took : O → O → List ℕ → Type 0) (failures : O → ℕ) (i j : I) (o p : O) (opened served : Store D g) (rules : Rules)
+    (v : View) (r : Result End ServeFault) → (IsErrOf r serve_fault.Read → Exchanged gave took i j o p (HasReadSome rules opened served v))
+    → (IsErrOf r serve_fault.Write → Exchanged gave took i j o p (HasWrittenSome rules opened served v))
+    → (IsErrOf r serve_fault.Device ⊎ IsErrOf r serve_fault.Failed → Exchanged gave took i j o p (λ read written. HasFailed rules opened served v read written (failures o) (failures p)))
+    → (IsErrOf r serve_fault.Memory → ((j ≡ i) × (p ≡ o) × (served ≡ opened)) ⊎ Exchanged gave took i j o p (HasLackedMemory rules opened served v))
+    → ((damage : Damage) → r ≡ Err (serve_fault.Damaged damage) → ⊥) → (f : ServeFault) → r ≡ Err f → HasStoppedAt gave took i j o p opened served rules v failures f
+stopped_at gave took failures i j o p opened served rules v r read written failed lacked never_damaged serve_fault.Read is = inr (read is)
+stopped_at gave took failures i j o p opened served rules v r read written failed lacked never_damaged serve_fault.Write is = inr (written is)
+stopped_at gave took failures i j o p opened served rules v r read written failed lacked never_damaged serve_fault.Device is = inr (failed (inl is))
+stopped_at gave took failures i j o p opened served rules v r read written failed lacked never_damaged serve_fault.Memory is =
+    ⊎_elim (λ same. inl (refl, same.0, same.1, same.2)) (λ exchanged. inr exchanged) (lacked is)
+stopped_at gave took failures i j o p opened served rules v r read written failed lacked never_damaged (serve_fault.Damaged damage) is = absurd (never_damaged damage is)
+stopped_at gave took failures i j o p opened served rules v r read written failed lacked never_damaged serve_fault.Failed is = inr (failed (inr is))

@@ -1,20 +1,28 @@
 -- The whole way of requests: from the bytes that were read to those that were written, and to what stands on the device.
-use Rattle.std.specs.Prelude.{◌≡◌, ℕ, ◌≤◌, ◌⊎◌, List, [], ◌++◌, length, false}
+use Rattle.std.specs.Prelude.{◌≡◌, ℕ, ◌≤◌, ◌⊎◌, List, [], ◌++◌, length, true, false}
+use Rattle.device.specs.declared.device.Device.{Ghosts}
 use Rattle.device.specs.Disk.{Disk, LeavesOnly}
 use Rattle.objects.specs.declared.format.Rules.{Rules}
+use Rattle.history.specs.View as seen
 use Rattle.history.specs.View.{view}
 use Rattle.requests.specs.declared.refusal.Refusal.TheVariants.{StorageFailed}
 use Rattle.records.specs.Payload.{group_limit}
-use Rattle.recovery.specs.Standing.{History}
+use Rattle.recovery.specs.Beside.{Beside}
+use Rattle.recovery.specs.Standing.{History, View}
 use Rattle.apicore.specs.Admitted.{AreAdmitted}
+use Rattle.durable.specs.declared.fault.Fault.{Fault}
 use Rattle.durable.specs.declared.fault.Fault.TheVariants as fault
+use Rattle.durable.specs.declared.store.Store.{Store}
+use Rattle.durable.specs.Rules.{AreOfFormat}
 use Rattle.durable.specs.Ready.{HoldsHistory}
-use Rattle.durable.specs.Settled.{IsFound}
+use Rattle.durable.specs.Settled.{device_of, root_of, serves, kept_rules, Holds, IsFound, ServesAt, IsSettledAt}
+use Rattle.opening.specs.Opened.{IsRedone}
 use Rattle.httpmsg.specs.declared.head.End.{End}
 use Rattle.httpmsg.specs.Stream.{Message, Progress, IsCut}
 use Rattle.routes.specs.ReplyBytes.{end_bytes, closing_bytes}
 use Rattle.api.specs.Answers.{Answered, messages, AreRead, all_writes, all_bytes}
-use Rattle.api.specs.Serving.{Ends, IsClosing}
+use Rattle.api.specs.Serving.{Ends, IsClosing, Exchanged, HasEnded, HasStopped}
+use Rattle.api.specs.declared.fault.ServeFault.{ServeFault}
 use Rattle.api.specs.declared.fault.ServeFault.TheVariants as serve_fault
 use Rattle.quickstart.specs.declared.problem.Problem.{Problem}
 use Rattle.quickstart.specs.declared.problem.Problem.TheVariants as problem
@@ -72,16 +80,59 @@ module _ {D : Type 0} (rules : Rules) (disk : Disk D) (old new : D) (h : History
     pub left : (c : List ℕ) → disk.left new c → IsKept rules h answered failing c
     pub moments : LeavesOnly disk old new (IsFound rules h [] (all_writes rules (view rules h) (answered ++ failing)))
 
--- Over a device that holds a history nothing is told but what failed, and want of memory.
+-- A problem is told only where what it names failed. That a store had failed before is never told: it was just opened.
 abbrev pub IsCaused : Problem → (device_failed input_failed output_failed : Type 0) → Type 0
 IsCaused (problem.Opening fault.Device) d i o = d
 IsCaused (problem.Opening fault.Memory) d i o = Unit {0}
-IsCaused (problem.Opening (fault.Damaged damage)) d i o = ⊥
+IsCaused (problem.Opening (fault.Damaged damage)) d i o = Unit {0}
 IsCaused (problem.Opening fault.Failed) d i o = ⊥
 IsCaused (problem.Opening fault.Exhausted) d i o = ⊥
 IsCaused (problem.Serving serve_fault.Read) d i o = i
 IsCaused (problem.Serving serve_fault.Write) d i o = o
 IsCaused (problem.Serving serve_fault.Device) d i o = d
 IsCaused (problem.Serving serve_fault.Memory) d i o = Unit {0}
-IsCaused (problem.Serving (serve_fault.Damaged damage)) d i o = ⊥
+IsCaused (problem.Serving (serve_fault.Damaged damage)) d i o = Unit {0}
 IsCaused (problem.Serving serve_fault.Failed) d i o = ⊥
+
+-- and it is no damage
+abbrev pub IsUndamaged : Problem → Type 0
+IsUndamaged (problem.Opening (fault.Damaged damage)) = ⊥
+IsUndamaged (problem.Serving (serve_fault.Damaged damage)) = ⊥
+IsUndamaged other = Unit {0}
+
+-- ---- whatever the device
+
+-- A store was opened on the device, served, and gave it back. On a device that held a history it was settled at that. On every device it was serving, kept
+-- to the numbers of a format, and where the root that counts has no pages it held what the writes that were read left, with their plans. And at each view
+-- that it showed this is so.
+pub record WasServed {D : Type 0} (g : Ghosts D) (old new : D) (IsSo : (opened served : Store D g) → Rules → View → Type 0) : Type 0 where
+  pub opened : Store D g
+  pub served : Store D g
+  pub given_back : new ≡ device_of served
+  pub settled : (rules : Rules) (h : History) → HoldsHistory rules g.disk old h → IsSettledAt rules opened h
+  pub serving : serves opened ≡ true
+  pub numbers : AreOfFormat (kept_rules opened)
+  pub redone : (root_of opened).pages ≡ 0 → (held : seen.View Beside) × Holds opened held × IsRedone (kept_rules opened) held
+  pub at_views : (rules : Rules) (v : View) → ServesAt rules opened v → IsSo opened served rules v
+
+module _ {I O D : Type 0} {g : Ghosts D} (gave : I → I → List ℕ → Type 0) (took : O → O → List ℕ → Type 0) (input_old input_new : I) (output_old output_new : O)
+    (opened served : Store D g) (rules : Rules) (v : View) where
+  -- The connection was served to its end: what was read and written is as that says.
+  abbrev pub HasEndedAt : (ended : Type 0) → Type 0
+  HasEndedAt ended = (end : End) × Exchanged gave took input_old input_new output_old output_new (λ read written. HasEnded rules opened served v read written ended end)
+
+  -- It was served up to this fault: what was read and written is as the fault says, or memory was refused before anything was.
+  abbrev pub HasStoppedAt : (failures : O → ℕ) → ServeFault → Type 0
+  HasStoppedAt failures f =
+      ((f ≡ serve_fault.Memory) × (input_new ≡ input_old) × (output_new ≡ output_old) × (served ≡ opened))
+      ⊎ Exchanged gave took input_old input_new output_old output_new (HasStopped rules opened served v (failures output_old) (failures output_new) f)
+
+-- where no store was opened
+abbrev pub IfOpening : Problem → (Fault → Type 0) → Type 0
+IfOpening (problem.Opening f) P = P f
+IfOpening (problem.Serving f) P = Unit {0}
+
+-- where one was
+abbrev pub IfServing : Problem → (ServeFault → Type 0) → Type 0
+IfServing (problem.Opening f) P = Unit {0}
+IfServing (problem.Serving f) P = P f

@@ -1,12 +1,12 @@
 //! The whole way, from the bytes of requests to the bytes of replies and to what stands on the device.
 
-ghost use Rattle.std.specs.Prelude.{IfOk, IfErr};
+ghost use Rattle.std.specs.Prelude.{◌≡◌, IfOk, IfErr};
 ghost use Rattle.objects.specs.declared.format.Rules.{Rules};
 ghost use Rattle.objects.specs.Failing.{HasGrown};
 ghost use Rattle.recovery.specs.Standing.{History};
 ghost use Rattle.durable.specs.Ready.{HoldsHistory};
 ghost use Rattle.api.specs.Serving.{Exchanged};
-ghost use Rattle.quickstart.specs.Whole.{HasAnswered, HasEndedEarly, IsCaused};
+ghost use Rattle.quickstart.specs.Whole.{HasAnswered, HasEndedEarly, IsCaused, IsUndamaged, WasServed, HasEndedAt, HasStoppedAt, IfOpening, IfServing};
 
 use crate::problem::Problem;
 use api::serve;
@@ -19,8 +19,9 @@ use std::alloc::Global;
 ///
 /// # Errors
 ///
-/// `Opening` where no store was opened, `Serving` where one was. Of a device that holds a history only where the input, the output or the device failed in
-/// this call, or memory was wanting. Such a device then holds each write of the requests that were answered, and perhaps some of those at which it failed.
+/// `Opening` where no store was opened: nothing was read or written then. `Serving` where one was. Each tells what failed in this call: the input, the output
+/// or the device, memory that was wanting, or what was read of the device, which was damaged. Of a device that holds a history damage is never told; it then
+/// holds each write of the requests that were answered, and perhaps some of those at which it failed.
 pub fn answer<D: Device, I: Input, O: Output>(
     alloc: Global,
     device: D,
@@ -30,11 +31,19 @@ pub fn answer<D: Device, I: Input, O: Output>(
     ensures answered { (rules : Rules) (h : History) → HoldsHistory rules D.disk device h
         → IfOk result (λ left. Exchanged I.gave O.took input.old input.new output.old output.new
         (HasAnswered rules D.disk device left h (I.has_ended input.new))) }
-    ensures caused { (rules : Rules) (h : History) → HoldsHistory rules D.disk device h → IfErr result (λ e. IsCaused e.0 (HasGrown (D.disk.failures device) (D.disk.failures e.1))
-        (HasGrown (I.failures input.old) (I.failures input.new)) (HasGrown (O.failures output.old) (O.failures output.new))) }
     ensures ended_early { (rules : Rules) (h : History) → HoldsHistory rules D.disk device h
         → IfErr result (λ e. Exchanged I.gave O.took input.old input.new output.old output.new
         (HasEndedEarly rules D.disk device e.1 h (HasGrown (D.disk.failures device) (D.disk.failures e.1)) (HasGrown (O.failures output.old) (O.failures output.new)))) }
+    ensures undamaged { (rules : Rules) (h : History) → HoldsHistory rules D.disk device h → IfErr result (λ e. IsUndamaged e.0) }
+
+    // Whatever the device.
+    ensures served { IfOk result (λ left. WasServed ⟦<D as Device>⟧ device left (λ opened served rules v.
+        HasEndedAt I.gave O.took input.old input.new output.old output.new opened served rules v (I.has_ended input.new))) }
+    ensures stopped { IfErr result (λ e. IfServing e.0 (λ f. WasServed ⟦<D as Device>⟧ device e.1 (λ opened served rules v.
+        HasStoppedAt I.gave O.took input.old input.new output.old output.new opened served rules v O.failures f))) }
+    ensures caused { IfErr result (λ e. IsCaused e.0 (HasGrown (D.disk.failures device) (D.disk.failures e.1))
+        (HasGrown (I.failures input.old) (I.failures input.new)) (HasGrown (O.failures output.old) (O.failures output.new))) }
+    ensures unread { IfErr result (λ e. IfOpening e.0 (λ _. (input.new ≡ input.old) × (output.new ≡ output.old))) }
 {
     let mut store = match open(alloc, device) {
         Ok(store) => store,
