@@ -273,7 +273,7 @@ serving_undamaged r serve_fault.Memory is never = tt
 serving_undamaged r (serve_fault.Damaged damage) is never = absurd (never damage is)
 serving_undamaged r serve_fault.Failed is never = tt
 
--- ---- whatever the device
+-- ---- with the store between
 
 -- how serving stops, by its fault
 pub stopped_at : {I O D : Type 0} {g : Ghosts D} (gave : I → I → List ℕ → Type 0) (took : O → O → List ℕ → Type 0) (failures : O → ℕ) (i j : I) (o p : O) (opened served : Store D g) (rules : Rules)

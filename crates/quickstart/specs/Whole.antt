@@ -100,11 +100,11 @@ IsUndamaged (problem.Opening (fault.Damaged damage)) = ⊥
 IsUndamaged (problem.Serving (serve_fault.Damaged damage)) = ⊥
 IsUndamaged other = Unit {0}
 
--- ---- whatever the device
+-- ---- with the store between
 
--- A store was opened on the device, served, and gave it back. On a device that held a history it was settled at that. On every device it was serving, kept
--- to the numbers of a format, and where the root that counts has no pages it held what the writes that were read left, with their plans. And at each view
--- that it showed this is so.
+-- There is a store that was opened on the device, served, and gave it back: it was serving, kept to the numbers of a format, and where the root that counts has
+-- no pages it held what the writes that were read left, with their plans. At each view that it showed this is so. Where the device held a history, it was
+-- settled at that. Where it did not, nothing pins the store: one with pages shows no view on a device that does not keep the disk model.
 pub record WasServed {D : Type 0} (g : Ghosts D) (old new : D) (IsSo : (opened served : Store D g) → Rules → View → Type 0) : Type 0 where
   pub opened : Store D g
   pub served : Store D g

@@ -36,11 +36,13 @@ pub fn answer<D: Device, I: Input, O: Output>(
         (HasEndedEarly rules D.disk device e.1 h (HasGrown (D.disk.failures device) (D.disk.failures e.1)) (HasGrown (O.failures output.old) (O.failures output.new)))) }
     ensures undamaged { (rules : Rules) (h : History) → HoldsHistory rules D.disk device h → IfErr result (λ e. IsUndamaged e.0) }
 
-    // Whatever the device.
+    // By the fault that is told, and with the store between. The clause only says that there is such a store: what pins it is a history that the device holds.
     ensures served { IfOk result (λ left. WasServed ⟦<D as Device>⟧ device left (λ opened served rules v.
         HasEndedAt I.gave O.took input.old input.new output.old output.new opened served rules v (I.has_ended input.new))) }
     ensures stopped { IfErr result (λ e. IfServing e.0 (λ f. WasServed ⟦<D as Device>⟧ device e.1 (λ opened served rules v.
         HasStoppedAt I.gave O.took input.old input.new output.old output.new opened served rules v O.failures f))) }
+
+    // Whatever the device.
     ensures caused { IfErr result (λ e. IsCaused e.0 (HasGrown (D.disk.failures device) (D.disk.failures e.1))
         (HasGrown (I.failures input.old) (I.failures input.new)) (HasGrown (O.failures output.old) (O.failures output.new))) }
     ensures unread { IfErr result (λ e. IfOpening e.0 (λ _. (input.new ≡ input.old) × (output.new ≡ output.old))) }
