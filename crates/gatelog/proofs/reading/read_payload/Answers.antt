@@ -9,6 +9,10 @@ pub returns-then-payload_length-gt-MOST_PAYLOAD-clause-ran : goal.returns-then-p
 returns-then-payload_length-gt-MOST_PAYLOAD-clause-ran g c =
     same_then g.D.Device.disk c.args.device.now c.check_body.new.device c.read.new.self c.check_body.ensures.ran c.read.ensures.ran
 
+pub returns-in_err-read-clause-ran : goal.returns-in_err-read-clause-ran
+returns-in_err-read-clause-ran g c =
+    same_then g.D.Device.disk c.args.device.now c.check_body.new.device c.read.new.self c.check_body.ensures.ran c.read.ensures.ran
+
 pub returns-in_err-copy_of-clause-ran : goal.returns-in_err-copy_of-clause-ran
 returns-in_err-copy_of-clause-ran g c =
     same_then g.D.Device.disk c.args.device.now c.check_body.new.device c.read.new.self c.check_body.ensures.ran c.read.ensures.ran
