@@ -2,8 +2,8 @@
 
 use crate::codes::printed;
 use cases::{Wrong, bytes};
-use instructions::Name;
-use plancode::{Verified, decode, encode};
+use instructions::{Name, encode};
+use plancode::{Verified, decode};
 use std::alloc::Global;
 
 // Whether a copy of a plan is encoded to these bytes.

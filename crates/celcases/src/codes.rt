@@ -10,9 +10,8 @@ use cases::{Wrong, shown, spelled};
 use celread::read;
 use celtree::Tree;
 use celtypes::{Env, check};
-use instructions::Plan;
+use instructions::{Plan, encode};
 use plan::compile;
-use plancode::encode;
 use std::alloc::Global;
 use std::fmt::Debug;
 

@@ -9,8 +9,8 @@ use celmean::{Outcome, Value};
 use celplain::{Binding, Environment, evaluate};
 use celread::read;
 use celtypes::Env;
-use instructions::Name;
-use plancode::{Verified, decode, encode};
+use instructions::{Name, encode};
+use plancode::{Verified, decode};
 use planrun::{Bindings, run};
 use std::alloc::Global;
 

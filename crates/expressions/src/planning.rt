@@ -19,9 +19,9 @@ use crate::source::{Source, sources};
 use crate::typing::{declare, env_at, type_at};
 use celtree::Tree;
 use celtypes::{Env, Variable, at_most_one_type};
-use instructions::{CodeFault, Name};
+use instructions::{CodeFault, Name, encode};
 use plan::compile;
-use plancode::{Verified, decode, encode};
+use plancode::{Verified, decode};
 use policy::Policy;
 use std::alloc::{AllocError, Global};
 

@@ -15,3 +15,4 @@ pub mod Leaving
 pub mod OverTables
 pub mod Low
 pub mod Walking
+pub mod Rooms

@@ -4,7 +4,7 @@
 //! instruction that takes them. A target is the number of an instruction, counted from 0, and lies ahead of the instruction that
 //! names it. `specs/Op.antt` has the instructions as pure data, which the contracts of the crates above speak of.
 //!
-//! `specs/Bytes.antt` has the bytes of each instruction, `specs/WellFormed.antt` which plans are well formed, and
+//! `specs/Bytes.antt` has the bytes of each instruction, which [`encode`] writes, `specs/WellFormed.antt` which plans are well formed, and
 //! `specs/Judging.antt` the first fault of a plan that is not, which [`check`] finds in two passes over the instructions.
 #![tactic(auto)]
 
@@ -15,8 +15,10 @@ mod instruction;
 mod judging;
 mod laws;
 mod macros;
+mod writing;
 
 pub use fault::CodeFault;
 pub use instruction::{Binary, Function, Instruction, Name, Plan, Slot};
 pub use judging::check;
 pub use laws::sound_where_well_formed;
+pub use writing::{encode, name_byte};

@@ -4,6 +4,5 @@ pub mod Fields
 pub mod Tables
 pub mod Spelling
 pub mod Again
-pub mod Rooms
 pub mod Codes
 pub mod Copies

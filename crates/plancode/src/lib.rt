@@ -1,4 +1,4 @@
-//! The bytes of plans: [`encode`] writes a plan, and [`decode`] reads one and has it judged.
+//! The bytes of plans, read: [`decode`] reads a plan and has it judged.
 //!
 //! A plan has one spelling: the number of its instructions in two bytes, and each instruction by its number and its operands, with
 //! numbers big-endian (`specs/Bytes.antt` of `instructions`). [`decode`] gives a [`Verified`] plan exactly where the bytes spell a
@@ -11,8 +11,6 @@ mod numbers;
 mod operands;
 mod reading;
 mod verified;
-mod writing;
 
 pub use laws::{decodes_its_code, first_faults, one_spelling};
 pub use verified::{Verified, decode};
-pub use writing::encode;

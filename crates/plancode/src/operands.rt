@@ -21,9 +21,8 @@ ghost use Rattle.plancode.specs.Reading.{
 };
 
 use crate::numbers::{byte, long, short, text};
-use crate::writing::name_byte;
 use celtree::{Macro, Prefix};
-use instructions::{Binary, CodeFault, Function, Instruction, Name, Slot};
+use instructions::{Binary, CodeFault, Function, Instruction, Name, Slot, name_byte};
 use std::alloc::Global;
 
 fn truth_named(number: u8) -> Result<bool, CodeFault>

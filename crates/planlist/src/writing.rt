@@ -5,7 +5,8 @@ ghost use Rattle.planlist.specs.Plans.{plan_bytes, list_bytes, IsShort, HaveNumb
 ghost use Rattle.planlist.specs.declared.writing.WritePlansFault.TheVariants as fault;
 
 use byteorder::{BigEndian, ByteOrder};
-use plancode::{Verified, encode};
+use instructions::encode;
+use plancode::Verified;
 use std::alloc::{AllocError, AllocFailed, Global};
 use thiserror::Error;
 

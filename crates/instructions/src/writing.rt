@@ -18,8 +18,8 @@ ghost use Rattle.instructions.specs.Bytes.{
 };
 ghost use Rattle.instructions.specs.Seen.{op_of, ops_of, plan_ops};
 
+use crate::instruction::{Binary, Function, Instruction, Name, Plan, Slot};
 use celtree::{Macro, Prefix};
-use instructions::{Binary, Function, Instruction, Name, Plan, Slot};
 use std::alloc::{AllocError, Global};
 
 fn truth_byte(truth: bool) -> u8
@@ -28,8 +28,8 @@ fn truth_byte(truth: bool) -> u8
     if truth { 1 } else { 0 }
 }
 
-/// The number of a declared name.
-pub(crate) fn name_byte(name: Name) -> u8
+/// The number of a declared name in the bytes of a plan: `object` 1, `oldObject` 2, `request` 3, `params` 4.
+pub fn name_byte(name: Name) -> u8
     ensures { result ≡ name_number name }
 {
     match name {
