@@ -13,7 +13,7 @@ use Rattle.history.specs.View.{stored_at}
 use Rattle.policy.specs.declared.validation.Reason.{Reason}
 use Rattle.policy.specs.declared.validation.Reason.TheVariants.{Unauthorized, Forbidden, Invalid, RequestEntityTooLarge}
 use Rattle.objects.specs.declared.format.Rules.{Rules}
-use Rattle.findings.specs.Conditions.{Refusal, known, with_bad_expression, denied_by, asks_for}
+use Rattle.recovery.specs.Conditions.{Refusal, known, with_bad_expression, denied_by, asks_for}
 use Rattle.apicore.specs.Step.{Asked, reason_code, status, refusal, success, warnings_of, verdict_of, reply}
 use Rattle.recovery.specs.Standing.{View}
 

@@ -8,7 +8,7 @@ use Rattle.celtree.specs.Tree.{Expr}
 use Rattle.expressions.specs.Specification.{Specification}
 use Rattle.verdict.specs.Verdict.{Verdict, admitted, denied}
 use Rattle.recovery.specs.Standing.{Write, View}
-use Rattle.findings.specs.Conditions.{Condition, first_of, own_conditions, asks_for, put_of}
+use Rattle.recovery.specs.Conditions.{Condition, first_of, own_conditions, asks_for, put_of}
 use Rattle.apicore.specs.Admitted.{IsAdmitted, AreAdmitted, verdict_on}
 use Rattle.apicore.specs.Step.{Asked, verdict_conditions, verdict_of, refusal, writes, accepted}
 use Rattle.apicore.specs.Laws.{AcceptedAreAdmitted}

@@ -39,11 +39,11 @@ use Rattle.verdict.specs.Verdict.{Verdict, admitted, denied}
 use Rattle.recovery.specs.Beside.{Beside, spelled}
 use Rattle.recovery.specs.Shown.{plans_held, Shows, IsOver}
 use Rattle.recovery.specs.Standing.{Write, View, write_with_plans}
-use Rattle.findings.specs.Attempts.{objects_of, attempt_of, shown_at}
-use Rattle.findings.specs.Conditions.{Refusal, Condition, known, denied_by, first_of, of_table, asks_for, own_conditions, replace_conditions, delete_conditions, create_limits, replace_limits}
-use Rattle.findings.proofs.Own.{create_clear, create_attempt, replace_clear, replace_attempt, deleted, delete_attempt}
-use Rattle.findings.proofs.First.{refused_alone, none_after, first_of_table, nothing_more}
-use Rattle.findings.proofs.Showing.{getting, getting_shown, listing_shown, telling, telling_shown, revision_shown, document_shown}
+use Rattle.recovery.specs.Attempts.{objects_of, attempt_of, shown_at}
+use Rattle.recovery.specs.Conditions.{Refusal, Condition, known, denied_by, first_of, of_table, asks_for, own_conditions, replace_conditions, delete_conditions, create_limits, replace_limits}
+use Rattle.recovery.proofs.Own.{create_clear, create_attempt, replace_clear, replace_attempt, deleted, delete_attempt}
+use Rattle.recovery.proofs.First.{refused_alone, none_after, first_of_table, nothing_more}
+use Rattle.recovery.proofs.Showing.{getting, getting_shown, listing_shown, telling, telling_shown, revision_shown, document_shown}
 use Rattle.apicore.specs.Judged.{IsRefused, IsMade, IsJudged}
 use Rattle.apicore.specs.Prepared.{IsReadOf, IsStepOf, IsPrepared}
 use Rattle.apicore.specs.Admitted.{verdict_on}

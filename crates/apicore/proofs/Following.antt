@@ -14,9 +14,9 @@ use Rattle.expressions.specs.Specification.{Specification, bad_spec, bad_express
 use Rattle.expressions.specs.Specification as beside
 use Rattle.recovery.specs.Standing.{Write, History, View, AllMayFollow, IsHistory}
 use Rattle.recovery.proofs.Following.{AllMayFollow-append}
-use Rattle.findings.specs.Conditions.{known, with_bad_expression, asks_for, put_of, update_conflicts, deletion_conflicts}
+use Rattle.recovery.specs.Conditions.{known, with_bad_expression, asks_for, put_of, update_conflicts, deletion_conflicts}
 use Rattle.apicore.specs.Prepared.{IsReadOf}
-use Rattle.findings.proofs.Following.{form_of, put_follows, replaced_follows, deleted_follows, nothing_follows, bad_form, bad_form_later}
+use Rattle.recovery.proofs.Conditions.{form_of, put_follows, replaced_follows, deleted_follows, nothing_follows, bad_form, bad_form_later}
 use Rattle.apicore.specs.Step.{Asked, verdict_conditions, verdict_of, writes, refusal, reply, accepted, replies, step, runs}
 
 -- what a request writes may follow

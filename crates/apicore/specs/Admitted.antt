@@ -5,7 +5,7 @@ use Rattle.history.specs.View.{after}
 use Rattle.verdict.specs.Admission.{verdict}
 use Rattle.verdict.specs.Verdict.{Verdict, admitted, denied}
 use Rattle.recovery.specs.Standing.{Write, View}
-use Rattle.findings.specs.Attempts.{objects_of, attempt_of}
+use Rattle.recovery.specs.Attempts.{objects_of, attempt_of}
 
 abbrev pub IsAdmitted : Verdict → Type 0
 IsAdmitted (admitted warnings) = Unit {0}

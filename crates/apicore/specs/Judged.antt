@@ -8,7 +8,7 @@ use Rattle.recovery.specs.Beside.{Beside}
 use Rattle.verdict.specs.Verdict.{Verdict, admitted, denied}
 use Rattle.recovery.specs.Shown.{plans_held}
 use Rattle.recovery.specs.Standing.{Write, write_with_plans}
-use Rattle.findings.specs.Conditions.{Refusal, denied_by}
+use Rattle.recovery.specs.Conditions.{Refusal, denied_by}
 use Rattle.apicore.specs.Step.{status}
 use Rattle.apicore.specs.declared.prepared.Prepared.{Prepared}
 

@@ -14,7 +14,7 @@ use Rattle.expressions.specs.Specification.{Specification}
 use Rattle.recovery.specs.Beside.{Beside}
 use Rattle.recovery.specs.Shown.{plans_held, IsOver}
 use Rattle.recovery.specs.Standing.{View, write_with_plans}
-use Rattle.findings.specs.Read.{IsRead}
+use Rattle.recovery.specs.Read.{IsRead}
 use Rattle.apicore.specs.Step.{Asked, reply, writes}
 use Rattle.apicore.specs.declared.prepared.Prepared.{Prepared}
 

@@ -17,7 +17,7 @@ use Rattle.expressions.specs.Specification.{Specification}
 use Rattle.bindings.specs.Verdict.{denial_text}
 use Rattle.verdict.specs.Verdict.{Verdict, admitted, denied}
 use Rattle.recovery.specs.Standing.{Write, History, View}
-use Rattle.findings.specs.Conditions.{Refusal, known, with_bad_expression, denied_by, Condition, first_of, own_conditions, asks_for}
+use Rattle.recovery.specs.Conditions.{Refusal, known, with_bad_expression, denied_by, Condition, first_of, own_conditions, asks_for}
 use Rattle.apicore.specs.Admitted.{verdict_on}
 
 -- a request, and what stands in the document that it asks to be stored

@@ -1,6 +1,6 @@
 // Whether a request asks for another revision than that of the object which is stored.
 ghost use Rattle.std.specs.Prelude.{◌≡◌, IfOk, option_map, string_bytes};
-ghost use Rattle.findings.specs.Conditions.{is_text_of, update_conflicts_at, deletion_conflicts_at};
+ghost use Rattle.recovery.specs.Conditions.{is_text_of, update_conflicts_at, deletion_conflicts_at};
 
 use requests::Manifest;
 use std::alloc::{AllocError, Global};

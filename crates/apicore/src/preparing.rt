@@ -17,10 +17,10 @@ ghost use Rattle.holdings.specs.Sources.{found_in};
 ghost use Rattle.expressions.specs.Specification.{Specification as SpecificationOf, sound, compiled, plans_in, specification_seen};
 ghost use Rattle.recovery.specs.Beside.{Beside as BesideData};
 ghost use Rattle.recovery.specs.Shown.{IsOver};
-ghost use Rattle.findings.specs.Looked.{HasLooked, IsAsBefore};
+ghost use Rattle.recovery.specs.Looked.{HasLooked, IsAsBefore};
 ghost use Rattle.apicore.specs.Prepared.{IsReadOf, IsPrepared, IsStepOf};
 ghost use Rattle.recovery.specs.Standing.{View};
-ghost use Rattle.findings.specs.Conditions.{first_of, replace_limits, update_conflicts_at, deletion_conflicts_at};
+ghost use Rattle.recovery.specs.Conditions.{first_of, replace_limits, update_conflicts_at, deletion_conflicts_at};
 
 use crate::conflicts::{deletion_conflicts, update_conflicts};
 use crate::judging::{judged_delete, judged_put};
@@ -29,12 +29,11 @@ use crate::reading::{get, list, refuse, watch};
 use crate::refusing::{bad_expression, refused};
 use documents::shown_document;
 use expressions::Specification;
-use findings::{create_limit, replace_limit, specified};
 use holdings::{Found, Source};
 use names::Key;
 use objects::LookupFault;
 use plancode::Verified;
-use recovery::{Beside, Core};
+use recovery::{Beside, Core, create_limit, replace_limit, specified};
 use requests::{Manifest, Refusal, Request};
 use std::alloc::Global;
 

@@ -13,16 +13,15 @@ ghost use Rattle.history.specs.Reply.{status};
 ghost use Rattle.history.specs.View.{View as Held};
 ghost use Rattle.holdings.specs.Holdings.{Shows};
 ghost use Rattle.recovery.specs.Beside.{Beside as BesideData};
-ghost use Rattle.findings.specs.Looked.{HasLooked};
+ghost use Rattle.recovery.specs.Looked.{HasLooked};
 ghost use Rattle.apicore.specs.Prepared.{IsPrepared};
 
 use crate::prepared::Prepared;
-use findings::{listed, shown};
 use history::Reply;
 use holdings::Source;
 use names::Key;
 use objects::LookupFault;
-use recovery::{Beside, Core};
+use recovery::{Beside, Core, listed, shown};
 use requests::{Collection, Refusal, Selector};
 use std::alloc::{AllocError, Global};
 

@@ -3,7 +3,7 @@
 ghost use Rattle.std.specs.Prelude.{◌≡◌, IfOk, OnErr, IsErrOf, string_bytes};
 ghost use Rattle.objects.specs.declared.fault.LookupFault.TheVariants as LookupFault;
 ghost use Rattle.apicore.specs.Judged.{IsRefused};
-ghost use Rattle.findings.specs.Conditions.{known, with_bad_expression, denied_by};
+ghost use Rattle.recovery.specs.Conditions.{known, with_bad_expression, denied_by};
 ghost use Rattle.apicore.specs.Step.{reason_code, reason_word};
 
 use crate::prepared::Prepared;

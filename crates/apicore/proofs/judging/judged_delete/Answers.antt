@@ -6,8 +6,8 @@ use Rattle.history.specs.Mapped.{mapped_write}
 use Rattle.history.specs.Reply.{showing}
 use Rattle.verdict.specs.Seen.{verdict_seen}
 use Rattle.recovery.specs.Shown.{plans_held}
-use Rattle.findings.proofs.Found.{stored_found}
-use Rattle.findings.proofs.Looking.{looked_after}
+use Rattle.recovery.proofs.Found.{stored_found}
+use Rattle.recovery.proofs.Looking.{looked_after}
 use Rattle.apicore.proofs.Deciding.{if_ok, admitted_judged, denied_judged}
 use Rattle.apicore.proofs.judging.judged_delete.Goals as goal
 

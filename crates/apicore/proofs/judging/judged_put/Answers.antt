@@ -7,7 +7,7 @@ use Rattle.requests.specs.Codes.{document_in}
 use Rattle.history.specs.History.{put}
 use Rattle.history.specs.Reply.{Reply, showing}
 use Rattle.verdict.specs.Seen.{verdict_seen}
-use Rattle.findings.proofs.Looking.{looked_after}
+use Rattle.recovery.proofs.Looking.{looked_after}
 use Rattle.apicore.proofs.Deciding.{admitted_judged, denied_judged, put_planned, some_mapped}
 use Rattle.apicore.proofs.judging.judged_put.Goals as goal
 

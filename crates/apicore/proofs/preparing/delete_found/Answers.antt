@@ -1,9 +1,9 @@
 use Rattle.std.proofs.Common.{◌∙◌, sym, refl, true, false, option_map, string_bytes}
 use Rattle.history.specs.View.{is_exhausted}
 use Rattle.requests.specs.Request.{delete}
-use Rattle.findings.proofs.Looking.{looked_not}
-use Rattle.findings.proofs.Found.{delete_found}
-use Rattle.findings.proofs.Own.{deleted}
+use Rattle.recovery.proofs.Looking.{looked_not}
+use Rattle.recovery.proofs.Found.{delete_found}
+use Rattle.recovery.proofs.Own.{deleted}
 use Rattle.apicore.proofs.Deciding.{refused_own}
 use Rattle.apicore.proofs.preparing.delete_found.Goals as goal
 

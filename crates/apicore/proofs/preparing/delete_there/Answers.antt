@@ -1,7 +1,7 @@
 use Rattle.std.proofs.Common.{◌∙◌, sym, ap, false, option_map, string_bytes, Some}
 use Rattle.documents.specs.Document.{shown}
 use Rattle.serde_json.specs.View.{view}
-use Rattle.findings.proofs.Found.{delete_found, said_found, told_found, not_exhausted}
+use Rattle.recovery.proofs.Found.{delete_found, said_found, told_found, not_exhausted}
 use Rattle.apicore.proofs.Deciding.{if_ok, delete_judged}
 use Rattle.apicore.proofs.preparing.delete_there.Goals as goal
 

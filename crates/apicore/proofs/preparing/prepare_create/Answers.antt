@@ -1,9 +1,9 @@
 use Rattle.std.proofs.Common.{rules, ◌∙◌, sym, inl, inr}
 use Rattle.requests.specs.Request.{create}
 use Rattle.recovery.proofs.Over.{over_kept}
-use Rattle.findings.proofs.Looking.{looked_on, looked_after}
-use Rattle.findings.proofs.Found.{there_found, none_found}
-use Rattle.findings.proofs.Own.{create_there}
+use Rattle.recovery.proofs.Looking.{looked_on, looked_after}
+use Rattle.recovery.proofs.Found.{there_found, none_found}
+use Rattle.recovery.proofs.Own.{create_there}
 use Rattle.apicore.proofs.Deciding.{refused_own, prepared_of}
 use Rattle.apicore.proofs.preparing.prepare_create.Goals as goal
 

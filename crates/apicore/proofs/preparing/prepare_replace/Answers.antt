@@ -1,8 +1,8 @@
 use Rattle.std.proofs.Common.{rules, ◌∙◌, sym, inl, inr}
 use Rattle.requests.specs.Request.{replace}
 use Rattle.recovery.proofs.Over.{over_kept}
-use Rattle.findings.proofs.Looking.{looked_on, looked_after}
-use Rattle.findings.proofs.Own.{replace_missing}
+use Rattle.recovery.proofs.Looking.{looked_on, looked_after}
+use Rattle.recovery.proofs.Own.{replace_missing}
 use Rattle.apicore.proofs.Deciding.{refused_own, prepared_of}
 use Rattle.apicore.proofs.preparing.prepare_replace.Goals as goal
 

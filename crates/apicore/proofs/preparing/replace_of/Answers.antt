@@ -1,7 +1,7 @@
 use Rattle.std.proofs.Common.{◌∙◌, sym}
 use Rattle.requests.specs.Request.{replace}
-use Rattle.findings.proofs.Looking.{looked_not}
-use Rattle.findings.proofs.Own.{replace_conflicting}
+use Rattle.recovery.proofs.Looking.{looked_not}
+use Rattle.recovery.proofs.Own.{replace_conflicting}
 use Rattle.apicore.proofs.Deciding.{refused_own}
 use Rattle.apicore.proofs.preparing.replace_of.Goals as goal
 

@@ -1,5 +1,5 @@
 use Rattle.std.proofs.Common.{rules, ◌∙◌, ap}
-use Rattle.findings.proofs.Looking.{looked_as}
+use Rattle.recovery.proofs.Looking.{looked_as}
 use Rattle.apicore.proofs.Deciding.{list_prepared}
 use Rattle.apicore.proofs.reading.list.Goals as goal
 

@@ -1,9 +1,0 @@
-pub mod Among
-pub mod Looking
-pub mod Finding
-pub mod Showing
-pub mod First
-pub mod Found
-pub mod Read
-pub mod Own
-pub mod Following

@@ -1,0 +1,48 @@
+-- A core over a source, as objects are looked up in them.
+use Rattle.std.specs.Prelude.{◌≡◌, List, map, IsTrue}
+use Rattle.std.proofs.Common.{refl, ◌∙◌}
+use Rattle.std.specs.FinMap.{is_sorted}
+use Rattle.names.specs.Key.{Key, key_cmp}
+use Rattle.history.specs.declared.stored.Stored.{Stored}
+use Rattle.history.specs.View as seen
+use Rattle.holdings.specs.Holdings as holdings
+use Rattle.lookup.specs.Objects.{Held, Objects, all_held}
+use Rattle.recovery.specs.Beside.{Beside, found_with}
+use Rattle.recovery.specs.Shown.{HasNoRules}
+use Rattle.recovery.specs.declared.sight.Sight.{Sight}
+use Rattle.recovery.specs.Looked.{Base}
+
+abbrev pub held_of : Stored Beside → Held
+held_of s = found_with s.document s.beside s.revision
+
+abbrev pub entry_held : Key × Stored Beside → Key × Held
+entry_held o = (o.0, held_of o.1)
+
+-- Over what the source holds, the core has these objects, with the plans of their trees, and their keys ascend.
+pub record Sees {S : Type 0} (holds : S → List (Key × Stored Beside) → Type 0) (s : Sight S) (objects : Objects) : Type 0 where
+  pub base : List (Key × Stored Beside)
+  pub below : holds s.source.now base
+  pub free : HasNoRules base
+  pub held : seen.View Beside
+  pub shows : holdings.Shows s.core.now base held
+  pub are : map entry_held held.objects ≡ all_held objects
+  pub ascends : IsTrue (is_sorted key_cmp objects)
+
+-- Looks leave the core as it is, and the same source, of which they make what they may.
+pub record Goes {S : Type 0} (holds : S → List (Key × Stored Beside) → Type 0) (goes_to : S → S → Type 0) (before after : Sight S) : Type 0 where
+  pub core : after.core.now ≡ before.core.now
+  pub same : after.source.ghost_name ≡ before.source.ghost_name
+  pub kept : (base : List (Key × Stored Beside)) → holds before.source.now base → holds after.source.now base
+  pub goes : goes_to before.source.now after.source.now
+
+module _ {S : Type 0} (holds : S → Base → Type 0) (goes_to : S → S → Type 0) where
+  pub stays : ((s : S) → goes_to s s) → (s : Sight S) → Goes holds goes_to s s
+  stays itself s = record { core = refl; same = refl; kept = λ _ below. below; goes = itself s.source.now }
+
+  pub goes_on : ((a b c : S) → goes_to a b → goes_to b c → goes_to a c) → (a b c : Sight S) → Goes holds goes_to a b → Goes holds goes_to b c → Goes holds goes_to a c
+  goes_on further a b c first second = record {
+    core = second.core ∙ first.core;
+    same = second.same ∙ first.same;
+    kept = λ base below. second.kept base (first.kept base below);
+    goes = further a.source.now b.source.now c.source.now first.goes second.goes;
+  }

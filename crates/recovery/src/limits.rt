@@ -1,0 +1,50 @@
+//! The limits of the store, which refuse a write before the policies are asked.
+
+ghost use Rattle.std.specs.Prelude.{◌≡◌, ◌<◌, List, None, option_map};
+ghost use Rattle.names.specs.Key.{Key as KeyData};
+ghost use Rattle.requests.specs.Codes.{document_in};
+ghost use Rattle.history.specs.declared.stored.Stored.{Stored as StoredData};
+ghost use Rattle.history.specs.View.{View as Held};
+ghost use Rattle.holdings.specs.Holdings.{Shows};
+ghost use Rattle.recovery.specs.Beside.{Beside as BesideData};
+ghost use Rattle.recovery.specs.Conditions.{known, first_of, create_limits, replace_limits};
+
+use crate::Core;
+use requests::{Manifest, Refusal};
+
+/// The first limit of the store that refuses a new object.
+pub fn create_limit(core: &Core, manifest: &Manifest) -> Option<Refusal>
+    ensures shown { (base : List (KeyData × StoredData BesideData)) (held : Held BesideData) → Shows core.now base held
+        → option_map known result ≡ first_of (create_limits core.now.rules held (document_in manifest.now.body)) }
+    ensures room { result ≡ None → core.now.revision < core.now.rules.greatest_revision }
+{
+    // The document, of which the text speaks.
+    let _document = manifest.document();
+    if core.is_too_large(manifest) {
+        return Some(Refusal::ObjectTooLarge);
+    }
+    if core.is_full() {
+        return Some(Refusal::TooManyObjects);
+    }
+    if core.is_exhausted() {
+        return Some(Refusal::RevisionExhausted);
+    }
+    None
+}
+
+/// The first limit of the store that refuses an update.
+pub fn replace_limit(core: &Core, manifest: &Manifest) -> Option<Refusal>
+    ensures shown { (base : List (KeyData × StoredData BesideData)) (held : Held BesideData) → Shows core.now base held
+        → option_map known result ≡ first_of (replace_limits core.now.rules held (document_in manifest.now.body)) }
+    ensures room { result ≡ None → core.now.revision < core.now.rules.greatest_revision }
+{
+    // The document, of which the text speaks.
+    let _document = manifest.document();
+    if core.is_too_large(manifest) {
+        return Some(Refusal::ObjectTooLarge);
+    }
+    if core.is_exhausted() {
+        return Some(Refusal::RevisionExhausted);
+    }
+    None
+}

@@ -1,0 +1,97 @@
+//! The core over a source, as objects are looked up in them.
+
+ghost use Rattle.std.specs.Prelude.{◌≡◌, map, IfOk};
+ghost use Rattle.lookup.specs.Seen.{held_by, listed_seen};
+ghost use Rattle.recovery.specs.Sights.{held_of, entry_held};
+
+use crate::wanted::wanted_among;
+use crate::{Beside, Core};
+use history::Stored;
+use holdings::Source;
+use jsondoc::Doc;
+use lookup::{Found, Listed, Lookup};
+use names::{Key, Resource};
+use objects::LookupFault;
+use overlay::Lent;
+use policy::Wanted;
+use std::alloc::{AllocError, Global};
+
+/// A core over a source, as objects are looked up in them: policies and bindings in memory, parameters in both.
+#[derive(Drop)]
+pub struct Sight<'a, 's, S> {
+    /// What is held in memory.
+    pub core: &'a Core,
+    /// What lies below it.
+    pub source: &'s mut S,
+}
+
+impl<'a, 's, S: Source<Beside>> Lookup<'a> for Sight<'a, 's, S> {
+    ghost use Rattle.recovery.specs.Sights.{Sees, Goes, stays, goes_on};
+
+    ghost shows = { Sees S.holds };
+
+    ghost failures = { λ s. S.failures s.source.now };
+
+    ghost is_damaged = { λ s. S.is_damaged s.source.now };
+
+    ghost goes_to = { Goes S.holds S.goes_to };
+
+    ghost ascending = { λ _ _ sees. sees.ascends };
+
+    ghost shows_nothing = { λ s _ sees damaged. S.holds_nothing s.source.now sees.base sees.below damaged };
+
+    ghost stays = { stays S.holds S.goes_to S.stays };
+
+    ghost goes_on = { goes_on S.holds S.goes_to S.goes_on };
+
+    fn policy(&mut self, _alloc: Global, key: &Key) -> Result<Option<Found<'a>>, LookupFault> {
+        match self.core.change(key) {
+            Some(Some(stored)) => Ok(Some(lent(stored))),
+            Some(None) => Ok(None),
+            None => Ok(None),
+        }
+    }
+
+    fn bindings(&mut self, alloc: Global) -> Result<Vec<Listed<'a>>, LookupFault> {
+        let bindings = Resource::ValidatingAdmissionPolicyBinding;
+        let objects = self.core.held(alloc, bindings)?;
+        Ok(all_lent(alloc, &objects)?)
+    }
+
+    fn parameters(
+        &mut self,
+        alloc: Global,
+        resource: Resource,
+        namespace: &str,
+        wanted: &Wanted,
+    ) -> Result<Vec<Doc>, LookupFault> {
+        let below = self.source.list(alloc, resource, Some(namespace))?;
+        let objects = self.core.list(alloc, resource, Some(namespace), &below)?;
+        let listed = all_lent(alloc, &objects)?;
+        Ok(wanted_among(alloc, wanted, &listed)?)
+    }
+}
+
+// What is stored, lent.
+fn lent(stored: &Stored<Beside>) -> Found<'_>
+    ensures { held_by result ≡ held_of stored.now }
+{
+    stored.beside.found(&stored.document, stored.revision)
+}
+
+// Objects, lent.
+fn all_lent<'a>(
+    alloc: Global,
+    objects: &[Lent<'a, Stored<Beside>>],
+) -> Result<Vec<Listed<'a>>, AllocError>
+    ensures { IfOk result (λ v. map listed_seen v.items ≡ map entry_held objects.now) }
+{
+    let mut listed = Vec::with_capacity(alloc, objects.len())?;
+    for object in objects {
+        listed.push(Listed {
+            key: object.key,
+            found: lent(object.value),
+        })?;
+    }
+    Ok(listed)
+}

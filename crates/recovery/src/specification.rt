@@ -1,0 +1,25 @@
+//! What stands in the document that a request asks to be stored.
+
+ghost use Rattle.std.specs.Prelude.{◌≡◌, IfOk};
+ghost use Rattle.celtree.specs.Tree.{Expr};
+ghost use Rattle.requests.specs.Codes.{document_in};
+ghost use Rattle.expressions.specs.Specification.{Specification as SpecificationOf, compiled, specification_seen};
+ghost use Rattle.recovery.specs.Read.{IsRead};
+
+use expressions::{Specification, specification_of};
+use requests::Manifest;
+use std::alloc::{AllocError, Global};
+
+/// What stands in the document of a manifest.
+///
+/// # Errors
+///
+/// Where no memory is left.
+#[tactic(auto, using(crate::proofs::Read::found_of))]
+pub fn specified(alloc: Global, manifest: &Manifest) -> Result<Specification, AllocError>
+    ensures { IfOk result (λ found. (s : SpecificationOf Expr) × IsRead manifest.now.key.resource (document_in manifest.now.body).json s
+        × (specification_seen found ≡ compiled (document_in manifest.now.body).json s)) }
+{
+    let document = manifest.document().json();
+    specification_of(alloc, manifest.key().resource(), document)
+}
