@@ -3,13 +3,13 @@ use Rattle.std.proofs.Common.{ℕ, List, [], Option, Some, None, arith}
 use Rattle.std.specs.Option.{option_map_or}
 use Rattle.http.specs.StatusCode.{IsStatusCode}
 use Rattle.celtree.specs.Tree.{Expr}
-use Rattle.history.specs.declared.stored.Stored.{Stored}
+use Rattle.requests.specs.declared.stored.Stored.{Stored}
 use Rattle.requests.specs.declared.refusal.Refusal as told
 use Rattle.requests.specs.declared.refusal.Refusal.TheVariants.{MalformedRequest, UnservedVersion, TooManyFields, UnservedTransferCoding, BadHost, BadContentLength, BodyTooLarge, UnservedExpectation, BadTarget, NoSuchPath, MethodNotAllowed, BadQuery, BadNameInPath, UnexpectedBody, BadVersion, Expired, BodyIsNotJson, NumberOutsideRange, WrongKind, BadMetadata, WrongName, VersionOnCreate, BadDeleteOptions, AlreadyExists, NotFound, VersionNotCurrent, BadSpec, ObjectTooLarge, TooManyObjects, RevisionExhausted, OutOfMemory, StorageFailed}
 use Rattle.requests.specs.Refusal as table
 use Rattle.requests.specs.Request.{Request, get, list, watch, create, replace, delete, refused}
-use Rattle.history.specs.Reply.{Reply, showing}
-use Rattle.history.specs.View.{stored_at}
+use Rattle.requests.specs.Reply.{Reply, showing}
+use Rattle.requests.specs.View.{stored_at}
 use Rattle.policy.specs.declared.validation.Reason.{Reason}
 use Rattle.policy.specs.declared.validation.Reason.TheVariants.{Unauthorized, Forbidden, Invalid, RequestEntityTooLarge}
 use Rattle.objects.specs.declared.format.Rules.{Rules}

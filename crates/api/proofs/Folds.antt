@@ -10,8 +10,8 @@ use Rattle.records.specs.Payload.{group_limit}
 use Rattle.recovery.specs.Standing.{Write, History, View}
 use Rattle.apicore.specs.Admitted.{AreAdmitted}
 use Rattle.apicore.proofs.Admitting.{AreAdmitted-append}
-use Rattle.history.specs.View.{view, after_all}
-use Rattle.history.proofs.ViewLemmas.{after_all-append}
+use Rattle.requests.specs.View.{view, after_all}
+use Rattle.requests.proofs.ViewLemmas.{after_all-append}
 use Rattle.durable.specs.declared.store.Store.{Store}
 use Rattle.durable.specs.Stands.{StandsFor}
 use Rattle.durable.specs.Settled.{device_of, serves, IsFound, IsSettledAt, IsLeftAt, LeavesSome}

@@ -15,8 +15,8 @@ use Rattle.recovery.specs.Standing.{Write, History, View}
 use Rattle.apicore.specs.Admitted.{AreAdmitted}
 use Rattle.apicore.specs.Prepared.{IsReadOf}
 use Rattle.apicore.specs.Step.{Asked, writes, reply, accepted, replies}
-use Rattle.history.specs.Reply.{Reply, status}
-use Rattle.history.specs.View.{view, after_all}
+use Rattle.requests.specs.Reply.{Reply, status}
+use Rattle.requests.specs.View.{view, after_all}
 use Rattle.durable.specs.declared.fault.Damage.{Damage}
 use Rattle.durable.specs.declared.store.Store.{Store}
 use Rattle.durable.specs.Settled.{added, device_of, serves, ServesAt, IsSettledAt, IsLeftAt, LeavesSome, HasAnsweredAt, HasServedAs, HasServed, HasStopped}

@@ -8,11 +8,11 @@ use Rattle.requests.specs.declared.refusal.Refusal.TheVariants.{OutOfMemory, Sto
 use Rattle.expressions.specs.Specification.{Specification}
 use Rattle.recovery.specs.Standing.{Write, History, View}
 use Rattle.apicore.specs.Admitted.{AreAdmitted}
-use Rattle.history.specs.Reply.{Reply, status}
+use Rattle.requests.specs.Reply.{Reply, status}
 use Rattle.records.specs.Payload.{group_limit}
 use Rattle.apicore.specs.Step.{Asked, writes, reply}
 use Rattle.apicore.specs.Prepared.{IsReadOf}
-use Rattle.history.specs.View.{view, after_all}
+use Rattle.requests.specs.View.{view, after_all}
 use Rattle.durable.specs.declared.fault.Damage.{Damage}
 use Rattle.durable.specs.declared.store.Store.{Store}
 use Rattle.objects.specs.declared.format.Rules.{Rules}

@@ -2,9 +2,9 @@
 use Rattle.std.specs.Prelude.{◌≡◌, ℕ, Bool, true, false, List, [], ◌∷◌, ◌++◌}
 use Rattle.requests.specs.declared.refusal.Refusal.TheVariants.{OutOfMemory}
 use Rattle.recovery.specs.Standing.{History}
-use Rattle.history.specs.Reply.{Reply, status}
+use Rattle.requests.specs.Reply.{Reply, status}
 use Rattle.apicore.specs.Step.{Asked, runs}
-use Rattle.history.specs.View.{view}
+use Rattle.requests.specs.View.{view}
 use Rattle.objects.specs.declared.format.Rules.{Rules}
 use Rattle.httpmsg.specs.Stream.{Message}
 use Rattle.routes.specs.ReplyBytes.{reply_bytes}

@@ -2,8 +2,8 @@
 use Rattle.std.proofs.Common.{◌≡◌, refl, subst, List, [], ◌∷◌, ◌++◌, Bool, true, false, cond, is_some}
 use Rattle.objects.specs.declared.format.Rules.{Rules}
 use Rattle.requests.specs.Request.{Request, get, list, watch, create, replace, delete, refused}
-use Rattle.history.specs.History as write
-use Rattle.history.specs.View.{after, after_all}
+use Rattle.requests.specs.History as write
+use Rattle.requests.specs.View.{after, after_all}
 use Rattle.celtree.specs.Tree.{Expr}
 use Rattle.expressions.specs.Specification.{Specification}
 use Rattle.verdict.specs.Verdict.{Verdict, admitted, denied}

@@ -16,20 +16,20 @@ use Rattle.requests.specs.Request.{Request, get, list, watch, create, replace, d
 use Rattle.documents.specs.Requirement.{Requirement}
 use Rattle.requests.specs.declared.refusal.Refusal as code_refusal
 use Rattle.requests.specs.declared.refusal.Refusal.TheVariants.{NotFound}
-use Rattle.history.specs.History as write
-use Rattle.history.specs.History.{put}
-use Rattle.history.specs.Listing.{listing, watch_conditions}
-use Rattle.history.specs.Mapped.{mapped_write}
-use Rattle.history.specs.Reply as plain
-use Rattle.history.specs.Reply.{Reply, showing}
-use Rattle.history.specs.declared.stored.Stored.{Stored}
-use Rattle.history.specs.View as seen
-use Rattle.history.specs.View.{exists, document_at, stored_at}
+use Rattle.requests.specs.History as write
+use Rattle.requests.specs.History.{put}
+use Rattle.requests.specs.Listing.{listing, watch_conditions}
+use Rattle.requests.specs.Mapped.{mapped_write}
+use Rattle.requests.specs.Reply as plain
+use Rattle.requests.specs.Reply.{Reply, showing}
+use Rattle.requests.specs.declared.stored.Stored.{Stored}
+use Rattle.requests.specs.View as seen
+use Rattle.requests.specs.View.{exists, document_at, stored_at}
 use Rattle.holdings.specs.Holdings as holdings
 use Rattle.holdings.specs.Holdings.{State}
 use Rattle.holdings.specs.Prepared.{writes_of, AreNext, IsNextPut}
 use Rattle.holdings.specs.Writes.{Put}
-use Rattle.window.specs.declared.event.Change.TheVariants.{Added, Modified}
+use Rattle.objects.specs.declared.event.Change.TheVariants.{Added, Modified}
 use Rattle.plancode.specs.Plans.{Judged}
 use Rattle.policy.specs.declared.validation.Reason.{Reason}
 use Rattle.expressions.specs.Specification.{Specification, these, plans_in}

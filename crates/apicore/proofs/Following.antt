@@ -5,10 +5,10 @@ use Rattle.names.specs.Key.{is_key}
 use Rattle.requests.specs.declared.refusal.Refusal.TheVariants.{AlreadyExists, NotFound, VersionNotCurrent, BadSpec}
 use Rattle.requests.specs.Codes.{document_in}
 use Rattle.requests.specs.Request.{Request, get, list, watch, create, replace, delete, refused, RequestHasForm}
-use Rattle.history.specs.History as write
-use Rattle.history.specs.History.{put}
-use Rattle.history.specs.View.{exists, is_too_large, is_full, is_exhausted, after_all, empty, view}
-use Rattle.history.proofs.ViewLemmas.{after_all-append}
+use Rattle.requests.specs.History as write
+use Rattle.requests.specs.History.{put}
+use Rattle.requests.specs.View.{exists, is_too_large, is_full, is_exhausted, after_all, empty, view}
+use Rattle.requests.proofs.ViewLemmas.{after_all-append}
 use Rattle.celtree.specs.Tree.{Expr}
 use Rattle.expressions.specs.Specification.{Specification, bad_spec, bad_expression}
 use Rattle.expressions.specs.Specification as beside

@@ -1,7 +1,7 @@
 -- That each write was admitted by the policies, bindings and parameters just before it.
 use Rattle.std.specs.Prelude.{List, [], ◌∷◌}
 use Rattle.objects.specs.declared.format.Rules.{Rules}
-use Rattle.history.specs.View.{after}
+use Rattle.requests.specs.View.{after}
 use Rattle.verdict.specs.Admission.{verdict}
 use Rattle.verdict.specs.Verdict.{Verdict, admitted, denied}
 use Rattle.recovery.specs.Standing.{Write, View}

@@ -1,8 +1,8 @@
 -- What a step is where it is refused, and after the verdict on its write.
 use Rattle.std.specs.Prelude.{◌≡◌, ℕ, List, [], ◌∷◌, map, None}
-use Rattle.history.specs.Mapped.{mapped_write}
-use Rattle.history.specs.Reply.{Reply}
-use Rattle.history.specs.View as seen
+use Rattle.requests.specs.Mapped.{mapped_write}
+use Rattle.requests.specs.Reply.{Reply}
+use Rattle.requests.specs.View as seen
 use Rattle.holdings.specs.Prepared.{writes_of, AreNext}
 use Rattle.recovery.specs.Beside.{Beside}
 use Rattle.verdict.specs.Verdict.{Verdict, admitted, denied}

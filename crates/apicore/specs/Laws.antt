@@ -2,7 +2,7 @@
 use Rattle.std.specs.Prelude.{◌≡◌, ◌≤◌, ◌^◌, List, ◌∷◌}
 use Rattle.objects.specs.declared.format.Rules.{Rules}
 use Rattle.requests.specs.Request.{RequestHasForm}
-use Rattle.history.specs.View.{view}
+use Rattle.requests.specs.View.{view}
 use Rattle.recovery.specs.Standing.{View, History, IsHistory}
 use Rattle.apicore.specs.Prepared.{IsReadOf}
 use Rattle.apicore.specs.Admitted.{AreAdmitted}

@@ -5,9 +5,9 @@ use Rattle.objects.specs.declared.format.Rules.{Rules}
 use Rattle.names.specs.Key.{Key}
 use Rattle.requests.specs.Codes.{document_in}
 use Rattle.requests.specs.Request.{Request, get, list, watch, create, replace, delete, refused}
-use Rattle.history.specs.declared.stored.Stored.{Stored}
-use Rattle.history.specs.Mapped.{mapped_write}
-use Rattle.history.specs.View as seen
+use Rattle.requests.specs.declared.stored.Stored.{Stored}
+use Rattle.requests.specs.Mapped.{mapped_write}
+use Rattle.requests.specs.View as seen
 use Rattle.holdings.specs.Holdings.{State}
 use Rattle.holdings.specs.Prepared.{writes_of, AreNext}
 use Rattle.expressions.specs.Specification.{Specification}

@@ -8,13 +8,13 @@ use Rattle.requests.specs.declared.refusal.Refusal.TheVariants.{NotFound}
 use Rattle.requests.specs.Refusal as table
 use Rattle.requests.specs.Refusal.{Answer}
 use Rattle.requests.specs.Request.{Request, get, list, watch, create, replace, delete, refused}
-use Rattle.history.specs.Listing.{listing, watching}
-use Rattle.history.specs.Reply.{Reply, saying, showing}
-use Rattle.history.specs.View.{stored_at, document_at, after_all, view}
+use Rattle.requests.specs.Listing.{listing, watching}
+use Rattle.requests.specs.Reply.{Reply, saying, showing}
+use Rattle.requests.specs.View.{stored_at, document_at, after_all, view}
 use Rattle.policy.specs.declared.validation.Reason.{Reason}
 use Rattle.policy.specs.declared.validation.Reason.TheVariants.{Unauthorized, Forbidden, Invalid, RequestEntityTooLarge}
 use Rattle.expressions.specs.Specification.{Specification}
-use Rattle.bindings.specs.Verdict.{denial_text}
+use Rattle.verdict.specs.OneBinding.{denial_text}
 use Rattle.verdict.specs.Verdict.{Verdict, admitted, denied}
 use Rattle.recovery.specs.Standing.{Write, History, View}
 use Rattle.recovery.specs.Conditions.{Refusal, known, with_bad_expression, denied_by, Condition, first_of, own_conditions, asks_for}

@@ -1,8 +1,8 @@
 ghost use Rattle.std.specs.Prelude.{◌≡◌, None};
 
-use history::Reply;
 use holdings::PreparedWrite;
 use recovery::Beside;
+use requests::Reply;
 
 /// A step that has all its memory: the reply, and the write that it makes if it makes one.
 #[derive(Drop)]

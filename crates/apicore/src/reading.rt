@@ -7,22 +7,21 @@ ghost use Rattle.requests.specs.Collection.{collection_of};
 ghost use Rattle.requests.specs.Refusal.{first_of};
 ghost use Rattle.requests.specs.Request.{get, list};
 ghost use Rattle.requests.specs.Selector.{selector_seen};
-ghost use Rattle.history.specs.declared.stored.Stored.{Stored as StoredData};
-ghost use Rattle.history.specs.Listing.{watch_conditions, watching};
-ghost use Rattle.history.specs.Reply.{status};
-ghost use Rattle.history.specs.View.{View as Held};
+ghost use Rattle.requests.specs.declared.stored.Stored.{Stored as StoredData};
+ghost use Rattle.requests.specs.Listing.{watch_conditions, watching};
+ghost use Rattle.requests.specs.Reply.{status};
+ghost use Rattle.requests.specs.View.{View as Held};
 ghost use Rattle.holdings.specs.Holdings.{Shows};
 ghost use Rattle.recovery.specs.Beside.{Beside as BesideData};
 ghost use Rattle.recovery.specs.Looked.{HasLooked};
 ghost use Rattle.apicore.specs.Prepared.{IsPrepared};
 
 use crate::prepared::Prepared;
-use history::Reply;
 use holdings::Source;
 use names::Key;
 use objects::LookupFault;
 use recovery::{Beside, Core, listed, shown};
-use requests::{Collection, Refusal, Selector};
+use requests::{Collection, Refusal, Reply, Selector};
 use std::alloc::{AllocError, Global};
 
 /// The step of a GET.

@@ -7,12 +7,11 @@ ghost use Rattle.recovery.specs.Conditions.{known, with_bad_expression, denied_b
 ghost use Rattle.apicore.specs.Step.{reason_code, reason_word};
 
 use crate::prepared::Prepared;
-use bindings::denial_text;
-use history::Reply;
 use objects::LookupFault;
 use policy::Reason;
-use requests::Refusal;
+use requests::{Refusal, Reply};
 use std::alloc::Global;
+use verdict::denial_text;
 
 /// The step that a refusal of the table makes.
 pub(crate) fn refused(alloc: Global, refusal: Refusal) -> Result<Prepared, LookupFault>

@@ -4,7 +4,7 @@ use crate::notation::repeated;
 use cases::{Wrong, first_word, number};
 use celmean::Value;
 use celvalues::document_value;
-use jsondoc::Doc;
+use documents::Doc;
 use std::alloc::{AllocError, Global};
 use std::mem::replace;
 

@@ -7,7 +7,7 @@ ghost use Rattle.celmean.specs.Value.{items, entries};
 ghost use Rattle.celvalues.specs.Documents.{json_value, number_value, item_values, member_values};
 
 use celmean::Value;
-use jsondoc::Doc;
+use documents::Doc;
 use serde_json::{Map, Number, Value as Json};
 use std::alloc::{AllocError, Global};
 

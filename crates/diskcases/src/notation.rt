@@ -2,8 +2,8 @@
 
 use crate::line::Line;
 use cases::{Wrong, bytes, number};
-use entries::Entry;
 use names::{Key, KeyFault, Resource};
+use records::Entry;
 use std::alloc::{AllocError, Global};
 
 /// The byte of two hex digits.

@@ -8,7 +8,7 @@ use crate::line::Line;
 use crate::page_lines::page_of;
 use checkpoint::{ReadFault, Reader, ScanFault, scan};
 use device::{Device, MemDevice};
-use entries::Entry;
+use records::Entry;
 use roots::{Root, Slot};
 use std::alloc::Global;
 

@@ -2,3 +2,6 @@ pub mod Requirement
 pub mod Selecting
 pub mod Document
 pub mod DocumentCode
+pub mod DataCode
+pub mod Json
+pub mod Escapes

@@ -2,8 +2,9 @@ ghost use Rattle.std.specs.Prelude.{◌≡◌, IfOk, option_map};
 ghost use Rattle.serde_json.specs.View.{view, members_view};
 ghost use Rattle.documents.specs.Document.{metadata_of, metadata_text, is_metadata, each_member, is_metadata_member, is_text, are_texts, has_kind, has_text};
 
-use jsondoc::{Doc, Map, Value};
+use crate::doc::Doc;
 use names::{Resource, check_name, check_namespace};
+use serde_json::{Map, Value};
 use std::alloc::AllocError;
 
 /// A copy of the metadata of an object's JSON, `null` if it has none. `AllocError` where there is no memory for it.

@@ -1,6 +1,6 @@
 ghost use Rattle.std.specs.Prelude.{◌≡◌, IfOk};
 
-use jsondoc::Doc;
+use crate::doc::Doc;
 use std::alloc::AllocError;
 use std::marker::Model;
 

@@ -6,13 +6,13 @@ use Rattle.device.specs.Run.{Stands}
 use Rattle.objects.specs.declared.format.Rules.{Rules}
 use Rattle.names.specs.Key.{Key}
 use Rattle.requests.specs.Request.{Request, RequestHasForm}
-use Rattle.history.specs.History as plain
-use Rattle.history.specs.History.{put, delete}
-use Rattle.history.specs.Mapped.{mapped_write}
-use Rattle.history.specs.View as seen
-use Rattle.history.specs.View.{view, empty, after_all}
-use Rattle.history.specs.declared.stored.Stored.{Stored}
-use Rattle.history.proofs.ViewLemmas.{after_all-append, objects_ascend}
+use Rattle.requests.specs.History as plain
+use Rattle.requests.specs.History.{put, delete}
+use Rattle.requests.specs.Mapped.{mapped_write}
+use Rattle.requests.specs.View as seen
+use Rattle.requests.specs.View.{view, empty, after_all}
+use Rattle.requests.specs.declared.stored.Stored.{Stored}
+use Rattle.requests.proofs.ViewLemmas.{after_all-append, objects_ascend}
 use Rattle.holdings.specs.Holdings as holdings
 use Rattle.holdings.specs.Holdings.{State, ShowsSame}
 use Rattle.holdings.specs.Prepared.{puts, writes_of, AreNext}

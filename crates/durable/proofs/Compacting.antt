@@ -23,7 +23,7 @@ use Rattle.checkpoint.specs.Pages.{HoldsEntries}
 use Rattle.checkpoint.specs.Writing.{IsSource, IsWritten, IsBeforeOrWritten}
 use Rattle.roots.proofs.Chain.{stands_moments}
 use Rattle.objects.specs.declared.format.Rules.{Rules}
-use Rattle.history.specs.View.{view}
+use Rattle.requests.specs.View.{view}
 use Rattle.recovery.specs.Standing.{History, IsHistory, View, with_plans}
 use Rattle.snapshots.specs.Keeping.{entries_of, held_entries}
 use Rattle.snapshots.proofs.Shown.{held_as_it_is, entries_shown}

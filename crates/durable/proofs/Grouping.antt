@@ -11,9 +11,9 @@ use Rattle.device.proofs.Moments.{followed_by}
 use Rattle.device.proofs.Runs.{stands_now}
 use Rattle.objects.specs.declared.format.Rules.{Rules}
 use Rattle.requests.specs.Request.{Request}
-use Rattle.history.specs.History as plain
-use Rattle.history.specs.Reply.{Reply}
-use Rattle.history.specs.View.{view, after_all}
+use Rattle.requests.specs.History as plain
+use Rattle.requests.specs.Reply.{Reply}
+use Rattle.requests.specs.View.{view, after_all}
 use Rattle.records.specs.Gathered.{Gathers, count_of}
 use Rattle.records.specs.Payload.{IsStorable, group_limit}
 use Rattle.records.specs.declared.group.Group.{Group}

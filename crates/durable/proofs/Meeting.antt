@@ -8,7 +8,7 @@ use Rattle.device.specs.Disk.{HasFailed}
 use Rattle.device.specs.Run.{Ran}
 use Rattle.device.specs.Step.{Same}
 use Rattle.objects.specs.declared.format.Rules.{Rules}
-use Rattle.history.specs.Reply.{Reply}
+use Rattle.requests.specs.Reply.{Reply}
 use Rattle.recovery.specs.Standing.{View}
 use Rattle.durable.specs.declared.fault.Damage.{Damage}
 use Rattle.durable.specs.declared.fault.Fault.{Fault}

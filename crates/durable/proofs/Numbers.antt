@@ -4,7 +4,7 @@ use Rattle.objects.specs.declared.format.Format.{Format}
 use Rattle.objects.specs.declared.format.Format.TheVariants.{First}
 use Rattle.objects.specs.declared.format.Rules.{Rules}
 use Rattle.objects.specs.Format.{rules_of}
-use Rattle.history.specs.View.{view}
+use Rattle.requests.specs.View.{view}
 use Rattle.recovery.specs.Standing.{History, IsHistory}
 use Rattle.snapshots.specs.Keeping.{IsKeepable}
 use Rattle.snapshots.proofs.Histories.{histories_are_kept}

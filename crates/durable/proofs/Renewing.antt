@@ -7,7 +7,7 @@ use Rattle.device.specs.Run.{Ran, Stands}
 use Rattle.device.specs.Step.{Same}
 use Rattle.device.proofs.Moments.{followed_by}
 use Rattle.objects.specs.declared.format.Rules.{Rules}
-use Rattle.history.specs.View.{view}
+use Rattle.requests.specs.View.{view}
 use Rattle.holdings.specs.Holdings.{State, Shows}
 use Rattle.snapshots.specs.Keeping.{IsKeepable}
 use Rattle.recovery.specs.Beside.{Beside}

@@ -6,9 +6,9 @@ use Rattle.std.proofs.Math.Seq.{take-append_seam}
 use Rattle.device.specs.declared.device.Device.{Ghosts}
 use Rattle.device.proofs.Moments.{followed_by}
 use Rattle.objects.specs.declared.format.Rules.{Rules}
-use Rattle.history.specs.Reply.{Reply}
-use Rattle.history.specs.View.{view, empty, after_all}
-use Rattle.history.proofs.ViewLemmas.{after_all-append}
+use Rattle.requests.specs.Reply.{Reply}
+use Rattle.requests.specs.View.{view, empty, after_all}
+use Rattle.requests.proofs.ViewLemmas.{after_all-append}
 use Rattle.recovery.specs.Standing.{Write, History, View}
 use Rattle.apicore.specs.Step.{Asked, writes, reply, accepted, replies}
 use Rattle.apicore.proofs.Admitting.{accepted_admitted}

@@ -4,8 +4,8 @@ use Rattle.std.proofs.lemmas.List.{append_assoc, map-append, length-append, leng
 use Rattle.std.specs.List.{AllByRecursion}
 use Rattle.device.specs.declared.device.Device.{Ghosts}
 use Rattle.requests.specs.Request.{Request}
-use Rattle.history.specs.Reply.{Reply}
-use Rattle.history.specs.View.{after_all}
+use Rattle.requests.specs.Reply.{Reply}
+use Rattle.requests.specs.View.{after_all}
 use Rattle.apicore.specs.Step.{Asked, accepted}
 use Rattle.apicore.specs.Prepared.{IsReadOf}
 use Rattle.apicore.proofs.Admitting.{accepted_admitted}

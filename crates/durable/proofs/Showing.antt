@@ -3,12 +3,12 @@ use Rattle.std.proofs.Common.{◌≡◌, ◌∙◌, sym, ap, subst, map, List}
 use Rattle.objects.specs.declared.format.Rules.{Rules}
 use Rattle.names.specs.Key.{Key}
 use Rattle.requests.specs.Request.{Request}
-use Rattle.history.specs.History as plain
-use Rattle.history.specs.Mapped.{mapped_write}
-use Rattle.history.specs.View as seen
-use Rattle.history.specs.View.{after_all}
-use Rattle.history.specs.declared.stored.Stored.{Stored}
-use Rattle.history.proofs.Mapping.{all_mapped}
+use Rattle.requests.specs.History as plain
+use Rattle.requests.specs.Mapped.{mapped_write}
+use Rattle.requests.specs.View as seen
+use Rattle.requests.specs.View.{after_all}
+use Rattle.requests.specs.declared.stored.Stored.{Stored}
+use Rattle.requests.proofs.Mapping.{all_mapped}
 use Rattle.holdings.specs.Holdings as holdings
 use Rattle.holdings.specs.Holdings.{State, ShowsSame}
 use Rattle.holdings.specs.Prepared.{writes_of, AreNext}

@@ -1,7 +1,7 @@
 -- What is told of a store as a whole.
 use Rattle.std.specs.Prelude.{◌≡◌, length}
 use Rattle.roots.specs.declared.root.Root.{Root}
-use Rattle.history.specs.View.{View}
+use Rattle.requests.specs.View.{View}
 use Rattle.recovery.specs.Beside.{Beside}
 use Rattle.durable.specs.declared.compacted.Compacted.{Compacted}
 use Rattle.durable.specs.declared.compacted.Checked.{Checked}

@@ -9,10 +9,10 @@ use Rattle.device.specs.Run.{Ran}
 use Rattle.device.specs.Step.{Same}
 use Rattle.objects.specs.declared.format.Rules.{Rules}
 use Rattle.requests.specs.Request.{Request}
-use Rattle.history.specs.History as plain
-use Rattle.history.specs.Mapped.{mapped_write}
-use Rattle.history.specs.Reply.{Reply}
-use Rattle.history.specs.View.{after_all}
+use Rattle.requests.specs.History as plain
+use Rattle.requests.specs.Mapped.{mapped_write}
+use Rattle.requests.specs.Reply.{Reply}
+use Rattle.requests.specs.View.{after_all}
 use Rattle.holdings.specs.Prepared.{writes_of}
 use Rattle.holdings.specs.declared.prepared.PreparedWrite.{PreparedWrite}
 use Rattle.records.specs.Gathered.{Gathers, count_of}

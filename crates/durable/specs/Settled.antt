@@ -10,11 +10,11 @@ use Rattle.roots.specs.declared.root.Root.{Root}
 use Rattle.objects.specs.declared.format.Rules.{Rules}
 use Rattle.names.specs.Key.{Key}
 use Rattle.requests.specs.Request.{Request}
-use Rattle.history.specs.Reply.{Reply}
+use Rattle.requests.specs.Reply.{Reply}
 use Rattle.records.specs.Payload.{group_limit}
-use Rattle.history.specs.View as seen
-use Rattle.history.specs.View.{view, after_all}
-use Rattle.history.specs.declared.stored.Stored.{Stored}
+use Rattle.requests.specs.View as seen
+use Rattle.requests.specs.View.{view, after_all}
+use Rattle.requests.specs.declared.stored.Stored.{Stored}
 use Rattle.celtree.specs.Tree.{Expr}
 use Rattle.expressions.specs.Specification.{Specification}
 use Rattle.recovery.specs.Beside.{Beside}

@@ -1,7 +1,7 @@
 //! The writes of a group of requests, gathered for one record.
 
 ghost use Rattle.std.specs.Prelude.{◌≡◌, ◌<◌, ◌≤◌, ◌+◌, ◌++◌, ℕ, List, Some, OnOk, OnErr};
-ghost use Rattle.history.specs.History.{Write as Recorded};
+ghost use Rattle.requests.specs.History.{Write as Recorded};
 ghost use Rattle.records.specs.Gathered.{Gathers, count_of};
 ghost use Rattle.records.specs.Payload.{group_limit};
 ghost use Rattle.durable.specs.declared.fault.Fault.TheVariants as Fault;

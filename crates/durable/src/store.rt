@@ -10,12 +10,11 @@ use apicore::Prepared;
 use checkpoint::{WriteFault, Written, write};
 use device::{Device, MemDevice};
 use gatelog::{Body, Log};
-use history::Reply;
 use objects::LookupFault;
 use paged::{Next, Paged};
 use records::{GROUP_LIMIT, Group};
 use recovery::{Core, has_own_plans};
-use requests::Request;
+use requests::{Reply, Request};
 use std::alloc::Global;
 
 // Whether nothing was written where this is told.
@@ -56,8 +55,8 @@ impl<D: Device> Store<D> {
     ghost use Rattle.objects.specs.declared.format.Rules.{Rules};
     ghost use Rattle.requests.specs.Request.{RequestHasForm};
     ghost use Rattle.requests.specs.RequestOf.{request_of};
-    ghost use Rattle.history.specs.View as seen;
-    ghost use Rattle.history.specs.View.{view};
+    ghost use Rattle.requests.specs.View as seen;
+    ghost use Rattle.requests.specs.View.{view};
     ghost use Rattle.holdings.specs.Holdings.{Shows, ShowsSame};
     ghost use Rattle.holdings.specs.Prepared.{HasRoomFor};
     ghost use Rattle.records.specs.Gathered.{Gathers, count_of};

@@ -1,11 +1,11 @@
 ghost use Rattle.std.specs.Prelude.{◌≡◌, ◌++◌, map, OnOk};
 ghost use Rattle.checkpoint.specs.EntryList.{listed};
-ghost use Rattle.entries.specs.Entries.{event_entry};
+ghost use Rattle.records.specs.Entries.{event_entry};
 
 use documents::Document;
-use entries::event_entry;
+use objects::Events;
+use records::event_entry;
 use std::alloc::{AllocError, Global};
-use window::Events;
 
 /// Adds the entries of events, each after those before it.
 ///

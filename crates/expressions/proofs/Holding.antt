@@ -3,7 +3,7 @@ use Rattle.std.proofs.Common.{◌≡◌, ◌≤◌, ◌<◌, ◌^◌, ◌∙◌,
 use Rattle.std.proofs.lemmas.List.{length-map}
 use Rattle.std.specs.List.{AllByRecursion, flat_map}
 use Rattle.serde_json.specs.Data.{Data}
-use Rattle.jsondoc.specs.Document.{text}
+use Rattle.documents.specs.Json.{text}
 use Rattle.celtree.specs.Tree.{Expr}
 use Rattle.plancode.specs.Plans.{Judged, IsVerified}
 use Rattle.planlist.specs.Plans.{plan_bytes, list_bytes, IsShort, AreFor}

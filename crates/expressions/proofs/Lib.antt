@@ -9,4 +9,6 @@ pub mod Weights
 pub mod Shortness
 pub mod Bytes
 pub mod Holding
-pub mod Listed
+pub mod StoredLists
+pub mod LookupStanding
+pub mod Bindings

@@ -6,7 +6,7 @@ use Rattle.std.specs.Option.{option_map_or}
 use Rattle.std.specs.Prelude.{codes}
 use Rattle.serde_json.specs.Data.{Data, Items, no_items, item}
 use Rattle.serde_json.specs.Find.{get, as_str, as_array}
-use Rattle.jsondoc.specs.Document.{text}
+use Rattle.documents.specs.Json.{text}
 use Rattle.policy.specs.declared.policy.FailurePolicy.TheVariants.{Fail}
 use Rattle.policy.specs.declared.validation.Reason.TheVariants.{Invalid}
 use Rattle.policy.specs.MatchRules.{match_rules_of}

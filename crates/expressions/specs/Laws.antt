@@ -1,7 +1,7 @@
 -- Laws of policies as they are stored.
 use Rattle.std.specs.Prelude.{◌≡◌, ◌≤◌, ℕ, ◌+◌, List, [], ◌∷◌, length, Some}
 use Rattle.serde_json.specs.Data.{Data}
-use Rattle.jsondoc.specs.Document.{text}
+use Rattle.documents.specs.Json.{text}
 use Rattle.names.specs.declared.resource.Resource.{Resource}
 use Rattle.policy.specs.Policies.{policy_of}
 use Rattle.policy.specs.Spec.{Policy}

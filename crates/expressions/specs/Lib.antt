@@ -9,3 +9,6 @@ pub mod PolicyTrees
 pub mod Places
 pub mod Specification
 pub mod Laws
+pub mod Listed
+pub mod Objects
+pub mod LookupSeen

@@ -1,5 +1,5 @@
 //! What stands in the `spec` of an object: whether a policy or a binding has the form of one, and a policy's expressions, which are read,
-//! typed and compiled.
+//! typed and compiled; and where policies find what stands in a store.
 //!
 //! ```text
 //! match specification_of(alloc, resource, &document)? {
@@ -16,10 +16,24 @@
 //! where each has a type as it must, and else tells the first that is bad: both directions stand in its contract, and no other trees
 //! are spelled. [`TypedPolicy::plans`] gives the code of each tree, after the variables that it may name. `specs/Specification.antt`
 //! says by these what stands in an object. Objects of the other resources have no form, so all of them are sound.
+//!
+//! What policies, bindings and parameters there are is asked of a [`Lookup`], as it stands before a write: it lends what documents spell as
+//! policies, with their plans, and as bindings, so that none is read again or copied, and may read them from a device. `specs/Objects.antt` says what is held of
+//! an object, and each look of a [`Lookup`] gives that of any list of objects which the lookup shows.
+//!
+//! ```text
+//! for listed in lookup.bindings(alloc)? {
+//!     if let Some(bound) = listed.found.bound {
+//!         let policy = lookup.policy(alloc, bound.policy_key())?;
+//!     }
+//! }
+//! ```
 #![tactic(auto)]
 
+mod bound;
 mod fault;
 mod laws;
+mod lookup;
 mod places;
 mod planning;
 mod reading;
@@ -30,8 +44,10 @@ mod tree;
 mod typed_policy;
 mod typing;
 
+pub use bound::Bound;
 pub use fault::PolicyFault;
 pub use laws::{expressions_fit_the_text, one_stored_list};
+pub use lookup::{Found, Listed, Lookup};
 pub use specification::{Specification, specification_of};
 pub use stored::{StoredPlans, plans_bytes, stored_plans};
 pub use typed_policy::TypedPolicy;

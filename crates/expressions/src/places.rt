@@ -6,7 +6,7 @@ ghost use Rattle.expressions.specs.Expressions.{sources};
 ghost use Rattle.policy.specs.Spec.{named_seen, validation_seen, policy_seen};
 ghost use Rattle.expressions.specs.Places.{variable_places, validation_places, places_of, policy_in};
 
-use jsondoc::Doc;
+use documents::Doc;
 use policy::{Named, Policy, Validation};
 use std::alloc::{AllocError, Global};
 

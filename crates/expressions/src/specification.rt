@@ -12,7 +12,7 @@ ghost use Rattle.expressions.specs.Specification.{IsCompiled, AreShort, MayBeHel
 use crate::fault::PolicyFault;
 use crate::places::policy_in;
 use crate::typed_policy::TypedPolicy;
-use jsondoc::Doc;
+use documents::Doc;
 use names::Resource;
 use plancode::Verified;
 use policy::{Binding, Policy};

@@ -8,7 +8,7 @@ ghost use Rattle.planlist.specs.declared.writing.WritePlansFault.TheVariants as 
 ghost use Rattle.expressions.specs.Specification.{Plans, these, policy_bytes, plans_bytes, FitsPolicy, ArePolicyPlans, MayHavePlans, plans_seen};
 
 use crate::places::policy_in;
-use jsondoc::Doc;
+use documents::Doc;
 use names::Resource;
 use plancode::Verified;
 use planlist::{ReadPlansFault, WritePlansFault, read_plans, write_plans};

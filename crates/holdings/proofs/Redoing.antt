@@ -6,17 +6,17 @@ use Rattle.std.specs.FinMap.Entries.{find-put}
 use Rattle.std.specs.Option.{option_map_or}
 use Rattle.std.specs.Ordering.{is_eq}
 use Rattle.serde_json.specs.Data.{null}
-use Rattle.jsondoc.specs.Document.{text}
+use Rattle.documents.specs.Json.{text}
 use Rattle.objects.specs.declared.format.Rules.{Rules}
 use Rattle.names.specs.Key.{Key, key_cmp}
 use Rattle.names.specs.KeyLaws.{key_cmp_total}
 use Rattle.objects.specs.Objects.{value_at, with_value}
 use Rattle.documents.specs.Document.{Document}
-use Rattle.window.specs.declared.event.Change.TheVariants.{Added, Modified}
+use Rattle.objects.specs.declared.event.Change.TheVariants.{Added, Modified}
 use Rattle.requests.specs.Manifest.{HasForm}
-use Rattle.history.specs.declared.stored.Stored.{Stored}
-use Rattle.history.specs.History.{put, delete}
-use Rattle.history.specs.View.{View, stored_at, exists, is_too_large, is_full, is_exhausted, after, after_all, MayPut, MayDelete}
+use Rattle.requests.specs.declared.stored.Stored.{Stored}
+use Rattle.requests.specs.History.{put, delete}
+use Rattle.requests.specs.View.{View, stored_at, exists, is_too_large, is_full, is_exhausted, after, after_all, MayPut, MayDelete}
 use Rattle.holdings.specs.declared.source.Found.{Found}
 use Rattle.holdings.specs.Holdings.{State, Shows, ShowsSame}
 use Rattle.holdings.specs.Known.{KnowsSame}

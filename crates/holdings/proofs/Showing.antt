@@ -12,18 +12,18 @@ use Rattle.names.specs.declared.resource.Resource.{Resource}
 use Rattle.names.specs.Key.{Key, key_cmp}
 use Rattle.names.specs.KeyLaws.{key_cmp_total}
 use Rattle.objects.specs.Objects.{value_at, with_value, is_of}
-use Rattle.overlay.specs.Merged.{changed, merged, over}
-use Rattle.overlay.specs.Covered.{AreCovered}
-use Rattle.overlay.specs.Changes.{Leaves}
-use Rattle.overlay.proofs.Changing.{find-merged}
-use Rattle.overlay.proofs.Covering.{listed_where_covered}
-use Rattle.window.specs.declared.event.Change.{Change}
-use Rattle.window.specs.declared.event.Change.TheVariants.{Added, Modified, Deleted}
-use Rattle.window.specs.Window.{event_at}
+use Rattle.objects.specs.Merged.{changed, merged, over}
+use Rattle.objects.specs.Covered.{AreCovered}
+use Rattle.objects.specs.Changes.{Leaves}
+use Rattle.objects.proofs.Changing.{find-merged}
+use Rattle.objects.proofs.Covering.{listed_where_covered}
+use Rattle.objects.specs.declared.event.Change.{Change}
+use Rattle.objects.specs.declared.event.Change.TheVariants.{Added, Modified, Deleted}
+use Rattle.objects.specs.Window.{event_at}
 use Rattle.documents.specs.Document.{Document}
-use Rattle.history.specs.declared.stored.Stored.{Stored}
-use Rattle.history.specs.History.{put, delete}
-use Rattle.history.specs.View.{View, stored_at, exists, after, after_all}
+use Rattle.requests.specs.declared.stored.Stored.{Stored}
+use Rattle.requests.specs.History.{put, delete}
+use Rattle.requests.specs.View.{View, stored_at, exists, after, after_all}
 use Rattle.holdings.specs.Holdings.{State, Shows}
 use Rattle.holdings.specs.Known.{IsKnown}
 use Rattle.holdings.specs.Prepared.{puts, IsNextPut, IsNextDeletion}

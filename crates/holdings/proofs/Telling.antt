@@ -4,7 +4,7 @@ use Rattle.std.specs.List.{filter}
 use Rattle.std.specs.Option.{option_map_or}
 use Rattle.serde_json.specs.Data.{array}
 use Rattle.serde_json.specs.View.{items_of}
-use Rattle.jsondoc.specs.Document.{text}
+use Rattle.documents.specs.Json.{text}
 use Rattle.names.specs.Key.{Key}
 use Rattle.objects.specs.Objects.{is_of}
 use Rattle.documents.specs.Requirement.{Requirement}
@@ -13,12 +13,12 @@ use Rattle.requests.specs.declared.refusal.Refusal.TheVariants.{BadVersion, Expi
 use Rattle.requests.specs.Collection.{Collection}
 use Rattle.requests.specs.Refusal.{first_of}
 use Rattle.documents.specs.Document.{Document}
-use Rattle.window.specs.declared.event.Event.{Event}
-use Rattle.window.specs.Window.{events_above}
-use Rattle.history.specs.declared.stored.Stored.{Stored}
-use Rattle.history.specs.Listing.{objects_in, shown_items, list_of, listing, lines_of, served, watch_conditions, watching}
-use Rattle.history.specs.Reply.{Reply, status}
-use Rattle.history.specs.View.{View}
+use Rattle.objects.specs.declared.event.Event.{Event}
+use Rattle.objects.specs.Window.{events_above}
+use Rattle.requests.specs.declared.stored.Stored.{Stored}
+use Rattle.requests.specs.Listing.{objects_in, shown_items, list_of, listing, lines_of, served, watch_conditions, watching}
+use Rattle.requests.specs.Reply.{Reply, status}
+use Rattle.requests.specs.View.{View}
 use Rattle.holdings.specs.Holdings.{State, Shows, watched}
 
 module _ {P : Type 0} where

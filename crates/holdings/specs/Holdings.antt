@@ -2,11 +2,11 @@
 use Rattle.std.specs.Prelude.{◌≡◌, ℕ, List, []}
 use Rattle.objects.specs.declared.format.Rules.{Rules}
 use Rattle.names.specs.Key.{Key}
-use Rattle.window.specs.declared.event.Event.{Event}
+use Rattle.objects.specs.declared.event.Event.{Event}
 use Rattle.documents.specs.Document.{Document}
-use Rattle.overlay.specs.Changes.{Changes, Leaves}
-use Rattle.history.specs.declared.stored.Stored.{Stored}
-use Rattle.history.specs.View.{View}
+use Rattle.objects.specs.Changes.{Changes, Leaves}
+use Rattle.requests.specs.declared.stored.Stored.{Stored}
+use Rattle.requests.specs.View.{View}
 
 pub record State (P : Type 0) : Type 0 where
   pub rules : Rules

@@ -1,5 +1,5 @@
 -- What is found in a source.
-use Rattle.history.specs.declared.stored.Stored.{Stored}
+use Rattle.requests.specs.declared.stored.Stored.{Stored}
 use Rattle.holdings.specs.declared.source.Found.{Found}
 
 -- an object that is found has its document and its revision

@@ -7,20 +7,20 @@ ghost use Rattle.circular_buffer.specs.Buffer.{keep_last};
 ghost use Rattle.names.specs.Key.{Key as KeyData, key_cmp};
 ghost use Rattle.std.specs.Option.{option_map_or};
 ghost use Rattle.objects.specs.Objects.{is_of, value_at, with_value};
-ghost use Rattle.overlay.specs.Covered.{AreCovered};
+ghost use Rattle.objects.specs.Covered.{AreCovered};
 ghost use Rattle.requests.specs.Codes.{document_in};
 ghost use Rattle.requests.specs.Collection.{collection_of};
 ghost use Rattle.requests.specs.Manifest.{sound};
 ghost use Rattle.requests.specs.Refusal.{first_of};
 ghost use Rattle.requests.specs.Selector.{selector_seen};
 ghost use Rattle.documents.specs.Document.{Document as DocumentData};
-ghost use Rattle.window.specs.Window.{event_at, events_above};
-ghost use Rattle.window.specs.declared.event.Change.TheVariants.{Added, Modified};
-ghost use Rattle.history.specs.declared.stored.Stored.{Stored as StoredData};
-ghost use Rattle.history.specs.History as write;
-ghost use Rattle.history.specs.Listing.{listing, watch_conditions, watching};
-ghost use Rattle.history.specs.Reply.{status};
-ghost use Rattle.history.specs.View.{View, stored_at, exists, is_too_large, is_full, is_exhausted, after, after_all};
+ghost use Rattle.objects.specs.Window.{event_at, events_above};
+ghost use Rattle.objects.specs.declared.event.Change.TheVariants.{Added, Modified};
+ghost use Rattle.requests.specs.declared.stored.Stored.{Stored as StoredData};
+ghost use Rattle.requests.specs.History as write;
+ghost use Rattle.requests.specs.Listing.{listing, watch_conditions, watching};
+ghost use Rattle.requests.specs.Reply.{status};
+ghost use Rattle.requests.specs.View.{View, stored_at, exists, is_too_large, is_full, is_exhausted, after, after_all};
 ghost use Rattle.holdings.specs.Holdings.{Shows, ShowsSame, watched};
 ghost use Rattle.holdings.specs.Prepared.{AreNext, IsNextPut, IsNextDeletion, HasRoom, HasRoomFor, puts, writes_of};
 ghost use Rattle.objects.specs.Failing.{HasGrown};
@@ -31,14 +31,13 @@ ghost use Rattle.objects.specs.declared.fault.LookupFault.TheVariants as LookupF
 use crate::prepared::{Deletion, PreparedWrite, Put};
 use crate::source::{Found, Source};
 use documents::Document;
-use history::{Reply, Stored, listed, told};
 use names::{Key, Resource};
-use objects::{Entry, LookupFault, Rules};
-use overlay::{Changes, Lent};
-use requests::{Collection, Manifest, Refusal, Selector};
+use objects::{
+    Change, Changes, Entry, Event, Events, Lent, LookupFault, Rules, Window, WindowFault,
+};
+use requests::{Collection, Manifest, Refusal, Reply, Selector, Stored, listed, told};
 use std::alloc::{AllocError, Global};
 use std::marker::Model;
-use window::{Change, Event, Events, Window, WindowFault};
 
 /// What a change says is found.
 pub(crate) fn found<P>(change: &Option<Stored<P>>) -> Result<Option<Found>, AllocError>
@@ -77,7 +76,7 @@ impl<P> Model for Holdings<P> {
     ghost Value = { State P };
 
     ghost use Rattle.std.specs.Coded.{codes};
-    ghost use Rattle.jsondoc.specs.DataCode.{coded_data};
+    ghost use Rattle.documents.specs.DataCode.{coded_data};
 
     ghost coded = { Prim.hlevel (codes, coded_data) };
 

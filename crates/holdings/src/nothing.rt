@@ -3,9 +3,9 @@
 ghost use Rattle.std.specs.Prelude.{◌≡◌, []};
 
 use crate::source::{Found, Source};
-use history::Stored;
 use names::{Key, Resource};
 use objects::LookupFault;
+use requests::Stored;
 use std::alloc::Global;
 
 /// A source below which nothing lies.

@@ -1,15 +1,14 @@
 //! Writes that have all their memory.
 
 ghost use Rattle.std.specs.Prelude.{◌≡◌, Some, None, IfOk};
-ghost use Rattle.jsondoc.specs.Document.{text};
+ghost use Rattle.documents.specs.Json.{text};
 
 use documents::Document;
-use history::Stored;
 use names::Key;
-use objects::Entry;
+use objects::{Change, Entry};
+use requests::Stored;
 use std::alloc::{AllocError, Global};
 use std::marker::Model;
-use window::Change;
 
 /// A document that is to be put, with all the memory that this takes.
 #[derive(Drop)]
@@ -27,12 +26,12 @@ impl<P> Model for Put<P> {
     ghost Value = { PutData P };
 
     ghost use Rattle.std.specs.Coded.{codes};
-    ghost use Rattle.jsondoc.specs.DataCode.{coded_data};
+    ghost use Rattle.documents.specs.DataCode.{coded_data};
 
     ghost coded = { Prim.hlevel (codes, coded_data) };
 
     ghost use Rattle.std.specs.Prelude.{◌≡◌, string_bytes, option_map, Some};
-    ghost use Rattle.jsondoc.specs.Document.{text as text_of};
+    ghost use Rattle.documents.specs.Json.{text as text_of};
 
     ghost view = { λ p. record { key = p.key; stored = p.entry.1; change = p.change } };
 
@@ -133,7 +132,7 @@ impl<P> Model for Deletion<P> {
     ghost Value = { DeletionData };
 
     ghost use Rattle.std.specs.Coded.{codes};
-    ghost use Rattle.jsondoc.specs.DataCode.{coded_data};
+    ghost use Rattle.documents.specs.DataCode.{coded_data};
 
     ghost coded = { Prim.hlevel (codes, coded_data) };
 

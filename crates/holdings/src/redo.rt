@@ -3,9 +3,9 @@
 ghost use Rattle.std.specs.Prelude.{◌≡◌, ◌<◌, ◌↔◌, ◌&&◌, ◌||◌, not, List, IsTrue, IfOk, OnOk, OnErr, IsErrOf, option_map};
 ghost use Rattle.names.specs.Key.{Key as KeyData};
 ghost use Rattle.requests.specs.Codes.{document_in};
-ghost use Rattle.history.specs.declared.stored.Stored.{Stored as StoredData};
-ghost use Rattle.history.specs.History.{put, delete};
-ghost use Rattle.history.specs.View.{View, stored_at, exists, after, MayFollow, MayPut};
+ghost use Rattle.requests.specs.declared.stored.Stored.{Stored as StoredData};
+ghost use Rattle.requests.specs.History.{put, delete};
+ghost use Rattle.requests.specs.View.{View, stored_at, exists, after, MayFollow, MayPut};
 ghost use Rattle.holdings.specs.Holdings.{Shows, ShowsSame};
 ghost use Rattle.holdings.specs.Known.{IsKnown, KnowsSame};
 ghost use Rattle.holdings.specs.Sources.{found_in};

@@ -4,16 +4,16 @@ ghost use Rattle.std.specs.Prelude.{◌≡◌, ◌≤◌, ℕ, List, option_map,
 ghost use Rattle.std.specs.List.{filter};
 ghost use Rattle.names.specs.Key.{Key as KeyData};
 ghost use Rattle.objects.specs.Objects.{value_at, is_of};
-ghost use Rattle.history.specs.declared.stored.Stored.{Stored as StoredData};
+ghost use Rattle.requests.specs.declared.stored.Stored.{Stored as StoredData};
 ghost use Rattle.objects.specs.Failing.{HasGrown};
 ghost use Rattle.holdings.specs.Sources.{found_in};
 ghost use Rattle.objects.specs.declared.fault.Part.{Part};
 ghost use Rattle.objects.specs.declared.fault.LookupFault.TheVariants as LookupFault;
 
 use documents::Document;
-use history::Stored;
 use names::{Key, Resource};
 use objects::LookupFault;
+use requests::Stored;
 use std::alloc::Global;
 
 /// An object that was found: what is stored of it, and the revision of its last write.

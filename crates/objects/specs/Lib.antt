@@ -2,3 +2,9 @@ pub mod Failing
 pub mod Format
 pub mod Objects
 pub mod Place
+pub mod Merged
+pub mod Covered
+pub mod Changes
+pub mod Steps
+pub mod Laws
+pub mod Window

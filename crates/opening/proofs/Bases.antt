@@ -12,7 +12,7 @@ use Rattle.paged.specs.declared.fault.ReadFault.TheVariants as read_fault
 use Rattle.recovery.specs.declared.fault.RecoveryFault.{RecoveryFault}
 use Rattle.recovery.specs.declared.fault.RecoveryFault.TheVariants as recovery_fault
 use Rattle.objects.specs.declared.format.Rules.{Rules}
-use Rattle.history.specs.View.{view}
+use Rattle.requests.specs.View.{view}
 use Rattle.recovery.specs.Standing.{History, IsHistory, View, with_plans}
 use Rattle.snapshots.specs.Keeping.{held_entries, IsHeld, IsKeepable}
 use Rattle.snapshots.proofs.Alone.{kept_held}

@@ -4,7 +4,7 @@ use Rattle.std.proofs.lemmas.List.{append-nil, append_assoc, take_all, length-ma
 use Rattle.std.specs.List.{AllByRecursion}
 use Rattle.device.specs.declared.device.Device.{Ghosts}
 use Rattle.objects.specs.declared.format.Rules.{Rules}
-use Rattle.history.specs.View.{view, after, after_all}
+use Rattle.requests.specs.View.{view, after, after_all}
 use Rattle.apicore.specs.Prepared.{IsReadOf}
 use Rattle.recovery.specs.Standing.{Write, History, View}
 use Rattle.apicore.specs.Admitted.{AreAdmitted}

@@ -10,14 +10,14 @@ use Rattle.roots.proofs.Counting.{one_counts}
 use Rattle.objects.specs.declared.format.Rules.{Rules}
 use Rattle.names.specs.Key.{Key}
 use Rattle.documents.specs.Document.{Document}
-use Rattle.history.specs.History as plain
-use Rattle.history.specs.History.{put, delete}
-use Rattle.history.specs.View as seen
-use Rattle.history.specs.View.{view, after, after_all, empty}
-use Rattle.history.specs.declared.stored.Stored.{Stored}
-use Rattle.history.proofs.Mapping.{all_mapped, all_follow_mapped}
-use Rattle.history.specs.Mapped.{mapped}
-use Rattle.history.proofs.ViewLemmas.{after_all-append}
+use Rattle.requests.specs.History as plain
+use Rattle.requests.specs.History.{put, delete}
+use Rattle.requests.specs.View as seen
+use Rattle.requests.specs.View.{view, after, after_all, empty}
+use Rattle.requests.specs.declared.stored.Stored.{Stored}
+use Rattle.requests.proofs.Mapping.{all_mapped, all_follow_mapped}
+use Rattle.requests.specs.Mapped.{mapped}
+use Rattle.requests.proofs.ViewLemmas.{after_all-append}
 use Rattle.holdings.specs.Holdings as holdings
 use Rattle.holdings.specs.Holdings.{State}
 use Rattle.recovery.specs.Beside.{Beside}

@@ -6,8 +6,8 @@ use Rattle.device.specs.Run.{Ran}
 use Rattle.device.specs.Step.{Same, After}
 use Rattle.device.proofs.Moments.{weaker}
 use Rattle.objects.specs.declared.format.Rules.{Rules}
-use Rattle.history.specs.View as seen
-use Rattle.history.specs.View.{view}
+use Rattle.requests.specs.View as seen
+use Rattle.requests.specs.View.{view}
 use Rattle.recovery.specs.Beside.{Beside}
 use Rattle.recovery.specs.Standing.{History}
 use Rattle.paged.specs.Paged as paged

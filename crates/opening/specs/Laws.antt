@@ -4,8 +4,8 @@ use Rattle.objects.specs.declared.format.Rules.{Rules}
 use Rattle.recovery.specs.Beside.{Beside}
 use Rattle.recovery.specs.Shown.{Shows}
 use Rattle.recovery.specs.Standing.{History, IsHistory, IsView, with_plans, write_with_plans}
-use Rattle.history.specs.View as seen
-use Rattle.history.specs.View.{view}
+use Rattle.requests.specs.View as seen
+use Rattle.requests.specs.View.{view}
 use Rattle.roots.specs.NewStore.{new_content}
 use Rattle.opening.specs.Opened.{IsRedone}
 use Rattle.durable.specs.Rules.{first_rules}

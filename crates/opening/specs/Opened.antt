@@ -4,9 +4,9 @@ use Rattle.device.specs.Disk.{Disk, HasFailed}
 use Rattle.device.specs.Run.{Ran}
 use Rattle.device.specs.Step.{Same}
 use Rattle.objects.specs.declared.format.Rules.{Rules}
-use Rattle.history.specs.Mapped.{mapped}
-use Rattle.history.specs.View as seen
-use Rattle.history.specs.View.{AllMayFollow, after_all, view}
+use Rattle.requests.specs.Mapped.{mapped}
+use Rattle.requests.specs.View as seen
+use Rattle.requests.specs.View.{AllMayFollow, after_all, view}
 use Rattle.recovery.specs.Beside.{Beside}
 use Rattle.recovery.specs.Shown.{plans_held}
 use Rattle.recovery.specs.Standing.{History}

@@ -12,8 +12,7 @@ ghost use Rattle.durable.specs.Stands.{StandsFor};
 use crate::open_store::open;
 use device::{MemDevice, Pick};
 use durable::{Fault, Store};
-use history::Reply;
-use requests::Request;
+use requests::{Reply, Request};
 use std::alloc::Global;
 
 /// An episode of a store's life: it is opened, answers requests, is compacted or not, and its device stops. What the crash leaves is picked.

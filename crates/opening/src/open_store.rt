@@ -1,7 +1,7 @@
 ghost use Rattle.std.specs.Prelude.{◌≡◌, ◌≢◌, ◌≤◌, ◌⊎◌, true, ℕ, List, IfOk, IfErr};
 ghost use Rattle.device.specs.Disk.{LeavesOnly, HasFailed};
 ghost use Rattle.objects.specs.declared.format.Rules.{Rules};
-ghost use Rattle.history.specs.View as seen;
+ghost use Rattle.requests.specs.View as seen;
 ghost use Rattle.recovery.specs.Beside.{Beside};
 ghost use Rattle.recovery.specs.Standing.{History};
 ghost use Rattle.durable.specs.declared.fault.Fault.TheVariants as Fault;

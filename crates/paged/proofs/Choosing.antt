@@ -14,14 +14,14 @@ use Rattle.std.specs.declared.cmp.Ordering.{Ordering}
 use Rattle.std.specs.declared.cmp.Ordering.TheVariants.{Less, Equal, Greater}
 use Rattle.names.specs.Key.{Key, key_bytes}
 use Rattle.names.proofs.KeyOrder.{numbered-number}
-use Rattle.window.specs.declared.event.Event.{Event}
+use Rattle.objects.specs.declared.event.Event.{Event}
 use Rattle.documents.specs.Document.{Document}
-use Rattle.history.specs.declared.stored.Stored.{Stored}
-use Rattle.history.specs.View as seen
+use Rattle.requests.specs.declared.stored.Stored.{Stored}
+use Rattle.requests.specs.View as seen
 use Rattle.pages.specs.Page.{Entry, bytes_cmp}
-use Rattle.entries.specs.Entries.{plan_entry, plan_entries, event_entry, stored_entry, plans_among}
-use Rattle.base.specs.Sieve.{chosen_of, objects_among}
-use Rattle.base.proofs.Sieving.{objects_of_view}
+use Rattle.records.specs.Entries.{plan_entry, plan_entries, event_entry, stored_entry, plans_among}
+use Rattle.snapshots.specs.Sieve.{chosen_of, objects_among}
+use Rattle.snapshots.proofs.Sieving.{objects_of_view}
 use Rattle.snapshots.specs.LyingBelow.{AreChosen}
 use Rattle.snapshots.specs.Keeping.{held_plans, held_entries}
 use Rattle.recovery.specs.Beside.{Beside}

@@ -4,12 +4,12 @@ use Rattle.std.proofs.Common.{sym, subst}
 use Rattle.device.specs.declared.device.Device.{Ghosts}
 use Rattle.device.specs.Disk.{Disk}
 use Rattle.names.specs.Key.{Key}
-use Rattle.history.specs.declared.stored.Stored.{Stored}
-use Rattle.base.specs.declared.base.Base.{Base}
-use Rattle.base.specs.declared.stock.Stock.{Stock}
-use Rattle.base.specs.declared.stocked.Stocked.{Stocked}
-use Rattle.base.specs.Stock.{Stocks}
-use Rattle.base.specs.Base.{Lies, HoldsBase, GoesTo}
+use Rattle.requests.specs.declared.stored.Stored.{Stored}
+use Rattle.snapshots.specs.declared.base.Base.{Base}
+use Rattle.snapshots.specs.declared.stock.Stock.{Stock}
+use Rattle.snapshots.specs.declared.stocked.Stocked.{Stocked}
+use Rattle.snapshots.specs.Stock.{Stocks}
+use Rattle.snapshots.specs.Base.{Lies, HoldsBase, GoesTo}
 use Rattle.recovery.specs.Beside.{Beside}
 use Rattle.paged.specs.declared.bare.Bare.{Bare}
 use Rattle.paged.specs.Lying.{made_bare, held_bare, LiesBelow}

@@ -9,17 +9,17 @@ use Rattle.objects.specs.declared.format.Rules.{Rules}
 use Rattle.names.specs.declared.resource.Resource.{Resource}
 use Rattle.names.specs.declared.resource.Resource.TheVariants.{ConfigMap, Node, Pod, Service, Deployment, ValidatingAdmissionPolicy, ValidatingAdmissionPolicyBinding}
 use Rattle.names.specs.Key.{Key}
-use Rattle.history.specs.declared.stored.Stored.{Stored}
-use Rattle.history.specs.View as seen
+use Rattle.requests.specs.declared.stored.Stored.{Stored}
+use Rattle.requests.specs.View as seen
 use Rattle.expressions.specs.Specification.{Plans, these, MayHavePlans}
 use Rattle.pages.specs.Page.{bytes_cmp}
-use Rattle.entries.proofs.Ascending as ascending
+use Rattle.records.proofs.Ascending as ascending
 use Rattle.shelf.specs.Shelf.{Shelves}
-use Rattle.base.specs.declared.stock.Stock.{Stock}
-use Rattle.base.specs.Stock.{plain, HoldObjects}
-use Rattle.base.proofs.Holding.{none_among}
-use Rattle.base.proofs.Views.{view_holds}
-use Rattle.base.proofs.Lying.{lies_of}
+use Rattle.snapshots.specs.declared.stock.Stock.{Stock}
+use Rattle.snapshots.specs.Stock.{plain, HoldObjects}
+use Rattle.snapshots.proofs.Holding.{none_among}
+use Rattle.snapshots.proofs.Views.{view_holds}
+use Rattle.snapshots.proofs.Lying.{lies_of}
 use Rattle.snapshots.specs.Keeping.{held_plans, held_entries, IsHeldObject, IsHeld}
 use Rattle.snapshots.proofs.Parts.{wide, holdable_held}
 use Rattle.recovery.specs.Beside.{Beside, spelled}

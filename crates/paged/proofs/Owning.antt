@@ -7,11 +7,11 @@ use Rattle.device.specs.Disk.{Disk}
 use Rattle.names.specs.declared.resource.Resource.{Resource}
 use Rattle.names.specs.declared.resource.Resource.TheVariants.{ConfigMap, Node, Pod, Service, Deployment, ValidatingAdmissionPolicy, ValidatingAdmissionPolicyBinding}
 use Rattle.names.specs.Key.{Key}
-use Rattle.history.specs.declared.stored.Stored.{Stored}
+use Rattle.requests.specs.declared.stored.Stored.{Stored}
 use Rattle.expressions.specs.Specification.{IsSpecification, sound, Plans, these, plans_in, plans_bytes}
-use Rattle.base.specs.declared.stocked.Stocked.{Stocked}
-use Rattle.base.specs.Whole.{whole}
-use Rattle.base.specs.Base.{not_held}
+use Rattle.snapshots.specs.declared.stocked.Stocked.{Stocked}
+use Rattle.snapshots.specs.Whole.{whole}
+use Rattle.snapshots.specs.Base.{not_held}
 use Rattle.recovery.specs.Beside.{Beside}
 use Rattle.recovery.specs.Compiled.{HasOwnPlans}
 use Rattle.paged.specs.declared.bare.Bare.{Bare}

@@ -8,8 +8,8 @@ use Rattle.std.specs.Result.{IsErrAnd}
 use Rattle.objects.specs.declared.format.Rules.{Rules}
 use Rattle.names.specs.declared.resource.Resource.{Resource}
 use Rattle.names.specs.Key.{Key}
-use Rattle.history.specs.declared.stored.Stored.{Stored}
-use Rattle.history.specs.View as seen
+use Rattle.requests.specs.declared.stored.Stored.{Stored}
+use Rattle.requests.specs.View as seen
 use Rattle.holdings.specs.Holdings.{State, Shows}
 use Rattle.gatelog.specs.Record.{part}
 use Rattle.pages.specs.Page.{Entry, bytes_cmp, entries_in, IsSound}
@@ -19,9 +19,9 @@ use Rattle.roots.specs.Root.{log_start}
 use Rattle.checkpoint.specs.Pages.{pages_at, pages_of_root, joined, first_key, AreSound, HoldsPages, HoldsEntries, IsIndex}
 use Rattle.checkpoint.specs.declared.scanning.ScanFault.{ScanFault}
 use Rattle.checkpoint.specs.declared.scanning.ScanFault.TheVariants as scan_fault
-use Rattle.entries.specs.Entries.{stored_entry}
-use Rattle.base.specs.declared.sieve.Sieve.{Sieve}
-use Rattle.base.specs.Sieve.{is_object, kept_of, objects_among, chosen_of, IsSieved}
+use Rattle.records.specs.Entries.{stored_entry}
+use Rattle.snapshots.specs.declared.sieve.Sieve.{Sieve}
+use Rattle.snapshots.specs.Sieve.{is_object, kept_of, objects_among, chosen_of, IsSieved}
 use Rattle.snapshots.specs.declared.fault.SnapshotFault.{SnapshotFault}
 use Rattle.snapshots.specs.declared.fault.SnapshotFault.TheVariants as snapshot_fault
 use Rattle.snapshots.specs.LyingBelow.{HasThoseBelow}

@@ -7,9 +7,9 @@ use Rattle.device.specs.Run.{Ran}
 use Rattle.device.specs.Step.{Same}
 use Rattle.names.specs.declared.resource.Resource.TheVariants.{ValidatingAdmissionPolicy, ValidatingAdmissionPolicyBinding}
 use Rattle.names.specs.Key.{Key, key_cmp}
-use Rattle.history.specs.declared.stored.Stored.{Stored}
+use Rattle.requests.specs.declared.stored.Stored.{Stored}
 use Rattle.shelf.proofs.Staying.{HoldsAsBefore}
-use Rattle.base.proofs.Lying.{lies_hide, lies_stay, lies_ran, lies_ascend}
+use Rattle.snapshots.proofs.Lying.{lies_hide, lies_stay, lies_ran, lies_ascend}
 use Rattle.recovery.specs.Beside.{Beside}
 use Rattle.recovery.specs.Shown.{HasNoRules}
 use Rattle.paged.specs.declared.bare.Bare.{Bare}

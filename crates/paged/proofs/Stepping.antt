@@ -5,11 +5,11 @@ use Rattle.device.specs.declared.device.Device.{Ghosts}
 use Rattle.device.specs.Disk.{Disk}
 use Rattle.names.specs.Key.{Key}
 use Rattle.requests.specs.Request.{Request}
-use Rattle.history.specs.declared.stored.Stored.{Stored}
+use Rattle.requests.specs.declared.stored.Stored.{Stored}
 use Rattle.holdings.specs.Holdings.{State}
-use Rattle.base.specs.declared.base.Base.{Base}
-use Rattle.base.specs.declared.stock.Stock.{Stock}
-use Rattle.base.specs.Base.{Lies, HoldsBase}
+use Rattle.snapshots.specs.declared.base.Base.{Base}
+use Rattle.snapshots.specs.declared.stock.Stock.{Stock}
+use Rattle.snapshots.specs.Base.{Lies, HoldsBase}
 use Rattle.recovery.specs.Beside.{Beside}
 use Rattle.apicore.specs.Prepared.{IsPrepared}
 use Rattle.apicore.specs.declared.prepared.Prepared.{Prepared}

@@ -4,11 +4,11 @@ use Rattle.device.specs.Disk.{Disk}
 use Rattle.names.specs.declared.resource.Resource.{Resource}
 use Rattle.names.specs.Key.{Key}
 use Rattle.documents.specs.Document.{Document}
-use Rattle.history.specs.declared.stored.Stored.{Stored}
-use Rattle.history.specs.View as seen
+use Rattle.requests.specs.declared.stored.Stored.{Stored}
+use Rattle.requests.specs.View as seen
 use Rattle.policy.specs.Matching.{is_guarded}
-use Rattle.base.specs.declared.stock.Stock.{Stock}
-use Rattle.base.specs.Base.{Lies}
+use Rattle.snapshots.specs.declared.stock.Stock.{Stock}
+use Rattle.snapshots.specs.Base.{Lies}
 use Rattle.snapshots.specs.LyingBelow as snapshots
 use Rattle.expressions.specs.Specification.{these}
 use Rattle.recovery.specs.Beside.{Beside, spelled}

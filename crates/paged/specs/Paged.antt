@@ -3,10 +3,10 @@ use Rattle.std.specs.Prelude.{List}
 use Rattle.device.specs.Disk.{Disk}
 use Rattle.roots.specs.declared.root.Root.{Root}
 use Rattle.names.specs.Key.{Key}
-use Rattle.history.specs.declared.stored.Stored.{Stored}
-use Rattle.history.specs.View as seen
+use Rattle.requests.specs.declared.stored.Stored.{Stored}
+use Rattle.requests.specs.View as seen
 use Rattle.holdings.specs.Holdings as holdings
-use Rattle.base.specs.Stock as stock
+use Rattle.snapshots.specs.Stock as stock
 use Rattle.recovery.specs.Beside.{Beside}
 use Rattle.recovery.specs.Shown.{ShowsOver}
 use Rattle.recovery.specs.Standing.{View}

@@ -3,13 +3,12 @@
 ghost use Rattle.std.specs.Prelude.{◌≡◌, not};
 ghost use Rattle.paged.specs.Lying.{made_bare, held_bare};
 
-use base::FromDocument;
 use documents::Document;
 use expressions::StoredPlans;
 use names::Resource;
 use policy::is_guarded;
 use recovery::Beside;
-use snapshots::Below;
+use snapshots::{Below, FromDocument};
 use std::alloc::{AllocError, Global};
 
 /// Beside a document that lies in a page stands what it spells, and no plans. Policies and bindings do not lie in pages: they are held in memory.

@@ -4,10 +4,10 @@ ghost use Rattle.std.specs.Prelude.{◌≡◌, ◌∷◌, true, Contains, IfOk};
 ghost use Rattle.names.specs.Key.{Key as KeyData, key_bytes};
 ghost use Rattle.paged.specs.Chosen.{is_rule_number, is_rule_key, rules_among, is_chosen};
 
-use base::Choice;
-use entries::Entry;
 use names::{Key, ResourceTable};
 use policy::is_guarded;
+use records::Entry;
+use snapshots::Choice;
 use std::alloc::{AllocError, Global};
 use std::collections::BTreeSet;
 

@@ -12,8 +12,8 @@ ghost use Rattle.roots.specs.Root.{log_start};
 ghost use Rattle.checkpoint.specs.EntryList.{entries_of as in_list};
 ghost use Rattle.checkpoint.specs.Index.{keys_of};
 ghost use Rattle.checkpoint.specs.Pages.{HoldsEntries, IsIndex, pages_of_root};
-ghost use Rattle.history.specs.declared.stored.Stored.{Stored as StoredData};
-ghost use Rattle.history.specs.View as seen;
+ghost use Rattle.requests.specs.declared.stored.Stored.{Stored as StoredData};
+ghost use Rattle.requests.specs.View as seen;
 ghost use Rattle.holdings.specs.Holdings.{Shows};
 ghost use Rattle.snapshots.specs.Keeping.{IsHeld, held_entries};
 ghost use Rattle.recovery.specs.Beside.{Beside as BesideData};
@@ -22,15 +22,14 @@ ghost use Rattle.paged.specs.Paged.{Below, Holds, root_of};
 
 use crate::bare::Bare;
 use crate::state::Paged;
-use base::Base;
 use checkpoint::EntryList;
 use device::Device;
-use history::Stored;
 use names::Key;
 use objects::{LookupFault, Part};
 use recovery::{Beside, Core};
+use requests::Stored;
 use roots::Root;
-use snapshots::{SnapshotFault, entries_in, renewed};
+use snapshots::{Base, SnapshotFault, entries_in, renewed};
 use std::alloc::Global;
 
 /// The next generation of a store, before it is written.

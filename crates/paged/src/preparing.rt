@@ -10,9 +10,9 @@ ghost use Rattle.objects.specs.declared.fault.Part.{Part};
 ghost use Rattle.objects.specs.declared.fault.LookupFault.TheVariants as LookupFault;
 ghost use Rattle.requests.specs.Request.{RequestHasForm};
 ghost use Rattle.requests.specs.RequestOf.{request_of};
-ghost use Rattle.history.specs.declared.stored.Stored.{Stored as StoredData};
-ghost use Rattle.history.specs.View as seen;
-ghost use Rattle.history.specs.View.{after_all};
+ghost use Rattle.requests.specs.declared.stored.Stored.{Stored as StoredData};
+ghost use Rattle.requests.specs.View as seen;
+ghost use Rattle.requests.specs.View.{after_all};
 ghost use Rattle.holdings.specs.Holdings.{Shows, ShowsSame};
 ghost use Rattle.holdings.specs.Prepared.{AreNext, HasRoomFor, writes_of};
 ghost use Rattle.roots.specs.Root.{log_start};
@@ -25,12 +25,12 @@ ghost use Rattle.paged.specs.Paged.{Below, IsShown, root_of};
 use crate::bare::Bare;
 use crate::state::Paged;
 use apicore::{Prepared, prepare};
-use base::Base;
 use device::Device;
 use holdings::PreparedWrite;
 use objects::LookupFault;
 use recovery::Beside;
 use requests::Request;
+use snapshots::Base;
 use std::alloc::Global;
 
 impl Paged {

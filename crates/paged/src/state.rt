@@ -3,10 +3,10 @@
 ghost use Rattle.std.specs.Prelude.{◌≡◌};
 ghost use Rattle.paged.specs.Paged.{root_of};
 
-use base::Stock;
 use objects::Rules;
 use recovery::Core;
 use roots::Root;
+use snapshots::Stock;
 
 /// The objects of a store: those of its last checkpoint lie in pages, and what was put or removed since, policies and bindings are held in memory.
 #[derive(Drop)]

@@ -7,7 +7,7 @@ use Rattle.device.proofs.Moments.{weaker, followed_by}
 use Rattle.objects.specs.declared.format.Rules.{Rules}
 use Rattle.objects.specs.Failing.{HasGrown}
 use Rattle.requests.specs.declared.refusal.Refusal.TheVariants.{OutOfMemory, StorageFailed}
-use Rattle.history.specs.View.{view}
+use Rattle.requests.specs.View.{view}
 use Rattle.recovery.specs.Standing.{Write, History, View}
 use Rattle.apicore.specs.Admitted.{AreAdmitted}
 use Rattle.durable.specs.declared.fault.Damage.{Damage}

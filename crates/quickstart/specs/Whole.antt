@@ -3,8 +3,8 @@ use Rattle.std.specs.Prelude.{◌≡◌, ℕ, ◌≤◌, ◌⊎◌, List, [], �
 use Rattle.device.specs.declared.device.Device.{Ghosts}
 use Rattle.device.specs.Disk.{Disk, LeavesOnly}
 use Rattle.objects.specs.declared.format.Rules.{Rules}
-use Rattle.history.specs.View as seen
-use Rattle.history.specs.View.{view}
+use Rattle.requests.specs.View as seen
+use Rattle.requests.specs.View.{view}
 use Rattle.requests.specs.declared.refusal.Refusal.TheVariants.{StorageFailed}
 use Rattle.records.specs.Payload.{group_limit}
 use Rattle.recovery.specs.Beside.{Beside}

@@ -3,9 +3,9 @@ use Rattle.std.proofs.Common.{◌≡◌, true, false, cond, List, [], ◌∷◌,
 use Rattle.std.specs.List.{filter, filter_map, cons_option}
 use Rattle.names.specs.Key.{Key}
 use Rattle.policy.specs.Spec.{Wanted}
-use Rattle.lookup.specs.Objects.{Held}
-use Rattle.lookup.specs.Listed.{is_wanted, wanted_of}
-use Rattle.lookup.specs.Seen.{shown_held}
+use Rattle.expressions.specs.Objects.{Held}
+use Rattle.expressions.specs.Listed.{is_wanted, wanted_of}
+use Rattle.expressions.specs.LookupSeen.{shown_held}
 use Rattle.recovery.specs.Wanted.{if_wanted}
 
 -- those wanted of a list, in one step

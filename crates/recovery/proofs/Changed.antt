@@ -11,9 +11,9 @@ use Rattle.names.specs.Key.{Key, key_cmp}
 use Rattle.names.specs.KeyLaws.{key_cmp_total}
 use Rattle.names.proofs.KeyOrder.{key_cmp-IsAntisymmetric}
 use Rattle.objects.specs.Objects.{value_at, with_value, without_key}
-use Rattle.overlay.specs.Merged.{changed, merged, over}
-use Rattle.overlay.proofs.Changing.{find-merged}
-use Rattle.overlay.proofs.Taking.{same_key}
+use Rattle.objects.specs.Merged.{changed, merged, over}
+use Rattle.objects.proofs.Changing.{find-merged}
+use Rattle.objects.proofs.Taking.{same_key}
 
 less_from : (r : Ordering) → is_lt r ≡ true → r ≡ Less
 less_from Less less = refl

@@ -1,6 +1,6 @@
 -- What requests ask for may follow, where none of their own conditions refuses it.
 use Rattle.std.proofs.Common.{◌≡◌, ◌≤◌, ◌<◌, ◌⊎◌, ◌^◌, ℕ, List, [], ◌∷◌, length, Bool, true, false, nat_lt, nat_le, cond, Some, is_some, IsTrue, not, inl, inr, refl, arith}
-use Rattle.jsondoc.specs.Document.{text}
+use Rattle.documents.specs.Json.{text}
 use Rattle.objects.specs.declared.format.Rules.{Rules}
 use Rattle.names.specs.declared.resource.Resource.{Resource}
 use Rattle.names.specs.Key.{Key}
@@ -9,9 +9,9 @@ use Rattle.serde_json.specs.Data.{Data}
 use Rattle.requests.specs.declared.refusal.Refusal.TheVariants.{AlreadyExists, NotFound, VersionNotCurrent, ObjectTooLarge, TooManyObjects, RevisionExhausted}
 use Rattle.requests.specs.Codes.{document_in}
 use Rattle.requests.specs.Manifest.{Body, sound, HasForm, BodyHasForm}
-use Rattle.history.specs.History as write
-use Rattle.history.specs.History.{put}
-use Rattle.history.specs.View.{exists, is_too_large, is_full, is_exhausted}
+use Rattle.requests.specs.History as write
+use Rattle.requests.specs.History.{put}
+use Rattle.requests.specs.View.{exists, is_too_large, is_full, is_exhausted}
 use Rattle.celtree.specs.Tree.{Expr}
 use Rattle.expressions.specs.Specification as beside
 use Rattle.recovery.specs.Standing.{Write, View, HasTrees, AllMayFollow}

@@ -11,25 +11,25 @@ use Rattle.names.specs.Resource.{row}
 use Rattle.names.specs.declared.resource.Resource.{Resource}
 use Rattle.names.specs.declared.resource.Resource.TheVariants.{ConfigMap, Node, Pod, Service, Deployment, ValidatingAdmissionPolicy, ValidatingAdmissionPolicyBinding}
 use Rattle.objects.specs.Objects.{value_at, is_of}
-use Rattle.overlay.specs.Covered.{AreCovered}
-use Rattle.overlay.specs.Merged.{over}
-use Rattle.overlay.proofs.Covering.{found_where_covered}
+use Rattle.objects.specs.Covered.{AreCovered}
+use Rattle.objects.specs.Merged.{over}
+use Rattle.objects.proofs.Covering.{found_where_covered}
 use Rattle.holdings.specs.Holdings as holdings
 use Rattle.holdings.specs.Holdings.{State}
-use Rattle.history.specs.declared.stored.Stored.{Stored}
-use Rattle.history.specs.Mapped.{each}
-use Rattle.history.specs.View as seen
+use Rattle.requests.specs.declared.stored.Stored.{Stored}
+use Rattle.requests.specs.Mapped.{each}
+use Rattle.requests.specs.View as seen
 use Rattle.policy.specs.Forms.{Text}
 use Rattle.policy.specs.Policies.{policy_of}
 use Rattle.policy.specs.Spec.{Policy, Wanted}
 use Rattle.expressions.specs.Expressions.{sources}
 use Rattle.expressions.specs.Typed.{AreTyped}
 use Rattle.expressions.specs.Places.{policy_in}
-use Rattle.lookup.specs.Objects as asked
-use Rattle.lookup.specs.Objects.{Held, Objects, all_held, shown_objects}
-use Rattle.lookup.specs.Listed.{listed, wanted_of}
-use Rattle.lookup.specs.Seen.{shown_held}
-use Rattle.lookup.proofs.Standing.{listed-map, value_at-map, shown_listed}
+use Rattle.expressions.specs.Objects as asked
+use Rattle.expressions.specs.Objects.{Held, Objects, all_held, shown_objects}
+use Rattle.expressions.specs.Listed.{listed, wanted_of}
+use Rattle.expressions.specs.LookupSeen.{shown_held}
+use Rattle.expressions.proofs.LookupStanding.{listed-map, value_at-map, shown_listed}
 use Rattle.recovery.specs.Beside.{Beside}
 use Rattle.recovery.specs.Shown.{plans_held, HasNoRules, Shows}
 use Rattle.recovery.specs.Sights.{held_of, entry_held}

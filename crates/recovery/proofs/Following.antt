@@ -1,7 +1,7 @@
 -- Writes that may follow, and those after them.
 use Rattle.std.proofs.Common.{List, [], ◌∷◌, ◌++◌}
 use Rattle.objects.specs.declared.format.Rules.{Rules}
-use Rattle.history.specs.View.{after, after_all}
+use Rattle.requests.specs.View.{after, after_all}
 use Rattle.recovery.specs.Standing.{Write, View, AllMayFollow}
 
 -- what may follow, and then more that may follow that

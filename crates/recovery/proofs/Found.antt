@@ -5,11 +5,11 @@ use Rattle.objects.specs.declared.format.Rules.{Rules}
 use Rattle.names.specs.Key.{Key}
 use Rattle.documents.specs.Document.{Document}
 use Rattle.requests.specs.declared.refusal.Refusal.TheVariants.{NotFound, VersionNotCurrent, RevisionExhausted}
-use Rattle.history.specs.Reply as plain
-use Rattle.history.specs.Reply.{showing}
-use Rattle.history.specs.declared.stored.Stored.{Stored}
-use Rattle.history.specs.View as seen
-use Rattle.history.specs.View.{exists, is_exhausted, stored_at}
+use Rattle.requests.specs.Reply as plain
+use Rattle.requests.specs.Reply.{showing}
+use Rattle.requests.specs.declared.stored.Stored.{Stored}
+use Rattle.requests.specs.View as seen
+use Rattle.requests.specs.View.{exists, is_exhausted, stored_at}
 use Rattle.holdings.specs.Holdings.{State}
 use Rattle.holdings.specs.Sources.{found_in}
 use Rattle.holdings.specs.declared.source.Found.{Found}

@@ -6,11 +6,11 @@ use Rattle.objects.specs.declared.format.Rules.{Rules}
 use Rattle.names.specs.Key.{Key}
 use Rattle.documents.specs.Document.{Document}
 use Rattle.objects.proofs.Each.{one_each}
-use Rattle.history.specs.History as plain
-use Rattle.history.specs.History.{put, delete}
-use Rattle.history.specs.View as seen
-use Rattle.history.specs.View.{after, after_all, MayPut, MayFollow, AllMayFollow}
-use Rattle.history.proofs.ViewLemmas.{after_all-append, AllMayFollow-append}
+use Rattle.requests.specs.History as plain
+use Rattle.requests.specs.History.{put, delete}
+use Rattle.requests.specs.View as seen
+use Rattle.requests.specs.View.{after, after_all, MayPut, MayFollow, AllMayFollow}
+use Rattle.requests.proofs.ViewLemmas.{after_all-append, AllMayFollow-append}
 use Rattle.records.proofs.Writes as bytes
 use Rattle.records.specs.Payload as bytes_form
 use Rattle.records.specs.Payload.{writes_in}
@@ -18,7 +18,7 @@ use Rattle.records.proofs.Groups.{writes_in-push, all-push}
 use Rattle.expressions.specs.Specification.{MayHavePlans, plans_bytes}
 use Rattle.recovery.specs.Beside.{Beside, spelled}
 use Rattle.recovery.specs.Standing.{recorded}
-use Rattle.expressions.proofs.Listed.{one_stored_list}
+use Rattle.expressions.proofs.StoredLists.{one_stored_list}
 use Rattle.recovery.specs.Written.{Write, payload, HasPlans, AllStorable, IsGroup, IsWritten}
 use Rattle.recovery.specs.Taken.{AreRecorded, IsTaken, AreTaken}
 

@@ -4,9 +4,9 @@ use Rattle.std.proofs.lemmas.List.Elements.{Contains-append_right}
 use Rattle.std.specs.List.{AllByRecursion}
 use Rattle.objects.specs.declared.format.Rules.{Rules}
 use Rattle.names.specs.Key.{Key}
-use Rattle.history.specs.declared.stored.Stored.{Stored}
-use Rattle.history.specs.History as plain
-use Rattle.history.specs.View as seen
+use Rattle.requests.specs.declared.stored.Stored.{Stored}
+use Rattle.requests.specs.History as plain
+use Rattle.requests.specs.View as seen
 use Rattle.holdings.specs.Holdings.{State}
 use Rattle.holdings.specs.Known.{IsKnown, KnowsSame}
 use Rattle.records.specs.Payload as bytes

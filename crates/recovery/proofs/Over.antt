@@ -1,8 +1,8 @@
 -- What a core shows over a source, as looks and prepared writes leave it.
 use Rattle.std.proofs.Common.{List}
 use Rattle.names.specs.Key.{Key}
-use Rattle.history.specs.declared.stored.Stored.{Stored}
-use Rattle.history.specs.View as seen
+use Rattle.requests.specs.declared.stored.Stored.{Stored}
+use Rattle.requests.specs.View as seen
 use Rattle.holdings.specs.Holdings.{State}
 use Rattle.recovery.specs.Beside.{Beside}
 use Rattle.recovery.specs.Shown.{IsOver}

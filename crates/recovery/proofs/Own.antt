@@ -12,11 +12,11 @@ use Rattle.requests.specs.Manifest.{Manifest}
 use Rattle.requests.specs.Request.{create, replace, delete}
 use Rattle.requests.specs.declared.refusal.Refusal as code_refusal
 use Rattle.requests.specs.declared.refusal.Refusal.TheVariants.{AlreadyExists, NotFound, VersionNotCurrent, BadSpec, RevisionExhausted}
-use Rattle.history.specs.History as write
-use Rattle.history.specs.History.{put}
-use Rattle.history.specs.declared.stored.Stored.{Stored}
-use Rattle.history.specs.View as seen
-use Rattle.history.specs.View.{exists, is_exhausted, stored_at}
+use Rattle.requests.specs.History as write
+use Rattle.requests.specs.History.{put}
+use Rattle.requests.specs.declared.stored.Stored.{Stored}
+use Rattle.requests.specs.View as seen
+use Rattle.requests.specs.View.{exists, is_exhausted, stored_at}
 use Rattle.holdings.specs.Sources.{found_in}
 use Rattle.holdings.specs.declared.source.Found.{Found}
 use Rattle.expressions.specs.Specification.{Specification}

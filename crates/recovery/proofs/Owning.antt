@@ -10,9 +10,9 @@ use Rattle.names.specs.Key.{Key, key_cmp}
 use Rattle.names.specs.declared.resource.Resource.{Resource}
 use Rattle.documents.specs.Document.{Document}
 use Rattle.objects.specs.Objects.{value_at}
-use Rattle.history.specs.declared.stored.Stored.{Stored}
-use Rattle.history.specs.Mapped.{one, each}
-use Rattle.history.specs.View as seen
+use Rattle.requests.specs.declared.stored.Stored.{Stored}
+use Rattle.requests.specs.Mapped.{one, each}
+use Rattle.requests.specs.View as seen
 use Rattle.holdings.specs.Holdings.{State}
 use Rattle.plancode.specs.Plans.{Judged}
 use Rattle.records.proofs.Groups.{all-push}

@@ -5,7 +5,7 @@ use Rattle.std.specs.List.{filter}
 use Rattle.std.specs.Option.{option_map_or}
 use Rattle.serde_json.specs.Data.{Data, null, array}
 use Rattle.serde_json.specs.View.{items_of}
-use Rattle.jsondoc.specs.Document.{text}
+use Rattle.documents.specs.Json.{text}
 use Rattle.objects.specs.declared.format.Rules.{Rules}
 use Rattle.names.specs.Key.{Key}
 use Rattle.objects.specs.Objects.{value_at}
@@ -15,13 +15,13 @@ use Rattle.requests.specs.Refusal as table
 use Rattle.documents.specs.Requirement.{Requirement}
 use Rattle.requests.specs.Selector.{selects}
 use Rattle.requests.specs.declared.refusal.Refusal.TheVariants.{NotFound, VersionNotCurrent, ObjectTooLarge, TooManyObjects, RevisionExhausted}
-use Rattle.history.specs.declared.stored.Stored.{Stored}
-use Rattle.history.specs.Listing.{shown_items, list_of, served, listing, watching, watch_conditions}
-use Rattle.history.specs.Mapped.{each, one, mapped}
-use Rattle.history.specs.Reply.{Reply, showing, status}
-use Rattle.history.specs.View as seen
-use Rattle.history.specs.View.{exists, stored_at, document_at, is_too_large, is_full, is_exhausted}
-use Rattle.history.proofs.Mapping.{value_each, there_mapped}
+use Rattle.requests.specs.declared.stored.Stored.{Stored}
+use Rattle.requests.specs.Listing.{shown_items, list_of, served, listing, watching, watch_conditions}
+use Rattle.requests.specs.Mapped.{each, one, mapped}
+use Rattle.requests.specs.Reply.{Reply, showing, status}
+use Rattle.requests.specs.View as seen
+use Rattle.requests.specs.View.{exists, stored_at, document_at, is_too_large, is_full, is_exhausted}
+use Rattle.requests.proofs.Mapping.{value_each, there_mapped}
 use Rattle.recovery.specs.Beside.{Beside}
 use Rattle.recovery.specs.Shown.{plans_held, Shows}
 use Rattle.recovery.specs.Standing.{View, plans_beside}

@@ -7,10 +7,10 @@ use Rattle.objects.specs.declared.format.Rules.{Rules}
 use Rattle.names.specs.Key.{Key, key_cmp}
 use Rattle.names.proofs.KeyOrder.{key_cmp-IsAntisymmetric}
 use Rattle.objects.specs.Objects.{with_value, without_key}
-use Rattle.history.specs.declared.stored.Stored.{Stored}
-use Rattle.history.specs.History.{put, delete}
-use Rattle.history.specs.View.{after, after_all, empty}
-use Rattle.history.proofs.ViewLemmas.{objects_ascend}
+use Rattle.requests.specs.declared.stored.Stored.{Stored}
+use Rattle.requests.specs.History.{put, delete}
+use Rattle.requests.specs.View.{after, after_all, empty}
+use Rattle.requests.proofs.ViewLemmas.{objects_ascend}
 use Rattle.recovery.specs.Laws.{HistoriesShow}
 use Rattle.celtree.specs.Tree.{Expr}
 use Rattle.recovery.specs.Standing.{Write, View, HasTrees, MayFollow, AllMayFollow}

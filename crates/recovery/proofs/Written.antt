@@ -4,8 +4,8 @@ use Rattle.std.proofs.lemmas.List.Elements.{All-contains, All-from_recursion, Co
 use Rattle.std.specs.List.{AllByRecursion}
 use Rattle.objects.specs.declared.format.Rules.{Rules}
 use Rattle.names.specs.Key.{Key}
-use Rattle.history.specs.History as plain
-use Rattle.history.specs.View as seen
+use Rattle.requests.specs.History as plain
+use Rattle.requests.specs.View as seen
 use Rattle.records.specs.Payload as bytes
 use Rattle.records.proofs.Writes.{one_group}
 use Rattle.recovery.specs.Beside.{Beside}

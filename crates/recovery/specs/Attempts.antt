@@ -4,13 +4,13 @@ use Rattle.serde_json.specs.Data.{Data}
 use Rattle.celtree.specs.Tree.{Expr}
 use Rattle.names.specs.Key.{Key}
 use Rattle.documents.specs.Document.{shown}
-use Rattle.history.specs.History.{put, delete}
-use Rattle.history.specs.declared.stored.Stored.{Stored}
-use Rattle.history.specs.View as seen
-use Rattle.history.specs.View.{stored_at, exists}
+use Rattle.requests.specs.History.{put, delete}
+use Rattle.requests.specs.declared.stored.Stored.{Stored}
+use Rattle.requests.specs.View as seen
+use Rattle.requests.specs.View.{stored_at, exists}
 use Rattle.policy.specs.Rules.{Attempt}
 use Rattle.policy.specs.declared.match_rules.Operation.TheVariants.{Create, Update, Delete}
-use Rattle.lookup.specs.Objects.{Object, Objects}
+use Rattle.expressions.specs.Objects.{Object, Objects}
 use Rattle.recovery.specs.Standing.{Write, View}
 
 -- an object with its trees, as a verdict is given by it

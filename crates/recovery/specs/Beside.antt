@@ -7,7 +7,7 @@ use Rattle.policy.specs.Policies.{policy_of}
 use Rattle.policy.specs.Spec.{Policy, Binding}
 use Rattle.documents.specs.Document.{Document}
 use Rattle.expressions.specs.Specification.{Plans, these, plans_in}
-use Rattle.lookup.specs.Objects.{Held}
+use Rattle.expressions.specs.Objects.{Held}
 
 pub record Beside : Type 0 where
   pub policy : Option Policy

@@ -2,7 +2,7 @@
 use Rattle.std.specs.Prelude.{◌≡◌, List, Option, IfSome}
 use Rattle.celtree.specs.Tree.{Expr}
 use Rattle.names.specs.Key.{Key}
-use Rattle.history.specs.declared.stored.Stored.{Stored}
+use Rattle.requests.specs.declared.stored.Stored.{Stored}
 use Rattle.expressions.specs.Specification.{IsSpecification, sound, these, plans_in, plans_bytes}
 use Rattle.recovery.specs.Beside.{Beside}
 

@@ -12,10 +12,10 @@ use Rattle.requests.specs.declared.refusal.Refusal as told
 use Rattle.requests.specs.declared.refusal.Refusal.TheVariants.{AlreadyExists, NotFound, VersionNotCurrent, BadSpec, ObjectTooLarge, TooManyObjects, RevisionExhausted}
 use Rattle.requests.specs.Refusal as table
 use Rattle.requests.specs.Request.{Request, get, list, watch, create, replace, delete, refused}
-use Rattle.history.specs.History as write
-use Rattle.history.specs.Listing.{watch_conditions}
-use Rattle.history.specs.View as seen
-use Rattle.history.specs.View.{stored_at, exists, is_too_large, is_full, is_exhausted}
+use Rattle.requests.specs.History as write
+use Rattle.requests.specs.Listing.{watch_conditions}
+use Rattle.requests.specs.View as seen
+use Rattle.requests.specs.View.{stored_at, exists, is_too_large, is_full, is_exhausted}
 use Rattle.policy.specs.declared.validation.Reason.{Reason}
 use Rattle.expressions.specs.Specification.{Specification, sound, bad_spec, bad_expression}
 use Rattle.recovery.specs.Standing.{Write, View}

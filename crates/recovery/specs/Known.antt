@@ -2,9 +2,9 @@
 use Rattle.std.specs.Prelude.{◌≡◌, ℕ, List, map, Contains}
 use Rattle.std.specs.List.{AllByRecursion}
 use Rattle.names.specs.Key.{Key}
-use Rattle.history.specs.declared.stored.Stored.{Stored}
-use Rattle.history.specs.History as plain
-use Rattle.history.specs.History.{put, delete}
+use Rattle.requests.specs.declared.stored.Stored.{Stored}
+use Rattle.requests.specs.History as plain
+use Rattle.requests.specs.History.{put, delete}
 use Rattle.holdings.specs.Holdings.{State}
 use Rattle.holdings.specs.Known.{IsKnown}
 use Rattle.records.specs.Payload as bytes

@@ -5,8 +5,8 @@ use Rattle.objects.specs.Failing.{HasGrown}
 use Rattle.objects.specs.declared.fault.Part.{Part}
 use Rattle.objects.specs.declared.fault.LookupFault.{LookupFault}
 use Rattle.objects.specs.declared.fault.LookupFault.TheVariants.{Device, Damaged}
-use Rattle.history.specs.declared.stored.Stored.{Stored}
-use Rattle.history.specs.View as seen
+use Rattle.requests.specs.declared.stored.Stored.{Stored}
+use Rattle.requests.specs.View as seen
 use Rattle.holdings.specs.Holdings.{State, ShowsSame}
 use Rattle.recovery.specs.Beside.{Beside}
 use Rattle.recovery.specs.Shown.{IsOver}

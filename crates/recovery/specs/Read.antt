@@ -2,7 +2,7 @@
 use Rattle.std.specs.Prelude.{◌≡◌, ◌+◌, ◌*◌, ◌≤◌, ◌^◌, List, length}
 use Rattle.serde_json.specs.Data.{Data}
 use Rattle.celtree.specs.Tree.{Expr}
-use Rattle.jsondoc.specs.Document.{text}
+use Rattle.documents.specs.Json.{text}
 use Rattle.names.specs.declared.resource.Resource.{Resource}
 use Rattle.expressions.specs.Specification.{Specification, IsSpecification, sound, bad_spec, bad_expression, these, plans_in, plans_bytes, MayHavePlans}
 

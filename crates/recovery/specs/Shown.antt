@@ -2,11 +2,11 @@
 use Rattle.std.specs.Prelude.{◌≡◌, List, []}
 use Rattle.names.specs.declared.resource.Resource.TheVariants.{ValidatingAdmissionPolicy, ValidatingAdmissionPolicyBinding}
 use Rattle.names.specs.Key.{Key}
-use Rattle.overlay.specs.Covered.{AreCovered}
+use Rattle.objects.specs.Covered.{AreCovered}
 use Rattle.documents.specs.Document.{Document}
-use Rattle.history.specs.declared.stored.Stored.{Stored}
-use Rattle.history.specs.Mapped.{mapped}
-use Rattle.history.specs.View as seen
+use Rattle.requests.specs.declared.stored.Stored.{Stored}
+use Rattle.requests.specs.Mapped.{mapped}
+use Rattle.requests.specs.View as seen
 use Rattle.holdings.specs.Holdings as holdings
 use Rattle.holdings.specs.Holdings.{State}
 use Rattle.recovery.specs.Beside.{Beside}

@@ -3,10 +3,10 @@ use Rattle.std.specs.Prelude.{◌≡◌, List, map, IsTrue}
 use Rattle.std.proofs.Common.{refl, ◌∙◌}
 use Rattle.std.specs.FinMap.{is_sorted}
 use Rattle.names.specs.Key.{Key, key_cmp}
-use Rattle.history.specs.declared.stored.Stored.{Stored}
-use Rattle.history.specs.View as seen
+use Rattle.requests.specs.declared.stored.Stored.{Stored}
+use Rattle.requests.specs.View as seen
 use Rattle.holdings.specs.Holdings as holdings
-use Rattle.lookup.specs.Objects.{Held, Objects, all_held}
+use Rattle.expressions.specs.Objects.{Held, Objects, all_held}
 use Rattle.recovery.specs.Beside.{Beside, found_with}
 use Rattle.recovery.specs.Shown.{HasNoRules}
 use Rattle.recovery.specs.declared.sight.Sight.{Sight}

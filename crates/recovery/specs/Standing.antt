@@ -4,16 +4,16 @@ use Rattle.std.specs.FinMap.{is_sorted}
 use Rattle.std.specs.List.{AllByRecursion}
 use Rattle.serde_json.specs.Data.{Data}
 use Rattle.celtree.specs.Tree.{Expr}
-use Rattle.jsondoc.specs.Document.{text}
+use Rattle.documents.specs.Json.{text}
 use Rattle.objects.specs.declared.format.Rules.{Rules}
 use Rattle.names.specs.declared.resource.Resource.{Resource}
 use Rattle.names.specs.Key.{key_cmp}
 use Rattle.documents.specs.Document.{Document}
-use Rattle.history.specs.History as plain
-use Rattle.history.specs.History.{put, delete}
-use Rattle.history.specs.Mapped.{mapped, mapped_write}
-use Rattle.history.specs.View as seen
-use Rattle.history.specs.View.{after, empty}
+use Rattle.requests.specs.History as plain
+use Rattle.requests.specs.History.{put, delete}
+use Rattle.requests.specs.Mapped.{mapped, mapped_write}
+use Rattle.requests.specs.View as seen
+use Rattle.requests.specs.View.{after, empty}
 use Rattle.expressions.specs.Specification.{IsSpecification, sound, these, plans_in, plans_bytes, MayHavePlans}
 use Rattle.recovery.specs.Beside.{Beside, beside_of}
 

@@ -3,10 +3,10 @@ use Rattle.std.specs.Prelude.{◌≡◌, ℕ, List, ◌++◌, map}
 use Rattle.std.specs.List.{AllByRecursion}
 use Rattle.objects.specs.declared.format.Rules.{Rules}
 use Rattle.names.specs.Key.{Key}
-use Rattle.history.specs.History as plain
-use Rattle.history.specs.Mapped.{mapped}
-use Rattle.history.specs.declared.stored.Stored.{Stored}
-use Rattle.history.specs.View.{View, after, after_all, MayFollow, AllMayFollow}
+use Rattle.requests.specs.History as plain
+use Rattle.requests.specs.Mapped.{mapped}
+use Rattle.requests.specs.declared.stored.Stored.{Stored}
+use Rattle.requests.specs.View.{View, after, after_all, MayFollow, AllMayFollow}
 use Rattle.holdings.specs.Holdings as holdings
 use Rattle.recovery.specs.Beside.{Beside}
 use Rattle.recovery.specs.Shown.{plans_held}

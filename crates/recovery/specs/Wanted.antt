@@ -3,9 +3,9 @@ use Rattle.std.specs.Prelude.{Option, Some, None, if◌then◌else◌}
 use Rattle.serde_json.specs.Data.{Data}
 use Rattle.names.specs.Key.{Key}
 use Rattle.policy.specs.Spec.{Wanted}
-use Rattle.lookup.specs.Objects.{Held}
-use Rattle.lookup.specs.Listed.{is_wanted}
-use Rattle.lookup.specs.Seen.{shown_held}
+use Rattle.expressions.specs.Objects.{Held}
+use Rattle.expressions.specs.Listed.{is_wanted}
+use Rattle.expressions.specs.LookupSeen.{shown_held}
 
 -- the object as it is shown, if it is wanted
 abbrev pub if_wanted : Wanted → Key × Held → Option Data

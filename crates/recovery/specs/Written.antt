@@ -2,9 +2,9 @@
 use Rattle.std.specs.Prelude.{◌≡◌, ℕ, List, map}
 use Rattle.std.specs.List.{AllByRecursion}
 use Rattle.objects.specs.declared.format.Rules.{Rules}
-use Rattle.history.specs.History as plain
-use Rattle.history.specs.History.{put, delete}
-use Rattle.history.specs.View.{View, AllMayFollow}
+use Rattle.requests.specs.History as plain
+use Rattle.requests.specs.History.{put, delete}
+use Rattle.requests.specs.View.{View, AllMayFollow}
 use Rattle.records.specs.Payload as bytes
 use Rattle.records.specs.Payload.{writes_in}
 use Rattle.expressions.specs.Specification.{MayHavePlans}

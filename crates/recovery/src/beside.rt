@@ -3,13 +3,11 @@
 ghost use Rattle.std.specs.Prelude.{◌≡◌, IfOk};
 ghost use Rattle.expressions.specs.Specification.{plans_seen};
 ghost use Rattle.recovery.specs.Beside.{spelled, found_with};
-ghost use Rattle.lookup.specs.Seen.{held_by};
+ghost use Rattle.expressions.specs.LookupSeen.{held_by};
 
-use documents::Document;
-use expressions::StoredPlans;
+use documents::{Doc, Document};
+use expressions::{Bound, Found, StoredPlans};
 use holdings::Holdings;
-use jsondoc::Doc;
-use lookup::{Bound, Found};
 use policy::Policy;
 use std::alloc::{AllocError, Global};
 use std::marker::Model;

@@ -5,8 +5,8 @@ ghost use Rattle.std.specs.List.{AllByRecursion};
 ghost use Rattle.celtree.specs.Tree.{Expr};
 ghost use Rattle.names.specs.Key.{Key as KeyData};
 ghost use Rattle.expressions.specs.Specification.{plans_bytes, plans_seen};
-ghost use Rattle.history.specs.declared.stored.Stored.{Stored as StoredData};
-ghost use Rattle.history.specs.View.{View as Held};
+ghost use Rattle.requests.specs.declared.stored.Stored.{Stored as StoredData};
+ghost use Rattle.requests.specs.View.{View as Held};
 ghost use Rattle.holdings.specs.Holdings.{Shows};
 ghost use Rattle.recovery.specs.Beside.{Beside as BesideData, beside_of};
 ghost use Rattle.recovery.specs.Compiled.{HasOwnPlans, PutsOwnPlans};
@@ -15,9 +15,9 @@ ghost use Rattle.recovery.specs.Standing.{View, IsView, HasTrees};
 
 use crate::beside::{Beside, Core};
 use expressions::{Specification, StoredPlans, plans_bytes, specification_of};
-use history::Stored;
 use names::{Key, Resource};
 use objects::Entry;
+use requests::Stored;
 use std::alloc::{AllocError, Global};
 
 // Whether two lists of plans have the same bytes, as those of an object of a resource.

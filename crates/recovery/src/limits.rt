@@ -3,8 +3,8 @@
 ghost use Rattle.std.specs.Prelude.{◌≡◌, ◌<◌, List, None, option_map};
 ghost use Rattle.names.specs.Key.{Key as KeyData};
 ghost use Rattle.requests.specs.Codes.{document_in};
-ghost use Rattle.history.specs.declared.stored.Stored.{Stored as StoredData};
-ghost use Rattle.history.specs.View.{View as Held};
+ghost use Rattle.requests.specs.declared.stored.Stored.{Stored as StoredData};
+ghost use Rattle.requests.specs.View.{View as Held};
 ghost use Rattle.holdings.specs.Holdings.{Shows};
 ghost use Rattle.recovery.specs.Beside.{Beside as BesideData};
 ghost use Rattle.recovery.specs.Conditions.{known, first_of, create_limits, replace_limits};

@@ -5,20 +5,19 @@ ghost use Rattle.std.specs.Option.{option_map_or};
 ghost use Rattle.requests.specs.Collection.{collection_of};
 ghost use Rattle.requests.specs.Selector.{selector_seen};
 ghost use Rattle.requests.specs.declared.refusal.Refusal.TheVariants.{NotFound};
-ghost use Rattle.history.specs.Listing.{listing};
-ghost use Rattle.history.specs.Reply.{showing, status};
-ghost use Rattle.history.specs.View.{View as Held, stored_at};
+ghost use Rattle.requests.specs.Listing.{listing};
+ghost use Rattle.requests.specs.Reply.{showing, status};
+ghost use Rattle.requests.specs.View.{View as Held, stored_at};
 ghost use Rattle.recovery.specs.Beside.{Beside as BesideData};
 ghost use Rattle.recovery.specs.Shown.{IsOver};
 ghost use Rattle.recovery.specs.Standing.{View};
 ghost use Rattle.recovery.specs.Looked.{HasLooked};
 
 use crate::{Beside, Core};
-use history::Reply;
 use holdings::{Found, Source};
 use names::Key;
 use objects::LookupFault;
-use requests::{Collection, Refusal, Selector};
+use requests::{Collection, Refusal, Reply, Selector};
 use std::alloc::{AllocError, Global};
 
 // The reply that shows what was found, if anything was.

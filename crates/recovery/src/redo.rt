@@ -1,10 +1,10 @@
 ghost use Rattle.std.specs.Prelude.{◌≡◌, ◌⊎◌, ℕ, List, [], map, IfOk, OnOk, IsErrOf};
 ghost use Rattle.names.specs.Key.{Key as KeyData};
-ghost use Rattle.history.specs.declared.stored.Stored.{Stored as StoredData};
-ghost use Rattle.history.specs.View.{View, after_all, MayFollow, AllMayFollow};
-ghost use Rattle.history.specs.Mapped.{mapped};
+ghost use Rattle.requests.specs.declared.stored.Stored.{Stored as StoredData};
+ghost use Rattle.requests.specs.View.{View, after_all, MayFollow, AllMayFollow};
+ghost use Rattle.requests.specs.Mapped.{mapped};
 ghost use Rattle.requests.specs.Codes.{document_in};
-ghost use Rattle.history.specs.History.{put, delete};
+ghost use Rattle.requests.specs.History.{put, delete};
 ghost use Rattle.holdings.specs.Holdings.{Shows};
 ghost use Rattle.holdings.specs.Known.{IsKnown, KnowsSame};
 ghost use Rattle.records.specs.WriteOf.{write_of};

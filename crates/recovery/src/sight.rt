@@ -1,19 +1,18 @@
 //! The core over a source, as objects are looked up in them.
 
 ghost use Rattle.std.specs.Prelude.{◌≡◌, map, IfOk};
-ghost use Rattle.lookup.specs.Seen.{held_by, listed_seen};
+ghost use Rattle.expressions.specs.LookupSeen.{held_by, listed_seen};
 ghost use Rattle.recovery.specs.Sights.{held_of, entry_held};
 
 use crate::wanted::wanted_among;
 use crate::{Beside, Core};
-use history::Stored;
+use documents::Doc;
+use expressions::{Found, Listed, Lookup};
 use holdings::Source;
-use jsondoc::Doc;
-use lookup::{Found, Listed, Lookup};
 use names::{Key, Resource};
-use objects::LookupFault;
-use overlay::Lent;
+use objects::{Lent, LookupFault};
 use policy::Wanted;
+use requests::Stored;
 use std::alloc::{AllocError, Global};
 
 /// A core over a source, as objects are looked up in them: policies and bindings in memory, parameters in both.

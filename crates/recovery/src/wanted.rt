@@ -3,13 +3,12 @@
 ghost use Rattle.std.specs.Prelude.{◌≡◌, ◌++◌, List, map, IfOk, OnOk};
 ghost use Rattle.std.specs.List.{cons_option};
 ghost use Rattle.policy.specs.Spec.{wanted_seen};
-ghost use Rattle.lookup.specs.Listed.{wanted_of};
-ghost use Rattle.lookup.specs.Seen.{listed_seen, shown_held};
+ghost use Rattle.expressions.specs.Listed.{wanted_of};
+ghost use Rattle.expressions.specs.LookupSeen.{listed_seen, shown_held};
 ghost use Rattle.recovery.specs.Wanted.{if_wanted};
 
-use documents::{selects, shown_document};
-use jsondoc::Doc;
-use lookup::Listed;
+use documents::{Doc, selects, shown_document};
+use expressions::Listed;
 use policy::Wanted;
 use std::alloc::{AllocError, Global};
 

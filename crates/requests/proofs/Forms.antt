@@ -5,8 +5,8 @@ use Rattle.std.proofs.lemmas.Slice.Eq.{bytes_eq-Decides}
 use Rattle.std.specs.Option.{option_map_or}
 use Rattle.serde_json.specs.Data.{Data, null, boolean, number, string, array, object, depth}
 use Rattle.serde_json.specs.Find.{get, as_str, as_object}
-use Rattle.jsondoc.specs.Document.{text, reading, document, IsDocument, with_member, without_member}
-use Rattle.jsondoc.proofs.Documents.{both, get-with_member, get-with_member_other, get-without_member, get-without_member_other}
+use Rattle.documents.specs.Json.{text, reading, document, IsDocument, with_member, without_member}
+use Rattle.documents.proofs.Json.{both, get-with_member, get-with_member_other, get-without_member, get-without_member_other}
 use Rattle.names.specs.declared.resource.Resource.{Resource}
 use Rattle.names.specs.declared.resource.Scope.{Scope}
 use Rattle.names.specs.declared.resource.Scope.TheVariants.{Namespaced, Cluster}

@@ -4,3 +4,6 @@ pub mod Forms
 pub mod Recovery
 pub mod Selecting
 pub mod Spelling
+pub mod Listings
+pub mod ViewLemmas
+pub mod Mapping

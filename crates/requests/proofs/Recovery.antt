@@ -3,8 +3,8 @@ use Rattle.std.proofs.Common.{◌≡◌, ℕ, List, [], ◌∷◌, Bool, true, f
 use Rattle.std.proofs.lemmas.Slice.Eq.{bytes_eq-Decides}
 use Rattle.serde_json.specs.Data.{Data, null, boolean, number, string, array, object}
 use Rattle.serde_json.specs.Find.{get, as_str}
-use Rattle.jsondoc.specs.Document.{text, reading, document, with_member, without_member}
-use Rattle.jsondoc.proofs.Documents.{both, without_member-none}
+use Rattle.documents.specs.Json.{text, reading, document, with_member, without_member}
+use Rattle.documents.proofs.Json.{both, without_member-none}
 use Rattle.names.specs.declared.resource.Scope.{Scope}
 use Rattle.names.specs.declared.resource.Scope.TheVariants.{Namespaced, Cluster}
 use Rattle.names.specs.Key.{Key, is_key}

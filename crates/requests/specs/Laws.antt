@@ -1,6 +1,6 @@
 -- The law of what is stored.
 use Rattle.std.specs.Prelude.{None}
-use Rattle.jsondoc.specs.Document.{text}
+use Rattle.documents.specs.Json.{text}
 use Rattle.names.specs.Key.{Key}
 use Rattle.documents.specs.Document.{Document}
 use Rattle.requests.specs.Manifest.{item, sound, HasForm, IsManifestOf}

@@ -8,3 +8,9 @@ pub mod Spelling
 pub mod Request
 pub mod RequestOf
 pub mod Laws
+pub mod History
+pub mod View
+pub mod Reply
+pub mod Listing
+pub mod HistoryLaws
+pub mod Mapped

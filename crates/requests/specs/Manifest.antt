@@ -3,7 +3,7 @@ use Rattle.std.specs.Prelude.{◌≡◌, ℕ, List, [], ◌∷◌, length, Bool,
 use Rattle.std.specs.Option.{option_map_or}
 use Rattle.std.specs.Str.{bytes_eq}
 use Rattle.serde_json.specs.Data.{Data, string}
-use Rattle.jsondoc.specs.Document.{Reading, not_json, not_whole, document, reading, IsDocument, with_member, without_member}
+use Rattle.documents.specs.Json.{Reading, not_json, not_whole, document, reading, IsDocument, with_member, without_member}
 use Rattle.names.specs.declared.resource.Resource.{Resource}
 use Rattle.names.specs.declared.resource.Scope.{Scope}
 use Rattle.names.specs.declared.resource.Scope.TheVariants.{Namespaced, Cluster}

@@ -8,7 +8,7 @@ ghost use Rattle.requests.specs.declared.refusal.Refusal.{Refusal};
 
 use crate::manifest::BodyFault;
 use crate::refusal::Refusal;
-use jsondoc::{Doc, Map, ReadFault, Value};
+use documents::{Doc, Map, ReadFault, Value};
 use std::alloc::{AllocError, Global};
 
 /// Reads the options in the body of a DELETE (Kubernetes API, `DeleteOptions`), which may be empty: the text of the revision

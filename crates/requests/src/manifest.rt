@@ -2,7 +2,7 @@ ghost use Rattle.std.specs.Prelude.{◌≡◌, ◌≤◌, ℕ, List, Option, tru
 ghost use Rattle.std.specs.Option.{option_map_or};
 ghost use Rattle.std.specs.Str.{bytes_eq};
 ghost use Rattle.serde_json.specs.Data.{depth};
-ghost use Rattle.jsondoc.specs.Document.{text};
+ghost use Rattle.documents.specs.Json.{text};
 ghost use Rattle.documents.specs.Document.{Document as DocumentData, metadata_text};
 ghost use Rattle.requests.specs.Manifest.{target, is_target, key_at, fits_path, asks_for_version, document_conditions, body_refusal, stored_document, manifest_of, sound, IsManifestOf, HasForm, BodyHasForm};
 ghost use Rattle.names.specs.Key.{is_key};
@@ -10,8 +10,7 @@ ghost use Rattle.requests.specs.Refusal.{first_of};
 ghost use Rattle.requests.specs.declared.manifest.BodyFault.TheVariants.{Memory};
 
 use crate::refusal::Refusal;
-use documents::{Document, has_kind, has_metadata, metadata_copy, metadata_text};
-use jsondoc::{Doc, ReadFault};
+use documents::{Doc, Document, ReadFault, has_kind, has_metadata, metadata_copy, metadata_text};
 use names::{Key, KeyFault, Resource, Scope, check_name, check_namespace};
 use std::alloc::{AllocError, Global};
 use std::marker::Model;
@@ -54,7 +53,7 @@ impl Model for Manifest {
     ghost coded = { coded_manifest };
 
     ghost use Rattle.std.specs.Prelude.{◌≡◌, option_map, string_bytes};
-    ghost use Rattle.jsondoc.specs.Document.{text as text_of};
+    ghost use Rattle.documents.specs.Json.{text as text_of};
     ghost use Rattle.requests.specs.Manifest.{sound, HasForm};
 
     ghost view = { λ m. record { key = m.key; body = sound m.document; version = option_map string_bytes m.version } };

@@ -7,7 +7,7 @@ use Rattle.std.specs.Slice.{IsItemAt}
 use Rattle.std.proofs.lemmas.List.{append-nil, append_assoc, drop_all}
 use Rattle.http.specs.StatusCode.{IsStatusCode}
 use Rattle.requests.specs.declared.refusal.Refusal.TheVariants.{OutOfMemory}
-use Rattle.history.specs.Reply.{Reply, status}
+use Rattle.requests.specs.Reply.{Reply, status}
 use Rattle.routes.specs.Allow.{allow_of}
 use Rattle.httpmsg.specs.Flow.{TookSome, Writes}
 use Rattle.httpmsg.specs.Stream.{Message}

@@ -4,7 +4,7 @@ use Rattle.std.specs.Borrow.{Bor}
 use Rattle.std.specs.List.{AllByRecursion}
 use Rattle.http.specs.StatusCode.{IsStatusCode}
 use Rattle.requests.specs.declared.refusal.Refusal.TheVariants.{OutOfMemory}
-use Rattle.history.specs.Reply.{Reply, status}
+use Rattle.requests.specs.Reply.{Reply, status}
 use Rattle.httpmsg.specs.Flow.{TookSome}
 use Rattle.httpmsg.specs.Stream.{Message}
 use Rattle.routes.specs.Allow.{allow_of}

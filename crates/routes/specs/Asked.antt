@@ -1,7 +1,7 @@
 -- The request that a message spells.
 use Rattle.std.specs.Prelude.{ℕ, List, [], ◌∷◌, true, not, Option, Some, None, unwrap_or}
 use Rattle.std.specs.Option.{option_map_or}
-use Rattle.jsondoc.specs.Document.{Reading, not_json, not_whole, document, reading}
+use Rattle.documents.specs.Json.{Reading, not_json, not_whole, document, reading}
 use Rattle.names.specs.Key.{Key, key_of}
 use Rattle.names.specs.Name.{is_namespace}
 use Rattle.names.specs.Resource.{row}

@@ -2,7 +2,7 @@
 use Rattle.std.specs.Prelude.{ℕ, Bool, true, List, [], ◌==◌, if◌then◌else◌, Option, None}
 use Rattle.requests.specs.declared.refusal.Refusal.{Refusal}
 use Rattle.requests.specs.declared.refusal.Refusal.TheVariants.{MalformedRequest, UnservedVersion, TooManyFields, UnservedTransferCoding, BadHost, BadContentLength, BodyTooLarge, UnservedExpectation, BadTarget}
-use Rattle.history.specs.Reply.{Reply, status}
+use Rattle.requests.specs.Reply.{Reply, status}
 use Rattle.httpmsg.specs.declared.head.MessageFault.{MessageFault}
 use Rattle.httpmsg.specs.declared.head.MessageFault.TheVariants as Fault
 use Rattle.httpmsg.specs.declared.head.End.{End}

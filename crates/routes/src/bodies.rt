@@ -2,7 +2,7 @@
 
 ghost use Rattle.std.specs.Prelude.{◌≡◌};
 ghost use Rattle.requests.specs.declared.refusal.Refusal.TheVariants as refusal;
-ghost use Rattle.history.specs.Reply.{status};
+ghost use Rattle.requests.specs.Reply.{status};
 ghost use Rattle.routes.specs.ReplyBytes.{refusal_of};
 
 use httpmsg::MessageFault;

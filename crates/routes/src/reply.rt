@@ -3,7 +3,7 @@
 ghost use Rattle.std.specs.Prelude.{◌≡◌, ◌==◌, false, if◌then◌else◌, None, IfSome, option_map, unwrap_or, slice_index_or};
 ghost use Rattle.http.specs.StatusCode.{IsStatusCode};
 ghost use Rattle.requests.specs.declared.refusal.Refusal.TheVariants as refusal;
-ghost use Rattle.history.specs.Reply.{status};
+ghost use Rattle.requests.specs.Reply.{status};
 ghost use Rattle.httpmsg.specs.Flow.{HasCause, Writes};
 ghost use Rattle.httpmsg.specs.declared.head.End.TheVariants.{Broken};
 ghost use Rattle.httpmsg.specs.Response.{response_bytes};
@@ -13,12 +13,11 @@ ghost use Rattle.routes.specs.ReplyBytes.{refusal_of, response_of, allow_in, rep
 ghost use Rattle.routes.specs.AnswerBytes.{answers_bytes, CanAnswer, CanAnswerAll, PutsAfter};
 
 use crate::bodies::fault_body;
-use history::Reply;
 use http::StatusCode;
 use httpmsg::{
     BrokenMessage, Message, MessageFault, Output, Response, Sheet, StreamFault, write_all,
 };
-use requests::Refusal;
+use requests::{Refusal, Reply};
 
 // The refusal of a message that has a fault.
 fn refusal_of(fault: MessageFault) -> Refusal

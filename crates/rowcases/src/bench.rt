@@ -2,7 +2,7 @@
 
 use crate::{documents_asked, edits, names_asked, stored};
 use cases::{Bench, Told, Wrong, compare, first_word, run_text};
-use jsondoc::Doc;
+use documents::Doc;
 use objects::{Format, Objects};
 use std::alloc::Global;
 

@@ -3,8 +3,9 @@
 use crate::names_asked::resource;
 use crate::texts::{document_text, made_text, or_empty, push_times};
 use cases::{TextBuilder, Wrong, bytes, first_word, number, text, yes_or_no};
-use documents::{Document, has_kind, has_metadata, metadata_copy, metadata_text, shown_document};
-use jsondoc::{Doc, ReadFault};
+use documents::{
+    Doc, Document, ReadFault, has_kind, has_metadata, metadata_copy, metadata_text, shown_document,
+};
 use requests::Selector;
 use std::alloc::Global;
 

@@ -3,13 +3,13 @@
 use cases::Wrong;
 use diskcases::Line;
 use documents::Document;
-use entries::{
+use names::{Key, Resource};
+use objects::{Change, Event};
+use records::{
     Entry, StoredObject, event_entry, object_entry, plan_entries, read_event, read_object,
     read_piece,
 };
-use names::{Key, Resource};
 use std::alloc::{AllocError, Global};
-use window::{Change, Event};
 
 /// Asks that what was read from an entry is written as that entry again.
 pub(crate) fn check_written(

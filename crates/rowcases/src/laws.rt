@@ -1,11 +1,10 @@
 //! The laws of what the rows are about, each called once.
 
 use apicore::{accepted_are_admitted, runs_are_steps, view_decides, writes_follow};
-use base::{kept_are_of_a_view, views_hold_objects};
+use documents::text_escapes;
 use expressions::{expressions_fit_the_text, one_stored_list};
 use httpmsg::one_stream;
-use jsondoc::text_escapes;
-use overlay::{
+use objects::{
     change_counts, change_is_one_more, found_over, found_where_covered, listed_over,
     listed_where_covered, same_is_nothing,
 };
@@ -16,6 +15,7 @@ use recovery::{
     revision_counts,
 };
 use requests::{parts_are_spelled, stored_is_read};
+use snapshots::{kept_are_of_a_view, views_hold_objects};
 use verdict::bindings_ascend;
 
 /// The laws of documents, messages and requests.

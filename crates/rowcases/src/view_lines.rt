@@ -3,11 +3,11 @@
 use crate::entry_lines::check_written;
 use cases::Wrong;
 use diskcases::Line;
-use entries::{Entry, KeptObject, KeptView, event_entry, object_entry, plan_entries, read_view};
-use history::Stored;
 use holdings::Holdings;
 use names::Key;
 use objects::Format;
+use records::{Entry, KeptObject, KeptView, event_entry, object_entry, plan_entries, read_view};
+use requests::Stored;
 use std::alloc::{AllocError, Global};
 
 // Entries, with ` | ` between them; none where the rest is empty.

@@ -8,10 +8,9 @@ use api::serve;
 use cases::{TextBuilder, Wrong, shown, text, yes_or_no};
 use device::{MemDevice, Pick};
 use durable::{Checked, Compacted, Fault, Store};
-use history::Reply;
 use httpmsg::Std;
 use opening::{Episode, Found, create, drive, open};
-use requests::Request;
+use requests::{Reply, Request};
 use std::alloc::Global;
 use std::mem::replace;
 

@@ -3,9 +3,9 @@
 use api::{ServeFault, fault_body};
 use cases::{Wrong, first_word, shown, text};
 use durable::{Damage, Fault};
-use history::Reply;
 use httpmsg::MessageFault;
 use opening::CreateFault;
+use requests::Reply;
 use rowcases::fault_word;
 use std::alloc::Global;
 use std::fmt::Display;

@@ -6,16 +6,16 @@ use Rattle.objects.specs.declared.format.Rules.{Rules}
 use Rattle.names.specs.declared.resource.Resource.{Resource}
 use Rattle.names.specs.declared.resource.Resource.TheVariants.{ValidatingAdmissionPolicy}
 use Rattle.names.specs.Key.{Key, key_bytes}
-use Rattle.window.specs.declared.event.Event.{Event}
+use Rattle.objects.specs.declared.event.Event.{Event}
 use Rattle.documents.specs.Document.{Document}
-use Rattle.history.specs.declared.stored.Stored.{Stored}
-use Rattle.history.specs.Mapped.{each}
+use Rattle.requests.specs.declared.stored.Stored.{Stored}
+use Rattle.requests.specs.Mapped.{each}
 use Rattle.holdings.specs.Holdings as holdings
 use Rattle.holdings.proofs.Showing.{shown_alone}
 use Rattle.pages.specs.Page.{Entry}
-use Rattle.entries.specs.Holding.{IsStorableEvent, CanHoldObject, CanHoldEvent, HasFewPlans}
-use Rattle.base.specs.Sieve.{kept_of, chosen_of}
-use Rattle.base.proofs.Sieving.{kept_of_view}
+use Rattle.records.specs.Holding.{IsStorableEvent, CanHoldObject, CanHoldEvent, HasFewPlans}
+use Rattle.snapshots.specs.Sieve.{kept_of, chosen_of}
+use Rattle.snapshots.proofs.Sieving.{kept_of_view}
 use Rattle.recovery.specs.Shown.{Shows}
 use Rattle.recovery.specs.Standing.{View, HasTrees, plans_beside, with_plans}
 use Rattle.snapshots.specs.LyingBelow.{base_of, AreChosen, HasThoseBelow}

@@ -4,10 +4,10 @@ use Rattle.objects.specs.declared.format.Rules.{Rules}
 use Rattle.names.specs.declared.resource.Resource.{Resource}
 use Rattle.names.specs.Key.{Key, key_bytes}
 use Rattle.objects.specs.Objects.{value_at}
-use Rattle.overlay.specs.Merged.{merged}
+use Rattle.objects.specs.Merged.{merged}
 use Rattle.holdings.specs.Holdings.{Shows}
 use Rattle.holdings.specs.Known.{IsKnown}
-use Rattle.base.specs.Sieve.{chosen_of}
+use Rattle.snapshots.specs.Sieve.{chosen_of}
 use Rattle.snapshots.specs.LyingBelow.{puts_of, base_of, AreChosen, HasThoseBelow, MayLieBelow}
 use Rattle.snapshots.specs.Keeping.{held_plans, IsHeld}
 use Rattle.snapshots.specs.Restoring.{view_in_bytes, AreHeldOf}

@@ -2,10 +2,10 @@
 use Rattle.std.proofs.Common.{arith, ◌≡◌, ◌∙◌, sym, ap, subst, refl, ◌+◌, ◌-◌, ◌<◌, ◌≤◌, ◌^◌, ℕ, List, [], ◌∷◌, ◌++◌, length, append_assoc, length-append}
 use Rattle.std.proofs.lemmas.List.{append-nil}
 use Rattle.circular_buffer.specs.Buffer.{keep_last}
-use Rattle.window.specs.declared.event.Event.{Event}
-use Rattle.window.specs.Window.{event_at, AreNumberedFrom}
+use Rattle.objects.specs.declared.event.Event.{Event}
+use Rattle.objects.specs.Window.{event_at, AreNumberedFrom}
 use Rattle.documents.specs.Document.{Document}
-use Rattle.history.specs.View.{View}
+use Rattle.requests.specs.View.{View}
 use Rattle.holdings.specs.Holdings.{Shows}
 use Rattle.recovery.specs.Beside.{Beside}
 use Rattle.snapshots.specs.Restoring.{CanKeep, with_events}

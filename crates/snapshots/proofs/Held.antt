@@ -7,16 +7,16 @@ use Rattle.names.specs.declared.resource.Resource.{Resource}
 use Rattle.names.specs.Key.{Key, key_cmp}
 use Rattle.objects.specs.Objects.{value_at, with_value}
 use Rattle.objects.proofs.Each.{one_each}
-use Rattle.overlay.specs.Merged.{merged}
+use Rattle.objects.specs.Merged.{merged}
 use Rattle.documents.specs.Document.{Document}
-use Rattle.history.specs.declared.stored.Stored.{Stored}
-use Rattle.history.specs.View.{View}
+use Rattle.requests.specs.declared.stored.Stored.{Stored}
+use Rattle.requests.specs.View.{View}
 use Rattle.holdings.specs.Holdings.{State, Shows}
 use Rattle.expressions.specs.Specification.{plans_bytes, MayHavePlans}
-use Rattle.expressions.proofs.Listed.{one_stored_list}
-use Rattle.entries.specs.Holding.{IsStorableObject, HasFewPlans}
-use Rattle.entries.specs.Laws.{bytes_beside}
-use Rattle.entries.specs.Reading.{IsStorableStored}
+use Rattle.expressions.proofs.StoredLists.{one_stored_list}
+use Rattle.records.specs.Holding.{IsStorableObject, HasFewPlans}
+use Rattle.records.specs.EntryLaws.{bytes_beside}
+use Rattle.records.specs.Reading.{IsStorableStored}
 use Rattle.recovery.specs.Beside.{Beside, spelled}
 use Rattle.snapshots.specs.LyingBelow.{puts_of, below_at, HasThoseBelow}
 use Rattle.snapshots.specs.Keeping.{held_plans, IsHeldObject}

@@ -7,16 +7,16 @@ use Rattle.objects.specs.declared.format.Rules.{Rules}
 use Rattle.names.specs.declared.resource.Resource.{Resource}
 use Rattle.names.specs.declared.resource.Resource.TheVariants.{ConfigMap, Node, Pod, Service, Deployment, ValidatingAdmissionPolicy, ValidatingAdmissionPolicyBinding}
 use Rattle.names.specs.Key.{Key}
-use Rattle.window.specs.declared.event.Event.{Event}
+use Rattle.objects.specs.declared.event.Event.{Event}
 use Rattle.documents.specs.Document.{Document}
-use Rattle.history.specs.declared.stored.Stored.{Stored}
-use Rattle.history.specs.Laws.{events_from}
-use Rattle.history.specs.View as seen
-use Rattle.history.specs.View.{after, view, empty}
-use Rattle.history.proofs.ViewLemmas.{events-after_all, revision-after_all}
+use Rattle.requests.specs.declared.stored.Stored.{Stored}
+use Rattle.requests.specs.HistoryLaws.{events_from}
+use Rattle.requests.specs.View as seen
+use Rattle.requests.specs.View.{after, view, empty}
+use Rattle.requests.proofs.ViewLemmas.{events-after_all, revision-after_all}
 use Rattle.expressions.specs.Specification.{Plans, these, plans_in, plans_bytes}
-use Rattle.entries.specs.Holding.{CanHoldObject, HasFewPlans, IsHoldable}
-use Rattle.entries.proofs.Histories.{holdable}
+use Rattle.records.specs.Holding.{CanHoldObject, HasFewPlans, IsHoldable}
+use Rattle.records.proofs.Histories.{holdable}
 use Rattle.recovery.specs.Standing.{Write, View, History, HasTrees, AllMayFollow, HaveTrees}
 use Rattle.recovery.proofs.Staying.{histories_show}
 use Rattle.snapshots.specs.Keeping.{tree_plans, HasLastEvents}

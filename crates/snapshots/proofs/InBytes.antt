@@ -6,12 +6,12 @@ use Rattle.std.specs.List.{AllByRecursion}
 use Rattle.std.specs.Ordering.{is_lt}
 use Rattle.objects.specs.declared.format.Rules.{Rules}
 use Rattle.names.specs.Key.{Key, key_cmp}
-use Rattle.history.specs.declared.stored.Stored.{Stored}
-use Rattle.history.specs.View.{View}
+use Rattle.requests.specs.declared.stored.Stored.{Stored}
+use Rattle.requests.specs.View.{View}
 use Rattle.pages.specs.Page.{Entry}
-use Rattle.entries.specs.Entries.{plan_entries, event_entry, stored_entry, plans_among, entries_of}
-use Rattle.entries.specs.Holding.{CanHoldObject, HasFewPlans, IsHoldable}
-use Rattle.entries.specs.Laws.{bytes_beside}
+use Rattle.records.specs.Entries.{plan_entries, event_entry, stored_entry, plans_among, entries_of}
+use Rattle.records.specs.Holding.{CanHoldObject, HasFewPlans, IsHoldable}
+use Rattle.records.specs.EntryLaws.{bytes_beside}
 use Rattle.snapshots.specs.Restoring.{in_bytes, view_in_bytes}
 
 module _ {P : Type 0} (plans : Key × Stored P → List ℕ) where

@@ -4,14 +4,14 @@ use Rattle.std.specs.List.{AllByRecursion}
 use Rattle.celtree.specs.Tree.{Expr}
 use Rattle.names.specs.Key.{Key}
 use Rattle.documents.specs.Document.{Document}
-use Rattle.history.specs.declared.stored.Stored.{Stored}
+use Rattle.requests.specs.declared.stored.Stored.{Stored}
 use Rattle.expressions.specs.Specification.{IsSpecification, sound}
 use Rattle.pages.specs.Page.{Entry}
 use Rattle.checkpoint.specs.Filling.{AllFit}
-use Rattle.entries.proofs.Ascending as ascending
-use Rattle.entries.proofs.Fitting as fitting
-use Rattle.entries.proofs.Fitting.{Fits}
-use Rattle.entries.proofs.Views.{one_view_of}
+use Rattle.records.proofs.Ascending as ascending
+use Rattle.records.proofs.Fitting as fitting
+use Rattle.records.proofs.Fitting.{Fits}
+use Rattle.records.proofs.Views.{one_view_of}
 use Rattle.recovery.specs.Standing.{HasTrees}
 use Rattle.snapshots.specs.Keeping.{tree_plans, entries_of}
 use Rattle.snapshots.specs.Laws.{AtMostOneView, EntriesAscend, EntriesFit}

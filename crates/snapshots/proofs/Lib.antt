@@ -12,3 +12,11 @@ pub mod Alone
 mod LyingApart
 pub mod Events
 pub mod Kept
+mod Prefixes
+mod BaseFaults
+pub mod Holding
+pub mod Views
+pub mod Sieving
+mod Objects
+mod Lookups
+pub mod Lying

@@ -7,9 +7,9 @@ use Rattle.names.specs.declared.resource.Resource.{Resource}
 use Rattle.names.specs.Key.{Key, key_bytes}
 use Rattle.names.specs.Resource.{numbered}
 use Rattle.names.proofs.KeyOrder.{numbered-number}
-use Rattle.history.specs.declared.stored.Stored.{Stored}
-use Rattle.history.specs.View.{View}
-use Rattle.base.specs.Sieve.{chosen_of}
+use Rattle.requests.specs.declared.stored.Stored.{Stored}
+use Rattle.requests.specs.View.{View}
+use Rattle.snapshots.specs.Sieve.{chosen_of}
 use Rattle.recovery.specs.Beside.{Beside}
 use Rattle.snapshots.specs.Keeping.{held_entries}
 use Rattle.snapshots.specs.LyingBelow.{apart_of, AreChosen}

@@ -13,10 +13,10 @@ use Rattle.names.specs.Key.{Key, key_cmp}
 use Rattle.names.specs.KeyLaws.{key_cmp_total}
 use Rattle.names.proofs.KeyOrder.{key_cmp-IsAntisymmetric}
 use Rattle.objects.specs.Objects.{value_at, with_value}
-use Rattle.overlay.specs.Merged.{merged, over}
-use Rattle.overlay.proofs.Changing.{T_from_true, true_from_T, find-merged, find-filter, sorted-merged, merged-put}
-use Rattle.overlay.proofs.Taking.{same_key}
-use Rattle.entries.proofs.Ascending.{less_from}
+use Rattle.objects.specs.Merged.{merged, over}
+use Rattle.objects.proofs.Changing.{T_from_true, true_from_T, find-merged, find-filter, sorted-merged, merged-put}
+use Rattle.objects.proofs.Taking.{same_key}
+use Rattle.records.proofs.Ascending.{less_from}
 use Rattle.snapshots.specs.LyingBelow.{puts_of}
 use Rattle.snapshots.proofs.Sorted.{none_last, with_value_last}
 

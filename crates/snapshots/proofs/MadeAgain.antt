@@ -1,14 +1,14 @@
 -- A store that holds what was read from entries.
 use Rattle.std.proofs.Common.{arith, ◌≡◌, ◌∙◌, sym, ap, subst, refl, ◌⊎◌, ⊎_elim, ◌+◌, ◌-◌, ◌<◌, ◌^◌, ℕ, List, length}
 use Rattle.objects.specs.declared.format.Rules.{Rules}
-use Rattle.window.specs.declared.event.Event.{Event}
+use Rattle.objects.specs.declared.event.Event.{Event}
 use Rattle.documents.specs.Document.{Document}
-use Rattle.history.specs.View as seen
+use Rattle.requests.specs.View as seen
 use Rattle.holdings.specs.Holdings.{Shows}
-use Rattle.entries.specs.declared.fault.EntryFault.{EntryFault}
-use Rattle.entries.specs.Entries.{entries_of as view_entries}
-use Rattle.entries.specs.Laws.{bytes_beside}
-use Rattle.entries.specs.Reading.{IsReadView}
+use Rattle.records.specs.declared.entry_fault.EntryFault.{EntryFault}
+use Rattle.records.specs.Entries.{entries_of as view_entries}
+use Rattle.records.specs.EntryLaws.{bytes_beside}
+use Rattle.records.specs.Reading.{IsReadView}
 use Rattle.recovery.specs.Beside.{Beside}
 use Rattle.snapshots.specs.declared.fault.SnapshotFault.TheVariants as SnapshotFault
 use Rattle.snapshots.specs.Faults.{of_entry_fault}

@@ -1,15 +1,15 @@
 -- The chosen part of a view that a checkpoint may keep.
 use Rattle.std.proofs.Common.{arith, refl, ◌+◌, ◌≤◌, Bool, true, false, cond, ℕ, List, [], ◌∷◌, length}
 use Rattle.std.specs.List.{AllByRecursion, filter}
-use Rattle.jsondoc.specs.Document.{text}
+use Rattle.documents.specs.Json.{text}
 use Rattle.objects.specs.declared.format.Rules.{Rules}
 use Rattle.names.specs.Key.{Key, key_bytes}
-use Rattle.window.specs.declared.event.Event.{Event}
+use Rattle.objects.specs.declared.event.Event.{Event}
 use Rattle.documents.specs.Document.{Document}
-use Rattle.history.specs.View.{View}
-use Rattle.entries.specs.Holding.{IsStorableEvent, CanHoldObject, CanHoldEvent, HasFewPlans, IsHoldable}
-use Rattle.entries.specs.Laws.{bytes_beside}
-use Rattle.base.specs.Sieve.{chosen_of}
+use Rattle.requests.specs.View.{View}
+use Rattle.records.specs.Holding.{IsStorableEvent, CanHoldObject, CanHoldEvent, HasFewPlans, IsHoldable}
+use Rattle.records.specs.EntryLaws.{bytes_beside}
+use Rattle.snapshots.specs.Sieve.{chosen_of}
 use Rattle.recovery.specs.Beside.{Beside}
 use Rattle.snapshots.specs.Keeping.{held_plans, IsHeldObject, HasLastEvents, IsHeld}
 use Rattle.snapshots.specs.Restoring.{view_in_bytes, IsSpelled, AreHeldOf}

@@ -6,11 +6,11 @@ use Rattle.std.specs.Ordering.{is_lt}
 use Rattle.celtree.specs.Tree.{Expr}
 use Rattle.names.specs.Key.{Key, key_cmp}
 use Rattle.documents.specs.Document.{Document}
-use Rattle.history.specs.declared.stored.Stored.{Stored}
-use Rattle.history.specs.Mapped.{each, mapped}
-use Rattle.history.specs.View as seen
-use Rattle.entries.specs.Entries.{entries_of as view_entries}
-use Rattle.entries.specs.Laws.{bytes_beside}
+use Rattle.requests.specs.declared.stored.Stored.{Stored}
+use Rattle.requests.specs.Mapped.{each, mapped}
+use Rattle.requests.specs.View as seen
+use Rattle.records.specs.Entries.{entries_of as view_entries}
+use Rattle.records.specs.EntryLaws.{bytes_beside}
 use Rattle.recovery.specs.Beside.{Beside}
 use Rattle.recovery.specs.Shown.{plans_held, Shows}
 use Rattle.recovery.specs.Standing.{View, plans_beside, with_plans}

@@ -7,7 +7,7 @@ use Rattle.std.specs.Ordering.{is_eq, is_lt, ordering_reverse}
 use Rattle.names.specs.Key.{Key, key_cmp}
 use Rattle.names.specs.KeyLaws.{key_cmp_total}
 use Rattle.objects.specs.Objects.{value_at, with_value}
-use Rattle.entries.proofs.Ascending.{less_from}
+use Rattle.records.proofs.Ascending.{less_from}
 
 both : (a b : Bool) → a ≡ true → b ≡ true → (a && b) ≡ true
 both a b p q = ap (λ x. x && b) p ∙ q

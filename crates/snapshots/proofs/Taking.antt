@@ -5,11 +5,11 @@ use Rattle.std.specs.Prelude.{Option, Some, None}
 use Rattle.names.specs.declared.resource.Resource.{Resource}
 use Rattle.names.specs.Key.{Key, key_cmp}
 use Rattle.objects.specs.Objects.{value_at, with_value}
-use Rattle.overlay.specs.Merged.{changed}
-use Rattle.overlay.proofs.Changing.{T_from_true, true_from_T, sorted-merged}
-use Rattle.overlay.proofs.Covering.{merged-same}
-use Rattle.history.specs.declared.stored.Stored.{Stored}
-use Rattle.history.specs.View.{View, stored_at, exists}
+use Rattle.objects.specs.Merged.{changed}
+use Rattle.objects.proofs.Changing.{T_from_true, true_from_T, sorted-merged}
+use Rattle.objects.proofs.Covering.{merged-same}
+use Rattle.requests.specs.declared.stored.Stored.{Stored}
+use Rattle.requests.specs.View.{View, stored_at, exists}
 use Rattle.holdings.specs.Holdings.{Shows}
 use Rattle.recovery.specs.Beside.{Beside}
 use Rattle.snapshots.specs.Restoring.{HasTaken, with_objects}

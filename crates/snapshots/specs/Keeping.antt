@@ -5,13 +5,13 @@ use Rattle.std.specs.List.{AllByRecursion}
 use Rattle.celtree.specs.Tree.{Expr}
 use Rattle.objects.specs.declared.format.Rules.{Rules}
 use Rattle.names.specs.Key.{Key, key_cmp}
-use Rattle.window.specs.Window.{AreNumberedFrom}
-use Rattle.history.specs.declared.stored.Stored.{Stored}
-use Rattle.history.specs.View as seen
+use Rattle.objects.specs.Window.{AreNumberedFrom}
+use Rattle.requests.specs.declared.stored.Stored.{Stored}
+use Rattle.requests.specs.View as seen
 use Rattle.expressions.specs.Specification.{these, plans_in, plans_bytes, MayHavePlans}
 use Rattle.pages.specs.Page.{Entry}
-use Rattle.entries.specs.Entries as entry
-use Rattle.entries.specs.Holding.{IsStorableObject, IsStorableEvent, IsHoldable}
+use Rattle.records.specs.Entries as entry
+use Rattle.records.specs.Holding.{IsStorableObject, IsStorableEvent, IsHoldable}
 use Rattle.recovery.specs.Beside.{Beside, spelled}
 use Rattle.recovery.specs.Standing.{View, HaveTrees}
 

@@ -2,7 +2,7 @@
 use Rattle.std.specs.Prelude.{◌≡◌, ◌<◌, ◌≤◌, ◌^◌, IsTrue}
 use Rattle.std.specs.FinMap.{is_sorted}
 use Rattle.objects.specs.declared.format.Rules.{Rules}
-use Rattle.history.specs.View.{view}
+use Rattle.requests.specs.View.{view}
 use Rattle.pages.specs.Page.{bytes_cmp}
 use Rattle.checkpoint.specs.Filling.{AllFit}
 use Rattle.recovery.specs.Standing.{View, History, IsHistory}

@@ -4,3 +4,11 @@ pub mod Gathered
 pub mod Faults
 pub mod Restoring
 pub mod Laws
+pub mod Stock
+pub mod StockFaults
+pub mod Listed
+pub mod StockLaws
+pub mod Sieve
+pub mod Whole
+pub mod Base
+pub mod BaseFaults

@@ -6,12 +6,12 @@ use Rattle.objects.specs.declared.format.Rules.{Rules}
 use Rattle.names.specs.declared.resource.Resource.{Resource}
 use Rattle.names.specs.Key.{Key, key_cmp}
 use Rattle.objects.specs.Objects.{value_at, with_value}
-use Rattle.overlay.specs.Merged.{merged}
-use Rattle.window.specs.declared.event.Event.{Event}
-use Rattle.window.specs.Window.{AreNumberedFrom}
+use Rattle.objects.specs.Merged.{merged}
+use Rattle.objects.specs.declared.event.Event.{Event}
+use Rattle.objects.specs.Window.{AreNumberedFrom}
 use Rattle.documents.specs.Document.{Document}
-use Rattle.history.specs.declared.stored.Stored.{Stored}
-use Rattle.history.specs.View.{View}
+use Rattle.requests.specs.declared.stored.Stored.{Stored}
+use Rattle.requests.specs.View.{View}
 use Rattle.holdings.specs.Holdings.{State, Shows}
 use Rattle.expressions.specs.Specification.{MayHavePlans}
 use Rattle.pages.specs.Page.{Entry}

@@ -1,7 +1,7 @@
 ghost use Rattle.std.specs.Prelude.{◌≡◌};
 
-use entries::EntryFault;
 use planlist::ReadPlansFault;
+use records::EntryFault;
 use std::alloc::{AllocError, AllocFailed};
 
 /// Why entries give no store.

@@ -1,7 +1,7 @@
 //! Entries that are told, one after the other.
 
 use checkpoint::{ReadFault, Reader};
-use entries::Entry;
+use records::Entry;
 use std::alloc::Global;
 
 /// The entries that were told, in order. It refuses none.

@@ -1,4 +1,4 @@
-//! What a checkpoint keeps of a store, from the core to its entries and back.
+//! What a checkpoint keeps of a store: from the core to its entries and back, and the objects as they lie in its pages, below what is held in memory.
 //!
 //! ```text
 //! let mut entries = entries_in(alloc, &core, &objects_below)?;  // to be written
@@ -9,26 +9,59 @@
 //! let core = restored(alloc, rules, told.entries(), &below, count_below, root.revision)?;
 //!
 //! let core = renewed(alloc, &core, &objects_below, &below)?;    // or held on once it is written
+//!
+//! let mut stock = Stock::new(alloc, shelf);                     // and the objects in its pages
+//! let stocked = stock.find(alloc, &mut device, &key)?;          // reads one page, or none
+//! let pods = stock.list(alloc, &mut device, Resource::Pod, Some("default"))?;
+//! let mut base = Base::new(&mut device, &mut stock, making);
+//! let found = holdings.find(alloc, &mut base, &key)?;
 //! ```
 //!
 //! A checkpoint keeps the objects, the plans of their expressions as bytes, and the last events. `entries_in` gives the entries of what the core
 //! shows over the objects that lie below, and `restored` the core that shows what a checkpoint keeps over those of its objects that lie below, of which [`Below`] tells
 //! the resources. It reads all entries, or those of a chosen part: then each object that does not lie below is chosen. It answers damage only where no view that can be kept has these
 //! entries. `renewed` gives the same core without reading anything, of what was shown when the checkpoint was written. At most one view has them ([`entries_have_one_view`]); what a history shows can be kept ([`histories_are_kept`]).
+//!
+//! # The objects in the pages
+//!
+//! A shelf holds objects where their entries stand in front in its pages, as `records` makes them, and no entry after them has an object's key. `find` of a [`Stock`]
+//! answers what is stored under a key, `list` the objects of a resource, in one namespace or in all, and `list_all` all objects, as a map in memory
+//! would. What the shelf holds stays, and damage is answered only where it does not hold objects so. The documents of objects that were found are kept, up
+//! to [`BYTES_IN_MEMORY`], so that a text is not read at each look. The entries of a view hold its objects ([`views_hold_objects`]).
+//!
+//! A page has documents. What stands beside a document in memory is made of it when it is listed: a [`FromDocument`] says how. It says too of which
+//! resources all objects are held in memory: of these none lies below, also where the pages have some, and no page is read for one. So a [`Base`] is what lies below
+//! [`holdings::Holdings`].
 #![tactic(auto)]
 
+mod base;
 mod below;
 mod fault;
 mod gathered;
+mod keys;
 mod laws;
+mod listed;
+mod making;
 mod renewing;
 mod restoring;
+mod sieve;
+mod stock;
+mod stock_fault;
+mod stock_laws;
+mod stocked;
 mod storing;
 
+pub use base::Base;
 pub use below::Below;
 pub use fault::SnapshotFault;
 pub use gathered::Gathered;
 pub use laws::{entries_ascend, entries_fit, entries_have_one_view, histories_are_kept};
+pub use making::FromDocument;
 pub use renewing::renewed;
 pub use restoring::restored;
+pub use sieve::{Choice, Sieve};
+pub use stock::{BYTES_IN_MEMORY, Stock};
+pub use stock_fault::StockFault;
+pub use stock_laws::{kept_are_of_a_view, views_hold_objects};
+pub use stocked::Stocked;
 pub use storing::entries_in;

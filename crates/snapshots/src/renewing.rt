@@ -1,7 +1,7 @@
 //! What is held once a checkpoint is written.
 
 ghost use Rattle.std.specs.Prelude.{◌≡◌, IfOk};
-ghost use Rattle.history.specs.View.{View};
+ghost use Rattle.requests.specs.View.{View};
 ghost use Rattle.holdings.specs.Holdings.{Shows};
 ghost use Rattle.recovery.specs.Beside.{Beside as BesideData};
 ghost use Rattle.snapshots.specs.LyingBelow.{base_of};
@@ -12,9 +12,9 @@ use crate::below::Below;
 use crate::fault::SnapshotFault;
 use crate::restoring::restored;
 use crate::storing::kept_in;
-use history::Stored;
 use names::Key;
 use recovery::{Beside, Core};
+use requests::Stored;
 use std::alloc::Global;
 
 /// The core that shows what another one shows over these objects, once all that is written as a checkpoint: over those of its objects that lie below then. It

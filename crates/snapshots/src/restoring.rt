@@ -5,11 +5,11 @@ ghost use Rattle.std.specs.FinMap.{is_sorted};
 ghost use Rattle.std.specs.Ordering.{is_lt};
 ghost use Rattle.objects.specs.declared.format.Rules.{Rules as RulesData};
 ghost use Rattle.names.specs.Key.{Key as KeyData, key_bytes, key_cmp};
-ghost use Rattle.history.specs.declared.stored.Stored.{Stored as StoredData};
-ghost use Rattle.history.specs.View.{View};
+ghost use Rattle.requests.specs.declared.stored.Stored.{Stored as StoredData};
+ghost use Rattle.requests.specs.View.{View};
 ghost use Rattle.holdings.specs.Holdings.{Shows};
 ghost use Rattle.holdings.specs.Known.{IsKnown};
-ghost use Rattle.base.specs.Sieve.{chosen_of};
+ghost use Rattle.snapshots.specs.Sieve.{chosen_of};
 ghost use Rattle.recovery.specs.Beside.{Beside as BesideData};
 ghost use Rattle.snapshots.specs.LyingBelow.{base_of, AreChosen};
 ghost use Rattle.snapshots.specs.Keeping.{held_entries, HasLastEvents, IsHeld};
@@ -18,15 +18,14 @@ ghost use Rattle.snapshots.specs.Restoring.{IsDamaged, IsHeldOf, AreHeldOf, HasT
 use crate::below::Below;
 use crate::fault::SnapshotFault;
 use documents::Document;
-use entries::{Entry, KeptObject, KeptView, read_view};
 use expressions::stored_plans;
-use history::Stored;
 use holdings::Holdings;
 use names::Key;
-use objects::Rules;
+use objects::{Event, Rules};
+use records::{Entry, KeptObject, KeptView, read_view};
 use recovery::{Beside, Core};
+use requests::Stored;
 use std::alloc::{AllocError, Global};
-use window::Event;
 
 // Whether the key of an object comes after that of another.
 fn is_after(object: &KeptObject, before: &KeptObject) -> bool

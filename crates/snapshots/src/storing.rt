@@ -3,9 +3,9 @@
 ghost use Rattle.std.specs.Prelude.{◌≡◌, ◌≤◌, ◌+◌, ◌^◌, ◌++◌, not, length, map, IfOk, OnOk};
 ghost use Rattle.std.specs.List.{filter};
 ghost use Rattle.checkpoint.specs.EntryList.{listed, entries_of as in_list};
-ghost use Rattle.history.specs.View as seen;
+ghost use Rattle.requests.specs.View as seen;
 ghost use Rattle.holdings.specs.Holdings as holdings;
-ghost use Rattle.entries.specs.Entries.{plan_entries, stored_entry, plans_among};
+ghost use Rattle.records.specs.Entries.{plan_entries, stored_entry, plans_among};
 ghost use Rattle.recovery.specs.Beside.{Beside as BesideData};
 ghost use Rattle.recovery.specs.Shown.{ShowsOver};
 ghost use Rattle.recovery.specs.Standing.{View};
@@ -14,13 +14,13 @@ ghost use Rattle.snapshots.specs.LyingBelow.{base_of, apart_of};
 
 use crate::below::Below;
 use checkpoint::EntryList;
-use entries::{Entry, object_entry, plan_entries};
 use eventlist::add_events;
 use expressions::plans_bytes;
-use history::Stored;
 use names::Key;
-use overlay::Lent;
+use objects::Lent;
+use records::{Entry, object_entry, plan_entries};
 use recovery::{Beside, Core};
+use requests::Stored;
 use std::alloc::{AllocError, Global};
 
 // More bytes of plans than a policy can have.

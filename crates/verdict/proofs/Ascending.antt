@@ -14,7 +14,7 @@ use Rattle.names.specs.declared.resource.Resource.{Resource}
 use Rattle.names.specs.declared.resource.Resource.TheVariants.{ConfigMap, Node, Pod, Service, Deployment, ValidatingAdmissionPolicy, ValidatingAdmissionPolicyBinding}
 use Rattle.objects.specs.Objects.{is_of}
 use Rattle.policy.specs.Forms.{Text}
-use Rattle.lookup.specs.Listed.{listed}
+use Rattle.expressions.specs.Listed.{listed}
 
 both : (a b : Bool) → IsTrue a → IsTrue b → IsTrue (a && b)
 both a b p q = λ i. p i && q i

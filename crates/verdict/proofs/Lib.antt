@@ -1,3 +1,5 @@
 pub mod Standing
 pub mod Turns
 pub mod Ascending
+pub mod BindingTurns
+pub mod Lists

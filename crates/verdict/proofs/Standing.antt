@@ -12,9 +12,9 @@ use Rattle.objects.specs.Objects.{value_at}
 use Rattle.plancode.specs.Plans.{Judged}
 use Rattle.expressions.specs.Specification.{these, plans_in}
 use Rattle.policy.specs.Forms.{Text}
-use Rattle.lookup.specs.Objects.{Object, Objects, Held, held, all_held, policy_key, HasTrees, HaveTrees}
-use Rattle.lookup.specs.Listed.{listed}
-use Rattle.lookup.proofs.Standing.{listed-map, value_at-map}
+use Rattle.expressions.specs.Objects.{Object, Objects, Held, held, all_held, policy_key, HasTrees, HaveTrees}
+use Rattle.expressions.specs.Listed.{listed}
+use Rattle.expressions.proofs.LookupStanding.{listed-map, value_at-map}
 use Rattle.verdict.specs.Admission.{bindings, bound}
 use Rattle.verdict.specs.Turns.{held_binding}
 

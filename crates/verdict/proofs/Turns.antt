@@ -6,8 +6,8 @@ use Rattle.policy.specs.Spec as spec
 use Rattle.policy.specs.declared.binding.Action.{Action}
 use Rattle.policy.specs.declared.binding.Action.TheVariants.{Warn}
 use Rattle.evaluation.specs.Denials.{Denial}
-use Rattle.bindings.specs.Verdict.{warning}
-use Rattle.lookup.specs.Objects.{Objects}
+use Rattle.verdict.specs.OneBinding.{warning}
+use Rattle.expressions.specs.Objects.{Objects}
 use Rattle.policy.specs.Rules.{Attempt}
 use Rattle.verdict.specs.Admission.{denial_by, finding}
 use Rattle.verdict.specs.Verdict.{Verdict, admitted, denied, and_warn, on_action, decide, verdict_of}

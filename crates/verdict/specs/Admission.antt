@@ -9,9 +9,9 @@ use Rattle.policy.specs.Bindings.{binding_of}
 use Rattle.policy.specs.Policies.{policy_of}
 use Rattle.policy.specs.Spec.{Binding}
 use Rattle.evaluation.specs.Denials.{Denial}
-use Rattle.lookup.specs.Objects.{Object, Objects, policy_key, shown_objects}
-use Rattle.lookup.specs.Listed.{listed}
-use Rattle.bindings.specs.Verdict.{denial}
+use Rattle.expressions.specs.Objects.{Object, Objects, policy_key, shown_objects}
+use Rattle.expressions.specs.Listed.{listed}
+use Rattle.verdict.specs.OneBinding.{denial}
 use Rattle.verdict.specs.Verdict.{Verdict, Finding, verdict_of}
 
 -- the denial by a binding: none where its policy is not there

@@ -3,3 +3,7 @@ pub mod Admission
 pub mod Seen
 pub mod Turns
 pub mod Laws
+pub mod Parameters
+pub mod OneBinding
+pub mod ParametersSeen
+pub mod Asked

@@ -6,8 +6,8 @@ use Rattle.policy.specs.Policies.{policy_of}
 use Rattle.evaluation.specs.Denials.{Denial}
 use Rattle.policy.specs.Forms.{Text}
 use Rattle.policy.specs.Spec.{Binding}
-use Rattle.lookup.specs.Objects.{Object, Objects, Held, shown_objects}
-use Rattle.bindings.specs.Verdict.{denial}
+use Rattle.expressions.specs.Objects.{Object, Objects, Held, shown_objects}
+use Rattle.verdict.specs.OneBinding.{denial}
 use Rattle.verdict.specs.Verdict.{Verdict, admitted, denied}
 
 -- the binding with its name

@@ -1,7 +1,7 @@
 use Rattle.std.proofs.Common.{arith, ◌≤◌, ◌∙◌, ap, sym, subst, ℕ, List, length, map, take, Option, Bor, Err, false}
 use Rattle.requests.specs.Request.{Request}
 use Rattle.requests.specs.RequestOf.{request_of}
-use Rattle.history.specs.Reply.{Reply}
+use Rattle.requests.specs.Reply.{Reply}
 use Rattle.requests.specs.declared.refusal.Refusal.TheVariants.{StorageFailed}
 use Rattle.objects.specs.declared.format.Rules.{Rules}
 use Rattle.recovery.specs.Standing.{View}

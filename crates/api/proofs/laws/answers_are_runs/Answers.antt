@@ -4,8 +4,8 @@ use Rattle.requests.specs.declared.refusal.Refusal.TheVariants.{OutOfMemory}
 use Rattle.expressions.specs.Specification.{Specification}
 use Rattle.recovery.specs.Standing.{Write, View}
 use Rattle.apicore.specs.Step.{Asked, writes, reply, accepted, replies}
-use Rattle.history.specs.Reply.{status}
-use Rattle.history.specs.View.{view, after_all}
+use Rattle.requests.specs.Reply.{status}
+use Rattle.requests.specs.View.{view, after_all}
 use Rattle.objects.specs.declared.format.Rules.{Rules}
 use Rattle.httpmsg.specs.Stream.{Message}
 use Rattle.routes.specs.ReplyBytes.{reply_bytes}

@@ -1,9 +1,9 @@
 use Rattle.std.proofs.Common.{rules, ◌≡◌, ◌∙◌, ◌+◌, sym, ap, subst, IfOk, string_bytes, map}
 use Rattle.std.specs.Prelude.{IsErrOf}
 use Rattle.objects.specs.declared.fault.LookupFault.TheVariants as LookupFault
-use Rattle.history.specs.History.{delete}
-use Rattle.history.specs.Mapped.{mapped_write}
-use Rattle.history.specs.Reply.{showing}
+use Rattle.requests.specs.History.{delete}
+use Rattle.requests.specs.Mapped.{mapped_write}
+use Rattle.requests.specs.Reply.{showing}
 use Rattle.verdict.specs.Seen.{verdict_seen}
 use Rattle.recovery.specs.Shown.{plans_held}
 use Rattle.recovery.proofs.Found.{stored_found}

@@ -1,5 +1,5 @@
 use Rattle.std.proofs.Common.{◌∙◌, sym, refl, true, false, option_map, string_bytes}
-use Rattle.history.specs.View.{is_exhausted}
+use Rattle.requests.specs.View.{is_exhausted}
 use Rattle.requests.specs.Request.{delete}
 use Rattle.recovery.proofs.Looking.{looked_not}
 use Rattle.recovery.proofs.Found.{delete_found}

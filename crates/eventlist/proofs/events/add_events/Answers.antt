@@ -1,10 +1,10 @@
 use Rattle.std.proofs.Common.{◌≡◌, ◌∙◌, sym, ap, List, [], ◌∷◌, ◌++◌, map, append_assoc}
 use Rattle.std.proofs.lemmas.List.{map_push}
-use Rattle.window.specs.declared.event.Event.{Event}
+use Rattle.objects.specs.declared.event.Event.{Event}
 use Rattle.documents.specs.Document.{Document}
 use Rattle.pages.specs.Page.{Entry}
 use Rattle.checkpoint.specs.EntryList.{listed}
-use Rattle.entries.specs.Entries.{event_entry}
+use Rattle.records.specs.Entries.{event_entry}
 use Rattle.eventlist.proofs.events.add_events.Goals as goal
 
 pub loop-event-preserved : goal.loop-event-preserved

@@ -1,6 +1,6 @@
 use Rattle.std.proofs.Common.{◌≡◌, ◌++◌, map}
 use Rattle.checkpoint.specs.EntryList.{listed}
-use Rattle.entries.specs.Entries.{event_entry}
+use Rattle.records.specs.Entries.{event_entry}
 use Rattle.eventlist.proofs.events.add_events.Given as goal
 
 -- what was added, and then what is left

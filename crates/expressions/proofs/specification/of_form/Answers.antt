@@ -1,5 +1,5 @@
 use Rattle.std.proofs.Common.{◌≡◌, ◌∙◌, ap, sym, subst, ◌≤◌, ◌+◌, ◌*◌, List, length, []}
-use Rattle.jsondoc.specs.Document.{text}
+use Rattle.documents.specs.Json.{text}
 use Rattle.std.specs.List.{AllByRecursion}
 use Rattle.plancode.specs.Plans.{Judged, IsVerified}
 use Rattle.planlist.specs.Plans.{list_bytes}

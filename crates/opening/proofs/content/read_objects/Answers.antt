@@ -1,11 +1,11 @@
 use Rattle.std.proofs.Common.{◌≡◌, ◌∙◌, refl, sym, ap, subst, ⊎_elim, inl, inr, ℕ, List, [], map, Contains, Err}
 use Rattle.objects.specs.declared.format.Rules.{Rules}
 use Rattle.names.specs.Key.{Key}
-use Rattle.history.specs.Mapped.{mapped}
-use Rattle.history.specs.View as seen
-use Rattle.history.specs.View.{view}
-use Rattle.history.specs.declared.stored.Stored.{Stored}
-use Rattle.base.specs.declared.stock.Stock.{Stock}
+use Rattle.requests.specs.Mapped.{mapped}
+use Rattle.requests.specs.View as seen
+use Rattle.requests.specs.View.{view}
+use Rattle.requests.specs.declared.stored.Stored.{Stored}
+use Rattle.snapshots.specs.declared.stock.Stock.{Stock}
 use Rattle.snapshots.specs.Keeping.{IsHeld}
 use Rattle.snapshots.proofs.Shown.{held_as_it_is}
 use Rattle.recovery.specs.Beside.{Beside}

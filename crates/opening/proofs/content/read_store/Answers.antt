@@ -4,8 +4,8 @@ use Rattle.device.specs.Step.{Same}
 use Rattle.objects.specs.declared.format.Rules.{Rules}
 use Rattle.gatelog.specs.Log.{HoldsLog}
 use Rattle.roots.specs.Root.{log_start, HoldsRoot}
-use Rattle.history.specs.View as seen
-use Rattle.history.specs.View.{view}
+use Rattle.requests.specs.View as seen
+use Rattle.requests.specs.View.{view}
 use Rattle.records.specs.Payload.{writes_in}
 use Rattle.roots.specs.declared.root.Root.{Root}
 use Rattle.snapshots.proofs.Shown.{held_as_it_is}

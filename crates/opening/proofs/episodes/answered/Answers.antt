@@ -1,7 +1,7 @@
 use Rattle.std.proofs.Common.{◌∙◌, sym, ap, subst, map, List, true≢false}
 use Rattle.requests.specs.Request.{Request}
 use Rattle.requests.specs.RequestOf.{request_of}
-use Rattle.history.specs.View.{view}
+use Rattle.requests.specs.View.{view}
 use Rattle.durable.specs.Settled.{added, HasServed, HasStopped}
 use Rattle.durable.proofs.Answering.{on_err, settled_serves}
 use Rattle.opening.proofs.Driving.{episode_leaves, episode_stands}

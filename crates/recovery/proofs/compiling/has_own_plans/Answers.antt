@@ -3,7 +3,7 @@ use Rattle.std.proofs.lemmas.List.{take_all}
 use Rattle.std.specs.List.{AllByRecursion}
 use Rattle.std.specs.Prelude.{Option}
 use Rattle.names.specs.Key.{Key}
-use Rattle.history.specs.declared.stored.Stored.{Stored}
+use Rattle.requests.specs.declared.stored.Stored.{Stored}
 use Rattle.recovery.specs.Beside.{Beside}
 use Rattle.recovery.specs.Compiled.{HasOwnPlans, PutsOwnPlans}
 use Rattle.recovery.proofs.Changed.{all_left}

@@ -1,6 +1,6 @@
 use Rattle.std.proofs.Common.{arith}
-use Rattle.history.specs.View.{empty}
-use Rattle.history.proofs.ViewLemmas.{events-after_all}
+use Rattle.requests.specs.View.{empty}
+use Rattle.requests.proofs.ViewLemmas.{events-after_all}
 use Rattle.recovery.proofs.laws.events_are_last.Goals as goal
 
 pub returns : goal.returns

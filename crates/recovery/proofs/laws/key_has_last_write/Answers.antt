@@ -1,5 +1,5 @@
-use Rattle.history.specs.View.{empty}
-use Rattle.history.proofs.ViewLemmas.{stored_at-after_all}
+use Rattle.requests.specs.View.{empty}
+use Rattle.requests.proofs.ViewLemmas.{stored_at-after_all}
 use Rattle.recovery.proofs.laws.key_has_last_write.Goals as goal
 
 pub returns : goal.returns

@@ -1,6 +1,6 @@
 use Rattle.std.proofs.Common.{refl}
-use Rattle.history.specs.View.{empty}
-use Rattle.history.proofs.ViewLemmas.{objects_ascend}
+use Rattle.requests.specs.View.{empty}
+use Rattle.requests.proofs.ViewLemmas.{objects_ascend}
 use Rattle.recovery.proofs.laws.objects_ascend.Goals as goal
 
 pub returns : goal.returns

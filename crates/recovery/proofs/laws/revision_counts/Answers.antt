@@ -1,6 +1,6 @@
 use Rattle.std.proofs.Common.{arith}
-use Rattle.history.specs.View.{empty}
-use Rattle.history.proofs.ViewLemmas.{revision-after_all}
+use Rattle.requests.specs.View.{empty}
+use Rattle.requests.proofs.ViewLemmas.{revision-after_all}
 use Rattle.recovery.proofs.laws.revision_counts.Goals as goal
 
 pub returns : goal.returns

@@ -1,5 +1,5 @@
 use Rattle.std.proofs.Common.{map}
-use Rattle.history.specs.Mapped.{mapped}
+use Rattle.requests.specs.Mapped.{mapped}
 use Rattle.recovery.specs.Shown.{plans_held}
 use Rattle.records.specs.WriteOf.{write_of}
 use Rattle.recovery.proofs.Histories.{on_ok_to, group_taken, group_recorded}

@@ -1,9 +1,9 @@
 use Rattle.std.proofs.Common.{rules, refl}
 use Rattle.std.specs.Prelude.{IsErrOf}
 use Rattle.holdings.specs.declared.redo.RedoFault.TheVariants as RedoFault
-use Rattle.history.specs.History.{delete}
-use Rattle.history.specs.View.{after}
-use Rattle.history.proofs.Mapping.{follows_mapped, follows_back, after_mapped}
+use Rattle.requests.specs.History.{delete}
+use Rattle.requests.specs.View.{after}
+use Rattle.requests.proofs.Mapping.{follows_mapped, follows_back, after_mapped}
 use Rattle.recovery.specs.Shown.{plans_held}
 use Rattle.recovery.proofs.redo.redo_delete.Goals as goal
 

@@ -5,10 +5,10 @@ use Rattle.names.specs.Key.{Key}
 use Rattle.names.specs.declared.resource.Resource.{Resource}
 use Rattle.serde_json.specs.Data.{Data}
 use Rattle.holdings.specs.declared.redo.RedoFault.TheVariants as RedoFault
-use Rattle.history.specs.History.{put}
-use Rattle.history.specs.Mapped.{mapped}
-use Rattle.history.specs.View.{after}
-use Rattle.history.proofs.Mapping.{follows_mapped, follows_back, after_mapped}
+use Rattle.requests.specs.History.{put}
+use Rattle.requests.specs.Mapped.{mapped}
+use Rattle.requests.specs.View.{after}
+use Rattle.requests.proofs.Mapping.{follows_mapped, follows_back, after_mapped}
 use Rattle.expressions.specs.Specification.{Plans, plans_bytes, plans_seen, MayHavePlans}
 use Rattle.recovery.specs.Beside.{Beside, spelled}
 use Rattle.recovery.specs.Shown.{plans_held}

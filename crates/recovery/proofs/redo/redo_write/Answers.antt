@@ -1,6 +1,6 @@
 use Rattle.std.proofs.Common.{subst, ◌∙◌, sym, ap}
-use Rattle.history.specs.Mapped.{mapped}
-use Rattle.history.specs.View.{MayFollow}
+use Rattle.requests.specs.Mapped.{mapped}
+use Rattle.requests.specs.View.{MayFollow}
 use Rattle.recovery.specs.Shown.{plans_held}
 use Rattle.holdings.specs.Known.{IsKnown}
 use Rattle.records.specs.WriteOf.{write_of}

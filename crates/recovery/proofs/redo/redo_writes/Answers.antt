@@ -1,7 +1,7 @@
 use Rattle.std.proofs.Common.{rules, refl, ◌≡◌, ◌∙◌, ap, map, ◌∷◌, ◌⊎◌, inl, inr, []}
 use Rattle.std.specs.Prelude.{IsErrOf}
 use Rattle.std.specs.Vec.Iter.{into_iter_items}
-use Rattle.history.specs.Mapped.{mapped}
+use Rattle.requests.specs.Mapped.{mapped}
 use Rattle.records.specs.WriteOf.{write_of}
 use Rattle.recovery.specs.declared.fault.RecoveryFault.TheVariants as RecoveryFault
 use Rattle.recovery.specs.Shown.{plans_held}

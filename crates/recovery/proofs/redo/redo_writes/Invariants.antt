@@ -1,9 +1,9 @@
 use Rattle.std.proofs.Common.{◌≡◌, List, map}
 use Rattle.std.specs.Vec.Iter.{into_iter_items}
 use Rattle.names.specs.Key.{Key}
-use Rattle.history.specs.Mapped.{mapped}
-use Rattle.history.specs.declared.stored.Stored.{Stored}
-use Rattle.history.specs.View.{View}
+use Rattle.requests.specs.Mapped.{mapped}
+use Rattle.requests.specs.declared.stored.Stored.{Stored}
+use Rattle.requests.specs.View.{View}
 use Rattle.holdings.specs.Holdings.{Shows}
 use Rattle.holdings.specs.Known.{KnowsSame}
 use Rattle.records.specs.WriteOf.{write_of}

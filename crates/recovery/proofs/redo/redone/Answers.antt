@@ -2,7 +2,7 @@ use Rattle.std.proofs.Common.{rules, arith, refl, ◌≡◌, ◌∙◌, sym, ap,
 use Rattle.std.proofs.lemmas.List.{map_more, take_all}
 use Rattle.std.specs.Prelude.{IsErrOf}
 use Rattle.recovery.specs.declared.fault.RecoveryFault.TheVariants as RecoveryFault
-use Rattle.history.specs.Mapped.{mapped}
+use Rattle.requests.specs.Mapped.{mapped}
 use Rattle.recovery.specs.Shown.{plans_held}
 use Rattle.recovery.specs.Written.{IsWritten}
 use Rattle.recovery.proofs.Histories.{IsWritten-none, grown, stuck, map-at}

@@ -1,8 +1,8 @@
 use Rattle.std.proofs.Common.{◌≡◌, List, map, take}
 use Rattle.names.specs.Key.{Key}
-use Rattle.history.specs.Mapped.{mapped}
-use Rattle.history.specs.declared.stored.Stored.{Stored}
-use Rattle.history.specs.View.{View, after_all}
+use Rattle.requests.specs.Mapped.{mapped}
+use Rattle.requests.specs.declared.stored.Stored.{Stored}
+use Rattle.requests.specs.View.{View, after_all}
 use Rattle.holdings.specs.Holdings.{Shows}
 use Rattle.holdings.specs.Known.{KnowsSame}
 use Rattle.recovery.specs.Beside.{Beside}

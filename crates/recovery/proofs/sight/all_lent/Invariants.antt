@@ -1,6 +1,6 @@
 use Rattle.std.proofs.Common.{◌≡◌, ◌++◌, map, drop}
 use Rattle.recovery.specs.Sights.{entry_held}
-use Rattle.lookup.specs.Seen.{listed_seen}
+use Rattle.expressions.specs.LookupSeen.{listed_seen}
 use Rattle.recovery.proofs.sight.all_lent.Given as goal
 
 -- those lent, and then those that are left

@@ -1,7 +1,7 @@
 use Rattle.std.proofs.Common.{◌≡◌, ◌++◌, map, drop}
 use Rattle.std.specs.List.{filter_map}
 use Rattle.policy.specs.Spec.{wanted_seen}
-use Rattle.lookup.specs.Seen.{listed_seen}
+use Rattle.expressions.specs.LookupSeen.{listed_seen}
 use Rattle.recovery.specs.Wanted.{if_wanted}
 use Rattle.recovery.proofs.wanted.wanted_among.Given as goal
 

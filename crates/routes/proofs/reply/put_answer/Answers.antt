@@ -1,7 +1,7 @@
 use Rattle.std.proofs.Common.{◌≡◌, ◌∙◌, ℕ, List, ap, sym, subst, Option, Some, unwrap_or, Bor, IfSome}
 use Rattle.std.specs.Prelude.{option_map}
 use Rattle.requests.specs.declared.refusal.Refusal.TheVariants.{OutOfMemory}
-use Rattle.history.specs.Reply.{Reply, status}
+use Rattle.requests.specs.Reply.{Reply, status}
 use Rattle.httpmsg.specs.Response.{Response, response_bytes}
 use Rattle.httpmsg.specs.Sheet.{gathered}
 use Rattle.httpmsg.specs.Stream.{Message, is_head}

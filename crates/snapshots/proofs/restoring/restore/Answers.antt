@@ -1,6 +1,6 @@
 use Rattle.std.proofs.Common.{◌≡◌, ◌∙◌, ap, subst}
 use Rattle.names.specs.Key.{Key}
-use Rattle.history.specs.declared.stored.Stored.{Stored}
+use Rattle.requests.specs.declared.stored.Stored.{Stored}
 use Rattle.recovery.specs.Beside.{Beside}
 use Rattle.snapshots.specs.Restoring.{HasTaken}
 use Rattle.snapshots.proofs.Held.{Kept}

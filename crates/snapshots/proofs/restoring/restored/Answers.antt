@@ -2,12 +2,12 @@ use Rattle.std.proofs.Common.{rules, arith, ◌≡◌, ◌∙◌, sym, ap, subst
 use Rattle.std.specs.FinMap.{is_sorted}
 use Rattle.std.specs.Prelude.{IsErrOf}
 use Rattle.names.specs.Key.{key_cmp}
-use Rattle.overlay.specs.Changes.{Changes}
-use Rattle.overlay.specs.Merged.{merged}
-use Rattle.history.specs.declared.stored.Stored.{Stored}
+use Rattle.objects.specs.Changes.{Changes}
+use Rattle.objects.specs.Merged.{merged}
+use Rattle.requests.specs.declared.stored.Stored.{Stored}
 use Rattle.holdings.specs.Holdings.{Shows}
-use Rattle.entries.specs.declared.fault.EntryFault.{EntryFault}
-use Rattle.base.specs.Sieve.{chosen_of}
+use Rattle.records.specs.declared.entry_fault.EntryFault.{EntryFault}
+use Rattle.snapshots.specs.Sieve.{chosen_of}
 use Rattle.recovery.specs.Beside.{Beside}
 use Rattle.snapshots.specs.declared.fault.SnapshotFault.TheVariants as SnapshotFault
 use Rattle.snapshots.specs.LyingBelow.{puts_of}

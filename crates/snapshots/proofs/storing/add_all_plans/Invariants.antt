@@ -1,6 +1,6 @@
 use Rattle.std.proofs.Common.{◌≡◌, ◌++◌, drop}
 use Rattle.checkpoint.specs.EntryList.{listed}
-use Rattle.entries.specs.Entries.{plans_among}
+use Rattle.records.specs.Entries.{plans_among}
 use Rattle.snapshots.specs.Keeping.{held_plans}
 use Rattle.snapshots.proofs.storing.add_all_plans.Given as goal
 

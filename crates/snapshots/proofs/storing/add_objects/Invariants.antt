@@ -1,6 +1,6 @@
 use Rattle.std.proofs.Common.{◌≡◌, ◌++◌, map, drop}
 use Rattle.checkpoint.specs.EntryList.{listed}
-use Rattle.entries.specs.Entries.{stored_entry}
+use Rattle.records.specs.Entries.{stored_entry}
 use Rattle.snapshots.proofs.storing.add_objects.Given as goal
 
 -- what was added, and then what is left

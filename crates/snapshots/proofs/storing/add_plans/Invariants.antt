@@ -1,7 +1,7 @@
 use Rattle.std.proofs.Common.{◌≡◌, ◌++◌}
 use Rattle.std.specs.Vec.Iter.{into_iter_items}
 use Rattle.checkpoint.specs.EntryList.{listed}
-use Rattle.entries.specs.Entries.{plan_entries}
+use Rattle.records.specs.Entries.{plan_entries}
 use Rattle.snapshots.specs.Keeping.{held_plans}
 use Rattle.snapshots.proofs.storing.add_plans.Given as goal
 

@@ -1,6 +1,6 @@
 use Rattle.std.proofs.Common.{◌≡◌, ◌∙◌, ◌++◌, map, append_assoc}
 use Rattle.checkpoint.specs.EntryList.{listed}
-use Rattle.entries.specs.Entries.{stored_entry, plans_among, event_entry}
+use Rattle.records.specs.Entries.{stored_entry, plans_among, event_entry}
 use Rattle.snapshots.specs.Keeping.{held_plans}
 use Rattle.snapshots.proofs.storing.pairs_of.Goals as goal
 

@@ -5,8 +5,8 @@ use Rattle.names.specs.Key.{Key}
 use Rattle.objects.specs.Objects.{value_at}
 use Rattle.policy.specs.Rules.{attempt_seen}
 use Rattle.evaluation.specs.Seen.{denial_seen}
-use Rattle.lookup.specs.Objects.{Object, all_held, policy_key}
-use Rattle.lookup.specs.Seen.{held_by}
+use Rattle.expressions.specs.Objects.{Object, all_held, policy_key}
+use Rattle.expressions.specs.LookupSeen.{held_by}
 use Rattle.verdict.specs.Admission.{denial_by}
 use Rattle.verdict.specs.Turns.{denial_by_policy}
 use Rattle.verdict.proofs.Standing.{found_policy, plans_held, no_policy}

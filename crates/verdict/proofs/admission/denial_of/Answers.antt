@@ -10,8 +10,8 @@ use Rattle.expressions.specs.Plans.{plans_of}
 use Rattle.expressions.specs.Specification.{plans_in}
 use Rattle.evaluation.specs.Ready.{AreReady}
 use Rattle.evaluation.specs.Seen.{denial_seen}
-use Rattle.lookup.specs.Objects.{Held, shown_objects}
-use Rattle.bindings.specs.Verdict.{denial}
+use Rattle.expressions.specs.Objects.{Held, shown_objects}
+use Rattle.verdict.specs.OneBinding.{denial}
 use Rattle.verdict.specs.Turns.{denial_by_policy}
 use Rattle.verdict.proofs.admission.denial_of.Goals as goal
 

@@ -4,7 +4,7 @@ use Rattle.serde_json.specs.View.{view}
 use Rattle.policy.specs.Rules.{attempt_seen}
 use Rattle.evaluation.specs.Environment.{request_of}
 use Rattle.verdict.specs.Admission.{finding}
-use Rattle.lookup.specs.Objects.{Objects, HaveTrees}
+use Rattle.expressions.specs.Objects.{Objects, HaveTrees}
 use Rattle.verdict.specs.Verdict.{verdict_of}
 use Rattle.verdict.specs.Turns.{after_warnings}
 use Rattle.verdict.proofs.admission.verdict_of.Given as goal

@@ -1,7 +1,7 @@
 use Rattle.std.proofs.Common.{arith, ◌≡◌, ◌∙◌, sym, ap, subst, ◌+◌, ℕ, List, length, take, map, true≢false, inl}
 use Rattle.std.proofs.lemmas.List.{length-map}
 use Rattle.requests.specs.RequestOf.{request_of}
-use Rattle.history.specs.Reply.{Reply}
+use Rattle.requests.specs.Reply.{Reply}
 use Rattle.durable.specs.Gathered.{HasAnswered}
 use Rattle.durable.proofs.Grouping.{answered_group, stopped_group}
 use Rattle.durable.proofs.store.Store.answer_group.Goals as goal

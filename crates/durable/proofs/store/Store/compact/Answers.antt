@@ -3,7 +3,7 @@ use Rattle.roots.specs.declared.root.Root.{Root}
 use Rattle.checkpoint.specs.EntryList.{entries_of as in_list}
 use Rattle.objects.specs.declared.format.Rules.{Rules}
 use Rattle.snapshots.specs.Keeping.{entries_of, IsKeepable}
-use Rattle.history.specs.View.{view}
+use Rattle.requests.specs.View.{view}
 use Rattle.recovery.proofs.Histories.{on_ok_to}
 use Rattle.durable.specs.declared.fault.Fault.TheVariants as Fault
 use Rattle.durable.specs.Settled.{root_of, revision_of}

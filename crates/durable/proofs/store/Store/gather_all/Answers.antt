@@ -2,7 +2,7 @@ use Rattle.std.proofs.Common.{arith, ◌∙◌, sym, ap, subst, ◌∷◌, [], L
 use Rattle.std.proofs.lemmas.List.{length-append, length-map}
 use Rattle.requests.specs.Request.{Request}
 use Rattle.requests.specs.RequestOf.{request_of}
-use Rattle.history.specs.Reply.{Reply}
+use Rattle.requests.specs.Reply.{Reply}
 use Rattle.durable.specs.declared.fault.Fault.TheVariants as Faults
 use Rattle.durable.specs.Gathered.{HasGatheredMore}
 use Rattle.durable.specs.Settled.{device_of, serves}

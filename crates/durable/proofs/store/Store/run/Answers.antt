@@ -3,7 +3,7 @@ use Rattle.std.proofs.lemmas.List.{length-map}
 use Rattle.device.specs.Disk.{Disk, HasFailed}
 use Rattle.requests.specs.Request.{Request}
 use Rattle.requests.specs.RequestOf.{request_of}
-use Rattle.history.specs.Reply.{Reply}
+use Rattle.requests.specs.Reply.{Reply}
 use Rattle.durable.specs.declared.fault.Fault.{Fault}
 use Rattle.durable.specs.declared.fault.Fault.TheVariants as Faults
 use Rattle.durable.specs.Faults.{MayBeMet}

@@ -3,12 +3,12 @@ use Rattle.std.proofs.lemmas.Grind.{common_steps}
 use Rattle.objects.specs.declared.format.Rules.{Rules}
 use Rattle.names.specs.Key.{Key}
 use Rattle.requests.specs.RequestOf.{request_of}
-use Rattle.history.specs.View.{after_all}
-use Rattle.history.specs.declared.stored.Stored.{Stored}
+use Rattle.requests.specs.View.{after_all}
+use Rattle.requests.specs.declared.stored.Stored.{Stored}
 use Rattle.holdings.specs.Holdings.{Shows}
 use Rattle.holdings.specs.Prepared.{writes_of}
-use Rattle.base.specs.declared.stock.Stock.{Stock}
-use Rattle.base.specs.Stock as stock
+use Rattle.snapshots.specs.declared.stock.Stock.{Stock}
+use Rattle.snapshots.specs.Stock as stock
 use Rattle.recovery.specs.Beside.{Beside}
 use Rattle.paged.specs.Lying.{LiesBelow}
 use Rattle.durable.specs.declared.fault.Fault.TheVariants as Faults

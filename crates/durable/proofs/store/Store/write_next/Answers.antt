@@ -11,7 +11,7 @@ use Rattle.pages.specs.Page.{Entry}
 use Rattle.objects.specs.declared.format.Rules.{Rules}
 use Rattle.snapshots.proofs.Alone.{kept_held}
 use Rattle.snapshots.proofs.Kept.{entries_fit}
-use Rattle.history.specs.View.{view}
+use Rattle.requests.specs.View.{view}
 use Rattle.recovery.specs.Standing.{with_plans}
 use Rattle.durable.specs.Stands.{StandsFor}
 use Rattle.checkpoint.specs.EntryList.{entries_of as in_list}

@@ -3,7 +3,7 @@ use Rattle.names.specs.Key.{Key}
 use Rattle.documents.specs.Document.{Document}
 use Rattle.requests.specs.Codes.{document_in, sound-document_in}
 use Rattle.requests.specs.Manifest.{HasForm}
-use Rattle.history.specs.View.{exists}
+use Rattle.requests.specs.View.{exists}
 use Rattle.holdings.specs.Known.{IsKnown}
 use Rattle.holdings.proofs.Redoing.{revision_left, may_put_shown}
 use Rattle.holdings.proofs.holdings.Holdings.may_put.Goals as goal

@@ -1,5 +1,5 @@
 use Rattle.std.proofs.Common.{rules}
-use Rattle.base.specs.Base.{holds_nothing}
+use Rattle.snapshots.specs.Base.{holds_nothing}
 use Rattle.paged.specs.Lying.{made_bare, held_bare}
 use Rattle.paged.proofs.Going.{holds_below, below_goes}
 use Rattle.paged.proofs.state.Paged.all_below.Goals as goal

@@ -1,6 +1,6 @@
 use Rattle.std.proofs.Common.{rules, arith, ◌∙◌, sym, ap, subst, ⊎_elim, inl, inr, List, [], ℕ, Err}
 use Rattle.std.proofs.lemmas.List.{length-map}
-use Rattle.base.specs.declared.sieve.Sieve.{Sieve}
+use Rattle.snapshots.specs.declared.sieve.Sieve.{Sieve}
 use Rattle.checkpoint.specs.Pages.{pages_of_root, HoldsEntries, IsIndex}
 use Rattle.checkpoint.specs.Index.{keys_of}
 use Rattle.snapshots.specs.Keeping.{held_entries}

@@ -2,7 +2,7 @@ use Rattle.std.proofs.Common.{map, ap, ◌∙◌}
 use Rattle.policy.specs.Spec.{wanted_seen}
 use Rattle.recovery.specs.Sights.{entry_held}
 use Rattle.recovery.proofs.Finding.{parameters_found}
-use Rattle.lookup.specs.Seen.{listed_seen}
+use Rattle.expressions.specs.LookupSeen.{listed_seen}
 use Rattle.recovery.proofs.sight.SightLookup.parameters.Goals as goal
 
 pub returns-clause-found : goal.returns-clause-found

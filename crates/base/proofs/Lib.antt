@@ -1,8 +1,0 @@
-mod Prefixes
-mod Faults
-pub mod Holding
-pub mod Views
-pub mod Sieving
-mod Objects
-mod Lookups
-pub mod Lying

@@ -1,4 +1,0 @@
-pub mod Parameters
-pub mod Verdict
-pub mod Seen
-pub mod Turns

@@ -1,0 +1,124 @@
+//! Where objects are looked up.
+
+ghost use Rattle.std.specs.Prelude.{◌≡◌, ◌≤◌, ℕ, List, map, option_map, Some, None, IfOk, IsErrOf, IsTrue};
+ghost use Rattle.std.specs.FinMap.{is_sorted};
+ghost use Rattle.names.specs.Key.{key_cmp};
+ghost use Rattle.names.specs.declared.resource.Resource.TheVariants.{ValidatingAdmissionPolicy, ValidatingAdmissionPolicyBinding};
+ghost use Rattle.objects.specs.Objects.{value_at};
+ghost use Rattle.policy.specs.Spec.{wanted_seen};
+ghost use Rattle.objects.specs.Failing.{HasGrown};
+ghost use Rattle.expressions.specs.Objects.{Objects, all_held, shown_objects};
+ghost use Rattle.expressions.specs.Listed.{listed, wanted_of};
+ghost use Rattle.expressions.specs.LookupSeen.{held_by, listed_seen};
+ghost use Rattle.objects.specs.declared.fault.Part.{Part};
+ghost use Rattle.objects.specs.declared.fault.LookupFault.TheVariants as LookupFault;
+
+use crate::bound::Bound;
+use crate::stored::StoredPlans;
+use documents::{Doc, Document};
+use names::{Key, Resource};
+use objects::LookupFault;
+use policy::{Policy, Wanted};
+use std::alloc::Global;
+
+/// An object that a lookup finds, lent.
+#[derive(Clone, Copy)]
+pub struct Found<'a> {
+    /// What is stored.
+    pub document: &'a Document,
+    /// The policy that it spells, if it has the form of one.
+    pub policy: Option<&'a Policy>,
+    /// If it is a policy, the plans of its expressions.
+    pub plans: &'a StoredPlans,
+    /// The binding that it spells, if it has the form of one.
+    pub bound: Option<&'a Bound>,
+    /// The revision of its last write.
+    pub revision: u64,
+}
+
+/// An object among those that a lookup lists, lent.
+#[derive(Clone, Copy)]
+pub struct Listed<'a> {
+    /// What it stands under.
+    pub key: &'a Key,
+    /// What stands there.
+    pub found: Found<'a>,
+}
+
+/// Where objects are looked up, before a write.
+///
+/// Policies and bindings are lent, for `'a`, and parameters are made, as they are shown. A look may read a device, and change what
+/// the lookup is made on: what it shows stays, and `goes_to` says what else its maker may know of it afterwards.
+pub trait Lookup<'a> {
+    /// It shows these objects. Nothing has to be known of their trees.
+    ghost shows: { Self → Objects → Type 0 };
+
+    /// How often the device below has failed.
+    ghost failures: { Self → ℕ };
+
+    /// What lies below was found to be damaged.
+    ghost is_damaged: { Self → Type 0 };
+
+    /// What looks may make of it.
+    ghost goes_to: { Self → Self → Type 0 };
+
+    /// The policy under a key.
+    ///
+    /// # Errors
+    ///
+    /// `Memory` where no memory is left, `Device` where the device failed, `Damaged` where what lies below is damaged, so that it shows nothing.
+    fn policy(&mut self, alloc: Global, key: &Key) -> Result<Option<Found<'a>>, LookupFault>
+        requires { key.now.resource ≡ ValidatingAdmissionPolicy }
+        ensures found { (objects : Objects) → shows self.old objects → IfOk result (λ o. option_map held_by o ≡ value_at key.now (all_held objects)) }
+        ensures kept { (objects : Objects) → shows self.old objects → shows self.new objects }
+        ensures goes { goes_to self.old self.new }
+        ensures counts { failures self.old ≤ failures self.new }
+        ensures device { IsErrOf result LookupFault.Device → HasGrown (failures self.old) (failures self.new) }
+        ensures damaged { (part : Part) → IsErrOf result (LookupFault.Damaged part) → is_damaged self.new };
+
+    /// All bindings, in key order.
+    ///
+    /// # Errors
+    ///
+    /// As those of `policy`.
+    fn bindings(&mut self, alloc: Global) -> Result<Vec<Listed<'a>>, LookupFault>
+        ensures found { (objects : Objects) → shows self.old objects
+            → IfOk result (λ v. map listed_seen v.items ≡ listed ValidatingAdmissionPolicyBinding None (all_held objects)) }
+        ensures kept { (objects : Objects) → shows self.old objects → shows self.new objects }
+        ensures goes { goes_to self.old self.new }
+        ensures counts { failures self.old ≤ failures self.new }
+        ensures device { IsErrOf result LookupFault.Device → HasGrown (failures self.old) (failures self.new) }
+        ensures damaged { (part : Part) → IsErrOf result (LookupFault.Damaged part) → is_damaged self.new };
+
+    /// The objects of a resource in a namespace that are wanted, in key order, as they are shown.
+    ///
+    /// # Errors
+    ///
+    /// As those of `policy`.
+    fn parameters(
+        &mut self,
+        alloc: Global,
+        resource: Resource,
+        namespace: &str,
+        wanted: &Wanted,
+    ) -> Result<Vec<Doc>, LookupFault>
+        ensures found { (objects : Objects) → shows self.old objects
+            → IfOk result (λ v. v.items ≡ wanted_of (wanted_seen wanted.now) (listed resource (Some namespace.now) (shown_objects objects))) }
+        ensures kept { (objects : Objects) → shows self.old objects → shows self.new objects }
+        ensures goes { goes_to self.old self.new }
+        ensures counts { failures self.old ≤ failures self.new }
+        ensures device { IsErrOf result LookupFault.Device → HasGrown (failures self.old) (failures self.new) }
+        ensures damaged { (part : Part) → IsErrOf result (LookupFault.Damaged part) → is_damaged self.new };
+
+    /// The keys of what it shows ascend.
+    ghost ascending: { (lookup : Self) (objects : Objects) → shows lookup objects → IsTrue (is_sorted key_cmp objects) };
+
+    /// What is damaged shows nothing.
+    ghost shows_nothing: { (lookup : Self) (objects : Objects) → shows lookup objects → is_damaged lookup → ⊥ };
+
+    /// No look may leave it as it is.
+    ghost stays: { (lookup : Self) → goes_to lookup lookup };
+
+    /// Looks may come one after another.
+    ghost goes_on: { (before between after : Self) → goes_to before between → goes_to between after → goes_to before after };
+}

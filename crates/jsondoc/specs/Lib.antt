@@ -1,3 +1,0 @@
-pub mod DataCode
-pub mod Document
-pub mod Escapes

@@ -1,5 +1,0 @@
-use Rattle.overlay.proofs.Changing.{find-merged}
-use Rattle.overlay.proofs.laws.found_over.Goals as goal
-
-pub returns : goal.returns
-returns c = λ key changes base. find-merged key changes base

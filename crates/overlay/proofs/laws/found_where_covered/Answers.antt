@@ -1,5 +1,0 @@
-use Rattle.overlay.proofs.Covering.{found_where_covered as lemma}
-use Rattle.overlay.proofs.laws.found_where_covered.Goals as goal
-
-pub returns : goal.returns
-returns c = λ resource key changes base covered is. lemma resource key changes base covered is

@@ -1,6 +1,0 @@
-use Rattle.objects.specs.Objects.{is_of}
-use Rattle.overlay.proofs.Changing.{merged-filter}
-use Rattle.overlay.proofs.laws.listed_over.Goals as goal
-
-pub returns : goal.returns
-returns c = λ resource namespace changes base sorted. merged-filter (is_of resource namespace) changes base sorted

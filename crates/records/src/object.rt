@@ -1,0 +1,72 @@
+//! The entry of an object.
+
+ghost use Rattle.std.specs.Prelude.{◌≡◌, ◌≢◌, ◌++◌, ℕ, IfOk, IsErrOf};
+ghost use Rattle.byteorder.specs.Endian.{big_bytes};
+ghost use Rattle.documents.specs.Json.{text};
+ghost use Rattle.names.specs.Key.{Key as KeyData};
+ghost use Rattle.documents.specs.Document.{Document as DocumentData};
+ghost use Rattle.requests.specs.Codes.{document_in};
+ghost use Rattle.records.specs.declared.entry_fault.EntryFault.TheVariants as EntryFault;
+ghost use Rattle.records.specs.Entries.{object_entry};
+ghost use Rattle.records.specs.Holding.{IsStorableObject};
+
+use crate::bytes::{OBJECT, behind_mark, marked, number_bytes, split_number};
+use crate::entry::Entry;
+use crate::entry_fault::EntryFault;
+use crate::stored_write::read_document;
+use documents::Document;
+use names::Key;
+use requests::Manifest;
+use std::alloc::{AllocError, Global};
+
+/// An object, as it is read from its entry.
+#[derive(Drop)]
+pub struct StoredObject {
+    /// Its key and its document.
+    pub manifest: Manifest,
+    /// The revision of its last write.
+    pub revision: u64,
+}
+
+// What stands under an object's key.
+fn object_cell(alloc: Global, document: &Document, revision: u64) -> Result<Vec<u8>, AllocError>
+    ensures { IfOk result (λ v. v.items ≡ big_bytes 8 revision ++ text document.now.json) }
+{
+    let text = document.json().text(alloc)?;
+    let mut cell = Vec::new(alloc);
+    cell.extend_from_slice(&number_bytes(revision))?;
+    cell.extend_from_slice(text.as_bytes())?;
+    Ok(cell)
+}
+
+/// The entry of an object whose last write has this revision.
+pub fn object_entry(
+    alloc: Global,
+    key: &Key,
+    document: &Document,
+    revision: u64,
+) -> Result<Entry, AllocError>
+    ensures { IfOk result (λ entry. entry ≡ object_entry key.now document.now revision) }
+{
+    let cell = object_cell(alloc, document, revision)?;
+    let key = marked(alloc, OBJECT, &key.bytes(alloc)?)?;
+    Ok(Entry { key, cell })
+}
+
+/// Reads an object from its entry: a key, and the cell that stands under it.
+///
+/// # Errors
+///
+/// `Damaged` where no well-formed object has this entry, and `Memory` where there was no memory to read it.
+pub fn read_object(alloc: Global, key: &[u8], cell: &[u8]) -> Result<StoredObject, EntryFault>
+    ensures entry { IfOk result (λ o. object_entry o.manifest.key (document_in o.manifest.body) o.revision ≡ (key.now, cell.now)) }
+    ensures form { IfOk result (λ o. IsStorableObject o.manifest.key (document_in o.manifest.body) o.revision) }
+    ensures damaged { IsErrOf result EntryFault.Damaged
+        → (k : KeyData) (d : DocumentData) (revision : ℕ) → IsStorableObject k d revision → object_entry k d revision ≢ (key.now, cell.now) }
+{
+    let key = behind_mark(OBJECT, key).ok_or(EntryFault::Damaged)?;
+    let (revision, text) = split_number(cell).ok_or(EntryFault::Damaged)?;
+    let key = Key::read(alloc, key)?;
+    let manifest = read_document(alloc, &key, text)?;
+    Ok(StoredObject { manifest, revision })
+}

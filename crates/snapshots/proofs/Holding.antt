@@ -1,0 +1,254 @@
+-- What is found among entries that hold objects.
+use Rattle.std.proofs.Common.{◌≡◌, ◌<◌, ◌∙◌, sym, ap, subst, refl, ⊎_elim, ℕ, Bool, true, false, cond, List, [], ◌∷◌, ◌++◌, map, Option, Some, None, IsTrue}
+use Rattle.std.proofs.lemmas.Bool.{cases_Bool}
+use Rattle.std.specs.FinMap.{find, nat_cmp-IsAntisymmetric, slice_cmp-IsAntisymmetric}
+use Rattle.std.specs.List.{AllByRecursion, filter}
+use Rattle.std.specs.Ordering.{is_eq, eq_by_cmp}
+use Rattle.std.specs.Prelude.{option_map}
+use Rattle.std.specs.declared.cmp.Ordering.{Ordering}
+use Rattle.std.specs.declared.cmp.Ordering.TheVariants.{Less, Equal, Greater}
+use Rattle.device.specs.Disk.{Disk}
+use Rattle.device.specs.Run.{Ran}
+use Rattle.device.specs.Step.{Same}
+use Rattle.names.specs.declared.resource.Resource.{Resource}
+use Rattle.names.specs.Key.{Key, is_key, key_bytes, key_cmp}
+use Rattle.names.proofs.KeyOrder.{slice_cmp-key_bytes, key_cmp-IsAntisymmetric}
+use Rattle.objects.specs.Objects.{value_at, is_of}
+use Rattle.pages.specs.Page.{Entry, bytes_cmp}
+use Rattle.checkpoint.specs.Reader.{IsRefused}
+use Rattle.shelf.specs.declared.shelf.Shelf.{Shelf}
+use Rattle.shelf.specs.Prefix.{beginning}
+use Rattle.shelf.specs.Shelf.{Shelves}
+use Rattle.shelf.proofs.Staying.{HoldsAsBefore, shelves_stay, shelves_ran}
+use Rattle.records.proofs.One.{one_object}
+use Rattle.snapshots.specs.declared.stocked.Stocked.{Stocked}
+use Rattle.snapshots.specs.declared.listed.Listed.{Listed}
+use Rattle.snapshots.specs.declared.stock.Stock.{Stock}
+use Rattle.snapshots.specs.Stock.{cell_of, stocked_entry, IsStorable, IsOther, HoldObjects, Stocks, AreAmong, AreOf, prefix_of, root_of}
+use Rattle.snapshots.specs.Listed.{IsTold, Refuses}
+use Rattle.snapshots.proofs.Prefixes.{begins_of, other_begins, object_begins, other_object}
+
+-- ---- under a key
+
+equal_from : (o : Ordering) → is_eq o ≡ true → o ≡ Equal
+equal_from Less is = cc
+equal_from Equal is = refl
+equal_from Greater is = cc
+
+other_key : (bytes : List ℕ) (entry : Entry) → IsOther entry → is_eq (bytes_cmp (1 ∷ bytes) entry.0) ≡ false
+other_key bytes entry other =
+    ⊎_elim
+    (λ tie. absurd (other bytes (sym (slice_cmp-IsAntisymmetric nat_cmp-IsAntisymmetric (1 ∷ bytes) entry.0 (equal_from (bytes_cmp (1 ∷ bytes) entry.0) tie)))))
+    (λ no. no) (cases_Bool (is_eq (bytes_cmp (1 ∷ bytes) entry.0)))
+
+-- Under an object's key stands what is stored under it, and nothing where nothing is.
+pub found_cell : (key : Key) → IsTrue (is_key key) → (objects : List (Key × Stocked)) → AllByRecursion IsStorable objects
+    → (rest : List Entry) → AllByRecursion IsOther rest
+    → find bytes_cmp (1 ∷ key_bytes key) (map stocked_entry objects ++ rest) ≡ option_map cell_of (value_at key objects)
+found_cell key is [] can [] other = refl
+found_cell key is [] can (entry ∷ rest) other =
+    ap (λ b. cond b (Some entry.1) (find bytes_cmp (1 ∷ key_bytes key) rest)) (other_key (key_bytes key) entry other.0) ∙ found_cell key is [] can rest other.1
+found_cell key is (o ∷ objects) can rest other =
+    let behind : Option (List ℕ) = find bytes_cmp (1 ∷ key_bytes key) (map stocked_entry objects ++ rest) in
+    let more = found_cell key is objects can.1 rest other in
+    ap (λ order. cond (is_eq order) (Some (cell_of o.1)) behind) (slice_cmp-key_bytes key o.0 is can.0.0.key)
+    ∙ elim (is_eq (key_cmp key o.0)) as (λ b. cond b (Some (cell_of o.1)) behind ≡ option_map cell_of (cond b (Some o.1) (value_at key objects))) [
+      | true ↦ refl
+      | false ↦ more
+    ]
+
+-- What is stored under a key is storable under it.
+pub found_storable : (key : Key) (objects : List (Key × Stocked)) (stocked : Stocked) → AllByRecursion IsStorable objects → value_at key objects ≡ Some stocked
+    → IsStorable (key, stocked)
+found_storable key [] stocked can is = cc
+found_storable key (o ∷ objects) stocked can is =
+    elim (is_eq (key_cmp key o.0)) as (λ b. is_eq (key_cmp key o.0) ≡ b → cond b (Some o.1) (value_at key objects) ≡ Some stocked → IsStorable (key, stocked)) [
+      | true ↦ λ tie found.
+          let same_key : o.0 ≡ key = sym (key_cmp-IsAntisymmetric key o.0 (equal_from (key_cmp key o.0) tie)) in
+          let same : o.1 ≡ stocked = cc in
+          let Can : Key × Stocked → Type 0 = λ p. IsStorable p in
+          subst Can (λ i. (same_key i, same i)) can.0
+      | false ↦ λ other found. found_storable key objects stocked can.1 found
+    ] refl is
+
+-- ---- that begin so
+
+-- The entries that begin with a resource's prefix are those of its objects.
+pub beginning_of : (resource : Resource) (namespace : Option (List ℕ)) (objects : List (Key × Stocked)) → AllByRecursion IsStorable objects
+    → (rest : List Entry) → AllByRecursion IsOther rest
+    → beginning (prefix_of resource namespace) (map stocked_entry objects ++ rest) ≡ map stocked_entry (filter (λ o. is_of resource namespace o.0) objects)
+beginning_of resource namespace [] can [] other = refl
+beginning_of resource namespace [] can (entry ∷ rest) other =
+    let behind : List Entry = beginning (prefix_of resource namespace) rest in
+    ap (λ b. cond b (entry ∷ behind) behind) (other_begins resource namespace entry other.0) ∙ beginning_of resource namespace [] can rest other.1
+beginning_of resource namespace (o ∷ objects) can rest other =
+    let behind : List Entry = beginning (prefix_of resource namespace) (map stocked_entry objects ++ rest) in
+    let others : List (Key × Stocked) = filter (λ o. is_of resource namespace o.0) objects in
+    let more = beginning_of resource namespace objects can.1 rest other in
+    ap (λ b. cond b (stocked_entry o ∷ behind) behind) (begins_of resource namespace o.0 can.0.0.key)
+    ∙ elim (is_of resource namespace o.0) as (λ b. cond b (stocked_entry o ∷ behind) behind ≡ map stocked_entry (cond b (o ∷ others) others)) [
+      | true ↦ ap (λ (es : List Entry). stocked_entry o ∷ es) more
+      | false ↦ more
+    ]
+
+-- The entries that begin with 1 are those of objects.
+pub beginning_all : (objects : List (Key × Stocked)) (rest : List Entry) → AllByRecursion IsOther rest
+    → beginning (1 ∷ []) (map stocked_entry objects ++ rest) ≡ map stocked_entry objects
+beginning_all [] [] other = refl
+beginning_all [] (entry ∷ rest) other =
+    let behind : List Entry = beginning (1 ∷ []) rest in
+    ap (λ b. cond b (entry ∷ behind) behind) (other_object entry other.0) ∙ beginning_all [] rest other.1
+beginning_all (o ∷ objects) rest other =
+    let behind : List Entry = beginning (1 ∷ []) (map stocked_entry objects ++ rest) in
+    ap (λ b. cond b (stocked_entry o ∷ behind) behind) (object_begins o.0) ∙ ap (λ (es : List Entry). stocked_entry o ∷ es) (beginning_all objects rest other)
+
+pub filter_storable : (p : Key × Stocked → Bool) (objects : List (Key × Stocked)) → AllByRecursion IsStorable objects → AllByRecursion IsStorable (filter p objects)
+filter_storable p [] can = tt
+filter_storable p (o ∷ objects) can =
+    elim (p o) as (λ b. AllByRecursion IsStorable (cond b (o ∷ filter p objects) (filter p objects))) [
+      | true ↦ (can.0, filter_storable p objects can.1)
+      | false ↦ filter_storable p objects can.1
+    ]
+
+-- ---- of entries the objects
+
+-- Objects with the same entries are the same.
+pub same_objects : (xs ys : List (Key × Stocked)) → AllByRecursion IsStorable xs → AllByRecursion IsStorable ys → map stocked_entry xs ≡ map stocked_entry ys → xs ≡ ys
+same_objects [] [] a b same = refl
+same_objects [] (y ∷ ys) a b same = cc
+same_objects (x ∷ xs) [] a b same = cc
+same_objects (x ∷ xs) (y ∷ ys) a b same =
+    let head : stocked_entry x ≡ stocked_entry y = cc in
+    let others : map stocked_entry xs ≡ map stocked_entry ys = cc in
+    let parts = one_object x.0 y.0 x.1.document y.1.document x.1.revision y.1.revision a.0 b.0 head in
+    let rest = same_objects xs ys a.1 b.1 others in
+    λ i. (parts.0 i, record { document = parts.1 i; revision = parts.2 i }) ∷ rest i
+
+-- Each entry among those of objects is one's.
+pub stands_among : (objects : List (Key × Stocked)) → AllByRecursion IsStorable objects → (before : List Entry) (entry : Entry) (after : List Entry)
+    → map stocked_entry objects ≡ before ++ entry ∷ after → (o : Key × Stocked) × IsStorable o × (stocked_entry o ≡ entry)
+stands_among [] can [] entry after same = cc
+stands_among [] can (e ∷ before) entry after same = cc
+stands_among (o ∷ objects) can [] entry after same =
+    let head : stocked_entry o ≡ entry = cc in
+    (o, can.0, head)
+stands_among (o ∷ objects) can (e ∷ before) entry after same =
+    let others : map stocked_entry objects ≡ before ++ entry ∷ after = cc in
+    stands_among objects can.1 before entry after others
+
+-- ---- of entries that hold objects
+
+module _ (entries : List Entry) (objects : List (Key × Stocked)) (hold : HoldObjects entries objects) where
+  module _ (key : Key) (is : IsTrue (is_key key)) (bytes : List ℕ) (are : bytes ≡ 1 ∷ key_bytes key) where
+    found_there : find bytes_cmp bytes entries ≡ option_map cell_of (value_at key objects)
+    found_there =
+        (λ i. find bytes_cmp (are i) (hold.are i)) ∙ found_cell key is objects hold.storable hold.rest hold.other
+
+    -- Where nothing stands under an object's key, nothing is stored under the key.
+    pub none_there : None ≡ find bytes_cmp bytes entries → None ≡ value_at key objects
+    none_there none = step (value_at key objects) (none ∙ found_there)
+      where
+        step : (value : Option Stocked) → None ≡ option_map cell_of value → None ≡ value
+        step None same = refl
+        step (Some s) same = cc
+
+    -- Where a cell does, it is that of what is stored.
+    pub stands_there : (cell : List ℕ) → Some cell ≡ find bytes_cmp bytes entries
+        → (s : Stocked) × (value_at key objects ≡ Some s) × IsStorable (key, s) × (stocked_entry (key, s) ≡ (bytes, cell))
+    stands_there cell found = step (value_at key objects) refl (found ∙ found_there)
+      where
+        step : (value : Option Stocked) → value_at key objects ≡ value → Some cell ≡ option_map cell_of value
+            → (s : Stocked) × (value_at key objects ≡ Some s) × IsStorable (key, s) × (stocked_entry (key, s) ≡ (bytes, cell))
+        step None stored same = cc
+        step (Some s) stored same =
+            let cells : cell ≡ cell_of s = cc in
+            (s, stored, found_storable key objects s hold.storable stored, λ i. (sym are i, sym cells i))
+
+    -- So is an object that is read from it.
+    pub read_there : (cell : List ℕ) (o : Key × Stocked) → Some cell ≡ find bytes_cmp bytes entries → IsStorable o → stocked_entry o ≡ (bytes, cell)
+        → Some o.1 ≡ value_at key objects
+    read_there cell o found can read =
+        let there = stands_there cell found in
+        let same = same_objects (o ∷ []) ((key, there.0) ∷ []) (can, tt) (there.2, tt) (λ i. (read ∙ sym there.3) i ∷ []) in
+        let first : o ≡ (key, there.0) = cc in
+        ap (λ (p : Key × Stocked). Some p.1) first ∙ sym there.1
+
+  module _ (resource : Resource) (namespace : Option (List ℕ)) (prefix : List ℕ) (are : prefix ≡ prefix_of resource namespace) where
+    begin_so : beginning prefix entries ≡ map stocked_entry (filter (λ o. is_of resource namespace o.0) objects)
+    begin_so =
+        (λ i. beginning (are i) (hold.are i)) ∙ beginning_of resource namespace objects hold.storable hold.rest hold.other
+
+    can_begin : AllByRecursion IsStorable (filter (λ o. is_of resource namespace o.0) objects)
+    can_begin = filter_storable (λ o. is_of resource namespace o.0) objects hold.storable
+
+    -- The entries with the prefix of a resource are those of its objects.
+    pub are_of : AreOf (beginning prefix entries) (filter (λ o. is_of resource namespace o.0) objects)
+    are_of = record { are = begin_so; storable = can_begin }
+
+  -- Those that begin with 1 are those of all objects.
+  pub are_all : AreOf (beginning (1 ∷ []) entries) objects
+  are_all = record { are = ap (λ (es : List Entry). beginning (1 ∷ []) es) hold.are ∙ beginning_all objects hold.rest hold.other; storable = hold.storable }
+
+-- ---- of a reader of objects' entries
+
+module _ (entries : List Entry) (objects : List (Key × Stocked)) (of : AreOf entries objects) where
+  -- A reader that was told them has the objects.
+  pub told_objects : (old new : Listed) → old.objects.items ≡ [] → IsTold old new entries → new.objects.items ≡ objects
+  told_objects old new none told =
+      told.added ∙ ap (λ (os : List (Key × Stocked)). os ++ told.objects) none ∙ same_objects told.objects objects told.storable of.storable (told.are ∙ of.are)
+
+  -- It refuses none of them.
+  pub none_refused : (old : Listed) → IsRefused IsTold Refuses old entries → ⊥
+  none_refused old refused =
+      let found = stands_among objects of.storable refused.before refused.entry refused.after (sym of.are ∙ refused.are) in
+      refused.refused found.0 found.1 found.2
+
+-- ---- of objects that were found
+
+-- None are among all.
+pub none_among : (some objects : List (Key × Stocked)) → some ≡ [] → AreAmong some objects
+none_among some objects none = λ key s is.
+    let never : None ≡ Some s = ap (value_at key) (sym none) ∙ is in cc
+
+-- One more is, where it is one of the others.
+pub one_among : (some more objects : List (Key × Stocked)) (key : Key) (s : Stocked)
+    → ((k : Key) → value_at k more ≡ cond (eq_by_cmp key_cmp k key) (Some s) (value_at k some)) → value_at key objects ≡ Some s
+    → AreAmong some objects → AreAmong more objects
+one_among some more objects key s put is among = λ k x found.
+    let found_in : cond (is_eq (key_cmp k key)) (Some s) (value_at k some) ≡ Some x = sym (put k) ∙ found in
+    elim (is_eq (key_cmp k key)) as (λ b. is_eq (key_cmp k key) ≡ b → cond b (Some s) (value_at k some) ≡ Some x → value_at k objects ≡ Some x) [
+      | true ↦ λ tie same. ap (λ (k : Key). value_at k objects) (key_cmp-IsAntisymmetric k key (equal_from (key_cmp k key) tie)) ∙ is ∙ same
+      | false ↦ λ other same. among k x same
+    ] refl found_in
+
+-- ---- of stocks
+
+module _ {D : Type 0} (disk : Disk D) where
+  -- A stock whose pages hold what another's do, and whose found objects are among those, holds the same objects.
+  pub still : (before after : D) (old new : Stock) → ((entries : List Entry) → Shelves disk before old.shelf entries → Shelves disk after new.shelf entries)
+      → (objects : List (Key × Stocked)) → (AreAmong old.found.entries objects → AreAmong new.found.entries objects)
+      → Stocks disk before old objects → Stocks disk after new objects
+  still before after old new kept objects among stocks =
+      record { entries = stocks.entries; shelves = kept stocks.entries stocks.shelves; hold = stocks.hold; found = among stocks.found }
+
+  -- So it does where an object is kept that was read from its page.
+  pub still_with : (at : D) (old new : Stock) → new.shelf ≡ old.shelf → (key : Key) → IsTrue (is_key key) → (bytes : List ℕ) → bytes ≡ 1 ∷ key_bytes key
+      → (cell : List ℕ) (o : Key × Stocked) → ((entries : List Entry) → Shelves disk at old.shelf entries → Some cell ≡ find bytes_cmp bytes entries)
+      → IsStorable o → stocked_entry o ≡ (bytes, cell)
+      → ((objects : List (Key × Stocked)) → value_at key objects ≡ Some o.1 → AreAmong old.found.entries objects → AreAmong new.found.entries objects)
+      → (objects : List (Key × Stocked)) → Stocks disk at old objects → Stocks disk at new objects
+  still_with at old new same key is bytes are cell o found can read among objects stocks =
+      let At : Shelf → Type 0 = λ s. Shelves disk at s stocks.entries in
+      let there = read_there stocks.entries objects stocks.hold key is bytes are cell o (found stocks.entries stocks.shelves) can read in
+      record { entries = stocks.entries; shelves = subst At (sym same) stocks.shelves; hold = stocks.hold; found = among objects (sym there) stocks.found }
+
+  -- What a stock holds stays where the device holds, up to the start of the log, what it held. Where there are no pages nothing is asked of it.
+  pub stocks_stay : (stock : Stock) (old new : D) (objects : List (Key × Stocked)) → (0 < (root_of stock).pages → HoldsAsBefore disk stock.shelf old new)
+      → Stocks disk old stock objects → Stocks disk new stock objects
+  stocks_stay stock old new objects as_before stocks =
+      still old new stock stock (λ entries shelves. shelves_stay disk stock.shelf old new entries as_before shelves) objects (λ among. among) stocks
+
+  -- So it does where the device was read, and nothing was written.
+  pub stocks_ran : (stock : Stock) (old new : D) (objects : List (Key × Stocked)) → Ran disk old new Same → Stocks disk old stock objects → Stocks disk new stock objects
+  stocks_ran stock old new objects ran stocks =
+      still old new stock stock (λ entries shelves. shelves_ran disk stock.shelf old new entries ran shelves) objects (λ among. among) stocks

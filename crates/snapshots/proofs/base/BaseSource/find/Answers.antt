@@ -1,0 +1,42 @@
+use Rattle.std.specs.Prelude.{◌≡◌, true, false}
+use Rattle.std.proofs.Common.{rules, arith, sym, ap, ◌∙◌, Err, option_map}
+use Rattle.objects.specs.Objects.{value_at}
+use Rattle.holdings.specs.Sources.{found_in}
+use Rattle.snapshots.specs.Whole.{found_of}
+use Rattle.snapshots.proofs.Objects.{found_lying, none_lies}
+use Rattle.snapshots.proofs.Lookups.{held_still, goes}
+use Rattle.snapshots.proofs.base.BaseSource.find.Goals as goal
+
+pub returns-then-is_held-clause-found : goal.returns-then-is_held-clause-found
+returns-then-is_held-clause-found g c objects holds =
+    let making = c.args.self.now.making in
+    let key = c.args.key.now in
+    let hidden : g.M.FromDocument.held making key.resource ≡ true =
+    ap (g.M.FromDocument.held making) (sym c.resource.ensures.value) ∙ sym c.is_held.ensures ∙ c.if-is_held.true
+    in
+    ap (option_map found_in)
+    (sym (ap (value_at key) holds.lies.are ∙ none_lies (g.M.FromDocument.made making) (g.M.FromDocument.held making) key holds.lies.all hidden))
+
+pub returns-in-Ok-clause-found : goal.returns-in-Ok-clause-found
+returns-in-Ok-clause-found g c objects holds =
+    let making = c.args.self.now.making in
+    let key = c.args.key.now in
+    let shown : g.M.FromDocument.held making key.resource ≡ false =
+    ap (g.M.FromDocument.held making) (sym c.resource.ensures.value) ∙ sym c.is_held.ensures ∙ c.if-is_held.false
+    in
+    c.found.ensures ∙ ap (option_map found_of) (c.in-Ok.ensures.found holds.lies.all holds.lies.stocks)
+    ∙ found_lying (g.M.FromDocument.made making) (g.M.FromDocument.held making) key holds.lies.all shown
+    ∙ ap (λ os. option_map found_in (value_at key os)) (sym holds.lies.are)
+
+pub returns-in-Ok-clause-kept : goal.returns-in-Ok-clause-kept
+returns-in-Ok-clause-kept g c = grind (arith, held_still)
+
+pub returns-in-Ok-clause-goes : goal.returns-in-Ok-clause-goes
+returns-in-Ok-clause-goes g c = search (rules, goes)
+
+pub returns-in-Err-clause-kept : goal.returns-in-Err-clause-kept
+returns-in-Err-clause-kept g c objects holds =
+    let undamaged = c.told.ensures.whole (λ damaged. c.in-Err.ensures.damaged holds.lies.all holds.lies.stocks (λ i. Err (damaged i))) in search (rules, held_still)
+
+pub returns-in-Err-clause-goes : goal.returns-in-Err-clause-goes
+returns-in-Err-clause-goes g c = search (rules, goes)

@@ -1,0 +1,44 @@
+use Rattle.std.specs.Prelude.{◌≡◌, true, false, List, map}
+use Rattle.std.proofs.Common.{rules, arith, sym, ap, ◌∙◌, Err, option_map}
+use Rattle.std.specs.List.{filter}
+use Rattle.names.specs.Key.{Key}
+use Rattle.objects.specs.Objects.{is_of}
+use Rattle.requests.specs.declared.stored.Stored.{Stored}
+use Rattle.snapshots.specs.Base.{HoldsBase}
+use Rattle.snapshots.specs.Whole.{whole}
+use Rattle.snapshots.proofs.Objects.{listed_lying, none_listed}
+use Rattle.snapshots.proofs.Lookups.{held_still, goes}
+use Rattle.snapshots.proofs.base.BaseSource.list.Goals as goal
+
+pub returns-then-is_held-clause-listed : goal.returns-then-is_held-clause-listed
+returns-then-is_held-clause-listed g c objects holds =
+    let making = c.args.self.now.making in
+    let namespace = option_map (λ text. text.now) c.args.namespace in
+    let hidden : g.M.FromDocument.held making c.args.resource ≡ true = sym c.is_held.ensures ∙ c.if-is_held.true in
+    c.new.ensures.items
+    ∙ sym (ap (filter (λ o. is_of c.args.resource namespace o.0)) holds.lies.are
+    ∙ none_listed (g.M.FromDocument.made making) (g.M.FromDocument.held making) c.args.resource namespace holds.lies.all hidden)
+
+pub returns-in_ok-all_of-in-Ok : goal.returns-in_ok-all_of-in-Ok
+returns-in_ok-all_of-in-Ok g c =
+    let making = c.args.self.now.making in
+    let namespace = option_map (λ text. text.now) c.args.namespace in
+    let shown : g.M.FromDocument.held making c.args.resource ≡ false = sym c.is_held.ensures ∙ c.if-is_held.false in
+    let listed : (objects : List (Key × Stored g.row.P.Denot)) → HoldsBase g.M.FromDocument.made g.M.FromDocument.held c.args.self.now objects
+    → c.in_ok-all_of-in-Ok.field-0.items ≡ filter (λ o. is_of c.args.resource namespace o.0) objects =
+    λ objects holds.
+    c.in_ok-all_of-in-Ok.ensures ∙ ap (map (whole (g.M.FromDocument.made making))) (c.in-Ok.ensures.found holds.lies.all holds.lies.stocks)
+    ∙ listed_lying (g.M.FromDocument.made making) (g.M.FromDocument.held making) c.args.resource namespace holds.lies.all shown
+    ∙ ap (filter (λ o. is_of c.args.resource namespace o.0)) (sym holds.lies.are)
+    in
+    record { listed = listed; kept = grind (arith, held_still); goes = search (rules, goes); counts = search rules; device = grind arith; damaged = grind arith }
+
+pub returns-in_err-all_of-in-Ok : goal.returns-in_err-all_of-in-Ok
+returns-in_err-all_of-in-Ok g c =
+    record { listed = search rules; kept = grind (arith, held_still); goes = search (rules, goes); counts = search rules; device = grind arith; damaged = grind arith }
+
+pub returns-in-Err-clause-kept : goal.returns-in-Err-clause-kept
+returns-in-Err-clause-kept g c objects holds = let undamaged = c.told.ensures.whole (λ damaged. c.in-Err.ensures.damaged holds.lies.all holds.lies.stocks (λ i. Err (damaged i))) in search (rules, held_still)
+
+pub returns-in-Err-clause-goes : goal.returns-in-Err-clause-goes
+returns-in-Err-clause-goes g c = search (rules, goes)
