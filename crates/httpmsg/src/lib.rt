@@ -2,7 +2,7 @@
 //!
 //! ```text
 //! let run = cut_all(alloc, bytes, &mut room)?;      // the messages, and where what follows them begins
-//! Response::new(StatusCode::OK, body).closing(closes).write_at_once(&mut output, &mut sheet)?;
+//! Response::new(Status::of(200), body).closing(closes).write_at_once(&mut output, &mut sheet)?;
 //! ```
 //!
 //! A stream of bytes has one list of messages and one end ([`one_stream`]). A message with a fault is its end, and so is one that says
@@ -16,6 +16,7 @@ mod message;
 mod place;
 mod response;
 mod sheet;
+mod status;
 mod streams;
 
 pub use cut::{Run, cut_all, one_stream};
@@ -25,4 +26,5 @@ pub use message::Message;
 pub use place::Place;
 pub use response::Response;
 pub use sheet::Sheet;
+pub use status::Status;
 pub use streams::{Input, Output, Std, StreamFault, write_all};

@@ -7,14 +7,14 @@ ghost use Rattle.httpmsg.specs.Flow.{HasCause, Writes};
 ghost use Rattle.httpmsg.specs.Response.{crlf, front_lines, allow_line, warning_line, close_line, content, response_bytes};
 
 use crate::sheet::Sheet;
+use crate::status::Status;
 use crate::streams::{Output, StreamFault, write_all};
-use http::StatusCode;
 use std::marker::Model;
 
 /// A response with a JSON body (RFC 9112 section 4).
 #[derive(Drop)]
 pub struct Response<'r> {
-    status: StatusCode,
+    status: Status,
     allow: Option<&'r str>,
     warnings: &'r [String],
     closes: bool,
@@ -54,19 +54,16 @@ fn write_pieces<O: Output>(output: &mut O, pieces: &[&[u8]]) -> Result<(), Strea
 }
 
 // The status line, and the fields that each response has.
-fn write_front<O: Output>(
-    output: &mut O,
-    status: StatusCode,
-    length: usize,
-) -> Result<(), StreamFault>
-    ensures writes { Writes O.took output.old output.new (front_lines status length) result }
+fn write_front<O: Output>(output: &mut O, status: &Status, length: usize) -> Result<(), StreamFault>
+    ensures writes { Writes O.took output.old output.new (front_lines status.now length) result }
     ensures cause { HasCause (O.failures output.old) (O.failures output.new) result }
 {
     let mut digits = itoa::Buffer::new();
-    let phrase = status.canonical_reason().unwrap_or("");
+    let known = status.known();
+    let phrase = known.canonical_reason().unwrap_or("");
     let pieces = [
         b"HTTP/1.1 ".as_slice(),
-        status.as_str().as_bytes(),
+        known.as_str().as_bytes(),
         b" ".as_slice(),
         phrase.as_bytes(),
         b"\r\nContent-Type: application/json\r\nContent-Length: ".as_slice(),
@@ -134,7 +131,7 @@ fn write_back<O: Output>(output: &mut O, closes: bool, content: &[u8]) -> Result
 
 impl<'r> Response<'r> {
     /// A response with this status and body.
-    pub fn new(status: StatusCode, body: &'r [u8]) -> Response<'r>
+    pub fn new(status: Status, body: &'r [u8]) -> Response<'r>
         ensures { result ≡ record { status = status; allow = None; warnings = []; closes = false; without_body = false; body = body.now } }
     {
         Response {
@@ -199,7 +196,7 @@ impl<'r> Response<'r> {
         ensures writes { Writes O.took output.old output.new (response_bytes self.now) result }
         ensures cause { HasCause (O.failures output.old) (O.failures output.new) result }
     {
-        match write_front(output, self.status, self.body.len()) {
+        match write_front(output, &self.status, self.body.len()) {
             Ok(()) => {}
             Err(fault) => return Err(fault),
         }

@@ -1,7 +1,6 @@
 //! The bytes of replies.
 
 ghost use Rattle.std.specs.Prelude.{◌≡◌, ◌==◌, false, if◌then◌else◌, None, IfSome, option_map, unwrap_or, slice_index_or};
-ghost use Rattle.http.specs.StatusCode.{IsStatusCode};
 ghost use Rattle.requests.specs.declared.refusal.Refusal.TheVariants as refusal;
 ghost use Rattle.requests.specs.Reply.{status};
 ghost use Rattle.httpmsg.specs.Flow.{HasCause, Writes};
@@ -13,9 +12,8 @@ ghost use Rattle.routes.specs.ReplyBytes.{refusal_of, response_of, allow_in, rep
 ghost use Rattle.routes.specs.AnswerBytes.{answers_bytes, CanAnswer, CanAnswerAll, PutsAfter};
 
 use crate::bodies::fault_body;
-use http::StatusCode;
 use httpmsg::{
-    BrokenMessage, Message, MessageFault, Output, Response, Sheet, StreamFault, write_all,
+    BrokenMessage, Message, MessageFault, Output, Response, Sheet, Status, StreamFault, write_all,
 };
 use requests::{Refusal, Reply};
 
@@ -34,13 +32,6 @@ fn refusal_of(fault: MessageFault) -> Refusal
         MessageFault::Expectation => Refusal::UnservedExpectation,
         MessageFault::Target => Refusal::BadTarget,
     }
-}
-
-// The status of a code, where it is one.
-fn status_of(code: u16) -> StatusCode
-    ensures { IsStatusCode code → result ≡ code }
-{
-    StatusCode::from_u16(code).unwrap_or(StatusCode::INTERNAL_SERVER_ERROR)
 }
 
 // Those of the path, at the code that says so (RFC 9110 section 15.5.6).
@@ -66,7 +57,7 @@ fn response_to<'r>(message: &Message, reply: &'r Reply, allow: Option<&'static s
     ensures { CanAnswer message.now reply.now allow.entry
         → result ≡ response_of (allow_in message.now reply.now) (is_head message.now.method) message.now.closes reply.now }
 {
-    let response = Response::new(status_of(reply.code()), reply.body().as_bytes())
+    let response = Response::new(Status::of(reply.code()), reply.body().as_bytes())
         .warning(reply.warnings())
         .closing(message.closes())
         .leaving_body_out(message.method().is_head());
@@ -78,7 +69,7 @@ fn refusing(refusal: Refusal, body: &str, without_body: bool, closes: bool) -> R
     requires { body.now ≡ (status refusal).body }
     ensures { result ≡ response_of None without_body closes (status refusal) }
 {
-    Response::new(status_of(refusal.code()), body.as_bytes())
+    Response::new(Status::of(refusal.code()), body.as_bytes())
         .closing(closes)
         .leaving_body_out(without_body)
 }
