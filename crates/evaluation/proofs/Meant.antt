@@ -18,7 +18,7 @@ use Rattle.celmean.specs.Meaning.{Environment, mean}
 use Rattle.celtypes.specs.Typing.{Scope}
 use Rattle.instructions.specs.declared.instruction.Name.{Name}
 use Rattle.plan.specs.Compilation.{compiled}
-use Rattle.plan.specs.Machine.{World}
+use Rattle.planmachine.specs.Machine.{World}
 use Rattle.plan.specs.Seen.{HasSomeType}
 use Rattle.plancode.specs.Plans.{Judged}
 use Rattle.planrun.proofs.Runs.{meant}

@@ -1,7 +1,7 @@
 -- One validation before the others.
 use Rattle.std.proofs.Common.{◌≡◌, List, ◌∷◌, Option, Some, None, option_map, map, string_bytes, sym, ap, ◌∙◌}
 use Rattle.std.specs.Option.{option_map_or}
-use Rattle.plan.specs.Machine.{World}
+use Rattle.planmachine.specs.Machine.{World}
 use Rattle.plancode.specs.Plans.{Judged}
 use Rattle.policy.specs.declared.validation.Validation as code_validation
 use Rattle.policy.specs.Spec.{Validation, validation_seen}

@@ -6,7 +6,7 @@ use Rattle.celmean.specs.Macros.{is_true, is_false}
 use Rattle.instructions.specs.declared.instruction.Name.{Name}
 use Rattle.celmean.specs.Meaning.{Environment, bound}
 use Rattle.plan.specs.Correct.{spelled}
-use Rattle.plan.specs.Machine.{World, outcome}
+use Rattle.planmachine.specs.Machine.{World, outcome}
 use Rattle.plancode.specs.Plans.{Judged}
 use Rattle.policy.specs.Forms.{Text}
 use Rattle.policy.specs.Spec.{Named, Validation, Policy}

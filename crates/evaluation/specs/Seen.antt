@@ -8,7 +8,7 @@ use Rattle.celmean.specs.Value.{Outcome, Gives}
 use Rattle.celvalues.specs.Documents.{json_value}
 use Rattle.instructions.specs.declared.instruction.Name.{Name}
 use Rattle.instructions.specs.declared.instruction.Name.TheVariants as name_of
-use Rattle.plan.specs.Machine.{World}
+use Rattle.planmachine.specs.Machine.{World}
 use Rattle.evaluation.specs.declared.scene.Scene.{Scene}
 use Rattle.evaluation.specs.declared.answers.Conditions as code_conditions
 use Rattle.evaluation.specs.declared.answers.Conditions.TheVariants as code

@@ -17,7 +17,7 @@ use Rattle.plan.specs.Names as names
 use Rattle.plan.specs.Names.{Names, bind, slot_inside, slot_of, place_of}
 use Rattle.plan.specs.Tables.{function_named, method_named}
 use Rattle.plan.specs.Compilation.{count}
-use Rattle.plan.specs.Machine.{on_call}
+use Rattle.planmachine.specs.Machine.{on_call}
 use Rattle.plan.specs.Correct.{spelled}
 
 -- a name that is no macro variable is the declared name that the code puts

@@ -8,7 +8,7 @@ use Rattle.celmean.specs.Meaning.{Environment, bound, mean}
 use Rattle.celtypes.specs.Typing.{Scope}
 use Rattle.plan.specs.Names.{Names}
 use Rattle.plan.specs.Compilation.{compiled}
-use Rattle.plan.specs.Machine.{World, outcome}
+use Rattle.planmachine.specs.Machine.{World, outcome}
 use Rattle.plan.specs.Seen.{HasSomeType}
 
 -- how a declared name is written

@@ -2,6 +2,5 @@ pub mod Names
 pub mod Tables
 pub mod Compilation
 pub mod Seen
-pub mod Machine
 pub mod Correct
 pub mod Values

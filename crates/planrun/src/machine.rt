@@ -9,7 +9,7 @@ ghost use Rattle.celmean.specs.Seen.{value_of, values_seen, outcome_of, outcomes
 ghost use Rattle.instructions.specs.Op.{Branch, Over};
 ghost use Rattle.instructions.specs.Judging.{takes, targets, is_named};
 ghost use Rattle.instructions.specs.Seen.{op_of};
-ghost use Rattle.plan.specs.Machine.{Next, World, top, after, step, step_if, outcome};
+ghost use Rattle.planmachine.specs.Machine.{Next, World, top, after, step, step_if, outcome};
 ghost use Rattle.planstack.specs.Seen.{stack_seen};
 ghost use Rattle.planrun.specs.Worlds.{world_of};
 ghost use Rattle.planrun.specs.Results.{IsRunOf};

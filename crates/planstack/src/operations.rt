@@ -8,7 +8,7 @@ ghost use Rattle.celmean.specs.Operators.{prefixed, on_values};
 ghost use Rattle.celmean.specs.Functions.{called, method_called};
 ghost use Rattle.celmean.specs.Seen.{outcome_of, outcomes_seen, outcome_pairs_seen};
 ghost use Rattle.instructions.specs.Judging.{operand_count};
-ghost use Rattle.plan.specs.Machine.{on_one, on_two, on_call, in_pairs, operator};
+ghost use Rattle.planmachine.specs.Machine.{on_one, on_two, on_call, in_pairs, operator};
 ghost use Rattle.planstack.specs.Seen.{stack_seen};
 
 use crate::held::{Held, field, has, index, into_outcome};

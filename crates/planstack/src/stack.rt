@@ -2,7 +2,7 @@
 
 ghost use Rattle.std.specs.Prelude.{◌≡◌, ◌≤◌, ◌+◌, ◌∷◌, reverse, take, drop, length, OnOk, IfOk};
 ghost use Rattle.celmean.specs.Seen.{outcome_of, outcomes_seen};
-ghost use Rattle.plan.specs.Machine.{top};
+ghost use Rattle.planmachine.specs.Machine.{top};
 ghost use Rattle.planstack.specs.Seen.{held_seen, stack_seen};
 
 use crate::held::{Held, into_outcome};

@@ -2,7 +2,7 @@ use Rattle.std.proofs.Common.{◌≡◌, List, [], None, map, refl, ap, ◌∙�
 use Rattle.std.proofs.lemmas.Result.{IfOk-weaker}
 use Rattle.serde_json.specs.View.{view}
 use Rattle.policy.specs.Rules.{attempt_seen}
-use Rattle.plan.specs.Machine.{World}
+use Rattle.planmachine.specs.Machine.{World}
 use Rattle.policy.specs.declared.named.Named as code
 use Rattle.policy.specs.Spec.{named_seen, policy_seen}
 use Rattle.evaluation.specs.Environment.{seen}

@@ -2,7 +2,7 @@ use Rattle.std.proofs.Common.{rules, ◌≡◌, inl, suc, ◌+◌, ◌-◌, ◌<
 use Rattle.std.proofs.lemmas.Result.{IfOk-weaker}
 use Rattle.celmean.specs.Value as seen
 use Rattle.celmean.specs.Seen.{values_seen}
-use Rattle.plan.specs.Machine.{top}
+use Rattle.planmachine.specs.Machine.{top}
 use Rattle.planstack.specs.Seen.{stack_seen}
 use Rattle.planrun.specs.Running.{items_of, world, next_of}
 use Rattle.planrun.proofs.Early.{early, gathered, all_gathered}

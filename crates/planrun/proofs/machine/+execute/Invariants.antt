@@ -1,6 +1,6 @@
 use Rattle.std.proofs.Common.{◌≡◌, ◌+◌, ◌*◌, ◌<◌, ◌≤◌, [], ◌∷◌, ◌++◌, map, take, length}
 use Rattle.celmean.specs.Seen.{values_seen, outcomes_seen}
-use Rattle.plan.specs.Machine.{top}
+use Rattle.planmachine.specs.Machine.{top}
 use Rattle.planstack.specs.Seen.{stack_seen}
 use Rattle.planrun.specs.Running.{items_of, next_of, IsAt}
 use Rattle.planrun.proofs.machine.+execute.Given as goal

@@ -2,7 +2,7 @@ use Rattle.std.proofs.Common.{◌≡◌, ap, sym, ◌∙◌}
 use Rattle.std.proofs.lemmas.Result.{IfOk-weaker}
 use Rattle.celmean.specs.Meaning.{mean}
 use Rattle.celmean.specs.Seen.{outcome_of}
-use Rattle.plan.specs.Machine.{top, outcome}
+use Rattle.planmachine.specs.Machine.{top, outcome}
 use Rattle.planstack.specs.Seen.{stack_seen}
 use Rattle.planrun.specs.Worlds.{world_of}
 use Rattle.planrun.proofs.Runs.{at_first, whole_run, meant}

@@ -1,6 +1,6 @@
 use Rattle.std.proofs.Common.{◌≡◌, ◌++◌, reverse, vec_len}
 use Rattle.celmean.specs.Seen.{outcomes_seen, outcome_pairs_seen}
-use Rattle.plan.specs.Machine.{in_pairs}
+use Rattle.planmachine.specs.Machine.{in_pairs}
 use Rattle.planstack.proofs.operations.pairs_of.Given as goal
 
 abbrev pub invariant-pairs : goal.invariant-pairs
