@@ -1,6 +1,6 @@
 //! The functions.
 
-ghost use Rattle.std.specs.Prelude.{◌≡◌, ◌∷◌, [], pos, IfOk};
+ghost use Rattle.std.specs.Prelude.{◌≡◌, ◌≢◌, ◌∷◌, [], pos, codes, IfOk};
 ghost use Rattle.celmean.specs.Value.{Int, Gives, with_value};
 ghost use Rattle.celmean.specs.Arithmetic.{signed};
 ghost use Rattle.celmean.specs.Functions.{size, to_int, to_uint, to_string, function, called, text_test, test_values, size_method, method_called};
@@ -85,22 +85,31 @@ fn to_string(alloc: Global, value: &Value) -> Result<Outcome, AllocError>
     }
 }
 
+// The function of a name with one argument, of those that take no memory.
+fn plain_function(name: &str, argument: &Value) -> Outcome
+    ensures { name.now ≢ codes "string" → name.now ≢ codes "dyn" → outcome_of result ≡ function name.now (value_of argument.now) }
+{
+    if name == "size" {
+        size(argument)
+    } else if name == "int" {
+        to_int(argument)
+    } else if name == "uint" {
+        to_uint(argument)
+    } else {
+        Outcome::Error
+    }
+}
+
 // The function of a name with one argument.
 fn function(alloc: Global, name: &str, argument: &Value) -> Result<Outcome, AllocError>
     ensures { IfOk result (λ o. outcome_of o ≡ function name.now (value_of argument.now)) }
 {
-    if name == "size" {
-        Ok(size(argument))
-    } else if name == "int" {
-        Ok(to_int(argument))
-    } else if name == "uint" {
-        Ok(to_uint(argument))
-    } else if name == "string" {
+    if name == "string" {
         to_string(alloc, argument)
     } else if name == "dyn" {
         Ok(Outcome::Gives(argument.clone()?))
     } else {
-        Ok(Outcome::Error)
+        Ok(plain_function(name, argument))
     }
 }
 

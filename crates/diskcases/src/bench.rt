@@ -49,7 +49,8 @@ impl Bench for Disk {
     }
 }
 
-// Answers a line on the device, and hands on the others.
+// Each of these answers the lines of its kind, and hands on the others.
+
 fn answer(alloc: Global, device: &mut MemDevice, log: &mut LogLines, line: &mut Line<'_>) {
     match line.word() {
         "device" => new_device(alloc, device, line),
@@ -60,8 +61,6 @@ fn answer(alloc: Global, device: &mut MemDevice, log: &mut LogLines, line: &mut 
         "calls" => tries(device, line),
         "len" => length(device, line),
         "firsts" => firsts(alloc, device, line),
-        "sector" => sector(alloc, device, line),
-        "begins" => write_sector(alloc, device, line),
         "counts" => counts(device, line),
         "fail" => {
             device.fail_on(line.number());
@@ -72,6 +71,20 @@ fn answer(alloc: Global, device: &mut MemDevice, log: &mut LogLines, line: &mut 
             line.answer.word("ok");
         }
         "crash" => crash(alloc, device, line),
+        word => of_sectors(alloc, word, device, log, line),
+    }
+}
+
+fn of_sectors(
+    alloc: Global,
+    word: &str,
+    device: &mut MemDevice,
+    log: &mut LogLines,
+    line: &mut Line<'_>,
+) {
+    match word {
+        "sector" => sector(alloc, device, line),
+        "begins" => write_sector(alloc, device, line),
         "new-store" => new_store(device, line),
         "root" => root(device, line),
         "next" => next(device, line),
@@ -80,7 +93,7 @@ fn answer(alloc: Global, device: &mut MemDevice, log: &mut LogLines, line: &mut 
         "lay" => lay(alloc, device, line),
         "scan" => scan_pages(alloc, device, line),
         "shelf" => shelf(alloc, device, line),
-        word => of_the_log(alloc, word, device, log, line),
+        _ => of_the_log(alloc, word, device, log, line),
     }
 }
 
