@@ -1,3 +1,4 @@
 pub mod Admitting
 pub mod Following
 pub mod Deciding
+pub mod Faults

@@ -3,3 +3,4 @@ pub mod Numerals
 pub mod Inside
 pub mod Places
 pub mod Kept
+pub mod Checked

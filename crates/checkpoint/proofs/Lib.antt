@@ -8,3 +8,4 @@ pub mod Ascending
 pub mod Buffering
 pub mod Paging
 pub mod Generations
+pub mod Faults

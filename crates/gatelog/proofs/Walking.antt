@@ -113,6 +113,13 @@ no_log-end from gate end c so_far size past payloads last log =
     let within = inside here.0 gate last c here.1 in
     absurd (omega (arith, within.0, within.1, size))
 
+-- the length in front of a body that was read
+pub length-read : (at count size : ℕ) (payload body now c : List ℕ) → HoldsRecord at payload c → count ≡ sectors payload → body ≡ part (512 * at) (512 * count) now → now ≡ c
+    → size ≡ big_number 4 body → size ≡ length payload
+length-read at count size payload body now c holds is_count is_body same is_size =
+    is_size ∙ ap (big_number 4) is_body ∙ ap (λ (n : ℕ). big_number 4 (part (512 * at) (512 * n) now)) is_count
+    ∙ ap (λ (x : List ℕ). big_number 4 (part (512 * at) (512 * sectors payload) x)) same ∙ holds.size
+
 -- the payload of a body that was read
 pub payload-read : (at count size : ℕ) (payload body now c : List ℕ) → HoldsRecord at payload c → count ≡ sectors payload → body ≡ part (512 * at) (512 * count) now → now ≡ c
     → size ≡ big_number 4 body → part 4 size body ≡ payload

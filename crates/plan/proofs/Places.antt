@@ -1,5 +1,5 @@
 -- The instructions of a part begin where those before it end.
-use Rattle.std.proofs.Common.{◌≡◌, ℕ, suc, ◌+◌, ◌≤◌, Bool, true, false, cond, List, [], ◌∷◌, ◌++◌, length, refl, sym, ap, ◌∙◌, arith, append_assoc, length-append}
+use Rattle.std.proofs.Common.{◌≡◌, ℕ, suc, ◌+◌, ◌≤◌, Bool, true, false, cond, List, [], ◌∷◌, ◌++◌, length, refl, sym, ap, subst, ◌∙◌, arith, append_assoc, length-append}
 use Rattle.std.proofs.lemmas.List.{length-map}
 use Rattle.celtree.specs.declared.tree.Tree.{Tree}
 use Rattle.celtree.specs.Tree as expr
@@ -11,6 +11,7 @@ use Rattle.instructions.specs.Op.{Op}
 use Rattle.instructions.specs.Seen.{op_of, ops_of}
 use Rattle.plan.specs.Names.{Names}
 use Rattle.plan.specs.Compilation.{count, pair_count, size, size_of_items, size_of_pairs, compiled, compiled_items, compiled_pairs}
+use Rattle.plan.specs.Values.{HasValues, HaveValues, PairsHaveValues}
 use Rattle.plan.proofs.Lengths.{length-compiled, length-compiled_items}
 
 -- the code of a tree, by its place and the tree written otherwise
@@ -56,6 +57,44 @@ pairs_step code more joined k v rest at d whole e f g =
     let place : at + length joined ≡ r = omega (arith, length-append a b, length-compiled (view k) p d, length-compiled (view v) q d) in
     ap (λ n. ops_of joined ++ compiled_pairs (pair_views rest) n d) place
     ∙ (ap (λ l. l ++ c) (g ∙ ap (λ l. ops_of code ++ l) f) ∙ (append_assoc (ops_of code) (a ++ b) c ∙ (ap (λ l. ops_of code ++ l) (append_assoc a b c) ∙ e)))
+
+-- what stands before each turn of the loop over expressions, and of that over pairs
+abbrev pub ItemsMade : (code : List Instruction) (rest ts : List Tree) (at : ℕ) (d : Names) → Type 0
+ItemsMade code rest ts at d =
+    (ops_of code ++ compiled_items (views rest) (at + length code) d ≡ compiled_items (views ts) at d)
+    × (length code + size_of_items (views rest) ≡ size_of_items (views ts))
+    × (HaveValues (views rest) → HaveValues (views ts))
+
+abbrev pub PairsMade : (code : List Instruction) (rest ts : List (Tree × Tree)) (at : ℕ) (d : Names) → Type 0
+PairsMade code rest ts at d =
+    (ops_of code ++ compiled_pairs (pair_views rest) (at + length code) d ≡ compiled_pairs (pair_views ts) at d)
+    × (length code + size_of_pairs (pair_views rest) ≡ size_of_pairs (pair_views ts))
+    × (PairsHaveValues (pair_views rest) → PairsHaveValues (pair_views ts))
+
+pub items_turn : (code more joined : List Instruction) (t : Tree) (now rest ts : List Tree) (n at : ℕ) (d : Names)
+    → now ≡ t ∷ rest → n ≡ length code → ItemsMade code now ts at d
+    → ops_of more ≡ compiled (view t) (at + n) d → length more ≡ size (view t) → HasValues (view t) → ops_of joined ≡ ops_of code ++ ops_of more
+    → length joined ≡ length code + length more → ItemsMade joined rest ts at d
+items_turn code more joined t now rest ts n at d here many made next long values is whole =
+    let had : ItemsMade code (t ∷ rest) ts at d = subst (λ ys. ItemsMade code ys ts at d) here made in
+    let placed_next = next ∙ ap (λ n. compiled (view t) (at + n) d) many in (
+      items_step code more joined t rest at d (compiled_items (views ts) at d) had.0 placed_next is,
+      omega (arith, had.1, long, whole),
+      λ h. had.2 (values, h),
+    )
+
+pub pairs_turn : (code more joined : List Instruction) (p : Tree × Tree) (now rest ts : List (Tree × Tree)) (n at : ℕ) (d : Names)
+    → now ≡ p ∷ rest → n ≡ length code → PairsMade code now ts at d
+    → ops_of more ≡ compiled (view p.0) (at + n) d ++ compiled (view p.1) (at + n + size (view p.0)) d → length more ≡ size (view p.0) + size (view p.1)
+    → HasValues (view p.0) × HasValues (view p.1) → ops_of joined ≡ ops_of code ++ ops_of more
+    → length joined ≡ length code + length more → PairsMade joined rest ts at d
+pairs_turn code more joined p now rest ts n at d here many made next long values is whole =
+    let had : PairsMade code (p ∷ rest) ts at d = subst (λ ys. PairsMade code ys ts at d) here made in
+    let placed_next = next ∙ ap (λ n. compiled (view p.0) (at + n) d ++ compiled (view p.1) (at + n + size (view p.0)) d) many in (
+      pairs_step code more joined p.0 p.1 rest at d (compiled_pairs (pair_views ts) at d) had.0 placed_next is,
+      omega (arith, had.1, long, whole),
+      λ h. had.2 (values.0, values.1, h),
+    )
 
 -- each expression has an instruction at least
 size_of_field : (b : Bool) (n : ℕ) → 1 ≤ cond b 1 (n + 1)

@@ -3,3 +3,4 @@ pub mod Turns
 pub mod Ascending
 pub mod BindingTurns
 pub mod Lists
+pub mod Faults

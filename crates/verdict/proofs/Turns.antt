@@ -1,6 +1,7 @@
 -- One warning more.
-use Rattle.std.proofs.Common.{◌≡◌, ℕ, suc, ◌+◌, ◌<◌, List, [], ◌∷◌, ◌++◌, length, get_or, map, drop, drop-cons, add-one, refl, sym, ap, ◌∙◌, rules}
+use Rattle.std.proofs.Common.{◌≡◌, ℕ, suc, ◌+◌, ◌<◌, ◌≤◌, List, [], ◌∷◌, ◌++◌, length, get_or, map, drop, drop-cons, add-one, refl, sym, ap, ◌∙◌, rules}
 use Rattle.std.proofs.lemmas.Grind.{common_steps}
+use Rattle.std.proofs.lemmas.List.{append-nil, drop_all}
 use Rattle.policy.specs.Forms.{Text}
 use Rattle.policy.specs.Spec as spec
 use Rattle.policy.specs.declared.binding.Action.{Action}
@@ -33,3 +34,14 @@ pub turn : (objects : Objects) (w : Attempt) (n : ℕ) (bs : List (Text × spec.
     → b ≡ get_or bs n b → all ≡ after_warnings ws (verdict_of (map (finding objects w) (drop n bs)))
     → after_warnings ws (decide b.0 b.1 (denial_by objects w b.1) (verdict_of (map (finding objects w) (drop (n + 1) bs)))) ≡ after → all ≡ after
 turn objects w n bs b ws all after inside is before turned = before ∙ ap (after_warnings ws) (left objects w n bs b inside is) ∙ turned
+
+-- before any warning
+pub begun : (ws : List Text) (all : Verdict) → ws ≡ [] → all ≡ after_warnings ws all
+begun ws (admitted ts) none = ap (λ (before : List Text). admitted (before ++ ts)) (sym none)
+begun ws (denied policy binding reason message) none = refl
+
+-- the verdict of all, once each binding had its turn
+pub ended : (objects : Objects) (w : Attempt) (n : ℕ) (bs : List (Text × spec.Binding)) (ws : List Text) (all : Verdict) → length bs ≤ n
+    → all ≡ after_warnings ws (verdict_of (map (finding objects w) (drop n bs))) → admitted ws ≡ all
+ended objects w n bs ws all over before =
+    sym (before ∙ ap (λ (rest : List (Text × spec.Binding)). after_warnings ws (verdict_of (map (finding objects w) rest))) (drop_all n bs over) ∙ ap admitted (append-nil ws))

@@ -1,9 +1,12 @@
-use Rattle.std.proofs.Common.{rules, ◌∙◌, sym, inl, inr}
+use Rattle.std.proofs.Common.{rules, ◌∙◌, subst, sym, inl, inr}
+use Rattle.std.proofs.lemmas.Result.{IfOk-from_err}
+use Rattle.requests.specs.Manifest.{BodyHasForm}
 use Rattle.requests.specs.Request.{replace}
 use Rattle.recovery.proofs.Over.{over_kept}
-use Rattle.recovery.proofs.Looking.{looked_on, looked_after}
+use Rattle.recovery.proofs.Looking.{looked_not, looked_on, looked_after}
 use Rattle.recovery.proofs.Own.{replace_missing}
 use Rattle.apicore.proofs.Deciding.{refused_own, prepared_of}
+use Rattle.apicore.proofs.Faults.{same_fault, only_memory}
 use Rattle.apicore.proofs.preparing.prepare_replace.Goals as goal
 
 pub returns-in-Some-clause-step : goal.returns-in-Some-clause-step
@@ -47,3 +50,55 @@ pub returns-in-None-clause-looked : goal.returns-in-None-clause-looked
 returns-in-None-clause-looked g c =
     looked_after g.S.Source.holds g.S.Source.goes_to g.S.Source.failures c.args.core.now c.args.source.now c.find.new.source c.refused.result
     c.in_ok-found.ensures.kept c.in_ok-found.ensures.goes c.in_ok-found.ensures.counts c.refused.ensures.memory
+
+pub returns-in_err-specification-clause-looked : goal.returns-in_err-specification-clause-looked
+returns-in_err-specification-clause-looked g c =
+    looked_not g.S.Source.holds g.S.Source.goes_to g.S.Source.failures c.args.core.now c.args.source.now c.from_residual.result
+    (g.met.S.Source.stays c.args.source.now) (only_memory c.from_residual.result c.from_residual.ensures.1)
+
+pub returns-in_err-found-clause-looked : goal.returns-in_err-found-clause-looked
+returns-in_err-found-clause-looked g c =
+    let look = c.find.ensures in
+    record {
+      kept = look.kept;
+      goes = look.goes;
+      counts = look.counts;
+      device = λ told. look.device (same_fault c.from_residual-in_err-found.ensures.1 c.in_err-found.was told);
+      damaged = λ part told held v over.
+          g.met.S.Source.holds_nothing c.find.new.source over.base (look.kept over.base over.below)
+          (look.damaged part (same_fault c.from_residual-in_err-found.ensures.1 c.in_err-found.was told));
+    }
+
+pub returns-in_err-specification-clause-step : goal.returns-in_err-specification-clause-step
+returns-in_err-specification-clause-step g c = IfOk-from_err c.from_residual.result _ c.from_residual.ensures.0
+
+pub returns-in_err-specification-clause-ready : goal.returns-in_err-specification-clause-ready
+returns-in_err-specification-clause-ready g c = IfOk-from_err c.from_residual.result _ c.from_residual.ensures.0
+
+pub returns-in_err-found-clause-step : goal.returns-in_err-found-clause-step
+returns-in_err-found-clause-step g c = IfOk-from_err c.from_residual-in_err-found.result _ c.from_residual-in_err-found.ensures.0
+
+pub returns-in_err-found-clause-ready : goal.returns-in_err-found-clause-ready
+returns-in_err-found-clause-ready g c = IfOk-from_err c.from_residual-in_err-found.result _ c.from_residual-in_err-found.ensures.0
+
+pub returns-in-Some-clause-same : goal.returns-in-Some-clause-same
+returns-in-Some-clause-same g c = c.replace_of.ensures.same
+
+pub returns-in-Some-clause-ready : goal.returns-in-Some-clause-ready
+returns-in-Some-clause-ready g c = c.replace_of.ensures.ready
+
+pub returns-in_err-specification-clause-form : goal.returns-in_err-specification-clause-form
+returns-in_err-specification-clause-form g c =
+    subst (λ b. BodyHasForm c.args.manifest.now.key b) (sym c.document-document.ensures.body) c.document-document.ensures.form
+
+pub returns-in_err-found-clause-form : goal.returns-in_err-found-clause-form
+returns-in_err-found-clause-form g c =
+    subst (λ b. BodyHasForm c.args.manifest.now.key b) (sym c.document-document.ensures.body) c.document-document.ensures.form
+
+pub returns-in-Some-clause-form : goal.returns-in-Some-clause-form
+returns-in-Some-clause-form g c =
+    subst (λ b. BodyHasForm c.args.manifest.now.key b) (sym c.document-document.ensures.body) c.document-document.ensures.form
+
+pub returns-in-None-clause-form : goal.returns-in-None-clause-form
+returns-in-None-clause-form g c =
+    subst (λ b. BodyHasForm c.args.manifest.now.key b) (sym c.document-document.ensures.body) c.document-document.ensures.form

@@ -1,11 +1,13 @@
-use Rattle.std.proofs.Common.{rules, ◌∙◌, ap, List, length}
-use Rattle.std.specs.Prelude.{IsErrOf}
+use Rattle.std.proofs.Common.{◌∙◌, ap, ◌+◌, ◌*◌, ℕ, List, length}
+use Rattle.std.specs.Prelude.{max}
 use Rattle.device.specs.Run.{Stands}
 use Rattle.pages.specs.Page.{Entry}
+use Rattle.roots.specs.Root.{log_start}
 use Rattle.roots.specs.Install.{IsInUse}
 use Rattle.checkpoint.specs.Index.{keys_of}
 use Rattle.checkpoint.specs.Writing.{IsSource, IsWritten, IsBeforeOrWritten}
 use Rattle.checkpoint.specs.declared.writing.WriteFault.TheVariants as WriteFault
+use Rattle.checkpoint.proofs.Faults.{err_is, was_err, failed_since}
 use Rattle.checkpoint.proofs.Generations.{before_either, walk_before, since_walk, either_since_walk, IsReady, ready_after_walk, written_index}
 use Rattle.checkpoint.proofs.writing.write.Given.{Over}
 use Rattle.checkpoint.proofs.writing.write.Goals.{After-first_keys, After-write_generation}
@@ -67,8 +69,9 @@ returns-in_err-write_generation-clause-any_moment g c keeps all in_use source =
 pub returns-in_err-write_generation-clause-damaged : goal.returns-in_err-write_generation-clause-damaged
 returns-in_err-write_generation-clause-damaged g c keeps all in_use source told =
     let is = ready g (goal.at.returns-in_err-write_generation-clause-damaged g c).After-write_generation all keeps in_use source in
-    let damaged : IsErrOf c.write_generation.result WriteFault.Damaged = search rules in
-    c.write_generation.ensures.damaged is.keeps c.args.last_gate all is.in_use is.source c.in_ok-root.ensures.next is.fit is.count damaged
+    let damaged = err_is c.from_residual-in_err-write_generation.result _ WriteFault.Damaged c.from_residual-in_err-write_generation.ensures.1 told in
+    c.write_generation.ensures.damaged is.keeps c.args.last_gate all is.in_use is.source c.in_ok-root.ensures.next is.fit is.count
+    (was_err c.in_err-write_generation.was damaged)
 
 pub returns-clause-any_moment : goal.returns-clause-any_moment
 returns-clause-any_moment g c keeps all in_use source = either_now g (goal.at.returns-clause-any_moment g c).After-write_generation all keeps in_use source
@@ -90,3 +93,38 @@ returns-clause-index g c keeps all in_use source =
     let is = ready g (goal.at.returns-clause-index g c).After-write_generation all keeps in_use source in
     let stands = c.in_ok-write_generation.ensures.written is.keeps c.args.last_gate all is.in_use is.source c.in_ok-root.ensures.next is.fit is.count in
     written_index c.in_ok-root.root all (keys_of c.in_ok-first_keys.first_keys.items) (g.D.Device.disk.content c.write_generation.new.device) source.ascending is.first_keys stands.seen
+
+pub returns-in_err-write_generation-clause-gives : goal.returns-in_err-write_generation-clause-gives
+returns-in_err-write_generation-clause-gives g c content all given =
+    c.write_generation.ensures.gives content all (c.first_keys.ensures.gives content all given)
+
+pub returns-in_err-write_generation-clause-kept : goal.returns-in_err-write_generation-clause-kept
+returns-in_err-write_generation-clause-kept g c keeps = c.write_generation.ensures.kept (c.first_keys.ensures.ran.kept keeps)
+
+pub returns-in_err-write_generation-clause-had_kept : goal.returns-in_err-write_generation-clause-had_kept
+returns-in_err-write_generation-clause-had_kept g c keeps =
+    c.first_keys.ensures.ran.had_kept (c.write_generation.ensures.had_kept keeps)
+
+pub returns-clause-gives : goal.returns-clause-gives
+returns-clause-gives g c content all given =
+    c.write_generation.ensures.gives content all (c.first_keys.ensures.gives content all given)
+
+pub returns-clause-kept : goal.returns-clause-kept
+returns-clause-kept g c keeps = c.write_generation.ensures.kept (c.first_keys.ensures.ran.kept keeps)
+
+pub returns-clause-had_kept : goal.returns-clause-had_kept
+returns-clause-had_kept g c keeps = c.first_keys.ensures.ran.had_kept (c.write_generation.ensures.had_kept keeps)
+
+pub returns-in_err-write_generation-clause-cause : goal.returns-in_err-write_generation-clause-cause
+returns-in_err-write_generation-clause-cause g c told =
+    let device = err_is c.from_residual-in_err-write_generation.result _ WriteFault.Device c.from_residual-in_err-write_generation.ensures.1 told in
+    failed_since g.D.Device.disk c.args.device.now c.first_keys.new.device c.write_generation.new.device c.first_keys.ensures.ran.count
+    (c.write_generation.ensures.cause (was_err c.in_err-write_generation.was device))
+
+pub returns-clause-front : goal.returns-clause-front
+returns-clause-front g c keeps first = c.in_ok-write_generation.ensures.front (c.first_keys.ensures.ran.kept keeps) first
+
+pub returns-clause-behind : goal.returns-clause-behind
+returns-clause-behind g c keeps later =
+    c.in_ok-write_generation.ensures.behind (c.first_keys.ensures.ran.kept keeps) later
+    ∙ ap (λ (content : List ℕ). max (length content) (512 * log_start c.in_ok-root.root + 512)) (c.first_keys.ensures.ran.seen keeps)

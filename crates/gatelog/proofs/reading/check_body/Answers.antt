@@ -1,8 +1,10 @@
-use Rattle.std.proofs.Common.{arith, ap, ◌≡◌, ◌∙◌, subst, ◌+◌, ◌-◌, ◌*◌, ℕ, List, length, drop, slice_index}
+use Rattle.std.proofs.Common.{arith, ap, ◌≡◌, ◌∙◌, subst, ◌+◌, ◌-◌, ◌*◌, ◌<◌, ◌≤◌, ℕ, List, length, drop, slice_index}
 use Rattle.std.specs.Prelude.{IsTrue, EachIndex, ◌↔◌}
 use Rattle.gatelog.specs.Record.{part, body_sectors}
+use Rattle.gatelog.specs.Walk.{HoldsRecord}
 use Rattle.gatelog.proofs.Parts.{length-part}
-use Rattle.gatelog.proofs.Checking.{body-found, body-size, body-zeros, all-zeros, slice-tail}
+use Rattle.gatelog.proofs.Walking.{same_then}
+use Rattle.gatelog.proofs.Checking.{body-found, body-inside, body-size, body-zeros, all-zeros, slice-tail}
 use Rattle.gatelog.proofs.reading.check_body.Given.{Over}
 use Rattle.gatelog.proofs.reading.check_body.Goals.{After-is_zero}
 use Rattle.gatelog.proofs.reading.check_body.Goals as goal
@@ -62,3 +64,37 @@ returns-clause-found g c keeps =
     (c.in_ok-first.ensures.bytes keeps) c.read_u32-payload_length.ensures (is_last g here keeps) zeros
     in
     (found.0, same_count ∙ found.1, found.2)
+
+pub returns-in_err-last-clause-ran : goal.returns-in_err-last-clause-ran
+returns-in_err-last-clause-ran g c =
+    same_then g.D.Device.disk c.args.device.now c.read_sector.new.device c.read_sector-2.new.device c.read_sector.ensures.ran c.read_sector-2.ensures.ran
+
+pub returns-then-not-is_zero-clause-ran : goal.returns-then-not-is_zero-clause-ran
+returns-then-not-is_zero-clause-ran g c =
+    same_then g.D.Device.disk c.args.device.now c.read_sector.new.device c.read_sector-2.new.device c.read_sector.ensures.ran c.read_sector-2.ensures.ran
+
+pub returns-clause-ran : goal.returns-clause-ran
+returns-clause-ran g c =
+    same_then g.D.Device.disk c.args.device.now c.read_sector.new.device c.read_sector-2.new.device c.read_sector.ensures.ran c.read_sector-2.ensures.ran
+
+-- no record is so long
+too_long : (size n : ℕ) → size ≡ n → n ≤ 67108864 → 67108864 < size → ⊥
+too_long size n is_size limit long = omega arith
+
+-- and none has more sectors than there are
+too_many : (at end size count : ℕ) (payload c : List ℕ) → length c ≡ 512 * end → size ≡ length payload → count ≡ body_sectors size → HoldsRecord at payload c
+    → end - at < count → ⊥
+too_many at end size count payload c whole is_size is_count holds many = omega (arith, body-inside at end payload c whole holds)
+
+pub returns-then-payload_length-gt-MOST_PAYLOAD-clause-damaged : goal.returns-then-payload_length-gt-MOST_PAYLOAD-clause-damaged
+returns-then-payload_length-gt-MOST_PAYLOAD-clause-damaged g c keeps is_damaged payload holds =
+    let is_size = body-size c.args.at c.read_u32-payload_length.result c.in_ok-first.first payload (g.D.Device.disk.content c.args.device.now)
+    (c.in_ok-first.ensures.bytes keeps) c.read_u32-payload_length.ensures holds
+    in
+    too_long c.read_u32-payload_length.result (length payload) is_size holds.limit c.if-payload_length-gt-MOST_PAYLOAD.true
+
+pub returns-then-count-end-clause-damaged : goal.returns-then-count-end-clause-damaged
+returns-then-count-end-clause-damaged g c keeps is_damaged payload holds =
+    let content = g.D.Device.disk.content c.args.device.now in
+    let is_size = body-size c.args.at c.read_u32-payload_length.result c.in_ok-first.first payload content (c.in_ok-first.ensures.bytes keeps) c.read_u32-payload_length.ensures holds in
+    too_many c.args.at c.args.end c.read_u32-payload_length.result c.sectors_of-count.result payload content (c.requires.end keeps) is_size c.sectors_of-count.ensures holds c.if-count-end.true

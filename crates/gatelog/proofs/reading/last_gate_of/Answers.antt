@@ -24,6 +24,12 @@ returns-in_err-gate-clause-damaged g c keeps is_damaged payloads last log =
     (λ payload holds. c.check_body.ensures.damaged (c.read_sector.ensures.ran.kept kept) told payload (subst (HoldsRecord (c.loop-gate.gate + 1) payload) (sym same) holds))
     payloads last log
 
+pub returns-in_err-gate-clause-ran : goal.returns-in_err-gate-clause-ran
+returns-in_err-gate-clause-ran g c =
+    let disk = g.D.Device.disk in
+    let read = same_then disk c.args.device.now c.loop-gate.device c.read_sector.new.device c.loop-gate.invariant.ran c.read_sector.ensures.ran in
+    same_then disk c.args.device.now c.read_sector.new.device c.check_body.new.device read c.check_body.ensures.ran
+
 pub loop-gate-preserved : goal.loop-gate-preserved
 loop-gate-preserved g c =
     let inv = c.loop-gate.invariant in

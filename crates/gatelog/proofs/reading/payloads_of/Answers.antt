@@ -40,6 +40,10 @@ loop-gate-preserved g c =
           (ap (map (λ (v : Vec ℕ Global). v.items)) c.in_ok-push.ensures.items ∙ map_push (λ (v : Vec ℕ Global). v.items) c.loop-gate.found.items c.in_ok-payload.payload);
     }
 
+pub returns-in_err-payload-clause-ran : goal.returns-in_err-payload-clause-ran
+returns-in_err-payload-clause-ran g c =
+    same_then g.D.Device.disk c.args.device.now c.loop-gate.device c.read_payload.new.device c.loop-gate.invariant.ran c.read_payload.ensures.ran
+
 pub returns-in_err-push-clause-ran : goal.returns-in_err-push-clause-ran
 returns-in_err-push-clause-ran g c =
     same_then g.D.Device.disk c.args.device.now c.loop-gate.device c.read_payload.new.device c.loop-gate.invariant.ran c.read_payload.ensures.ran

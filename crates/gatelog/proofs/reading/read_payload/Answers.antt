@@ -1,9 +1,21 @@
-use Rattle.std.proofs.Common.{rules, ◌≡◌, ◌∙◌, ap, ◌*◌, length, drop}
-use Rattle.std.proofs.lemmas.List.{take_at}
+use Rattle.std.proofs.Common.{rules, arith, ◌≡◌, ◌∙◌, ap, sym, ◌+◌, ◌*◌, ◌<◌, ◌≤◌, ℕ, List, ◌++◌, length, take, drop}
+use Rattle.std.proofs.lemmas.List.{take_at, length-take}
 use Rattle.byteorder.specs.Endian.{big_number}
-use Rattle.gatelog.specs.Record.{part, sectors}
-use Rattle.gatelog.proofs.Walking.{same_then, one_record, payload-read}
+use Rattle.gatelog.specs.Record.{part, sectors, body_sectors}
+use Rattle.gatelog.proofs.Walking.{same_then, one_record, payload-read, length-read}
+use Rattle.gatelog.proofs.reading.read_payload.Given.{Over}
+use Rattle.gatelog.proofs.reading.read_payload.Goals.{After-read_u32-payload_length, then-payload_length-gt-MOST_PAYLOAD-via-then-payload_length-gt-MOST_PAYLOAD, then-payload_length-gt-MOST_PAYLOAD-via-else-payload_length-gt-MOST_PAYLOAD+then-sectors_of-count}
 use Rattle.gatelog.proofs.reading.read_payload.Goals as goal
+
+-- what was read is the body, and in front of it stands the length that was told
+was_read : (g : Over) (c : After-read_u32-payload_length g) → g.D.Device.disk.keeps c.args.device.now
+    → (c.read.new.buffer ≡ part (512 * c.args.at) (512 * c.in_ok-count.count) (g.D.Device.disk.content c.check_body.new.device))
+    × (c.read_u32-payload_length.result ≡ big_number 4 c.read.new.buffer)
+    × (take c.in_ok-body.body.len (c.read.new.buffer ++ drop (length c.read.new.buffer) c.in_ok-body.body.items) ≡ c.read.new.buffer)
+was_read g c keeps =
+    let same_size : length c.read.new.buffer ≡ c.in_ok-body.body.len = search rules in
+    let whole = take_at c.read.new.buffer (drop (length c.read.new.buffer) c.in_ok-body.body.items) c.in_ok-body.body.len same_size in
+    (search rules, c.read_u32-payload_length.ensures ∙ ap (big_number 4) (c.deref.ensures.value ∙ whole), whole)
 
 pub returns-then-payload_length-gt-MOST_PAYLOAD-clause-ran : goal.returns-then-payload_length-gt-MOST_PAYLOAD-clause-ran
 returns-then-payload_length-gt-MOST_PAYLOAD-clause-ran g c =
@@ -25,13 +37,43 @@ returns-clause-found g c keeps payload holds =
     let is_payload = one_record c.args.at checked.0 payload content checked.2 holds in
     let count = c.in_ok-count.count in
     let is_count : count ≡ sectors payload = checked.1 ∙ ap sectors is_payload in
-    let is_body : c.read.new.buffer ≡ part (512 * c.args.at) (512 * count) (disk.content c.check_body.new.device) = search rules in
-    let same_size : length c.read.new.buffer ≡ c.in_ok-body.body.len = search rules in
-    let is_read : c.deref.result.now ≡ c.read.new.buffer =
-    c.deref.ensures.value ∙ take_at c.read.new.buffer (drop (length c.read.new.buffer) c.in_ok-body.body.items) c.in_ok-body.body.len same_size in
-    (search rules) ∙ payload-read c.args.at count c.read_u32-payload_length.result payload c.read.new.buffer (disk.content c.check_body.new.device) content holds is_count is_body
-    (c.check_body.ensures.ran.seen keeps) (c.read_u32-payload_length.ensures ∙ ap (big_number 4) is_read)
+    let read = was_read g (goal.at.returns-clause-found g c).After-read_u32-payload_length keeps in
+    c.in_ok-copy_of.ensures ∙ ap (part 4 c.read_u32-payload_length.result) (c.deref-2.ensures.value ∙ read.2)
+    ∙ payload-read c.args.at count c.read_u32-payload_length.result payload c.read.new.buffer (disk.content c.check_body.new.device) content holds is_count read.0
+    (c.check_body.ensures.ran.seen keeps) read.1
 
 pub returns-clause-ran : goal.returns-clause-ran
 returns-clause-ran g c =
     same_then g.D.Device.disk c.args.device.now c.check_body.new.device c.read.new.self c.check_body.ensures.ran c.read.ensures.ran
+
+too_long : (size n : ℕ) → size ≡ n → n ≤ 67108864 → 67108864 < size → ⊥
+too_long size n is_size limit long = omega arith
+
+pub returns-then-payload_length-gt-MOST_PAYLOAD-clause-damaged : goal.returns-then-payload_length-gt-MOST_PAYLOAD-clause-damaged
+returns-then-payload_length-gt-MOST_PAYLOAD-clause-damaged g c keeps is_damaged payload holds =
+    let disk = g.D.Device.disk in
+    let checked = c.in_ok-count.ensures.found keeps in
+    let count = c.in_ok-count.count in
+    let read = was_read g (goal.at.returns-then-payload_length-gt-MOST_PAYLOAD-clause-damaged g c).After-read_u32-payload_length keeps in
+    let is_size : c.read_u32-payload_length.result ≡ length checked.0 =
+    length-read c.args.at count c.read_u32-payload_length.result checked.0 c.read.new.buffer (disk.content c.check_body.new.device) (disk.content c.args.device.now) checked.2 checked.1 read.0
+    (c.check_body.ensures.ran.seen keeps) read.1 in
+    elim c.then-payload_length-gt-MOST_PAYLOAD.branch [
+      | then-payload_length-gt-MOST_PAYLOAD-via-then-payload_length-gt-MOST_PAYLOAD w ↦
+          too_long c.read_u32-payload_length.result (length checked.0) is_size checked.2.limit w.if-payload_length-gt-MOST_PAYLOAD.true
+      | then-payload_length-gt-MOST_PAYLOAD-via-else-payload_length-gt-MOST_PAYLOAD+then-sectors_of-count w ↦
+          w.if-sectors_of-count.true (w.sectors_of.ensures ∙ ap body_sectors is_size ∙ sym checked.1)
+    ]
+
+-- no more is copied than was told
+copy_inside : (at end count size len : ℕ) (copy bytes : List ℕ) → len ≡ length copy → copy ≡ part 4 size bytes → size ≤ 67108864 → body_sectors size ≡ count → at + count ≤ end
+    → (len ≤ 67108864) × (at + body_sectors len ≤ end)
+copy_inside at end count size len copy bytes is_len is_copy limit is_count inside =
+    let short : len ≤ size = omega (arith, ap length is_copy, length-take size (drop 4 bytes)) in
+    (omega arith, omega arith)
+
+pub returns-clause-inside : goal.returns-clause-inside
+returns-clause-inside g c =
+    let copy = c.in_ok-copy_of.field-0 in
+    copy_inside c.args.at c.args.end c.in_ok-count.count c.read_u32-payload_length.result copy.len copy.items c.deref-2.result.now copy.ok.0 c.in_ok-copy_of.ensures
+    c.if-payload_length-gt-MOST_PAYLOAD.false (sym c.sectors_of.ensures ∙ c.if-sectors_of-count.false) c.in_ok-count.ensures.inside.1

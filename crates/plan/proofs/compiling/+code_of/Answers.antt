@@ -1,17 +1,18 @@
-use Rattle.std.proofs.lemmas.List.{drop_more}
-use Rattle.std.proofs.Common.{◌≡◌, List, drop, length, ◌+◌, ◌∷◌, string_bytes, refl, sym, ap, subst, ◌∙◌, arith}
+use Rattle.std.proofs.lemmas.List.{append-nil, drop_all, drop_more}
+use Rattle.std.proofs.Common.{◌≡◌, List, [], drop, length, ◌+◌, ◌∷◌, ◌++◌, string_bytes, refl, sym, ap, subst, ◌∙◌, arith}
 use Rattle.std.proofs.lemmas.Str.{IsUtf8-string_bytes}
 use Rattle.celtree.specs.declared.tree.Tree.{Tree}
 use Rattle.celtree.specs.Tree as expr
 use Rattle.celtree.specs.View.{view, views, pair_views}
 use Rattle.instructions.specs.Op.{TakeItems, TakePairs, TakeCall}
+use Rattle.instructions.specs.Seen.{ops_of}
 use Rattle.plan.specs.Names.{bind}
 use Rattle.plan.specs.Tables.{steps_between, method_named}
-use Rattle.plan.specs.Compilation.{count, pair_count, size, size_of_items, size_of_pairs, compiled, compiled_items}
+use Rattle.plan.specs.Compilation.{count, pair_count, size, size_of_items, size_of_pairs, compiled, compiled_items, compiled_pairs}
 use Rattle.plan.specs.Seen.{names_seen}
 use Rattle.plan.specs.Values.{HasValues}
 use Rattle.plan.proofs.Parts.{joined_by, followed_by, gathered_by, infix_by, conditional_by, macro_by}
-use Rattle.plan.proofs.Places.{placed, count_is, pair_count_is, few_items, few_pairs}
+use Rattle.plan.proofs.Places.{placed, count_is, pair_count_is, few_items, few_pairs, items_turn, pairs_turn}
 use Rattle.plan.proofs.TreeValues.{text_has_values, no_items_left, no_pairs_left, on_ok}
 use Rattle.plan.proofs.compiling.+code_of.Goals as goal
 
@@ -177,3 +178,65 @@ pub code_of_pairs-returns-clause-values : goal.code_of_pairs-returns-clause-valu
 code_of_pairs-returns-clause-values t c =
     let l = ap (λ (ps : List (Tree × Tree)). length ps) c.deref-entry-items.ensures.value in
     c.loop-entry.invariant.2 (no_pairs_left c.args.entries.now.items c.loop-entry.entry-index (omega (arith, l)))
+
+pub code_of_items-loop-item-preserved : goal.code_of_items-loop-item-preserved
+code_of_items-loop-item-preserved t c =
+    let ts = c.args.items.now.items in
+    let xs = c.deref-item-items.result.now in
+    let i = c.loop-item.item-index in
+    let x = c.item-item.result in
+    let there : drop i xs ≡ x ∷ drop (i + 1) xs = drop_more xs i x (omega arith) ∙ ap (λ y. y ∷ drop (i + 1) xs) (sym c.item-item.is) in
+    let here : drop i ts ≡ x ∷ drop (i + 1) ts = subst (λ (ys : List Tree). drop i ys ≡ x ∷ drop (i + 1) ys) c.deref-item-items.ensures.value there in
+    items_turn c.loop-item.code.items c.in_ok-more.more.items c.in_ok-code.code.items x (drop i ts) (drop (i + 1) ts) ts c.len.result c.args.at
+    (names_seen c.args.names.now) here (c.len.ensures ∙ c.loop-item.code.ok.0) c.loop-item.invariant c.in_ok-more.ensures.code c.in_ok-more.ensures.as_long
+    c.in_ok-more.ensures.values c.in_ok-code.ensures.code c.in_ok-code.ensures.as_long
+
+pub code_of_pairs-loop-entry-preserved : goal.code_of_pairs-loop-entry-preserved
+code_of_pairs-loop-entry-preserved t c =
+    let ts = c.args.entries.now.items in
+    let xs = c.deref-entry-items.result.now in
+    let i = c.loop-entry.entry-index in
+    let x = c.entry-item.result in
+    let there : drop i xs ≡ x ∷ drop (i + 1) xs = drop_more xs i x (omega arith) ∙ ap (λ y. y ∷ drop (i + 1) xs) (sym c.entry-item.is) in
+    let here : drop i ts ≡ x ∷ drop (i + 1) ts = subst (λ (ys : List (Tree × Tree)). drop i ys ≡ x ∷ drop (i + 1) ys) c.deref-entry-items.ensures.value there in
+    pairs_turn c.loop-entry.code.items c.in_ok-more.more.items c.in_ok-code.code.items x (drop i ts) (drop (i + 1) ts) ts c.len.result c.args.at
+    (names_seen c.args.names.now) here (c.len.ensures ∙ c.loop-entry.code.ok.0) c.loop-entry.invariant c.in_ok-more.ensures.code c.in_ok-more.ensures.as_long
+    c.in_ok-more.ensures.values c.in_ok-code.ensures.code c.in_ok-code.ensures.as_long
+
+pub code_of_items-returns-clause-code : goal.code_of_items-returns-clause-code
+code_of_items-returns-clause-code t c =
+    let ts = c.args.items.now.items in
+    let i = c.loop-item.item-index in
+    let l = ap (λ (ys : List Tree). length ys) c.deref-item-items.ensures.value in
+    let none : drop i ts ≡ [] = drop_all i ts (omega (arith, l)) in
+    let code = c.loop-item.code.items in
+    let d = names_seen c.args.names.now in
+    let whole = compiled_items (views ts) c.args.at d in
+    sym (append-nil (ops_of code)) ∙ subst (λ (ys : List Tree). ops_of code ++ compiled_items (views ys) (c.args.at + length code) d ≡ whole) none c.loop-item.invariant.0
+
+pub code_of_items-returns-clause-as_long : goal.code_of_items-returns-clause-as_long
+code_of_items-returns-clause-as_long t c =
+    let ts = c.args.items.now.items in
+    let i = c.loop-item.item-index in
+    let l = ap (λ (ys : List Tree). length ys) c.deref-item-items.ensures.value in
+    let none : drop i ts ≡ [] = drop_all i ts (omega (arith, l)) in
+    omega (arith, ap (λ ys. size_of_items (views ys)) none, c.loop-item.invariant.1)
+
+pub code_of_pairs-returns-clause-code : goal.code_of_pairs-returns-clause-code
+code_of_pairs-returns-clause-code t c =
+    let ts = c.args.entries.now.items in
+    let i = c.loop-entry.entry-index in
+    let l = ap (λ (ys : List (Tree × Tree)). length ys) c.deref-entry-items.ensures.value in
+    let none : drop i ts ≡ [] = drop_all i ts (omega (arith, l)) in
+    let code = c.loop-entry.code.items in
+    let d = names_seen c.args.names.now in
+    let whole = compiled_pairs (pair_views ts) c.args.at d in
+    sym (append-nil (ops_of code)) ∙ subst (λ (ys : List (Tree × Tree)). ops_of code ++ compiled_pairs (pair_views ys) (c.args.at + length code) d ≡ whole) none c.loop-entry.invariant.0
+
+pub code_of_pairs-returns-clause-as_long : goal.code_of_pairs-returns-clause-as_long
+code_of_pairs-returns-clause-as_long t c =
+    let ts = c.args.entries.now.items in
+    let i = c.loop-entry.entry-index in
+    let l = ap (λ (ys : List (Tree × Tree)). length ys) c.deref-entry-items.ensures.value in
+    let none : drop i ts ≡ [] = drop_all i ts (omega (arith, l)) in
+    omega (arith, ap (λ ys. size_of_pairs (pair_views ys)) none, c.loop-entry.invariant.1)

@@ -1,4 +1,4 @@
-use Rattle.std.proofs.Common.{refl, sym}
+use Rattle.std.proofs.Common.{rules, refl, sym}
 use Rattle.instructions.specs.Bytes.{code}
 use Rattle.planlist.proofs.Lists.{only_plan, same_code}
 use Rattle.planlist.proofs.reading.read_plan.Goals as goal
@@ -10,3 +10,8 @@ returns-in_ok-plan-in-Some-clause-only c =
 
 pub returns-in-None-clause-damaged : goal.returns-in-None-clause-damaged
 returns-in-None-clause-damaged c is_damaged p rest fits same = c.in-None.ensures.none refl (code p.ops) rest fits.short (sym same)
+
+pub returns-in_err-plan-in-Some-clause-damaged : goal.returns-in_err-plan-in-Some-clause-damaged
+returns-in_err-plan-in-Some-clause-damaged c is_damaged p rest fits same =
+    let found = same_code c.args.variables p c.args.bytes.now rest c.in-Some.inside.now c.in-Some.rest.now fits c.in-Some.ensures.size c.in-Some.ensures.parts same in
+    c.in_err-plan-in-Some.ensures.damaged (search rules) p fits found.0

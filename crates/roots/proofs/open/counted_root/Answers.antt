@@ -1,9 +1,12 @@
-use Rattle.std.proofs.Common.{◌≡◌, ℕ, List, Bool, IsTrue, arith, false, true≢false, ◌∙◌, sym, subst}
+use Rattle.std.proofs.Common.{◌≡◌, ℕ, List, Bool, IsTrue, arith, false, true≢false, ◌∙◌, sym, subst, ⊎_elim, Ok, IsErrOf}
 use Rattle.std.specs.Option.{IfNone}
 use Rattle.gatelog.specs.Record.{part}
+use Rattle.gatelog.proofs.Walking.{same_then}
+use Rattle.roots.specs.declared.open.RootFault.{RootFault}
+use Rattle.roots.specs.declared.open.RootFault.TheVariants.{Header, Root as NoRoot}
 use Rattle.roots.specs.declared.root.Root.{Root}
 use Rattle.roots.specs.Root.{IsHeader, Counts}
-use Rattle.roots.proofs.Fronts.{front_of, shown, first_shown, holds_from_front, header_in_front, past_the_end, none_in_front}
+use Rattle.roots.proofs.Fronts.{front_of, shown, first_shown, holds_from_front, header_in_front, past_the_end, none_in_front, too_short}
 use Rattle.roots.proofs.open.counted_root.Goals as goal
 
 is_not : (b : Bool) → b ≡ false → IsTrue b → ⊥
@@ -75,3 +78,28 @@ returns-in_default-2-clause-root g c = λ keeps is.
     (c.in_ok-read.ensures.bytes (ran.kept keeps)) (ran.seen keeps) c.sector_at.ensures.bytes
     in
     (subst (λ x. IsHeader x) first (c.is_header.ensures.0 c.if-not-is_header.false), omega (arith, c.in_ok-sectors.ensures.sectors keeps, c.if-sectors-lt9.false))
+
+pub returns-in_err-read-clause-ran : goal.returns-in_err-read-clause-ran
+returns-in_err-read-clause-ran g c = same_then g.D.Device.disk c.args.device.now c.len.new.self c.read.new.self c.len.ensures.ran c.read.ensures.ran
+
+pub returns-then-not-is_header-clause-ran : goal.returns-then-not-is_header-clause-ran
+returns-then-not-is_header-clause-ran g c = same_then g.D.Device.disk c.args.device.now c.len.new.self c.read.new.self c.len.ensures.ran c.read.ensures.ran
+
+pub returns-in-Some-clause-ran : goal.returns-in-Some-clause-ran
+returns-in-Some-clause-ran g c = same_then g.D.Device.disk c.args.device.now c.len.new.self c.read.new.self c.len.ensures.ran c.read.ensures.ran
+
+pub returns-in_default-clause-ran : goal.returns-in_default-clause-ran
+returns-in_default-clause-ran g c = same_then g.D.Device.disk c.args.device.now c.len.new.self c.read.new.self c.len.ensures.ran c.read.ensures.ran
+
+pub returns-in_default-2-clause-ran : goal.returns-in_default-2-clause-ran
+returns-in_default-2-clause-ran g c = same_then g.D.Device.disk c.args.device.now c.len.new.self c.read.new.self c.len.ensures.ran c.read.ensures.ran
+
+ok_is_no_error : (root : Root) (fault : RootFault) → IsErrOf (Ok root) fault → ⊥
+ok_is_no_error root fault is = cc
+
+pub returns-in-Some-clause-damaged : goal.returns-in-Some-clause-damaged
+returns-in-Some-clause-damaged g c = λ keeps is root holds. ⊎_elim (ok_is_no_error c.in-Some.root Header) (ok_is_no_error c.in-Some.root NoRoot) is
+
+pub returns-then-sectors-lt9-clause-damaged : goal.returns-then-sectors-lt9-clause-damaged
+returns-then-sectors-lt9-clause-damaged g c = λ keeps is root holds.
+    too_short (g.D.Device.disk.content c.args.device.now) root c.in_ok-sectors.sectors (c.in_ok-sectors.ensures.sectors keeps) c.if-sectors-lt9.true holds

@@ -1,5 +1,6 @@
 use Rattle.std.proofs.Common.{◌≡◌, ◌↔◌, IsTrue, drop, sym, ◌∙◌}
 use Rattle.std.specs.Prelude.{EachIndex, slice_index}
+use Rattle.std.proofs.lemmas.Bool.{false≢true}
 use Rattle.std.proofs.lemmas.List.{take_rest}
 use Rattle.byteorder.specs.Endian.{big_number}
 use Rattle.roots.proofs.Zeros.{zeros_from, each_zero}
@@ -21,3 +22,8 @@ returns c =
       },
       λ is. answer.1 (each_zero 16 c.args.sector.now is.zeros),
     )
+
+pub returns-then-read_u32-ne512 : goal.returns-then-read_u32-ne512
+returns-then-read_u32-ne512 c =
+    let size : c.read_u32-2.result ≡ big_number 4 (drop 12 c.args.sector.now) = simp take_rest at c.read_u32-2.ensures in
+    (λ told. absurd (false≢true told), λ is. absurd (c.if-read_u32-ne512.true (size ∙ is.sector_size)))

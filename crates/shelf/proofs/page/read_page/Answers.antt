@@ -1,6 +1,8 @@
-use Rattle.std.proofs.Common.{rules, refl, ◌≡◌, ◌∙◌, sym, ap, subst, List, ℕ, length}
+use Rattle.std.proofs.Common.{arith, refl, ◌≡◌, ◌∙◌, sym, ap, subst, List, ℕ, length}
 use Rattle.pages.specs.Page.{entries_in, IsSound}
 use Rattle.checkpoint.proofs.Taking.{unsound}
+use Rattle.shelf.specs.declared.fault.ShelfFault.TheVariants as ShelfFault
+use Rattle.checkpoint.proofs.Faults.{err_is}
 use Rattle.shelf.proofs.Cached.{page_read}
 use Rattle.shelf.proofs.page.read_page.Goals as goal
 
@@ -8,7 +10,7 @@ pub returns-in_err-check-clause-damaged : goal.returns-in_err-check-clause-damag
 returns-in_err-check-clause-damaged g c keeps is sound =
     let content : List ℕ = g.D.Device.disk.content c.args.device.now in
     let size : length c.in_ok-bytes.bytes.items ≡ 32768 = c.in_ok-bytes.ensures in
-    let len : c.in_ok-bytes.bytes.len ≡ 32768 = search rules in
+    let len : c.in_ok-bytes.bytes.len ≡ 32768 = omega (arith, size, c.in_ok-bytes.bytes.ok.0) in
     let read = page_read c.args.at c.in_ok-bytes.bytes.len content c.in_ok-bytes.bytes.items c.deref_mut.result.now c.read.new.buffer size len
     c.deref_mut.ensures.value (c.in_ok-read.ensures.bytes keeps) (c.requires.inside keeps)
     in
@@ -18,8 +20,57 @@ pub returns-clause-page : goal.returns-clause-page
 returns-clause-page g c keeps =
     let content : List ℕ = g.D.Device.disk.content c.args.device.now in
     let size : length c.in_ok-bytes.bytes.items ≡ 32768 = c.in_ok-bytes.ensures in
-    let len : c.in_ok-bytes.bytes.len ≡ 32768 = search rules in
+    let len : c.in_ok-bytes.bytes.len ≡ 32768 = omega (arith, size, c.in_ok-bytes.bytes.ok.0) in
     let read = page_read c.args.at c.in_ok-bytes.bytes.len content c.in_ok-bytes.bytes.items c.deref_mut.result.now c.read.new.buffer size len
     c.deref_mut.ensures.value (c.in_ok-read.ensures.bytes keeps) (c.requires.inside keeps)
     in
     sym c.in_ok-check.ensures.found.are ∙ ap entries_in read
+
+pub returns-in_err-bytes-clause-damaged : goal.returns-in_err-bytes-clause-damaged
+returns-in_err-bytes-clause-damaged g c keeps told =
+    let is : ShelfFault.Page ≡ ShelfFault.Memory =
+    err_is c.from_residual.result _ ShelfFault.Page c.from_residual.ensures.1 told
+    in
+    cc
+
+pub returns-in_err-bytes-clause-refusal : goal.returns-in_err-bytes-clause-refusal
+returns-in_err-bytes-clause-refusal g c told =
+    let is : ShelfFault.Entry ≡ ShelfFault.Memory =
+    err_is c.from_residual.result _ ShelfFault.Entry c.from_residual.ensures.1 told
+    in
+    cc
+
+pub returns-in_err-bytes-clause-cause : goal.returns-in_err-bytes-clause-cause
+returns-in_err-bytes-clause-cause g c told =
+    let is : ShelfFault.Device ≡ ShelfFault.Memory =
+    err_is c.from_residual.result _ ShelfFault.Device c.from_residual.ensures.1 told
+    in
+    cc
+
+pub returns-in_err-read-clause-damaged : goal.returns-in_err-read-clause-damaged
+returns-in_err-read-clause-damaged g c keeps told =
+    let is : ShelfFault.Page ≡ ShelfFault.Device =
+    err_is c.from_residual-in_err-read.result _ ShelfFault.Page c.from_residual-in_err-read.ensures.1 told
+    in
+    cc
+
+pub returns-in_err-read-clause-refusal : goal.returns-in_err-read-clause-refusal
+returns-in_err-read-clause-refusal g c told =
+    let is : ShelfFault.Entry ≡ ShelfFault.Device =
+    err_is c.from_residual-in_err-read.result _ ShelfFault.Entry c.from_residual-in_err-read.ensures.1 told
+    in
+    cc
+
+pub returns-in_err-check-clause-refusal : goal.returns-in_err-check-clause-refusal
+returns-in_err-check-clause-refusal g c told =
+    let is : ShelfFault.Entry ≡ ShelfFault.Page =
+    err_is c.from_residual-in_err-check.result _ ShelfFault.Entry c.from_residual-in_err-check.ensures.1 told
+    in
+    cc
+
+pub returns-in_err-check-clause-cause : goal.returns-in_err-check-clause-cause
+returns-in_err-check-clause-cause g c told =
+    let is : ShelfFault.Device ≡ ShelfFault.Page =
+    err_is c.from_residual-in_err-check.result _ ShelfFault.Device c.from_residual-in_err-check.ensures.1 told
+    in
+    cc

@@ -1,12 +1,14 @@
 use Rattle.std.proofs.Common.{rules, ◌≡◌, ◌+◌, map, drop, string_bytes, Option, sym, ap, ◌∙◌}
 use Rattle.std.specs.Option.{option_map_or}
+use Rattle.std.proofs.lemmas.Result.{IfOk-from_err}
 use Rattle.policy.specs.Rules.{attempt_seen}
 use Rattle.verdict.specs.Admission.{finding}
 use Rattle.verdict.specs.Verdict.{verdict_of}
 use Rattle.verdict.specs.Turns.{after_warnings}
 use Rattle.verdict.specs.Seen.{verdict_seen}
 use Rattle.verdict.specs.declared.admission.Verdict as code_verdict
-use Rattle.verdict.proofs.Turns.{turn}
+use Rattle.verdict.proofs.Faults.{same_fault, no_fault, as_many, no_fewer, grown_after}
+use Rattle.verdict.proofs.Turns.{turn, begun, ended}
 use Rattle.verdict.proofs.admission.verdict_of.Goals as goal
 
 pub returns-in-Some-clause-found : goal.returns-in-Some-clause-found
@@ -41,6 +43,71 @@ loop-named-preserved g c =
           (c.loop-named.invariant.0 objects shows trees) (turned ∙ said),
       λ objects shows. c.in_ok-verdict.ensures.kept objects (c.loop-named.invariant.1 objects shows),
       search rules,
-      search rules,
-      search rules,
+      no_fewer (g.L.Lookup.failures c.args.lookup.now) (g.L.Lookup.failures c.loop-named.lookup) (g.L.Lookup.failures c.turn.new.lookup)
+          c.loop-named.invariant.3 c.turn.ensures.counts,
+      c.in_ok-verdict.ensures.told,
     )
+
+pub loop-named-init : goal.loop-named-init
+loop-named-init g c = (
+  λ objects shows trees. begun (map string_bytes c.new-warnings.result.items) _ (ap (λ ss. map string_bytes ss) c.new-warnings.ensures.items),
+  λ objects shows. shows,
+  search rules,
+  as_many (g.L.Lookup.failures c.args.lookup.now),
+  tt,
+)
+
+pub returns-clause-found : goal.returns-clause-found
+returns-clause-found g c = λ objects shows trees.
+    ended objects (attempt_seen c.args.attempt.now) c.loop-named.named-index c.args.bindings.now (map string_bytes c.loop-named.warnings.items) _
+    c.loop-named-test.false (c.loop-named.invariant.0 objects shows trees)
+
+pub returns-clause-kept : goal.returns-clause-kept
+returns-clause-kept g c = c.loop-named.invariant.1
+
+pub returns-clause-goes : goal.returns-clause-goes
+returns-clause-goes g c = c.loop-named.invariant.2
+
+pub returns-clause-counts : goal.returns-clause-counts
+returns-clause-counts g c = c.loop-named.invariant.3
+
+pub returns-clause-device : goal.returns-clause-device
+returns-clause-device g c = λ told. absurd (no_fault told)
+
+pub returns-clause-damaged : goal.returns-clause-damaged
+returns-clause-damaged g c = λ part told objects shows. no_fault told
+
+pub returns-in_err-verdict-clause-found : goal.returns-in_err-verdict-clause-found
+returns-in_err-verdict-clause-found g c = λ objects shows trees. IfOk-from_err c.from_residual.result _ c.from_residual.ensures.0
+
+pub returns-in_err-verdict-clause-kept : goal.returns-in_err-verdict-clause-kept
+returns-in_err-verdict-clause-kept g c = λ objects shows. c.turn.ensures.kept objects (c.loop-named.invariant.1 objects shows)
+
+pub returns-in_err-verdict-clause-counts : goal.returns-in_err-verdict-clause-counts
+returns-in_err-verdict-clause-counts g c =
+    no_fewer (g.L.Lookup.failures c.args.lookup.now) (g.L.Lookup.failures c.loop-named.lookup) (g.L.Lookup.failures c.turn.new.lookup)
+    c.loop-named.invariant.3 c.turn.ensures.counts
+
+pub returns-in_err-verdict-clause-device : goal.returns-in_err-verdict-clause-device
+returns-in_err-verdict-clause-device g c = λ told.
+    grown_after (g.L.Lookup.failures c.args.lookup.now) (g.L.Lookup.failures c.loop-named.lookup) (g.L.Lookup.failures c.turn.new.lookup) c.loop-named.invariant.3
+    (c.turn.ensures.device (same_fault c.from_residual.ensures.1 c.in_err-verdict.was told))
+
+pub returns-in_err-verdict-clause-damaged : goal.returns-in_err-verdict-clause-damaged
+returns-in_err-verdict-clause-damaged g c = λ part told objects shows.
+    c.turn.ensures.damaged part (same_fault c.from_residual.ensures.1 c.in_err-verdict.was told)
+    objects (c.loop-named.invariant.1 objects shows)
+
+pub returns-in-Some-clause-kept : goal.returns-in-Some-clause-kept
+returns-in-Some-clause-kept g c = λ objects shows. c.turn.ensures.kept objects (c.loop-named.invariant.1 objects shows)
+
+pub returns-in-Some-clause-counts : goal.returns-in-Some-clause-counts
+returns-in-Some-clause-counts g c =
+    no_fewer (g.L.Lookup.failures c.args.lookup.now) (g.L.Lookup.failures c.loop-named.lookup) (g.L.Lookup.failures c.turn.new.lookup)
+    c.loop-named.invariant.3 c.turn.ensures.counts
+
+pub returns-in-Some-clause-device : goal.returns-in-Some-clause-device
+returns-in-Some-clause-device g c = λ told. absurd (no_fault told)
+
+pub returns-in-Some-clause-damaged : goal.returns-in-Some-clause-damaged
+returns-in-Some-clause-damaged g c = λ part told objects shows. no_fault told

@@ -1,6 +1,11 @@
-use Rattle.std.proofs.Common.{arith, ◌+◌, ◌*◌, ◌++◌, ◌∷◌, [], List, ℕ, subst}
+use Rattle.std.proofs.Common.{arith, ◌≡◌, ap, length, ◌+◌, ◌*◌, ◌++◌, ◌∷◌, [], List, ℕ, subst}
 use Rattle.pages.specs.Page.{Entry}
-use Rattle.checkpoint.specs.PageWriter.{IsFilled}
+use Rattle.checkpoint.specs.PageWriter.{IsFilled, IsLaid}
+use Rattle.std.proofs.lemmas.List.{length-append}
+use Rattle.checkpoint.specs.Filling.{pages_of}
+use Rattle.checkpoint.specs.declared.page_writer.PageWriter as writing
+use Rattle.checkpoint.specs.declared.writing.WriteFault.TheVariants as WriteFault
+use Rattle.checkpoint.proofs.Faults.{err_is, was_err}
 use Rattle.checkpoint.proofs.Buffering.{torn_then, filled_all}
 use Rattle.checkpoint.proofs.Paging.{laid_ascends, laid_last_some}
 use Rattle.checkpoint.proofs.page_writer.PageWriter.finish.Goals as goal
@@ -31,3 +36,22 @@ returns-clause-pages g c keeps first all sorted laid =
     in
     filled_all c.flush.new.self first all (disk.content c.flush.new.device)
     (subst Filled laid.are (c.in_ok-flush.ensures.filled kept first (laid.pages ++ old.page ∷ []) ended)) c.in_ok-flush.ensures.empty
+
+-- the last page is still to be filled
+one_left : (writer : writing.PageWriter) (first : ℕ) (all : List Entry) (content : List ℕ) → IsLaid writer first [] all content → writer.left ≡ 1
+one_left writer first all content laid =
+    let size : length (laid.pages ++ writer.page ∷ []) ≡ length (pages_of all) = ap length laid.are in
+    omega (arith, size, laid.count, length-append laid.pages (writer.page ∷ []))
+
+pub returns-in_err-end_page-clause-damaged : goal.returns-in_err-end_page-clause-damaged
+returns-in_err-end_page-clause-damaged g c keeps first all laid told =
+    let damaged = err_is c.from_residual.result _ WriteFault.Damaged c.from_residual.ensures.1 told in
+    let none = c.end_page.ensures.damaged (was_err c.in_err-end_page.was damaged) in
+    let left = one_left c.args.self.now first all (g.D.Device.disk.content c.args.device.now) laid in
+    omega (arith, none, left)
+
+pub returns-in_err-flush-clause-damaged : goal.returns-in_err-flush-clause-damaged
+returns-in_err-flush-clause-damaged g c keeps first all laid told =
+    let handed = c.from_residual-in_err-flush in
+    let device : WriteFault.Damaged ≡ WriteFault.Device = err_is handed.result _ WriteFault.Damaged handed.ensures.1 told in
+    cc

@@ -35,3 +35,8 @@ returns-clause-some c =
         zeros = zeros_from 36 c.args.sector.now (answer.0 c.if-not-is_zero.false);
       },
     )
+
+pub returns-then-first-lt8-clause-none : goal.returns-then-first-lt8-clause-none
+returns-then-first-lt8-clause-none c = λ root is.
+    let first : c.read_u64-first.result ≡ big_number 8 (drop 16 c.args.sector.now) = simp take_rest at c.read_u64-first.ensures in
+    omega (arith, first, is.first, is.in_data, c.if-first-lt8.true)

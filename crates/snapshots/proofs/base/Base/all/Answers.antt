@@ -1,5 +1,5 @@
 use Rattle.std.specs.Prelude.{◌≡◌, List, map}
-use Rattle.std.proofs.Common.{rules, arith, sym, ap, ◌∙◌, Err}
+use Rattle.std.proofs.Common.{rules, arith, refl, sym, ap, ◌∙◌, Err}
 use Rattle.names.specs.Key.{Key}
 use Rattle.requests.specs.declared.stored.Stored.{Stored}
 use Rattle.snapshots.specs.Whole.{whole}
@@ -17,11 +17,25 @@ returns-in_ok-all_of-in-Ok g c =
     c.in_ok-all_of-in-Ok.ensures ∙ ap (map (whole (made making))) (c.lying-objects.ensures ∙ ap (not_held (held making)) (c.in-Ok.ensures.found holds.lies.all holds.lies.stocks))
     ∙ sym holds.lies.are
     in
-    record { listed = listed; kept = grind (arith, held_still); goes = search (rules, goes); counts = search rules; device = grind arith; damaged = grind arith }
+    record {
+      listed = listed;
+      kept = λ objects. held_still g.M.FromDocument.made g.M.FromDocument.held c.args.self.now _ c.list_all.new.device c.list_all.new.self objects refl refl refl refl c.list_all.ensures.kept;
+      goes = goes c.args.self.now _ c.list_all.new.device c.list_all.new.self refl refl refl refl refl c.list_all.ensures.root c.list_all.ensures.kept c.list_all.ensures.ran;
+      counts = search rules;
+      device = grind arith;
+      damaged = grind arith;
+    }
 
 pub returns-in_err-all_of-in-Ok : goal.returns-in_err-all_of-in-Ok
 returns-in_err-all_of-in-Ok g c =
-    record { listed = search rules; kept = grind (arith, held_still); goes = search (rules, goes); counts = search rules; device = grind arith; damaged = grind arith }
+    record {
+      listed = search rules;
+      kept = λ objects. held_still g.M.FromDocument.made g.M.FromDocument.held c.args.self.now _ c.list_all.new.device c.list_all.new.self objects refl refl refl refl c.list_all.ensures.kept;
+      goes = goes c.args.self.now _ c.list_all.new.device c.list_all.new.self refl refl refl refl refl c.list_all.ensures.root c.list_all.ensures.kept c.list_all.ensures.ran;
+      counts = search rules;
+      device = grind arith;
+      damaged = grind arith;
+    }
 
 pub returns-in-Err-clause-kept : goal.returns-in-Err-clause-kept
 returns-in-Err-clause-kept g c objects holds = let undamaged = c.told.ensures.whole (λ damaged. c.in-Err.ensures.damaged holds.lies.all holds.lies.stocks (λ i. Err (damaged i))) in search (rules, held_still)

@@ -1,5 +1,5 @@
 use Rattle.std.specs.Prelude.{◌≡◌, true, false}
-use Rattle.std.proofs.Common.{rules, arith, sym, ap, ◌∙◌, Err, option_map}
+use Rattle.std.proofs.Common.{rules, refl, sym, ap, ◌∙◌, Err, option_map}
 use Rattle.objects.specs.Objects.{value_at}
 use Rattle.holdings.specs.Sources.{found_in}
 use Rattle.snapshots.specs.Whole.{found_of}
@@ -29,10 +29,12 @@ returns-in-Ok-clause-found g c objects holds =
     ∙ ap (λ os. option_map found_in (value_at key os)) (sym holds.lies.are)
 
 pub returns-in-Ok-clause-kept : goal.returns-in-Ok-clause-kept
-returns-in-Ok-clause-kept g c = grind (arith, held_still)
+returns-in-Ok-clause-kept g c =
+    λ objects. held_still g.M.FromDocument.made g.M.FromDocument.held c.args.self.now _ c.find.new.device c.find.new.self objects refl refl refl refl c.find.ensures.kept
 
 pub returns-in-Ok-clause-goes : goal.returns-in-Ok-clause-goes
-returns-in-Ok-clause-goes g c = search (rules, goes)
+returns-in-Ok-clause-goes g c =
+    goes c.args.self.now _ c.find.new.device c.find.new.self refl refl refl refl refl c.find.ensures.root c.find.ensures.kept c.find.ensures.ran
 
 pub returns-in-Err-clause-kept : goal.returns-in-Err-clause-kept
 returns-in-Err-clause-kept g c objects holds =

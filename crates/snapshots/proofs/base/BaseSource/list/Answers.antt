@@ -1,5 +1,5 @@
 use Rattle.std.specs.Prelude.{◌≡◌, true, false, List, map}
-use Rattle.std.proofs.Common.{rules, arith, sym, ap, ◌∙◌, Err, option_map}
+use Rattle.std.proofs.Common.{rules, arith, refl, sym, ap, ◌∙◌, Err, option_map}
 use Rattle.std.specs.List.{filter}
 use Rattle.names.specs.Key.{Key}
 use Rattle.objects.specs.Objects.{is_of}
@@ -31,11 +31,25 @@ returns-in_ok-all_of-in-Ok g c =
     ∙ listed_lying (g.M.FromDocument.made making) (g.M.FromDocument.held making) c.args.resource namespace holds.lies.all shown
     ∙ ap (filter (λ o. is_of c.args.resource namespace o.0)) (sym holds.lies.are)
     in
-    record { listed = listed; kept = grind (arith, held_still); goes = search (rules, goes); counts = search rules; device = grind arith; damaged = grind arith }
+    record {
+      listed = listed;
+      kept = λ objects. held_still g.M.FromDocument.made g.M.FromDocument.held c.args.self.now _ c.list.new.device c.list.new.self objects refl refl refl refl c.list.ensures.kept;
+      goes = goes c.args.self.now _ c.list.new.device c.list.new.self refl refl refl refl refl c.list.ensures.root c.list.ensures.kept c.list.ensures.ran;
+      counts = search rules;
+      device = grind arith;
+      damaged = grind arith;
+    }
 
 pub returns-in_err-all_of-in-Ok : goal.returns-in_err-all_of-in-Ok
 returns-in_err-all_of-in-Ok g c =
-    record { listed = search rules; kept = grind (arith, held_still); goes = search (rules, goes); counts = search rules; device = grind arith; damaged = grind arith }
+    record {
+      listed = search rules;
+      kept = λ objects. held_still g.M.FromDocument.made g.M.FromDocument.held c.args.self.now _ c.list.new.device c.list.new.self objects refl refl refl refl c.list.ensures.kept;
+      goes = goes c.args.self.now _ c.list.new.device c.list.new.self refl refl refl refl refl c.list.ensures.root c.list.ensures.kept c.list.ensures.ran;
+      counts = search rules;
+      device = grind arith;
+      damaged = grind arith;
+    }
 
 pub returns-in-Err-clause-kept : goal.returns-in-Err-clause-kept
 returns-in-Err-clause-kept g c objects holds = let undamaged = c.told.ensures.whole (λ damaged. c.in-Err.ensures.damaged holds.lies.all holds.lies.stocks (λ i. Err (damaged i))) in search (rules, held_still)

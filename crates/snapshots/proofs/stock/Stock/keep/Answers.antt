@@ -16,3 +16,8 @@ returns-clause-found c objects is among =
     one_among c.reserve.new.self.entries c.put-none.new.self.entries objects c.args.key.now c.args.stocked.now
     (λ k. c.put-none.ensures.map k ∙ λ i. cond (eq_by_cmp key_cmp k (key_is i)) (Some (stocked_is i)) (value_at k c.reserve.new.self.entries)) is
     (subst In (sym c.reserve.ensures.entries) (c.make_place.ensures.found objects among))
+
+pub returns-in_err-entry-clause-found : goal.returns-in_err-entry-clause-found
+returns-in_err-entry-clause-found c objects is among =
+    let In : List (Key × Stocked) → Type 0 = λ found. AreAmong found objects in
+    subst In (sym c.reserve.ensures.entries) (c.make_place.ensures.found objects among)

@@ -1,4 +1,4 @@
-use Rattle.std.proofs.Common.{rules, ◌≡◌, ◌∙◌, sym, List, Some, None}
+use Rattle.std.proofs.Common.{rules, ◌≡◌, List, Some, None}
 use Rattle.std.specs.FinMap.{find}
 use Rattle.std.specs.Prelude.{IsErrOf}
 use Rattle.pages.specs.Page.{Entry, bytes_cmp}
