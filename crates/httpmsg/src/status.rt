@@ -34,8 +34,8 @@ impl Status {
         }
     }
 
-    // The same as `http` has it. No public item names that crate's types: a library over this one would pass on all that it states, and all
-    // that stands below it.
+    /// The same as `http` has it. No public item names that crate's types: a library over this one would pass on all that it states, and all
+    /// that stands below it.
     pub(crate) fn known(&self) -> StatusCode
         ensures { result ≡ self.now }
     {
