@@ -16,6 +16,9 @@ failed_later : {D : Type 0} (disk : Disk D) (old mid new : D) → disk.failures 
 failed_later disk old mid new before (inl more) = inl (omega (arith, before, more))
 failed_later disk old mid new before (inr all) = inr all
 
+pub returns-then-not-settled-clause-failed : goal.returns-then-not-settled-clause-failed
+returns-then-not-settled-clause-failed g c failed = (refl, c.new.ensures.items, refl)
+
 pub returns-in-Err-clause-memory : goal.returns-in-Err-clause-memory
 returns-in-Err-clause-memory g c is =
     let Served : List Reply → Type 0 = λ given. HasServed c.args.self.now c.args.self.now (take (length given) (map request_of c.args.requests.now)) given in
