@@ -1,11 +1,12 @@
 -- Expressions: a chain, or a condition and its two branches.
 use Rattle.std.proofs.Common.{◌≡◌, ◌∙◌, List, ◌∷◌, sym, refl, ap}
+use Rattle.celtokens.specs.declared.sign.Sign.{Sign}
 use Rattle.celtokens.specs.declared.sign.Sign.TheVariants as sign
 use Rattle.celtokens.specs.Terminal.{Terminal}
 use Rattle.celtokens.specs.Terminal as token
 use Rattle.celtree.specs.Tree.{Expr, Conditional}
 use Rattle.celparse.specs.Grammar.{Whole, Height, Spells, simple, conditional}
-use Rattle.celparse.specs.Ends.{Ends, Read, HasNoTree}
+use Rattle.celparse.specs.Ends.{Ends, Read, HasNoTree, HasNoTreeBefore}
 use Rattle.celparse.specs.Ahead.{IsNotNext}
 use Rattle.celparse.proofs.Ending.{ends_whole, whole_ends}
 
@@ -68,3 +69,11 @@ module _ (i : List Terminal) (c : Expr) (m : List Terminal) (two : Branches i c 
       ends = read.ends;
       only = both_only b r read;
     }
+
+-- an expression and the sign after it
+
+pub before_none : (x : Sign) (i : List Terminal) → HasNoTree Whole i → HasNoTreeBefore x i
+before_none x i none u s d ends = none u (token.Mark x ∷ s) d ends
+
+pub before_other : (x : Sign) (i : List Terminal) (t : Expr) (r : List Terminal) → Read Whole i t r → IsNotNext x r → HasNoTreeBefore x i
+before_other x i t r read none u s d ends = none s (sym (read.only u (token.Mark x ∷ s) d ends).1)

@@ -10,7 +10,7 @@ use Rattle.celtree.specs.declared.tree.Prefix.TheVariants as prefix_of
 use Rattle.celtree.specs.Tree.{Expr, Exprs, no_items, item, Pairs, no_pairs, pair}
 use Rattle.celparse.specs.Operators.{after_prefix}
 use Rattle.celparse.specs.Grammar.{Primary, Whole, Height, close_sign, trails, Ending, close, trailing, literal_of, one_token, negative_int, Spells, literal, name, call, brackets, list, map, member, plain, prefixed, operand, simple, conditional, Items, empty, some, MoreItems, end, comma, Entries, no_entry, entries, MoreEntries, end_entries, comma_entry}
-use Rattle.celparse.specs.Ends.{Ends, Read, HasNoTree, ReadItems, HasNoItems, ReadEntry, HasNoEntry, ReadEntries, HasNoEntries}
+use Rattle.celparse.specs.Ends.{Ends, Read, HasNoTree, HasNoTreeBefore, ReadItems, HasNoItems, ReadEntry, HasNoEntry, ReadEntries, HasNoEntries}
 use Rattle.celparse.specs.Ahead.{IsNotNext}
 use Rattle.celtree.specs.View.{items_of, pairs_of}
 
@@ -99,56 +99,54 @@ pub record GoingItems (c : Closing) (i : List Terminal) (ts : List Expr) (m : Li
   pub forth : (us : Exprs) (r : List Terminal) → MoreItems c m us r → Items c i (front_items ts us) r
   pub back : (vs : Exprs) (r : List Terminal) → Items c i vs r → (us : Exprs) × (vs ≡ front_items ts us) × MoreItems c m us r
 
-first_back : (c : Closing) (i : List Terminal) (t : Expr) (m : List Terminal) → IsNotNext (close_sign c) i → Read Whole i t m → (vs : Exprs) (r : List Terminal) → Items c i vs r → (us : Exprs) × (vs ≡ item t us) × MoreItems c m us r
-first_back c i t m none read vs r empty = absurd (none r refl)
-first_back c i t m none read vs r (some {m = k} {t = u} {ts = us} d more) =
-    let same = read.only u k d (more_ends c more) in
-    (us, ap (λ x. item x us) same.0, rw same.1 at more)
+-- the items ts are the front of the list at i, and another item stands at m
+pub record AtItem (c : Closing) (i : List Terminal) (ts : List Expr) (m : List Terminal) : Type 0 where
+  pub forth : (t : Expr) (n : List Terminal) (us : Exprs) (r : List Terminal) → Spells Whole m t n → MoreItems c n us r → Items c i (front_items ts (item t us)) r
+  pub back : (vs : Exprs) (r : List Terminal) → Items c i vs r → (t : Expr) × (n : List Terminal) × (us : Exprs) × (vs ≡ front_items ts (item t us)) × Spells Whole m t n × MoreItems c n us r
 
-pub items_start : (c : Closing) (i : List Terminal) (t : Expr) (m : List Terminal) → IsNotNext (close_sign c) i → Read Whole i t m → GoingItems c i (t ∷ []) m
-items_start c i t m none read = record { forth = λ us r more. some read.spelled more; back = first_back c i t m none read }
+first_back : (c : Closing) (i : List Terminal) → IsNotNext (close_sign c) i → (vs : Exprs) (r : List Terminal) → Items c i vs r → (t : Expr) × (n : List Terminal) × (us : Exprs) × (vs ≡ item t us) × Spells Whole i t n × MoreItems c n us r
+first_back c i none vs r empty = absurd (none r refl)
+first_back c i none vs r (some {m = n} {t = t} {ts = us} d more) = (t, n, us, refl, d, more)
 
-pub items_start_none : (c : Closing) (i : List Terminal) → IsNotNext (close_sign c) i → HasNoTree Whole i → HasNoItems c i
-items_start_none c i none no_tree us s empty = none s refl
-items_start_none c i none no_tree us s (some {m = k} {t = u} d more) = no_tree u k d (more_ends c more)
+pub items_first : (c : Closing) (i : List Terminal) → IsNotNext (close_sign c) i → AtItem c i [] i
+items_first c i none = record { forth = λ t n us r d more. some d more; back = first_back c i none }
 
-comma_back : (c : Closing) (n : List Terminal) (t : Expr) (k : List Terminal) → (trails c ≡ true → IsNotNext (close_sign c) n) → Read Whole n t k → (us : Exprs) (r : List Terminal) → MoreItems c (token.Mark sign.Comma ∷ n) us r
-    → (vs : Exprs) × (us ≡ item t vs) × MoreItems c k vs r
-comma_back closing.Parenthesis n t k another read us r (end (trailing e)) = absurd (cc)
-comma_back closing.Parenthesis n t k another read us r (comma {m = l} {t = u} {ts = vs} d more) =
-    let same = read.only u l d (more_ends closing.Parenthesis more) in (vs, ap (λ x. item x vs) same.0, rw same.1 at more)
-comma_back closing.Bracket n t k another read us r (end (trailing e)) = absurd (another refl r refl)
-comma_back closing.Bracket n t k another read us r (comma {m = l} {t = u} {ts = vs} d more) =
-    let same = read.only u l d (more_ends closing.Bracket more) in (vs, ap (λ x. item x vs) same.0, rw same.1 at more)
-comma_back closing.Brace n t k another read us r (end (trailing e)) = absurd (another refl r refl)
-comma_back closing.Brace n t k another read us r (comma {m = l} {t = u} {ts = vs} d more) =
-    let same = read.only u l d (more_ends closing.Brace more) in (vs, ap (λ x. item x vs) same.0, rw same.1 at more)
-
-comma_none : (c : Closing) (n : List Terminal) → (trails c ≡ true → IsNotNext (close_sign c) n) → HasNoTree Whole n → (us : Exprs) (r : List Terminal) → MoreItems c (token.Mark sign.Comma ∷ n) us r → ⊥
-comma_none closing.Parenthesis n another none us r (end (trailing e)) = cc
-comma_none closing.Parenthesis n another none us r (comma {m = l} {t = u} d more) = none u l d (more_ends closing.Parenthesis more)
-comma_none closing.Bracket n another none us r (end (trailing e)) = another refl r refl
-comma_none closing.Bracket n another none us r (comma {m = l} {t = u} d more) = none u l d (more_ends closing.Bracket more)
-comma_none closing.Brace n another none us r (end (trailing e)) = another refl r refl
-comma_none closing.Brace n another none us r (comma {m = l} {t = u} d more) = none u l d (more_ends closing.Brace more)
+comma_back : (c : Closing) (m : List Terminal) → (trails c ≡ true → IsNotNext (close_sign c) m) → (us : Exprs) (r : List Terminal) → MoreItems c (token.Mark sign.Comma ∷ m) us r
+    → (t : Expr) × (n : List Terminal) × (vs : Exprs) × (us ≡ item t vs) × Spells Whole m t n × MoreItems c n vs r
+comma_back closing.Parenthesis m another us r (end (trailing e)) = absurd (cc)
+comma_back closing.Parenthesis m another us r (comma {m = n} {t = t} {ts = vs} d more) = (t, n, vs, refl, d, more)
+comma_back closing.Bracket m another us r (end (trailing e)) = absurd (another refl r refl)
+comma_back closing.Bracket m another us r (comma {m = n} {t = t} {ts = vs} d more) = (t, n, vs, refl, d, more)
+comma_back closing.Brace m another us r (end (trailing e)) = absurd (another refl r refl)
+comma_back closing.Brace m another us r (comma {m = n} {t = t} {ts = vs} d more) = (t, n, vs, refl, d, more)
 
 wrong_more : (c : Closing) (m : List Terminal) → IsNotNext (close_sign c) m → IsNotNext sign.Comma m → (us : Exprs) (r : List Terminal) → MoreItems c m us r → ⊥
 wrong_more c m no_close no_comma us r (end close) = no_close r refl
 wrong_more c m no_close no_comma us r (end (trailing e)) = no_comma (token.Mark (close_sign c) ∷ r) refl
 wrong_more c m no_close no_comma us r (comma {i = n} d more) = no_comma n refl
 
-module _ (c : Closing) (i : List Terminal) (ts : List Expr) (m : List Terminal) (going : GoingItems c i ts m) where
-  pub items_next : (n : List Terminal) (t : Expr) (k : List Terminal) → m ≡ token.Mark sign.Comma ∷ n → (trails c ≡ true → IsNotNext (close_sign c) n) → Read Whole n t k → GoingItems c i (ts ++ t ∷ []) k
-  items_next n t k place another read = record {
-    forth = λ us r more. rw (front_items-push ts t us) (going.forth (item t us) r (rw place (comma read.spelled more)));
+module _ (c : Closing) (i : List Terminal) (ts : List Expr) (m : List Terminal) (here : AtItem c i ts m) where
+  pub items_read : (t : Expr) (n : List Terminal) → Read Whole m t n → GoingItems c i (ts ++ t ∷ []) n
+  items_read t n read = record {
+    forth = λ us r more. rw (front_items-push ts t us) (here.forth t n us r read.spelled more);
     back = λ vs r h.
-        let old = going.back vs r h in
-        let step = comma_back c n t k another read old.0 r (rw place at old.2) in
-        (step.0, old.1 ∙ (ap (front_items ts) step.1 ∙ sym (front_items-push ts t step.0)), step.2);
+        let old = here.back vs r h in
+        let same = read.only old.0 old.1 old.4 (more_ends c old.5) in
+        (old.2, old.3 ∙ (ap (λ x. front_items ts (item x old.2)) same.0 ∙ sym (front_items-push ts t old.2)), rw same.1 at old.5);
   }
 
-  pub items_next_none : (n : List Terminal) → m ≡ token.Mark sign.Comma ∷ n → (trails c ≡ true → IsNotNext (close_sign c) n) → HasNoTree Whole n → HasNoItems c i
-  items_next_none n place another none us s h = let old = going.back us s h in comma_none c n another none old.0 s (rw place at old.2)
+  pub items_none : HasNoTree Whole m → HasNoItems c i
+  items_none none us s h = let old = here.back us s h in none old.0 old.1 old.4 (more_ends c old.5)
+
+module _ (c : Closing) (i : List Terminal) (ts : List Expr) (m : List Terminal) (going : GoingItems c i ts m) where
+  pub items_comma : (n : List Terminal) → m ≡ token.Mark sign.Comma ∷ n → (trails c ≡ true → IsNotNext (close_sign c) n) → AtItem c i ts n
+  items_comma n place another = record {
+    forth = λ t k us r d more. going.forth (item t us) r (rw place (comma d more));
+    back = λ vs r h.
+        let old = going.back vs r h in
+        let step = comma_back c n another old.0 r (rw place at old.2) in
+        (step.0, step.1, step.2, old.1 ∙ ap (front_items ts) step.3, step.4, step.5);
+  }
 
   pub items_end : (r : List Terminal) → Ending c m r → ReadItems c i (items_of ts) r
   items_end r ending = record {
@@ -164,19 +162,16 @@ module _ (c : Closing) (i : List Terminal) (ts : List Expr) (m : List Terminal) 
 
 -- entries
 
-pub entry_read : (i : List Terminal) (k : Expr) (l m : List Terminal) (v : Expr) (r : List Terminal) → Read Whole i k l → l ≡ token.Mark sign.Colon ∷ m → Read Whole m v r → ReadEntry i k v r
-entry_read i k l m v r key place value = record { colon = m; key = rw place at key; value = value }
+pub entry_read : (i : List Terminal) (k : Expr) (m : List Terminal) (v : Expr) (r : List Terminal) → Read Whole i k (token.Mark sign.Colon ∷ m) → Read Whole m v r → ReadEntry i k v r
+entry_read i k m v r key value = record { colon = m; key = key; value = value }
 
-pub entry_no_key : (i : List Terminal) → HasNoTree Whole i → HasNoEntry i
-entry_no_key i none k v m s key value ends = none k (token.Mark sign.Colon ∷ m) key refl
+pub entry_no_key : (i : List Terminal) → HasNoTreeBefore sign.Colon i → HasNoEntry i
+entry_no_key i none k v m s key value ends = none k m key refl
 
-pub entry_no_colon : (i : List Terminal) (k : Expr) (l : List Terminal) → Read Whole i k l → IsNotNext sign.Colon l → HasNoEntry i
-entry_no_colon i k l read none j v m s key value ends = none m (sym (read.only j (token.Mark sign.Colon ∷ m) key refl).1)
-
-pub entry_no_value : (i : List Terminal) (k : Expr) (l m : List Terminal) → Read Whole i k l → l ≡ token.Mark sign.Colon ∷ m → HasNoTree Whole m → HasNoEntry i
-entry_no_value i k l m read place none j v n s key value ends =
+pub entry_no_value : (i : List Terminal) (k : Expr) (m : List Terminal) → Read Whole i k (token.Mark sign.Colon ∷ m) → HasNoTree Whole m → HasNoEntry i
+entry_no_value i k m read none j v n s key value ends =
     let same = read.only j (token.Mark sign.Colon ∷ n) key refl in
-    let rest : n ≡ m = (let p = same.1 ∙ place in cc) in
+    let rest : n ≡ m = (let p = same.1 in cc) in
     none v s (rw rest at value) ends
 
 entry_only : {i r : List Terminal} {k v : Expr} → ReadEntry i k v r → (j u : Expr) (m n : List Terminal) → Spells Whole i j (token.Mark sign.Colon ∷ m) → Spells Whole m u n → Ends Whole n → (j ≡ k) × (u ≡ v) × (n ≡ r)
@@ -219,47 +214,58 @@ pub record GoingEntries (i : List Terminal) (ps : List (Expr × Expr)) (m : List
   pub forth : (us : Pairs) (r : List Terminal) → MoreEntries m us r → Entries i (front_pairs ps us) r
   pub back : (vs : Pairs) (r : List Terminal) → Entries i vs r → (us : Pairs) × (vs ≡ front_pairs ps us) × MoreEntries m us r
 
-first_entry_back : (i : List Terminal) (k v : Expr) (m : List Terminal) → IsNotNext sign.CloseBrace i → ReadEntry i k v m → (vs : Pairs) (r : List Terminal) → Entries i vs r → (us : Pairs) × (vs ≡ pair k v us) × MoreEntries m us r
-first_entry_back i k v m none read vs r no_entry = absurd (none r refl)
-first_entry_back i k v m none read vs r (entries {m = l} {n = n} {k = j} {v = u} {ps = us} key value more) =
-    let same = entry_only read j u l n key value (more_entries_ends more) in
-    (us, ap (λ x. pair x u us) same.0 ∙ ap (λ x. pair k x us) same.1, rw same.2 at more)
+-- what stands where another entry is to be read
+abbrev EntryAt : List Terminal → Expr → Expr → List Terminal → Type 0
+EntryAt i k v n = (m : List Terminal) × Spells Whole i k (token.Mark sign.Colon ∷ m) × Spells Whole m v n
 
-pub entries_start : (i : List Terminal) (k v : Expr) (m : List Terminal) → IsNotNext sign.CloseBrace i → ReadEntry i k v m → GoingEntries i ((k, v) ∷ []) m
-entries_start i k v m none read = record { forth = λ us r more. entries read.key.spelled read.value.spelled more; back = first_entry_back i k v m none read }
+-- the entries ps are the front of the map at i, and another entry stands at m
+pub record AtEntry (i : List Terminal) (ps : List (Expr × Expr)) (m : List Terminal) : Type 0 where
+  pub forth : (k v : Expr) (n : List Terminal) (us : Pairs) (r : List Terminal) → EntryAt m k v n → MoreEntries n us r → Entries i (front_pairs ps (pair k v us)) r
+  pub back : (vs : Pairs) (r : List Terminal) → Entries i vs r
+      → (k : Expr) × (v : Expr) × (n : List Terminal) × (us : Pairs) × (vs ≡ front_pairs ps (pair k v us)) × EntryAt m k v n × MoreEntries n us r
 
-pub entries_start_none : (i : List Terminal) → IsNotNext sign.CloseBrace i → HasNoEntry i → HasNoEntries i
-entries_start_none i none no_first us s no_entry = none s refl
-entries_start_none i none no_first us s (entries {m = l} {n = n} {k = j} {v = u} key value more) = no_first j u l n key value (more_entries_ends more)
+first_entry_back : (i : List Terminal) → IsNotNext sign.CloseBrace i → (vs : Pairs) (r : List Terminal) → Entries i vs r
+    → (k : Expr) × (v : Expr) × (n : List Terminal) × (us : Pairs) × (vs ≡ pair k v us) × EntryAt i k v n × MoreEntries n us r
+first_entry_back i none vs r no_entry = absurd (none r refl)
+first_entry_back i none vs r (entries {m = m} {n = n} {k = k} {v = v} {ps = us} key value more) = (k, v, n, us, refl, (m, key, value), more)
 
-comma_entry_back : (n : List Terminal) (k v : Expr) (m : List Terminal) → IsNotNext sign.CloseBrace n → ReadEntry n k v m → (us : Pairs) (r : List Terminal) → MoreEntries (token.Mark sign.Comma ∷ n) us r
-    → (vs : Pairs) × (us ≡ pair k v vs) × MoreEntries m vs r
-comma_entry_back n k v m another read us r (end_entries (trailing e)) = absurd (another r refl)
-comma_entry_back n k v m another read us r (comma_entry {m = l} {n = o} {k = j} {v = u} {ps = vs} key value more) =
-    let same = entry_only read j u l o key value (more_entries_ends more) in
-    (vs, ap (λ x. pair x u vs) same.0 ∙ ap (λ x. pair k x vs) same.1, rw same.2 at more)
+pub entries_first : (i : List Terminal) → IsNotNext sign.CloseBrace i → AtEntry i [] i
+entries_first i none = record { forth = λ k v n us r d more. entries d.1 d.2 more; back = first_entry_back i none }
 
-comma_entry_none : (n : List Terminal) → IsNotNext sign.CloseBrace n → HasNoEntry n → (us : Pairs) (r : List Terminal) → MoreEntries (token.Mark sign.Comma ∷ n) us r → ⊥
-comma_entry_none n another none us r (end_entries (trailing e)) = another r refl
-comma_entry_none n another none us r (comma_entry {m = l} {n = o} {k = j} {v = u} key value more) = none j u l o key value (more_entries_ends more)
+comma_entry_back : (i : List Terminal) → IsNotNext sign.CloseBrace i → (vs : Pairs) (r : List Terminal) → MoreEntries (token.Mark sign.Comma ∷ i) vs r
+    → (k : Expr) × (v : Expr) × (n : List Terminal) × (us : Pairs) × (vs ≡ pair k v us) × EntryAt i k v n × MoreEntries n us r
+comma_entry_back i another vs r (end_entries (trailing e)) = absurd (another r refl)
+comma_entry_back i another vs r (comma_entry {m = m} {n = n} {k = k} {v = v} {ps = us} key value more) = (k, v, n, us, refl, (m, key, value), more)
 
 wrong_more_entries : (m : List Terminal) → IsNotNext sign.CloseBrace m → IsNotNext sign.Comma m → (us : Pairs) (r : List Terminal) → MoreEntries m us r → ⊥
 wrong_more_entries m no_close no_comma us r (end_entries close) = no_close r refl
 wrong_more_entries m no_close no_comma us r (end_entries (trailing e)) = no_comma (token.Mark sign.CloseBrace ∷ r) refl
 wrong_more_entries m no_close no_comma us r (comma_entry {i = n} key value more) = no_comma n refl
 
-module _ (i : List Terminal) (ps : List (Expr × Expr)) (m : List Terminal) (going : GoingEntries i ps m) where
-  pub entries_next : (n : List Terminal) (k v : Expr) (l : List Terminal) → m ≡ token.Mark sign.Comma ∷ n → (trails closing.Brace ≡ true → IsNotNext sign.CloseBrace n) → ReadEntry n k v l → GoingEntries i (ps ++ (k, v) ∷ []) l
-  entries_next n k v l place another read = record {
-    forth = λ us r more. rw (front_pairs-push ps (k, v) us) (going.forth (pair k v us) r (rw place (comma_entry read.key.spelled read.value.spelled more)));
+module _ (i : List Terminal) (ps : List (Expr × Expr)) (m : List Terminal) (here : AtEntry i ps m) where
+  pub entries_read : (k v : Expr) (n : List Terminal) → ReadEntry m k v n → GoingEntries i (ps ++ (k, v) ∷ []) n
+  entries_read k v n read = record {
+    forth = λ us r more. rw (front_pairs-push ps (k, v) us) (here.forth k v n us r (read.colon, read.key.spelled, read.value.spelled) more);
     back = λ vs r h.
-        let old = going.back vs r h in
-        let step = comma_entry_back n k v l (another refl) read old.0 r (rw place at old.2) in
-        (step.0, old.1 ∙ (ap (front_pairs ps) step.1 ∙ sym (front_pairs-push ps (k, v) step.0)), step.2);
+        let old = here.back vs r h in
+        let same = entry_only read old.0 old.1 old.5.0 old.2 old.5.1 old.5.2 (more_entries_ends old.6) in
+        let first = ap (λ x. front_pairs ps (pair x old.1 old.3)) same.0 in
+        let second = ap (λ x. front_pairs ps (pair k x old.3)) same.1 in
+        (old.3, old.4 ∙ (first ∙ (second ∙ sym (front_pairs-push ps (k, v) old.3))), rw same.2 at old.6);
   }
 
-  pub entries_next_none : (n : List Terminal) → m ≡ token.Mark sign.Comma ∷ n → (trails closing.Brace ≡ true → IsNotNext sign.CloseBrace n) → HasNoEntry n → HasNoEntries i
-  entries_next_none n place another none us s h = let old = going.back us s h in comma_entry_none n (another refl) none old.0 s (rw place at old.2)
+  pub entries_none : HasNoEntry m → HasNoEntries i
+  entries_none none us s h = let old = here.back us s h in none old.0 old.1 old.5.0 old.2 old.5.1 old.5.2 (more_entries_ends old.6)
+
+module _ (i : List Terminal) (ps : List (Expr × Expr)) (m : List Terminal) (going : GoingEntries i ps m) where
+  pub entries_comma : (n : List Terminal) → m ≡ token.Mark sign.Comma ∷ n → (trails closing.Brace ≡ true → IsNotNext sign.CloseBrace n) → AtEntry i ps n
+  entries_comma n place another = record {
+    forth = λ k v l us r d more. going.forth (pair k v us) r (rw place (comma_entry d.1 d.2 more));
+    back = λ vs r h.
+        let old = going.back vs r h in
+        let step = comma_entry_back n (another refl) old.0 r (rw place at old.2) in
+        (step.0, step.1, step.2, step.3, old.1 ∙ ap (front_pairs ps) step.4, step.5, step.6);
+  }
 
   pub entries_end : (r : List Terminal) → Ending closing.Brace m r → ReadEntries i (pairs_of ps) r
   entries_end r ending = record {

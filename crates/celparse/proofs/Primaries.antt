@@ -8,7 +8,7 @@ use Rattle.celparse.specs.declared.items.Closing.TheVariants as closing
 use Rattle.celtree.specs.Tree.{Expr, Exprs, Pairs, Name, Sequence, Mapping}
 use Rattle.celtree.specs.Calls.{call_of}
 use Rattle.celparse.specs.Grammar.{Primary, Whole, Literal, one_token, negative_int, Spells, literal, name, call, brackets, list, map, Items}
-use Rattle.celparse.specs.Ends.{Ends, Read, HasNoTree, ReadPrimary, HasNoPrimary, ReadComposite, HasNoComposite, ReadItems, HasNoItems, ReadEntries, HasNoEntries}
+use Rattle.celparse.specs.Ends.{Ends, Read, HasNoTreeBefore, ReadPrimary, HasNoPrimary, ReadComposite, HasNoComposite, ReadItems, HasNoItems, ReadEntries, HasNoEntries}
 use Rattle.celparse.specs.Ahead.{IsNotNext, HasNoName, HasNoLiteral}
 
 -- there is one literal in front
@@ -85,11 +85,8 @@ module _ (n : List Terminal) where
     pub composite_brackets : (t : Expr) (r : List Terminal) → Read Whole n t (token.Mark sign.CloseParenthesis ∷ r) → ReadComposite i t r
     composite_brackets t r read = rw place (record { spelled = brackets read.spelled; only = λ u s d ends no_literal. brackets_only t r read u s d no_literal })
 
-    pub composite_no_inner : HasNoTree Whole n → HasNoComposite i
-    composite_no_inner none = rw place (no_brackets (λ u s d. none u (token.Mark sign.CloseParenthesis ∷ s) d refl))
-
-    pub composite_open : (t : Expr) (k : List Terminal) → Read Whole n t k → IsNotNext sign.CloseParenthesis k → HasNoComposite i
-    composite_open t k read none = rw place (no_brackets (λ u s d. none s (sym (read.only u (token.Mark sign.CloseParenthesis ∷ s) d refl).1)))
+    pub composite_no_inner : HasNoTreeBefore sign.CloseParenthesis n → HasNoComposite i
+    composite_no_inner none = rw place (no_brackets (λ u s d. none u s d refl))
 
   list_only : (ts : Exprs) (r : List Terminal) → ReadItems closing.Bracket n ts r → (u : Expr) (s : List Terminal) → Spells Primary (token.Mark sign.OpenBracket ∷ n) u s → (Literal (token.Mark sign.OpenBracket ∷ n) u s → ⊥) → (u ≡ Sequence ts) × (s ≡ r)
   list_only ts r read u s (literal h) no_literal = absurd (no_literal h)

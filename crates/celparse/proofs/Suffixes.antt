@@ -9,7 +9,7 @@ use Rattle.celtree.specs.Tree.{Expr, Exprs, Field, Index}
 use Rattle.celtree.specs.Calls.{method_of}
 use Rattle.celparse.specs.Operators.{selector}
 use Rattle.celparse.specs.Grammar.{Primary, Member, Whole, Suffixes, Spells, member, no_suffix, field, method, index, Items}
-use Rattle.celparse.specs.Ends.{Ends, Read, HasNoTree, ReadPrimary, HasNoPrimary, ReadItems, HasNoItems}
+use Rattle.celparse.specs.Ends.{Ends, Read, HasNoTree, HasNoTreeBefore, ReadPrimary, HasNoPrimary, ReadItems, HasNoItems}
 use Rattle.celparse.specs.Ahead.{IsNotNext, HasNoSelector}
 use Rattle.celparse.proofs.Ending.{ends_primary, no_suffix_next}
 
@@ -110,12 +110,8 @@ module _ (i : List Terminal) (e : Expr) (m : List Terminal) (going : GoingMember
   no_index n none t r no_suffix ends = cc
   no_index n none t r (index {m = l} {x = y} inner d) ends = none y l inner
 
-  pub member_no_index : (n : List Terminal) → m ≡ token.Mark sign.OpenBracket ∷ n → HasNoTree Whole n → HasNoTree Member i
-  member_no_index n place none u s d ends = no_index n (λ x l inner. none x (token.Mark sign.CloseBracket ∷ l) inner refl) u s (rw place at (going.back u s d ends)) ends
-
-  pub member_open_index : (n : List Terminal) (x : Expr) (k : List Terminal) → m ≡ token.Mark sign.OpenBracket ∷ n → Read Whole n x k → IsNotNext sign.CloseBracket k → HasNoTree Member i
-  member_open_index n x k place read none u s d ends =
-      no_index n (λ y l inner. none l (sym (read.only y (token.Mark sign.CloseBracket ∷ l) inner refl).1)) u s (rw place at (going.back u s d ends)) ends
+  pub member_no_index : (n : List Terminal) → m ≡ token.Mark sign.OpenBracket ∷ n → HasNoTreeBefore sign.CloseBracket n → HasNoTree Member i
+  member_no_index n place none u s d ends = no_index n (λ x l inner. none x l inner refl) u s (rw place at (going.back u s d ends)) ends
 
   pub member_end : IsNotNext sign.Dot m → IsNotNext sign.OpenBracket m → IsNotNext sign.OpenParenthesis m → Read Member i e m
   member_end dot bracket open_one = record {

@@ -1,5 +1,6 @@
 -- What can be read at a level, where no token follows that would go on there.
 use Rattle.std.specs.Prelude.{◌≡◌, ℕ, suc, Bool, true, false, ◌||◌, nat_lt, Option, Some, None, List, [], ◌∷◌}
+use Rattle.celtokens.specs.declared.sign.Sign.{Sign}
 use Rattle.celtokens.specs.declared.sign.Sign.TheVariants as sign
 use Rattle.celtokens.specs.Terminal.{Terminal}
 use Rattle.celtokens.specs.Terminal as token
@@ -52,6 +53,10 @@ pub record Read (l : Level) (i : List Terminal) (t : Expr) (r : List Terminal) :
 
 abbrev pub HasNoTree : Level → List Terminal → Type 0
 HasNoTree l i = (u : Expr) (s : List Terminal) → Spells l i u s → Ends l s → ⊥
+
+-- no expression is followed by the sign
+abbrev pub HasNoTreeBefore : Sign → List Terminal → Type 0
+HasNoTreeBefore x i = (u : Expr) (s : List Terminal) → Spells Whole i u (token.Mark x ∷ s) → Ends Whole (token.Mark x ∷ s) → ⊥
 
 -- the same of a primary expression, after which suffixes may stand
 pub record ReadPrimary (i : List Terminal) (t : Expr) (r : List Terminal) : Type 0 where

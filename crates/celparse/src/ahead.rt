@@ -1,6 +1,6 @@
 //! Looks at the tokens in front.
 
-ghost use Rattle.std.specs.Prelude.{◌≡◌, ◌<◌, ◌∷◌, [], length, Some, IfSome, MatchOption, option_map};
+ghost use Rattle.std.specs.Prelude.{◌≡◌, ◌<◌, ◌∷◌, [], true, false, length, Some, IfSome, MatchOption, option_map};
 ghost use Rattle.celtokens.specs.Seen.{terminal, terminals};
 ghost use Rattle.celtokens.specs.Terminal.{Mark};
 ghost use Rattle.celparse.specs.Operators.{infix_sign, infix_of, begins_with_int, after_prefix};
@@ -27,6 +27,17 @@ pub(crate) fn after<'a, 'b>(tokens: &'b [Token<'a>], sign: Sign) -> Option<&'b [
     match token {
         Token::Sign(found) if *found == sign => Some(rest),
         _ => None,
+    }
+}
+
+/// Whether the sign stands in front, and the tokens from what follows it on, or all of them.
+pub(crate) fn skip<'a, 'b>(tokens: &'b [Token<'a>], sign: Sign) -> (bool, &'b [Token<'a>])
+    ensures found { result.0 ≡ true → (terminals tokens.now ≡ Mark sign ∷ terminals result.1.now) × (length result.1.now < length tokens.now) }
+    ensures kept { result.0 ≡ false → IsNotNext sign (terminals tokens.now) × (result.1.now ≡ tokens.now) }
+{
+    match after(tokens, sign) {
+        Some(rest) => (true, rest),
+        None => (false, tokens),
     }
 }
 

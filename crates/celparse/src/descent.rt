@@ -1,15 +1,18 @@
 //! One pass over the tokens, by recursive descent.
 
-ghost use Rattle.std.specs.Prelude.{◌≡◌, ◌<◌, length, encode_utf8_all, IfOk, IfErr};
+ghost use Rattle.std.specs.Prelude.{◌≡◌, ◌<◌, ◌++◌, ◌∷◌, [], Some, None, length, encode_utf8_all, IfOk, IfErr, MatchResult};
 ghost use Rattle.celtokens.specs.Seen.{terminals};
+ghost use Rattle.celtokens.specs.Terminal.{Mark};
+ghost use Rattle.celparse.specs.declared.fault.ParseFault.TheVariants as fault;
 ghost use Rattle.celparse.specs.Grammar.{Member, Whole, Prefixed, Height};
-ghost use Rattle.celparse.specs.Ends.{Read, HasNoTree, ReadPrimary, HasNoPrimary, ReadComposite, HasNoComposite, ReadItems, HasNoItems, ReadEntry, HasNoEntry, ReadEntries, HasNoEntries, Refuses};
+ghost use Rattle.celparse.specs.Ends.{Read, HasNoTree, HasNoTreeBefore, ReadPrimary, HasNoPrimary, ReadComposite, HasNoComposite, ReadItems, HasNoItems, ReadEntries, HasNoEntries, Refuses};
 ghost use Rattle.celtree.specs.Tree.{Conditional, Field, Index, Infix, Mapping, Name, Sequence, Unary};
+ghost use Rattle.celtree.specs.Calls.{call_of, method_of};
 ghost use Rattle.celtree.specs.View.{view, views, pair_views};
 
 use crate::ahead::{
     Separator, Start, Suffix, after, after_prefix, operator_at, prefix_at, primary_at,
-    separator_at, suffix_at,
+    separator_at, skip, suffix_at,
 };
 use crate::fault::ParseFault;
 use crate::items::{Closing, close_sign};
@@ -19,16 +22,17 @@ use celtree::{Operator, Prefix, Tree, call, method};
 use std::alloc::{AllocError, Global};
 
 // Apart from `expression`, so that its boxes take no room on the stack of a long `a ? b : c ? d : ..`.
-fn conditional(
+fn conditional<'a, 'b>(
     alloc: Global,
     test: Box<Tree>,
     first: Box<Tree>,
     second: Box<Tree>,
-) -> Result<Box<Tree>, AllocError>
-    ensures { IfOk result (λ t. view t.value ≡ Conditional (view test.value) (view first.value) (view second.value)) }
+    rest: &'b [Token<'a>],
+) -> Result<(Box<Tree>, &'b [Token<'a>]), ParseFault>
+    ensures { MatchResult result (λ x. (view x.0.value ≡ Conditional (view test.value) (view first.value) (view second.value)) × (x.1.now ≡ rest.now)) (λ e. e ≡ fault.Memory) }
 {
     let tree = Box::new(alloc, Tree::Conditional(test, first, second))?;
-    Ok(tree)
+    Ok((tree, rest))
 }
 
 fn field(alloc: Global, of: Box<Tree>, name: &[char]) -> Result<Box<Tree>, AllocError>
@@ -39,6 +43,22 @@ fn field(alloc: Global, of: Box<Tree>, name: &[char]) -> Result<Box<Tree>, Alloc
     Ok(tree)
 }
 
+// A method's call, if the grammar has it.
+fn method_call(
+    alloc: Global,
+    of: Box<Tree>,
+    name: &[char],
+    arguments: Vec<Tree>,
+) -> Result<Box<Tree>, ParseFault>
+    ensures { MatchResult result (λ t. method_of (view of.value) (encode_utf8_all name.now) (views arguments.items) ≡ Some (view t.value)) (λ e. Refuses e (method_of (view of.value) (encode_utf8_all name.now) (views arguments.items) ≡ None)) }
+{
+    let name = text_of(alloc, name)?;
+    match method(alloc, of, name, arguments)? {
+        Some(tree) => Ok(tree),
+        None => Err(ParseFault::NotInGrammar),
+    }
+}
+
 fn indexed(alloc: Global, of: Box<Tree>, index: Box<Tree>) -> Result<Box<Tree>, AllocError>
     ensures { IfOk result (λ t. view t.value ≡ Index (view of.value) (view index.value)) }
 {
@@ -46,11 +66,16 @@ fn indexed(alloc: Global, of: Box<Tree>, index: Box<Tree>) -> Result<Box<Tree>, 
     Ok(tree)
 }
 
-fn unary_of(alloc: Global, prefix: Prefix, of: Box<Tree>) -> Result<Box<Tree>, AllocError>
-    ensures { IfOk result (λ t. view t.value ≡ Unary prefix (view of.value)) }
+fn unary_of<'a, 'b>(
+    alloc: Global,
+    prefix: Prefix,
+    of: Box<Tree>,
+    rest: &'b [Token<'a>],
+) -> Result<(Box<Tree>, &'b [Token<'a>]), ParseFault>
+    ensures { MatchResult result (λ x. (view x.0.value ≡ Unary prefix (view of.value)) × (x.1.now ≡ rest.now)) (λ e. e ≡ fault.Memory) }
 {
     let tree = Box::new(alloc, Tree::Unary(prefix, of))?;
-    Ok(tree)
+    Ok((tree, rest))
 }
 
 fn joined(
@@ -66,26 +91,72 @@ fn joined(
 }
 
 // A name as an expression.
-fn named(alloc: Global, name: &[char]) -> Result<Box<Tree>, AllocError>
-    ensures { IfOk result (λ t. view t.value ≡ Name (encode_utf8_all name.now)) }
+fn named<'a, 'b>(
+    alloc: Global,
+    name: &[char],
+    rest: &'b [Token<'a>],
+) -> Result<(Box<Tree>, &'b [Token<'a>]), ParseFault>
+    ensures { MatchResult result (λ x. (view x.0.value ≡ Name (encode_utf8_all name.now)) × (x.1.now ≡ rest.now)) (λ e. e ≡ fault.Memory) }
 {
     let name = text_of(alloc, name)?;
     let tree = Box::new(alloc, Tree::Name(name))?;
-    Ok(tree)
+    Ok((tree, rest))
 }
 
-fn list_of(alloc: Global, items: Vec<Tree>) -> Result<Box<Tree>, AllocError>
-    ensures { IfOk result (λ t. view t.value ≡ Sequence (views items.items)) }
+// A call, if the grammar has it.
+fn function_call<'a, 'b>(
+    alloc: Global,
+    name: &[char],
+    arguments: Vec<Tree>,
+    rest: &'b [Token<'a>],
+) -> Result<(Box<Tree>, &'b [Token<'a>]), ParseFault>
+    ensures { MatchResult result (λ x. (call_of (encode_utf8_all name.now) (views arguments.items) ≡ Some (view x.0.value)) × (x.1.now ≡ rest.now)) (λ e. Refuses e (call_of (encode_utf8_all name.now) (views arguments.items) ≡ None)) }
+{
+    let name = text_of(alloc, name)?;
+    match call(alloc, name, arguments)? {
+        Some(tree) => Ok((tree, rest)),
+        None => Err(ParseFault::NotInGrammar),
+    }
+}
+
+fn list_of<'a, 'b>(
+    alloc: Global,
+    items: Vec<Tree>,
+    rest: &'b [Token<'a>],
+) -> Result<(Box<Tree>, &'b [Token<'a>]), ParseFault>
+    ensures { MatchResult result (λ x. (view x.0.value ≡ Sequence (views items.items)) × (x.1.now ≡ rest.now)) (λ e. e ≡ fault.Memory) }
 {
     let tree = Box::new(alloc, Tree::List(items))?;
-    Ok(tree)
+    Ok((tree, rest))
 }
 
-fn map_of(alloc: Global, entries: Vec<(Tree, Tree)>) -> Result<Box<Tree>, AllocError>
-    ensures { IfOk result (λ t. view t.value ≡ Mapping (pair_views entries.items)) }
+fn map_of<'a, 'b>(
+    alloc: Global,
+    entries: Vec<(Tree, Tree)>,
+    rest: &'b [Token<'a>],
+) -> Result<(Box<Tree>, &'b [Token<'a>]), ParseFault>
+    ensures { MatchResult result (λ x. (view x.0.value ≡ Mapping (pair_views entries.items)) × (x.1.now ≡ rest.now)) (λ e. e ≡ fault.Memory) }
 {
     let tree = Box::new(alloc, Tree::Map(entries))?;
-    Ok(tree)
+    Ok((tree, rest))
+}
+
+fn with_item(mut items: Vec<Tree>, item: Box<Tree>) -> Result<Vec<Tree>, ParseFault>
+    ensures { MatchResult result (λ v. v.items ≡ items.items ++ item.value ∷ []) (λ e. e ≡ fault.Memory) }
+{
+    items.push(Box::into_inner(item))?;
+    Ok(items)
+}
+
+fn with_entry(
+    mut entries: Vec<(Tree, Tree)>,
+    key: Box<Tree>,
+    value: Box<Tree>,
+) -> Result<Vec<(Tree, Tree)>, ParseFault>
+    ensures { MatchResult result (λ v. v.items ≡ entries.items ++ (key.value, value.value) ∷ []) (λ e. e ≡ fault.Memory) }
+{
+    entries.push((Box::into_inner(key), Box::into_inner(value)))?;
+    Ok(entries)
 }
 
 /// The tree of the expression in front, and what follows it: no token there would go on with the expression, and no other tree is spelled
@@ -110,8 +181,7 @@ pub fn expression<'a, 'b>(
             match after(rest, Sign::Colon) {
                 Some(beyond) => {
                     let (second, rest) = expression(alloc, beyond)?;
-                    let tree = conditional(alloc, test, first, second)?;
-                    Ok((tree, rest))
+                    conditional(alloc, test, first, second, rest)
                 }
                 None => Err(ParseFault::NotInGrammar),
             }
@@ -161,8 +231,7 @@ fn unary<'a, 'b>(
     match prefix_at(tokens) {
         Some((prefix, beyond)) => {
             let (of, rest) = prefixed(alloc, beyond, prefix)?;
-            let tree = unary_of(alloc, prefix, of)?;
-            Ok((tree, rest))
+            unary_of(alloc, prefix, of, rest)
         }
         None => member(alloc, tokens),
     }
@@ -182,8 +251,7 @@ fn prefixed<'a, 'b>(
     match after_prefix(tokens, prefix) {
         Some(beyond) => {
             let (of, rest) = prefixed(alloc, beyond, prefix)?;
-            let tree = unary_of(alloc, prefix, of)?;
-            Ok((tree, rest))
+            unary_of(alloc, prefix, of, rest)
         }
         None => member(alloc, tokens),
     }
@@ -209,25 +277,15 @@ fn member<'a, 'b>(
             }
             Suffix::Method(name, beyond) => {
                 let (arguments, after) = items(alloc, beyond, Closing::Parenthesis)?;
-                let name = text_of(alloc, name)?;
-                match method(alloc, of, name, arguments)? {
-                    Some(tree) => {
-                        of = tree;
-                        rest = after;
-                    }
-                    None => return Err(ParseFault::NotInGrammar),
-                }
+                let tree = method_call(alloc, of, name, arguments)?;
+                of = tree;
+                rest = after;
             }
             Suffix::Index(beyond) => {
-                let (index, inside) = expression(alloc, beyond)?;
-                match after(inside, Sign::CloseBracket) {
-                    Some(beyond) => {
-                        let tree = indexed(alloc, of, index)?;
-                        of = tree;
-                        rest = beyond;
-                    }
-                    None => return Err(ParseFault::NotInGrammar),
-                }
+                let (index, after) = expression_before(alloc, beyond, Sign::CloseBracket)?;
+                let tree = indexed(alloc, of, index)?;
+                of = tree;
+                rest = after;
             }
             Suffix::Wrong => return Err(ParseFault::NotInGrammar),
             Suffix::Nothing => return Ok((of, rest)),
@@ -262,36 +320,39 @@ fn composite<'a, 'b>(
     ensures shorter { IfOk result (λ x. length x.1.now < length tokens.now) }
 {
     match primary_at(tokens) {
-        Start::Name(name, rest) => {
-            let tree = named(alloc, name)?;
-            Ok((tree, rest))
-        }
+        Start::Name(name, rest) => named(alloc, name, rest),
         Start::Call(name, inside) => {
             let (arguments, rest) = items(alloc, inside, Closing::Parenthesis)?;
-            let name = text_of(alloc, name)?;
-            match call(alloc, name, arguments)? {
-                Some(tree) => Ok((tree, rest)),
-                None => Err(ParseFault::NotInGrammar),
-            }
+            function_call(alloc, name, arguments, rest)
         }
-        Start::Parenthesis(inside) => {
-            let (tree, beyond) = expression(alloc, inside)?;
-            match after(beyond, Sign::CloseParenthesis) {
-                Some(rest) => Ok((tree, rest)),
-                None => Err(ParseFault::NotInGrammar),
-            }
-        }
+        Start::Parenthesis(inside) => expression_before(alloc, inside, Sign::CloseParenthesis),
         Start::Bracket(inside) => {
             let (items, rest) = items(alloc, inside, Closing::Bracket)?;
-            let tree = list_of(alloc, items)?;
-            Ok((tree, rest))
+            list_of(alloc, items, rest)
         }
         Start::Brace(inside) => {
             let (entries, rest) = entries(alloc, inside)?;
-            let tree = map_of(alloc, entries)?;
-            Ok((tree, rest))
+            map_of(alloc, entries, rest)
         }
         Start::Nothing => Err(ParseFault::NotInGrammar),
+    }
+}
+
+// An expression and the sign after it.
+#[cycle(expression)]
+fn expression_before<'a, 'b>(
+    alloc: Global,
+    tokens: &'b [Token<'a>],
+    sign: Sign,
+) -> Result<(Box<Tree>, &'b [Token<'a>]), ParseFault>
+    ensures tree { IfOk result (λ x. Read Whole (terminals tokens.now) (view x.0.value) (Mark sign ∷ terminals x.1.now)) }
+    ensures none { IfErr result (λ e. Refuses e (HasNoTreeBefore sign (terminals tokens.now))) }
+    ensures shorter { IfOk result (λ x. length x.1.now < length tokens.now) }
+{
+    let (tree, beyond) = expression(alloc, tokens)?;
+    match after(beyond, sign) {
+        Some(rest) => Ok((tree, rest)),
+        None => Err(ParseFault::NotInGrammar),
     }
 }
 
@@ -307,42 +368,21 @@ fn items<'a, 'b>(
     ensures shorter { IfOk result (λ x. length x.1.now < length tokens.now) }
 {
     let mut items = Vec::new(alloc);
-    match after(tokens, close_sign(closing)) {
-        Some(rest) => return Ok((items, rest)),
-        None => {}
+    let (is_empty, mut rest) = skip(tokens, close_sign(closing));
+    if is_empty {
+        return Ok((items, rest));
     }
-    let (first, mut rest) = expression(alloc, tokens)?;
-    items.push(Box::into_inner(first))?;
     'more_items: loop {
-        match separator_at(rest, closing) {
-            Separator::End(beyond) => return Ok((items, beyond)),
+        let (item, after) = expression(alloc, rest)?;
+        let longer = with_item(items, item)?;
+        match separator_at(after, closing) {
+            Separator::End(beyond) => return Ok((longer, beyond)),
             Separator::Comma(beyond) => {
-                let (next, after) = expression(alloc, beyond)?;
-                items.push(Box::into_inner(next))?;
-                rest = after;
+                items = longer;
+                rest = beyond;
             }
             Separator::Wrong => return Err(ParseFault::NotInGrammar),
         }
-    }
-}
-
-// A key, a colon and a value.
-#[cycle(expression)]
-fn entry<'a, 'b>(
-    alloc: Global,
-    tokens: &'b [Token<'a>],
-) -> Result<((Tree, Tree), &'b [Token<'a>]), ParseFault>
-    ensures entry { IfOk result (λ x. ReadEntry (terminals tokens.now) (view x.0.0) (view x.0.1) (terminals x.1.now)) }
-    ensures none { IfErr result (λ e. Refuses e (HasNoEntry (terminals tokens.now))) }
-    ensures shorter { IfOk result (λ x. length x.1.now < length tokens.now) }
-{
-    let (key, rest) = expression(alloc, tokens)?;
-    match after(rest, Sign::Colon) {
-        Some(beyond) => {
-            let (value, rest) = expression(alloc, beyond)?;
-            Ok(((Box::into_inner(key), Box::into_inner(value)), rest))
-        }
-        None => Err(ParseFault::NotInGrammar),
     }
 }
 
@@ -357,19 +397,19 @@ fn entries<'a, 'b>(
     ensures shorter { IfOk result (λ x. length x.1.now < length tokens.now) }
 {
     let mut entries = Vec::new(alloc);
-    match after(tokens, Sign::CloseBrace) {
-        Some(rest) => return Ok((entries, rest)),
-        None => {}
+    let (is_empty, mut rest) = skip(tokens, Sign::CloseBrace);
+    if is_empty {
+        return Ok((entries, rest));
     }
-    let (first, mut rest) = entry(alloc, tokens)?;
-    entries.push(first)?;
     'more_entries: loop {
-        match separator_at(rest, Closing::Brace) {
-            Separator::End(beyond) => return Ok((entries, beyond)),
+        let (key, beyond) = expression_before(alloc, rest, Sign::Colon)?;
+        let (value, after) = expression(alloc, beyond)?;
+        let longer = with_entry(entries, key, value)?;
+        match separator_at(after, Closing::Brace) {
+            Separator::End(beyond) => return Ok((longer, beyond)),
             Separator::Comma(beyond) => {
-                let (next, after) = entry(alloc, beyond)?;
-                entries.push(next)?;
-                rest = after;
+                entries = longer;
+                rest = beyond;
             }
             Separator::Wrong => return Err(ParseFault::NotInGrammar),
         }

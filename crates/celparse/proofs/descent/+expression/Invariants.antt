@@ -1,9 +1,9 @@
-use Rattle.std.proofs.Common.{◌+◌, ◌*◌, ◌<◌, length, map}
+use Rattle.std.proofs.Common.{◌+◌, ◌*◌, ◌<◌, ◌≤◌, length, map}
 use Rattle.celtokens.specs.Seen.{terminals}
 use Rattle.celtree.specs.View.{view}
 use Rattle.celparse.proofs.Chains.{Going}
 use Rattle.celparse.proofs.Suffixes.{GoingMember}
-use Rattle.celparse.proofs.Lists.{GoingItems, GoingEntries}
+use Rattle.celparse.proofs.Lists.{AtItem, AtEntry}
 use Rattle.celparse.proofs.descent.+expression.Given as goal
 
 -- the tokens left, and then how far a function stands above the others that read the same tokens
@@ -28,11 +28,11 @@ decreases-primary l = 30 * length l.tokens.now + 1
 abbrev pub decreases-composite : goal.decreases-composite
 decreases-composite l = 30 * length l.tokens.now
 
+abbrev pub decreases-expression_before : goal.decreases-expression_before
+decreases-expression_before l = 30 * length l.tokens.now + 21
+
 abbrev pub decreases-items : goal.decreases-items
 decreases-items l = 30 * length l.tokens.now + 22
-
-abbrev pub decreases-entry : goal.decreases-entry
-decreases-entry l = 30 * length l.tokens.now + 21
 
 abbrev pub decreases-entries : goal.decreases-entries
 decreases-entries l = 30 * length l.tokens.now + 22
@@ -50,13 +50,13 @@ abbrev pub decreases-member-suffixes : goal.decreases-member-suffixes
 decreases-member-suffixes l = length l.rest
 
 abbrev pub invariant-items-more_items : goal.invariant-items-more_items
-invariant-items-more_items l = record { going : GoingItems l.closing (terminals l.tokens) (map view l.items.items) (terminals l.rest); shorter : length l.rest < length l.tokens }
+invariant-items-more_items l = record { here : AtItem l.closing (terminals l.tokens) (map view l.items.items) (terminals l.rest); within : length l.rest ≤ length l.tokens }
 
 abbrev pub decreases-items-more_items : goal.decreases-items-more_items
 decreases-items-more_items l = length l.rest
 
 abbrev pub invariant-entries-more_entries : goal.invariant-entries-more_entries
-invariant-entries-more_entries l = record { going : GoingEntries (terminals l.tokens) (map (λ p. (view p.0, view p.1)) l.entries.items) (terminals l.rest); shorter : length l.rest < length l.tokens }
+invariant-entries-more_entries l = record { here : AtEntry (terminals l.tokens) (map (λ p. (view p.0, view p.1)) l.entries.items) (terminals l.rest); within : length l.rest ≤ length l.tokens }
 
 abbrev pub decreases-entries-more_entries : goal.decreases-entries-more_entries
 decreases-entries-more_entries l = length l.rest
