@@ -271,3 +271,106 @@ unary-returns-in_ok-of-in-Some-clause-none t c = of_memory _ _ c.unary_of.result
 
 pub unary-returns-in_ok-of-in-Some-clause-shorter : goal.unary-returns-in_ok-of-in-Some-clause-shorter
 unary-returns-in_ok-of-in-Some-clause-shorter t c = of_ok _ c.unary_of.result c.unary_of.ensures (λ x h. rw h.1 (omega (arith, c.in-Some.ensures.shorter, c.in_ok-of-in-Some.ensures.shorter)))
+
+-- each call is of fewer tokens, or of a function that stands lower
+
+pub composite-items-requires : goal.composite-items-requires
+composite-items-requires t c = (omega (arith, c.decreases, c.in-Call.ensures.1), tt)
+
+pub composite-expression_before-requires : goal.composite-expression_before-requires
+composite-expression_before-requires t c = (omega (arith, c.decreases, c.in-Parenthesis.ensures.1), tt)
+
+pub composite-items-requires-in-Bracket : goal.composite-items-requires-in-Bracket
+composite-items-requires-in-Bracket t c = (omega (arith, c.decreases, c.in-Bracket.ensures.1), tt)
+
+pub composite-entries-requires : goal.composite-entries-requires
+composite-entries-requires t c = (omega (arith, c.decreases, c.in-Brace.ensures.1), tt)
+
+pub entries-expression_before-requires : goal.entries-expression_before-requires
+entries-expression_before-requires t c = (omega (arith, c.decreases, c.more_entries.invariant.within), tt)
+
+pub entries-expression-requires : goal.entries-expression-requires
+entries-expression-requires t c = (omega (arith, c.decreases, c.more_entries.invariant.within, c.in_ok-key.ensures.shorter), tt)
+
+pub expression-infix-requires : goal.expression-infix-requires
+expression-infix-requires t c = (omega (arith, c.decreases), tt)
+
+pub expression-infix-requires-in-Some : goal.expression-infix-requires-in-Some
+expression-infix-requires-in-Some t c = (omega (arith, c.decreases, c.in_ok-test.ensures.shorter, c.in-Some.ensures.shorter), tt)
+
+pub expression-expression-requires : goal.expression-expression-requires
+expression-expression-requires t c = (omega (arith, c.decreases, c.in_ok-test.ensures.shorter, c.in-Some.ensures.shorter, c.in_ok-first-in-Some.ensures.shorter, c.in-Some-after.ensures.shorter), tt)
+
+pub expression_before-expression-requires : goal.expression_before-expression-requires
+expression_before-expression-requires t c = (omega (arith, c.decreases), tt)
+
+pub infix-unary-requires : goal.infix-unary-requires
+infix-unary-requires t c = (omega (arith, c.decreases), tt)
+
+pub infix-infix-requires : goal.infix-infix-requires
+infix-infix-requires t c = (omega (arith, c.decreases), tt)
+
+pub infix-infix-requires-in-Some : goal.infix-infix-requires-in-Some
+infix-infix-requires-in-Some t c = (omega (arith, c.decreases, c.operators.invariant.shorter, c.in-Some.ensures.shorter), tt)
+
+pub items-expression-requires : goal.items-expression-requires
+items-expression-requires t c = (omega (arith, c.decreases, c.more_items.invariant.within), tt)
+
+pub member-primary-requires : goal.member-primary-requires
+member-primary-requires t c = (omega (arith, c.decreases), tt)
+
+pub member-items-requires : goal.member-items-requires
+member-items-requires t c = (omega (arith, c.decreases, c.suffixes.invariant.shorter, c.in-Method.ensures.3), tt)
+
+pub member-expression_before-requires : goal.member-expression_before-requires
+member-expression_before-requires t c = (omega (arith, c.decreases, c.suffixes.invariant.shorter, c.in-Index.ensures.1), tt)
+
+pub prefixed-prefixed-requires : goal.prefixed-prefixed-requires
+prefixed-prefixed-requires t c = (omega (arith, c.decreases, c.in-Some.ensures.shorter), tt)
+
+pub prefixed-member-requires : goal.prefixed-member-requires
+prefixed-member-requires t c = (omega (arith, c.decreases), tt)
+
+pub primary-composite-requires : goal.primary-composite-requires
+primary-composite-requires t c = (omega (arith, c.decreases), tt)
+
+pub unary-prefixed-requires : goal.unary-prefixed-requires
+unary-prefixed-requires t c = (omega (arith, c.decreases, c.in-Some.ensures.shorter), tt)
+
+pub unary-member-requires : goal.unary-member-requires
+unary-member-requires t c = (omega (arith, c.decreases), tt)
+
+-- and leaves fewer
+
+pub infix-operators-smaller : goal.infix-operators-smaller
+infix-operators-smaller t c = omega (arith, c.in-Some.ensures.shorter, c.in_ok-right-in-Some.ensures.shorter)
+
+pub infix-returns-in-None-clause-shorter : goal.infix-returns-in-None-clause-shorter
+infix-returns-in-None-clause-shorter t c = c.operators.invariant.shorter
+
+pub infix-returns-then-height-eq0-clause-shorter : goal.infix-returns-then-height-eq0-clause-shorter
+infix-returns-then-height-eq0-clause-shorter t c = c.unary.ensures.shorter
+
+pub member-suffixes-smaller-in-Field : goal.member-suffixes-smaller-in-Field
+member-suffixes-smaller-in-Field t c = c.in-Field.ensures.4
+
+pub member-suffixes-smaller-in-Method : goal.member-suffixes-smaller-in-Method
+member-suffixes-smaller-in-Method t c = omega (arith, c.in-Method.ensures.3, c.in_ok-arguments-in-Method.ensures.shorter)
+
+pub member-suffixes-smaller : goal.member-suffixes-smaller
+member-suffixes-smaller t c = omega (arith, c.in-Index.ensures.1, c.in_ok-index-in-Index.ensures.shorter)
+
+pub member-returns-in-Nothing-clause-shorter : goal.member-returns-in-Nothing-clause-shorter
+member-returns-in-Nothing-clause-shorter t c = c.suffixes.invariant.shorter
+
+pub expression-returns-in-None-clause-shorter : goal.expression-returns-in-None-clause-shorter
+expression-returns-in-None-clause-shorter t c = c.in_ok-test.ensures.shorter
+
+pub prefixed-returns-in-None-clause-shorter : goal.prefixed-returns-in-None-clause-shorter
+prefixed-returns-in-None-clause-shorter t c = c.member.ensures.shorter
+
+pub unary-returns-in-None-clause-shorter : goal.unary-returns-in-None-clause-shorter
+unary-returns-in-None-clause-shorter t c = c.member.ensures.shorter
+
+pub primary-returns-in-None-clause-shorter : goal.primary-returns-in-None-clause-shorter
+primary-returns-in-None-clause-shorter t c = c.composite.ensures.shorter
