@@ -8,7 +8,7 @@ use Rattle.device.specs.Run.{Ran, Stands}
 use Rattle.device.proofs.Steps.{torn_holds, torn-bytes, length-holds}
 use Rattle.device.proofs.Runs.{stands_now, stands_then, stands_synced, stands_weaker}
 use Rattle.gatelog.specs.Record.{part, sectors, IsRecord}
-use Rattle.gatelog.specs.Log.{IsOpen, HoldsLog, IsBeforeOrAfter}
+use Rattle.gatelog.specs.Log.{IsOpen, IsClosed, HoldsLog, IsBeforeOrAfter}
 use Rattle.gatelog.proofs.Parts.{Agree, agree-take, reaches-take, get-part}
 use Rattle.gatelog.proofs.Logs.{inside, HoldsLog-agree, HoldsLog-stays, HoldsLog-longer, IsStaged}
 
@@ -100,6 +100,18 @@ opened-holds last payload old a b staged holds =
       staged = opening.staged;
       opened = at_start (512 * last) b (sym (get-part (512 * last) (length gate) 0 b some) ∙ ap (λ (x : List ℕ). slice_index x 0) (part-holds (512 * last) gate a b within holds));
     }
+
+-- a gate of zeros is closed
+pub starts_closed : (at : ℕ) (old new : List ℕ) → 512 * at ≤ length old → Holds old (512 * at) (replicate 512 0) new → IsClosed at new
+starts_closed at old new within holds =
+    let zeros : List ℕ = replicate 512 0 in
+    let some : 0 < length zeros = omega arith in
+    let first : slice_index new (512 * at + 0) ≡ 0 =
+    sym (get-part (512 * at) (length zeros) 0 new some) ∙ ap (λ (x : List ℕ). slice_index x 0) (part-holds (512 * at) zeros old new within holds) in
+    let here : 512 * at + 0 ≡ 512 * at = omega arith in
+    let IsZero : ℕ → Type 0 = λ k. slice_index new k ≡ 0 in
+    let is_zero = subst IsZero here first in
+    (omega (arith, length-holds (512 * at) zeros old new within holds), λ opened. absurd (omega (arith, is_zero, opened)))
 
 -- each of them is before or after
 before-either : (start last : ℕ) (payloads : List (List ℕ)) (payload old c : List ℕ) → HoldsLog start payloads last old → Before last old c

@@ -96,3 +96,7 @@ all-zeros bytes inside k = ⊎_elim (λ lt. inside k lt) (λ past. get_or_past b
 -- the end of a slice
 pub slice-tail : (size used : ℕ) (bytes : List ℕ) → length bytes ≡ size → take (size - used) (drop used bytes) ≡ drop used bytes
 slice-tail size used bytes whole = take_all (size - used) (drop used bytes) (omega (arith, length-drop used bytes, whole))
+
+-- behind the device's end stands none
+pub none_behind : (at end : ℕ) (payload c : List ℕ) → length c ≡ 512 * end → HoldsRecord at payload c → end ≤ at → ⊥
+none_behind at end payload c whole holds behind = omega (arith, body-inside at end payload c whole holds)

@@ -4,3 +4,4 @@ pub mod Logs
 pub mod Appending
 pub mod Walking
 pub mod Checking
+pub mod Exits

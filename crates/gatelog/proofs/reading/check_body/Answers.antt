@@ -1,10 +1,12 @@
 use Rattle.std.proofs.Common.{arith, ap, ◌≡◌, ◌∙◌, subst, ◌+◌, ◌-◌, ◌*◌, ◌<◌, ◌≤◌, ℕ, List, length, drop, slice_index}
+use Rattle.std.proofs.lemmas.Result.{IfOk-from_err}
 use Rattle.std.specs.Prelude.{IsTrue, EachIndex, ◌↔◌}
 use Rattle.gatelog.specs.Record.{part, body_sectors}
 use Rattle.gatelog.specs.Walk.{HoldsRecord}
 use Rattle.gatelog.proofs.Parts.{length-part}
+use Rattle.gatelog.proofs.Exits.{device_alone, damaged_alone, has_failed, failed_after, ran_nothing}
 use Rattle.gatelog.proofs.Walking.{same_then}
-use Rattle.gatelog.proofs.Checking.{body-found, body-inside, body-size, body-zeros, all-zeros, slice-tail}
+use Rattle.gatelog.proofs.Checking.{none_behind, body-found, body-inside, body-size, body-zeros, all-zeros, slice-tail}
 use Rattle.gatelog.proofs.reading.check_body.Given.{Over}
 use Rattle.gatelog.proofs.reading.check_body.Goals.{After-is_zero}
 use Rattle.gatelog.proofs.reading.check_body.Goals as goal
@@ -98,3 +100,59 @@ returns-then-count-end-clause-damaged g c keeps is_damaged payload holds =
     let content = g.D.Device.disk.content c.args.device.now in
     let is_size = body-size c.args.at c.read_u32-payload_length.result c.in_ok-first.first payload content (c.in_ok-first.ensures.bytes keeps) c.read_u32-payload_length.ensures holds in
     too_many c.args.at c.args.end c.read_u32-payload_length.result c.sectors_of-count.result payload content (c.requires.end keeps) is_size c.sectors_of-count.ensures holds c.if-count-end.true
+
+pub returns-then-at-end-clause-damaged : goal.returns-then-at-end-clause-damaged
+returns-then-at-end-clause-damaged g c =
+    λ keeps told payload holds.
+    none_behind c.args.at c.args.end payload (g.D.Device.disk.content c.args.device.now) (c.requires.end keeps) holds c.if-at-end.true
+
+pub returns-then-at-end-clause-ran : goal.returns-then-at-end-clause-ran
+returns-then-at-end-clause-ran g c = ran_nothing g.D.Device.disk c.args.device.now (λ keeps content since. g.met.D.Device.only_now c.args.device.now content keeps since)
+
+pub returns-then-at-end-clause-cause : goal.returns-then-at-end-clause-cause
+returns-then-at-end-clause-cause g c = λ told. absurd (damaged_alone told)
+
+pub returns-in_err-first-clause-found : goal.returns-in_err-first-clause-found
+returns-in_err-first-clause-found g c = λ keeps. IfOk-from_err c.from_residual.result _ c.from_residual.ensures.0
+
+pub returns-in_err-first-clause-damaged : goal.returns-in_err-first-clause-damaged
+returns-in_err-first-clause-damaged g c = λ keeps told payload holds. device_alone c.from_residual.ensures.1 told
+
+pub returns-in_err-first-clause-inside : goal.returns-in_err-first-clause-inside
+returns-in_err-first-clause-inside g c = IfOk-from_err c.from_residual.result _ c.from_residual.ensures.0
+
+pub returns-in_err-first-clause-ran : goal.returns-in_err-first-clause-ran
+returns-in_err-first-clause-ran g c = c.read_sector.ensures.ran
+
+pub returns-in_err-first-clause-cause : goal.returns-in_err-first-clause-cause
+returns-in_err-first-clause-cause g c = λ told. has_failed c.read_sector.ensures.cause c.in_err-first.was
+
+pub returns-then-payload_length-gt-MOST_PAYLOAD-clause-ran : goal.returns-then-payload_length-gt-MOST_PAYLOAD-clause-ran
+returns-then-payload_length-gt-MOST_PAYLOAD-clause-ran g c = c.read_sector.ensures.ran
+
+pub returns-then-payload_length-gt-MOST_PAYLOAD-clause-cause : goal.returns-then-payload_length-gt-MOST_PAYLOAD-clause-cause
+returns-then-payload_length-gt-MOST_PAYLOAD-clause-cause g c = λ told. absurd (damaged_alone told)
+
+pub returns-then-count-end-clause-ran : goal.returns-then-count-end-clause-ran
+returns-then-count-end-clause-ran g c = c.read_sector.ensures.ran
+
+pub returns-then-count-end-clause-cause : goal.returns-then-count-end-clause-cause
+returns-then-count-end-clause-cause g c = λ told. absurd (damaged_alone told)
+
+pub returns-in_err-last-clause-found : goal.returns-in_err-last-clause-found
+returns-in_err-last-clause-found g c = λ keeps. IfOk-from_err c.from_residual-in_err-last.result _ c.from_residual-in_err-last.ensures.0
+
+pub returns-in_err-last-clause-damaged : goal.returns-in_err-last-clause-damaged
+returns-in_err-last-clause-damaged g c = λ keeps told payload holds. device_alone c.from_residual-in_err-last.ensures.1 told
+
+pub returns-in_err-last-clause-inside : goal.returns-in_err-last-clause-inside
+returns-in_err-last-clause-inside g c = IfOk-from_err c.from_residual-in_err-last.result _ c.from_residual-in_err-last.ensures.0
+
+pub returns-in_err-last-clause-cause : goal.returns-in_err-last-clause-cause
+returns-in_err-last-clause-cause g c =
+    λ told.
+    failed_after g.D.Device.disk c.args.device.now c.read_sector.new.device c.read_sector-2.new.device c.read_sector.ensures.ran.count
+    (has_failed c.read_sector-2.ensures.cause c.in_err-last.was)
+
+pub returns-then-not-is_zero-clause-cause : goal.returns-then-not-is_zero-clause-cause
+returns-then-not-is_zero-clause-cause g c = λ told. absurd (damaged_alone told)

@@ -1,7 +1,7 @@
-use Rattle.std.proofs.Common.{rules, arith, ◌∙◌, sym, subst, ◌+◌}
-use Rattle.std.specs.Prelude.{IsErrOf}
-use Rattle.gatelog.specs.declared.fault.LogFault.TheVariants as LogFault
+use Rattle.std.proofs.Common.{arith, ◌∙◌, sym, subst, ◌+◌}
+use Rattle.std.proofs.lemmas.Result.{IfOk-from_err}
 use Rattle.gatelog.specs.Walk.{HoldsRecord}
+use Rattle.gatelog.proofs.Exits.{same_fault, device_alone, no_fault, has_failed, failed_after}
 use Rattle.gatelog.proofs.Walking.{leads-next, found-closed, no_log-body, no_log-end, gate-byte, same_then}
 use Rattle.gatelog.proofs.reading.last_gate_of.Goals as goal
 
@@ -19,7 +19,7 @@ returns-in_err-gate-clause-damaged g c keeps is_damaged payloads last log =
     let content = g.D.Device.disk.content c.args.device.now in
     let byte = gate-byte c.loop-gate.gate c.in_ok-sector.sector (g.D.Device.disk.content c.loop-gate.device) content (c.in_ok-sector.ensures.bytes kept) (inv.ran.seen keeps) in
     let same = c.read_sector.ensures.ran.seen kept ∙ inv.ran.seen keeps in
-    let told : IsErrOf c.check_body.result LogFault.Damaged = search rules in
+    let told = same_fault c.from_residual-in_err-gate.ensures.1 c.in_err-gate.was is_damaged in
     no_log-body c.args.at c.loop-gate.gate content (inv.leads keeps) (sym byte ∙ c.if-sector.false)
     (λ payload holds. c.check_body.ensures.damaged (c.read_sector.ensures.ran.kept kept) told payload (subst (HoldsRecord (c.loop-gate.gate + 1) payload) (sym same) holds))
     payloads last log
@@ -52,3 +52,59 @@ pub returns-clause-damaged : goal.returns-clause-damaged
 returns-clause-damaged g c keeps is_damaged payloads last log =
     let inv = c.loop-gate.invariant in
     no_log-end c.args.at c.loop-gate.gate c.in_ok-end.end (g.D.Device.disk.content c.args.device.now) (inv.leads keeps) (inv.end keeps) c.loop-gate-test.false payloads last log
+
+pub returns-in_err-end-clause-found : goal.returns-in_err-end-clause-found
+returns-in_err-end-clause-found g c = λ keeps. IfOk-from_err c.from_residual.result _ c.from_residual.ensures.0
+
+pub returns-in_err-end-clause-damaged : goal.returns-in_err-end-clause-damaged
+returns-in_err-end-clause-damaged g c = λ keeps told payloads last log. device_alone c.from_residual.ensures.1 told
+
+pub returns-in_err-end-clause-in_order : goal.returns-in_err-end-clause-in_order
+returns-in_err-end-clause-in_order g c = IfOk-from_err c.from_residual.result _ c.from_residual.ensures.0
+
+pub returns-in_err-end-clause-ran : goal.returns-in_err-end-clause-ran
+returns-in_err-end-clause-ran g c = c.len.ensures.ran
+
+pub returns-in_err-end-clause-cause : goal.returns-in_err-end-clause-cause
+returns-in_err-end-clause-cause g c = λ told. has_failed c.len.ensures.cause c.in_err-end.was
+
+pub returns-in_err-sector-clause-found : goal.returns-in_err-sector-clause-found
+returns-in_err-sector-clause-found g c = λ keeps. IfOk-from_err c.from_residual-in_err-sector.result _ c.from_residual-in_err-sector.ensures.0
+
+pub returns-in_err-sector-clause-damaged : goal.returns-in_err-sector-clause-damaged
+returns-in_err-sector-clause-damaged g c = λ keeps told payloads last log. device_alone c.from_residual-in_err-sector.ensures.1 told
+
+pub returns-in_err-sector-clause-in_order : goal.returns-in_err-sector-clause-in_order
+returns-in_err-sector-clause-in_order g c = IfOk-from_err c.from_residual-in_err-sector.result _ c.from_residual-in_err-sector.ensures.0
+
+pub returns-in_err-sector-clause-ran : goal.returns-in_err-sector-clause-ran
+returns-in_err-sector-clause-ran g c =
+    same_then g.D.Device.disk c.args.device.now c.loop-gate.device c.read_sector.new.device c.loop-gate.invariant.ran c.read_sector.ensures.ran
+
+pub returns-in_err-sector-clause-cause : goal.returns-in_err-sector-clause-cause
+returns-in_err-sector-clause-cause g c = λ told.
+    failed_after g.D.Device.disk c.args.device.now c.loop-gate.device c.read_sector.new.device c.loop-gate.invariant.ran.count
+    (has_failed c.read_sector.ensures.cause c.in_err-sector.was)
+
+pub returns-then-sector-clause-damaged : goal.returns-then-sector-clause-damaged
+returns-then-sector-clause-damaged g c = λ keeps told payloads last log. no_fault told
+
+pub returns-then-sector-clause-ran : goal.returns-then-sector-clause-ran
+returns-then-sector-clause-ran g c =
+    same_then g.D.Device.disk c.args.device.now c.loop-gate.device c.read_sector.new.device c.loop-gate.invariant.ran c.read_sector.ensures.ran
+
+pub returns-then-sector-clause-cause : goal.returns-then-sector-clause-cause
+returns-then-sector-clause-cause g c = λ told. absurd (no_fault told)
+
+pub returns-in_err-gate-clause-found : goal.returns-in_err-gate-clause-found
+returns-in_err-gate-clause-found g c = λ keeps. IfOk-from_err c.from_residual-in_err-gate.result _ c.from_residual-in_err-gate.ensures.0
+
+pub returns-in_err-gate-clause-in_order : goal.returns-in_err-gate-clause-in_order
+returns-in_err-gate-clause-in_order g c = IfOk-from_err c.from_residual-in_err-gate.result _ c.from_residual-in_err-gate.ensures.0
+
+pub returns-in_err-gate-clause-cause : goal.returns-in_err-gate-clause-cause
+returns-in_err-gate-clause-cause g c = λ told.
+    let disk = g.D.Device.disk in
+    let read = same_then disk c.args.device.now c.loop-gate.device c.read_sector.new.device c.loop-gate.invariant.ran c.read_sector.ensures.ran in
+    failed_after disk c.args.device.now c.read_sector.new.device c.check_body.new.device read.count
+    (c.check_body.ensures.cause (same_fault c.from_residual-in_err-gate.ensures.1 c.in_err-gate.was told))

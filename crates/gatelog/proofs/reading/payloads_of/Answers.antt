@@ -1,8 +1,8 @@
 use Rattle.std.proofs.Common.{rules, arith, ◌∙◌, sym, ap, subst, ◌+◌, ℕ, map, Vec, Global}
-use Rattle.std.specs.Prelude.{IsErrOf}
+use Rattle.std.proofs.lemmas.Result.{IfOk-from_err}
 use Rattle.std.proofs.lemmas.List.{map_push}
-use Rattle.gatelog.specs.declared.fault.LogFault.TheVariants as LogFault
 use Rattle.gatelog.specs.Walk.{HoldsRecord}
+use Rattle.gatelog.proofs.Exits.{same_fault, memory_alone, device_alone, damaged_alone, has_failed, failed_after}
 use Rattle.gatelog.proofs.Logs.{inside}
 use Rattle.gatelog.proofs.Walking.{same_then, no_log-record, passes-next, passes-end}
 use Rattle.gatelog.proofs.reading.payloads_of.Goals as goal
@@ -19,7 +19,7 @@ returns-in_err-payload-clause-damaged g c keeps is_damaged payloads log =
     let inv = c.loop-gate.invariant in
     let content = g.D.Device.disk.content c.args.device.now in
     let here = inv.passes keeps payloads log in
-    let told : IsErrOf c.read_payload.result LogFault.Damaged = search rules in
+    let told = same_fault c.from_residual-in_err-payload.ensures.1 c.in_err-payload.was is_damaged in
     no_log-record here.0 c.loop-gate.gate c.args.last content here.2 c.loop-gate-test.true
     (λ payload holds. c.read_payload.ensures.damaged (inv.ran.kept keeps) told payload (subst (HoldsRecord (c.loop-gate.gate + 1) payload) (sym (inv.ran.seen keeps)) holds))
 
@@ -52,3 +52,38 @@ pub returns-clause-found : goal.returns-clause-found
 returns-clause-found g c keeps payloads log =
     let inv = c.loop-gate.invariant in
     passes-end c.args.start c.loop-gate.gate c.args.last (g.D.Device.disk.content c.args.device.now) _ (inv.passes keeps) c.loop-gate-test.false payloads log
+
+pub returns-in_err-end-clause-found : goal.returns-in_err-end-clause-found
+returns-in_err-end-clause-found g c = λ keeps payloads log. IfOk-from_err c.from_residual.result _ c.from_residual.ensures.0
+
+pub returns-in_err-end-clause-damaged : goal.returns-in_err-end-clause-damaged
+returns-in_err-end-clause-damaged g c = λ keeps told payloads log. device_alone c.from_residual.ensures.1 told
+
+pub returns-in_err-end-clause-ran : goal.returns-in_err-end-clause-ran
+returns-in_err-end-clause-ran g c = c.len.ensures.ran
+
+pub returns-in_err-end-clause-cause : goal.returns-in_err-end-clause-cause
+returns-in_err-end-clause-cause g c = λ told. has_failed c.len.ensures.cause c.in_err-end.was
+
+pub returns-then-gate-end-clause-ran : goal.returns-then-gate-end-clause-ran
+returns-then-gate-end-clause-ran g c = c.loop-gate.invariant.ran
+
+pub returns-then-gate-end-clause-cause : goal.returns-then-gate-end-clause-cause
+returns-then-gate-end-clause-cause g c = λ told. absurd (damaged_alone told)
+
+pub returns-in_err-payload-clause-found : goal.returns-in_err-payload-clause-found
+returns-in_err-payload-clause-found g c = λ keeps payloads log. IfOk-from_err c.from_residual-in_err-payload.result _ c.from_residual-in_err-payload.ensures.0
+
+pub returns-in_err-payload-clause-cause : goal.returns-in_err-payload-clause-cause
+returns-in_err-payload-clause-cause g c = λ told.
+    failed_after g.D.Device.disk c.args.device.now c.loop-gate.device c.read_payload.new.device c.loop-gate.invariant.ran.count
+    (c.read_payload.ensures.cause (same_fault c.from_residual-in_err-payload.ensures.1 c.in_err-payload.was told))
+
+pub returns-in_err-push-clause-found : goal.returns-in_err-push-clause-found
+returns-in_err-push-clause-found g c = λ keeps payloads log. IfOk-from_err c.from_residual-in_err-push.result _ c.from_residual-in_err-push.ensures.0
+
+pub returns-in_err-push-clause-damaged : goal.returns-in_err-push-clause-damaged
+returns-in_err-push-clause-damaged g c = λ keeps told payloads log. memory_alone c.from_residual-in_err-push.ensures.1 told
+
+pub returns-in_err-push-clause-cause : goal.returns-in_err-push-clause-cause
+returns-in_err-push-clause-cause g c = λ told. absurd (memory_alone c.from_residual-in_err-push.ensures.1 told)

@@ -1,7 +1,9 @@
-use Rattle.std.proofs.Common.{rules, arith, ◌≡◌, ◌∙◌, ap, sym, ◌+◌, ◌*◌, ◌<◌, ◌≤◌, ℕ, List, ◌++◌, length, take, drop}
+use Rattle.std.proofs.Common.{arith, ◌≡◌, ◌∙◌, ap, sym, subst, ◌+◌, ◌*◌, ◌<◌, ◌≤◌, ℕ, List, ◌++◌, length, take, drop}
+use Rattle.std.proofs.lemmas.Result.{IfOk-from_err}
 use Rattle.std.proofs.lemmas.List.{take_at, length-take}
 use Rattle.byteorder.specs.Endian.{big_number}
 use Rattle.gatelog.specs.Record.{part, sectors, body_sectors}
+use Rattle.gatelog.proofs.Exits.{same_fault, memory_alone, device_alone, damaged_alone, no_fault, never_too_long, has_failed, failed_after}
 use Rattle.gatelog.proofs.Walking.{same_then, one_record, payload-read, length-read}
 use Rattle.gatelog.proofs.reading.read_payload.Given.{Over}
 use Rattle.gatelog.proofs.reading.read_payload.Goals.{After-read_u32-payload_length, then-payload_length-gt-MOST_PAYLOAD-via-then-payload_length-gt-MOST_PAYLOAD, then-payload_length-gt-MOST_PAYLOAD-via-else-payload_length-gt-MOST_PAYLOAD+then-sectors_of-count}
@@ -13,9 +15,15 @@ was_read : (g : Over) (c : After-read_u32-payload_length g) → g.D.Device.disk.
     × (c.read_u32-payload_length.result ≡ big_number 4 c.read.new.buffer)
     × (take c.in_ok-body.body.len (c.read.new.buffer ++ drop (length c.read.new.buffer) c.in_ok-body.body.items) ≡ c.read.new.buffer)
 was_read g c keeps =
-    let same_size : length c.read.new.buffer ≡ c.in_ok-body.body.len = search rules in
+    let Read : ℕ → Type 0 = λ n. c.read.new.buffer ≡ part (512 * c.args.at) n (g.D.Device.disk.content c.check_body.new.device) in
+    let size : length c.deref_mut.result.now ≡ 512 * c.in_ok-count.count = as_read _ _ _ c.deref_mut.ensures.len c.in_ok-body.ensures.len in
+    let bytes = subst Read size (c.in_ok-read.ensures.bytes (c.check_body.ensures.ran.kept keeps)) in
+    let same_size : length c.read.new.buffer ≡ c.in_ok-body.body.len = c.read.auto.buffer ∙ c.deref_mut.ensures.len in
     let whole = take_at c.read.new.buffer (drop (length c.read.new.buffer) c.in_ok-body.body.items) c.in_ok-body.body.len same_size in
-    (search rules, c.read_u32-payload_length.ensures ∙ ap (big_number 4) (c.deref.ensures.value ∙ whole), whole)
+    (bytes, c.read_u32-payload_length.ensures ∙ ap (big_number 4) (c.deref.ensures.value ∙ whole), whole)
+  where
+    as_read : (n len count : ℕ) → n ≡ len → len ≡ count * 512 → n ≡ 512 * count
+    as_read n len count is_len is_count = omega arith
 
 pub returns-then-payload_length-gt-MOST_PAYLOAD-clause-ran : goal.returns-then-payload_length-gt-MOST_PAYLOAD-clause-ran
 returns-then-payload_length-gt-MOST_PAYLOAD-clause-ran g c =
@@ -77,3 +85,97 @@ returns-clause-inside g c =
     let copy = c.in_ok-copy_of.field-0 in
     copy_inside c.args.at c.args.end c.in_ok-count.count c.read_u32-payload_length.result copy.len copy.items c.deref-2.result.now copy.ok.0 c.in_ok-copy_of.ensures
     c.if-payload_length-gt-MOST_PAYLOAD.false (sym c.sectors_of.ensures ∙ c.if-sectors_of-count.false) c.in_ok-count.ensures.inside.1
+
+pub check_body-requires-clause-end : goal.check_body-requires-clause-end
+check_body-requires-clause-end g c = c.requires.end
+
+pub check_body-requires-clause-at_most : goal.check_body-requires-clause-at_most
+check_body-requires-clause-at_most g c = c.requires.at_most
+
+pub returns-in_err-count-clause-found : goal.returns-in_err-count-clause-found
+returns-in_err-count-clause-found g c = λ keeps payload holds. IfOk-from_err c.from_residual.result _ c.from_residual.ensures.0
+
+pub returns-in_err-count-clause-damaged : goal.returns-in_err-count-clause-damaged
+returns-in_err-count-clause-damaged g c = λ keeps told. c.check_body.ensures.damaged keeps (same_fault c.from_residual.ensures.1 c.in_err-count.was told)
+
+pub returns-in_err-count-clause-inside : goal.returns-in_err-count-clause-inside
+returns-in_err-count-clause-inside g c = IfOk-from_err c.from_residual.result _ c.from_residual.ensures.0
+
+pub returns-in_err-count-clause-refusal : goal.returns-in_err-count-clause-refusal
+returns-in_err-count-clause-refusal g c = λ told. never_too_long c.check_body.ensures.refusal (same_fault c.from_residual.ensures.1 c.in_err-count.was told)
+
+pub returns-in_err-count-clause-ran : goal.returns-in_err-count-clause-ran
+returns-in_err-count-clause-ran g c = c.check_body.ensures.ran
+
+pub returns-in_err-count-clause-cause : goal.returns-in_err-count-clause-cause
+returns-in_err-count-clause-cause g c = λ told. c.check_body.ensures.cause (same_fault c.from_residual.ensures.1 c.in_err-count.was told)
+
+pub returns-in_err-body-clause-found : goal.returns-in_err-body-clause-found
+returns-in_err-body-clause-found g c = λ keeps payload holds. IfOk-from_err c.from_residual-in_err-body.result _ c.from_residual-in_err-body.ensures.0
+
+pub returns-in_err-body-clause-damaged : goal.returns-in_err-body-clause-damaged
+returns-in_err-body-clause-damaged g c = λ keeps told payload holds. memory_alone c.from_residual-in_err-body.ensures.1 told
+
+pub returns-in_err-body-clause-inside : goal.returns-in_err-body-clause-inside
+returns-in_err-body-clause-inside g c = IfOk-from_err c.from_residual-in_err-body.result _ c.from_residual-in_err-body.ensures.0
+
+pub returns-in_err-body-clause-refusal : goal.returns-in_err-body-clause-refusal
+returns-in_err-body-clause-refusal g c = λ told. memory_alone c.from_residual-in_err-body.ensures.1 told
+
+pub returns-in_err-body-clause-ran : goal.returns-in_err-body-clause-ran
+returns-in_err-body-clause-ran g c = c.check_body.ensures.ran
+
+pub returns-in_err-body-clause-cause : goal.returns-in_err-body-clause-cause
+returns-in_err-body-clause-cause g c = λ told. absurd (memory_alone c.from_residual-in_err-body.ensures.1 told)
+
+pub returns-in_err-read-clause-found : goal.returns-in_err-read-clause-found
+returns-in_err-read-clause-found g c = λ keeps payload holds. IfOk-from_err c.from_residual-in_err-read.result _ c.from_residual-in_err-read.ensures.0
+
+pub returns-in_err-read-clause-damaged : goal.returns-in_err-read-clause-damaged
+returns-in_err-read-clause-damaged g c = λ keeps told payload holds. device_alone c.from_residual-in_err-read.ensures.1 told
+
+pub returns-in_err-read-clause-inside : goal.returns-in_err-read-clause-inside
+returns-in_err-read-clause-inside g c = IfOk-from_err c.from_residual-in_err-read.result _ c.from_residual-in_err-read.ensures.0
+
+pub returns-in_err-read-clause-refusal : goal.returns-in_err-read-clause-refusal
+returns-in_err-read-clause-refusal g c = λ told. device_alone c.from_residual-in_err-read.ensures.1 told
+
+pub returns-in_err-read-clause-cause : goal.returns-in_err-read-clause-cause
+returns-in_err-read-clause-cause g c = λ told.
+    failed_after g.D.Device.disk c.args.device.now c.check_body.new.device c.read.new.self c.check_body.ensures.ran.count (has_failed c.read.ensures.cause c.in_err-read.was)
+
+pub returns-then-payload_length-gt-MOST_PAYLOAD-clause-found : goal.returns-then-payload_length-gt-MOST_PAYLOAD-clause-found
+returns-then-payload_length-gt-MOST_PAYLOAD-clause-found g c = λ keeps payload holds. tt
+
+pub returns-then-payload_length-gt-MOST_PAYLOAD-clause-inside : goal.returns-then-payload_length-gt-MOST_PAYLOAD-clause-inside
+returns-then-payload_length-gt-MOST_PAYLOAD-clause-inside g c = tt
+
+pub returns-in_err-copy_of-clause-found : goal.returns-in_err-copy_of-clause-found
+returns-in_err-copy_of-clause-found g c = λ keeps payload holds. IfOk-from_err c.from_residual-in_err-copy_of.result _ c.from_residual-in_err-copy_of.ensures.0
+
+pub returns-in_err-copy_of-clause-damaged : goal.returns-in_err-copy_of-clause-damaged
+returns-in_err-copy_of-clause-damaged g c = λ keeps told payload holds. memory_alone c.from_residual-in_err-copy_of.ensures.1 told
+
+pub returns-in_err-copy_of-clause-inside : goal.returns-in_err-copy_of-clause-inside
+returns-in_err-copy_of-clause-inside g c = IfOk-from_err c.from_residual-in_err-copy_of.result _ c.from_residual-in_err-copy_of.ensures.0
+
+pub returns-in_err-copy_of-clause-refusal : goal.returns-in_err-copy_of-clause-refusal
+returns-in_err-copy_of-clause-refusal g c = λ told. memory_alone c.from_residual-in_err-copy_of.ensures.1 told
+
+pub returns-in_err-copy_of-clause-cause : goal.returns-in_err-copy_of-clause-cause
+returns-in_err-copy_of-clause-cause g c = λ told. absurd (memory_alone c.from_residual-in_err-copy_of.ensures.1 told)
+
+pub returns-then-payload_length-gt-MOST_PAYLOAD-clause-refusal : goal.returns-then-payload_length-gt-MOST_PAYLOAD-clause-refusal
+returns-then-payload_length-gt-MOST_PAYLOAD-clause-refusal g c = λ told. damaged_alone told
+
+pub returns-then-payload_length-gt-MOST_PAYLOAD-clause-cause : goal.returns-then-payload_length-gt-MOST_PAYLOAD-clause-cause
+returns-then-payload_length-gt-MOST_PAYLOAD-clause-cause g c = λ told. absurd (damaged_alone told)
+
+pub returns-clause-damaged : goal.returns-clause-damaged
+returns-clause-damaged g c = λ keeps told payload holds. no_fault told
+
+pub returns-clause-refusal : goal.returns-clause-refusal
+returns-clause-refusal g c = λ told. no_fault told
+
+pub returns-clause-cause : goal.returns-clause-cause
+returns-clause-cause g c = λ told. absurd (no_fault told)
