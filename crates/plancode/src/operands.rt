@@ -1,7 +1,27 @@
 //! Instructions at the front of bytes.
 
-ghost use Rattle.std.specs.Prelude.{◌≡◌};
+ghost use Rattle.std.specs.Prelude.{◌≡◌, ◌==◌, if◌then◌else◌};
+ghost use Rattle.std.specs.Int.{w64, cast_signed};
 ghost use Rattle.instructions.specs.Faults.{Gives};
+ghost use Rattle.instructions.specs.Op.{
+  PushInt,
+  PushUint,
+  PushText,
+  PushTruth,
+  PushName,
+  PushVariable,
+  PushSlot,
+  TakeField,
+  TakeHas,
+  TakeItems,
+  TakePairs,
+  TakeUnary,
+  TakeBinary,
+  TakeCall,
+  IfFalse,
+  IfTrue,
+  Jump,
+};
 ghost use Rattle.instructions.specs.Seen.{op_of};
 ghost use Rattle.plancode.specs.Reading.{
   truth_of,
@@ -12,10 +32,12 @@ ghost use Rattle.plancode.specs.Reading.{
   binary_of,
   function_of,
   macro_of,
+  with_byte,
+  with_short,
+  with_long,
+  with_text,
   branch_at,
   macro_at,
-  leading_at,
-  taking_at,
   operands_at,
   op_at,
 };
@@ -146,73 +168,79 @@ fn over(bytes: &[u8]) -> Result<(Instruction, &[u8]), CodeFault>
     Ok((Instruction::Macro(kind, end), rest))
 }
 
-// An instruction that leads elsewhere.
-#[tactic(auto, unfolding(crate::specs::Reading::leading_at))]
-fn leading(number: u8, bytes: &[u8]) -> Result<(Instruction, &[u8]), CodeFault>
-    ensures { Gives (λ x. (op_of x.0, x.1.now)) result (leading_at number bytes.now) }
+// The instruction with a number that has an operand of two bytes; the last of these where the number is none of them.
+fn with_short(number: u8, bytes: &[u8]) -> Result<(Instruction, &[u8]), CodeFault>
+    ensures { Gives (λ x. (op_of x.0, x.1.now)) result (
+        if number == 7 then with_short PushVariable bytes.now else
+        if number == 12 then with_short TakeItems bytes.now else
+        if number == 13 then with_short TakePairs bytes.now else
+        if number == 19 then with_short IfFalse bytes.now else
+        if number == 20 then with_short IfTrue bytes.now else with_short Jump bytes.now) }
 {
-    match number {
-        19 => {
-            let (value, rest) = short(bytes)?;
-            Ok((Instruction::IfFalse(value), rest))
-        }
-        20 => {
-            let (value, rest) = short(bytes)?;
-            Ok((Instruction::IfTrue(value), rest))
-        }
-        21 => branch(bytes),
-        22 => {
-            let (value, rest) = short(bytes)?;
-            Ok((Instruction::Jump(value), rest))
-        }
-        23 => over(bytes),
-        _ => Err(CodeFault::BadOperand),
-    }
+    let (value, rest) = short(bytes)?;
+    let instruction = match number {
+        7 => Instruction::Variable(value),
+        12 => Instruction::List(value),
+        13 => Instruction::Map(value),
+        19 => Instruction::IfFalse(value),
+        20 => Instruction::IfTrue(value),
+        _ => Instruction::Jump(value),
+    };
+    Ok((instruction, rest))
 }
 
-// An instruction that takes outcomes, or leads elsewhere.
-#[tactic(auto, unfolding(crate::specs::Reading::taking_at))]
-fn taking(alloc: Global, number: u8, bytes: &[u8]) -> Result<(Instruction, &[u8]), CodeFault>
-    ensures { Gives (λ x. (op_of x.0, x.1.now)) result (taking_at number bytes.now) }
+// As `with_short`, with an operand of eight bytes.
+fn with_long(number: u8, bytes: &[u8]) -> Result<(Instruction, &[u8]), CodeFault>
+    ensures { Gives (λ x. (op_of x.0, x.1.now)) result (
+        if number == 1 then with_long (λ n. PushInt (cast_signed w64 n)) bytes.now else with_long PushUint bytes.now) }
 {
-    match number {
-        9 => {
-            let (value, rest) = text(alloc, bytes)?;
-            Ok((Instruction::Field(value), rest))
-        }
-        10 => {
-            let (value, rest) = text(alloc, bytes)?;
-            Ok((Instruction::Has(value), rest))
-        }
-        11 => Ok((Instruction::Index, bytes)),
-        12 => {
-            let (value, rest) = short(bytes)?;
-            Ok((Instruction::List(value), rest))
-        }
-        13 => {
-            let (value, rest) = short(bytes)?;
-            Ok((Instruction::Map(value), rest))
-        }
-        14 => {
-            let (value, rest) = byte(bytes)?;
-            Ok((Instruction::Unary(prefix_named(value)?), rest))
-        }
-        15 => {
-            let (value, rest) = byte(bytes)?;
-            Ok((Instruction::Binary(binary_named(value)?), rest))
-        }
-        16 => {
-            let (value, rest) = byte(bytes)?;
-            Ok((Instruction::Call(function_named(value)?), rest))
-        }
-        17 => Ok((Instruction::And, bytes)),
-        18 => Ok((Instruction::Or, bytes)),
-        _ => leading(number, bytes),
-    }
+    let (value, rest) = long(bytes)?;
+    let instruction = match number {
+        1 => Instruction::Int(value.cast_signed()),
+        _ => Instruction::Uint(value),
+    };
+    Ok((instruction, rest))
 }
 
-// The instruction with a number; `BadOperand` where none has it, and the faults of its operands.
-#[tactic(auto, unfolding(crate::specs::Reading::operands_at))]
+// As `with_short`, with a text.
+fn with_text(alloc: Global, number: u8, bytes: &[u8]) -> Result<(Instruction, &[u8]), CodeFault>
+    ensures { Gives (λ x. (op_of x.0, x.1.now)) result (
+        if number == 3 then with_text PushText bytes.now else
+        if number == 9 then with_text TakeField bytes.now else with_text TakeHas bytes.now) }
+{
+    let (value, rest) = text(alloc, bytes)?;
+    let instruction = match number {
+        3 => Instruction::Text(value),
+        9 => Instruction::Field(value),
+        _ => Instruction::Has(value),
+    };
+    Ok((instruction, rest))
+}
+
+// As `with_short`, with a byte that stands for one of a few.
+fn with_byte(number: u8, greatest: Name, bytes: &[u8]) -> Result<(Instruction, &[u8]), CodeFault>
+    ensures { Gives (λ x. (op_of x.0, x.1.now)) result (
+        if number == 4 then with_byte truth_of PushTruth bytes.now else
+        if number == 6 then with_byte (name_up_to greatest) PushName bytes.now else
+        if number == 8 then with_byte slot_of PushSlot bytes.now else
+        if number == 14 then with_byte prefix_of TakeUnary bytes.now else
+        if number == 15 then with_byte binary_of TakeBinary bytes.now else with_byte function_of TakeCall bytes.now) }
+{
+    let (value, rest) = byte(bytes)?;
+    let instruction = match number {
+        4 => Instruction::Bool(truth_named(value)?),
+        6 => Instruction::Name(name_named(value, greatest)?),
+        8 => Instruction::Slot(slot_named(value)?),
+        14 => Instruction::Unary(prefix_named(value)?),
+        15 => Instruction::Binary(binary_named(value)?),
+        _ => Instruction::Call(function_named(value)?),
+    };
+    Ok((instruction, rest))
+}
+
+// The instruction with a number; `BadOperand` where none has it, and the faults of its operands. Each number has an arm of its own, in
+// which the proof knows it.
+#[tactic(auto, unfolding(crate::specs::Reading::operands_at, crate::specs::Reading::taking_at, crate::specs::Reading::leading_at))]
 fn with_operands(
     alloc: Global,
     number: u8,
@@ -222,36 +250,30 @@ fn with_operands(
     ensures { Gives (λ x. (op_of x.0, x.1.now)) result (operands_at greatest number bytes.now) }
 {
     match number {
-        1 => {
-            let (value, rest) = long(bytes)?;
-            Ok((Instruction::Int(value.cast_signed()), rest))
-        }
-        2 => {
-            let (value, rest) = long(bytes)?;
-            Ok((Instruction::Uint(value), rest))
-        }
-        3 => {
-            let (value, rest) = text(alloc, bytes)?;
-            Ok((Instruction::Text(value), rest))
-        }
-        4 => {
-            let (value, rest) = byte(bytes)?;
-            Ok((Instruction::Bool(truth_named(value)?), rest))
-        }
+        1 => with_long(number, bytes),
+        2 => with_long(number, bytes),
+        3 => with_text(alloc, number, bytes),
+        4 => with_byte(number, greatest, bytes),
         5 => Ok((Instruction::Null, bytes)),
-        6 => {
-            let (value, rest) = byte(bytes)?;
-            Ok((Instruction::Name(name_named(value, greatest)?), rest))
-        }
-        7 => {
-            let (value, rest) = short(bytes)?;
-            Ok((Instruction::Variable(value), rest))
-        }
-        8 => {
-            let (value, rest) = byte(bytes)?;
-            Ok((Instruction::Slot(slot_named(value)?), rest))
-        }
-        _ => taking(alloc, number, bytes),
+        6 => with_byte(number, greatest, bytes),
+        7 => with_short(number, bytes),
+        8 => with_byte(number, greatest, bytes),
+        9 => with_text(alloc, number, bytes),
+        10 => with_text(alloc, number, bytes),
+        11 => Ok((Instruction::Index, bytes)),
+        12 => with_short(number, bytes),
+        13 => with_short(number, bytes),
+        14 => with_byte(number, greatest, bytes),
+        15 => with_byte(number, greatest, bytes),
+        16 => with_byte(number, greatest, bytes),
+        17 => Ok((Instruction::And, bytes)),
+        18 => Ok((Instruction::Or, bytes)),
+        19 => with_short(number, bytes),
+        20 => with_short(number, bytes),
+        21 => branch(bytes),
+        22 => with_short(number, bytes),
+        23 => over(bytes),
+        _ => Err(CodeFault::BadOperand),
     }
 }
 
