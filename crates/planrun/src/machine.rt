@@ -1,16 +1,18 @@
 //! The machine.
 
-ghost use Rattle.std.specs.Prelude.{◌≡◌, ◌+◌, ◌<◌, ◌≤◌, IsTrue, [], ◌∷◌, ◌++◌, if◌then◌else◌, Some, List, map, length, slice_get, OnOk, IfOk};
+ghost use Rattle.std.specs.Prelude.{◌≡◌, ◌+◌, ◌<◌, ◌≤◌, IsTrue, [], ◌∷◌, ◌++◌, if◌then◌else◌, Some, List, map, length, slice_get, string_bytes, OnOk, IfOk};
 ghost use Rattle.celtree.specs.Tree.{Expr};
 ghost use Rattle.celmean.specs.Meaning.{Environment, mean};
 ghost use Rattle.celmean.specs.Value as seen;
 ghost use Rattle.celmean.specs.Macros.{reduced, range_of, over_items};
 ghost use Rattle.celmean.specs.Seen.{value_of, values_seen, outcome_of, outcomes_seen};
+ghost use Rattle.instructions.specs.Bytes.{slot_number};
 ghost use Rattle.instructions.specs.Op.{Branch, Over};
 ghost use Rattle.instructions.specs.Judging.{takes, targets, is_named};
 ghost use Rattle.instructions.specs.Seen.{op_of};
-ghost use Rattle.planmachine.specs.Machine.{Next, World, top, after, step, step_if, outcome};
+ghost use Rattle.planmachine.specs.Machine.{Next, World, top, or_missing, slot_value, after, step, step_if, outcome};
 ghost use Rattle.planstack.specs.Seen.{stack_seen};
+ghost use Rattle.planrun.specs.Seen.{slots_seen};
 ghost use Rattle.planrun.specs.Worlds.{world_of};
 ghost use Rattle.planrun.specs.Results.{IsRunOf};
 ghost use Rattle.planrun.specs.Deciding.{decides};
@@ -19,7 +21,7 @@ ghost use Rattle.planrun.specs.Running.{items_of, world, ops, vars, depth, next_
 use crate::bound::{Bindings, Slots, item_of, named, variable, with_item};
 use celmean::{LONGEST_RANGE, Outcome, Value, list_items, range_of, reduced};
 use celtree::Macro;
-use instructions::Instruction;
+use instructions::{Instruction, Slot};
 use plancode::Verified;
 use planstack::{
     Held, into_outcome, is_false, is_true, pop, push, put, take_binary, take_both, take_call,
@@ -39,6 +41,40 @@ pub(crate) struct Machine<'a, 'c> {
     pub slots: Slots<'c>,
 }
 
+// Puts a value on top.
+fn put_value(value: Value, stack: &mut Vec<Held<'_>>) -> Result<(), AllocError>
+    ensures { OnOk result (stack_seen stack.new.items ≡ seen.Gives (value_of value) ∷ stack_seen stack.old.items) }
+{
+    put(stack, Outcome::Gives(value))
+}
+
+// Puts a copy of a text on top.
+fn put_text(text: &String, stack: &mut Vec<Held<'_>>) -> Result<(), AllocError>
+    ensures { OnOk result (stack_seen stack.new.items ≡ seen.Gives (seen.Text (string_bytes text.now)) ∷ stack_seen stack.old.items) }
+{
+    put_value(Value::Text(text.clone()?), stack)
+}
+
+// Puts a copy of a variable's outcome on top.
+fn put_variable(
+    place: usize,
+    variables: &[Outcome],
+    stack: &mut Vec<Held<'_>>,
+) -> Result<(), AllocError>
+    requires { place < length variables.now }
+    ensures { OnOk result (stack_seen stack.new.items ≡ or_missing (slice_get (outcomes_seen variables.now) place) ∷ stack_seen stack.old.items) }
+{
+    put(stack, variable(place, variables)?)
+}
+
+// Puts a copy of the item of a macro around on top.
+fn put_item(slot: Slot, slots: &Slots<'_>, stack: &mut Vec<Held<'_>>) -> Result<(), AllocError>
+    requires { slot_number slot < length (slots_seen slots.now) }
+    ensures { OnOk result (stack_seen stack.new.items ≡ slot_value (slots_seen slots.now) slot ∷ stack_seen stack.old.items) }
+{
+    put(stack, item_of(slot, slots)?)
+}
+
 // An instruction that leads to the next one.
 fn advance<'a>(
     alloc: Global,
@@ -52,19 +88,16 @@ fn advance<'a>(
     ensures { OnOk result (stack_seen stack.new.items ≡ after (world machine.now) (items_of machine.now) (op_of instruction.now) (stack_seen stack.old.items)) }
 {
     match instruction {
-        Instruction::Int(number) => put(stack, Outcome::Gives(Value::Int(*number))),
-        Instruction::Uint(number) => put(stack, Outcome::Gives(Value::Uint(*number))),
-        Instruction::Text(text) => put(stack, Outcome::Gives(Value::Text(text.clone()?))),
-        Instruction::Bool(truth) => put(stack, Outcome::Gives(Value::Bool(*truth))),
-        Instruction::Null => put(stack, Outcome::Gives(Value::Null)),
+        Instruction::Int(number) => put_value(Value::Int(*number), stack),
+        Instruction::Uint(number) => put_value(Value::Uint(*number), stack),
+        Instruction::Text(text) => put_text(text, stack),
+        Instruction::Bool(truth) => put_value(Value::Bool(*truth), stack),
+        Instruction::Null => put_value(Value::Null, stack),
         Instruction::Name(name) => push(stack, named(*name, &machine.bindings)),
         Instruction::Variable(place) => {
-            put(
-                stack,
-                variable(*place as usize, machine.bindings.variables)?,
-            )
+            put_variable(*place as usize, machine.bindings.variables, stack)
         }
-        Instruction::Slot(slot) => put(stack, item_of(*slot, &machine.slots)?),
+        Instruction::Slot(slot) => put_item(*slot, &machine.slots, stack),
         Instruction::Field(name) => take_field(alloc, name, stack),
         Instruction::Has(name) => take_has(alloc, name, stack),
         Instruction::Index => take_index(alloc, stack),
@@ -94,9 +127,12 @@ fn branch(
     ensures leads { IfOk result (λ to. Leads (Branch otherwise end) at to (length stack.old.items) (length stack.new.items)) }
 {
     let test = pop(stack);
-    if is_true(&test) {
+    let holds = is_true(&test);
+    let fails = is_false(&test);
+    drop(test);
+    if holds {
         Ok(at + 1)
-    } else if is_false(&test) {
+    } else if fails {
         Ok(otherwise as usize)
     } else {
         put(stack, Outcome::Error)?;
@@ -190,8 +226,9 @@ fn run_macro<'a>(
     ensures leads { IfOk result (λ to. Leads (Over kind end) at to (length stack.old.items) (length stack.new.items)) }
 {
     let of = into_outcome(alloc, pop(stack))?;
-    let made = over_range(alloc, machine, kind, steps, at + 1, end as usize, &of)?;
-    put(stack, made)?;
+    let made = over_range(alloc, machine, kind, steps, at + 1, end as usize, &of);
+    drop(of);
+    put(stack, made?)?;
     Ok(end as usize)
 }
 

@@ -88,11 +88,47 @@ pub run_instruction-returns-in-Int-clause-step : goal.run_instruction-returns-in
 run_instruction-returns-in-Int-clause-step t c =
     IfOk-weaker c.advance_from-in-Int.result _ _ (λ to g. g (next_of c.args.machine.now c.args.steps)) c.advance_from-in-Int.ensures.step
 
+pub run_instruction-advance_from-requires-clause-here : goal.run_instruction-advance_from-requires-clause-here
+run_instruction-advance_from-requires-clause-here t c = c.requires.here
+
+pub run_instruction-returns-in-Unary-clause-leads : goal.run_instruction-returns-in-Unary-clause-leads
+run_instruction-returns-in-Unary-clause-leads t c = c.advance_from.ensures.leads
+
+pub run_instruction-advance_from-requires-in-Index-clause-here : goal.run_instruction-advance_from-requires-in-Index-clause-here
+run_instruction-advance_from-requires-in-Index-clause-here t c = c.requires.here
+
+pub run_instruction-returns-in-Index-clause-leads : goal.run_instruction-returns-in-Index-clause-leads
+run_instruction-returns-in-Index-clause-leads t c = c.advance_from-in-Index.ensures.leads
+
+pub run_instruction-advance_from-requires-in-Variable-clause-here : goal.run_instruction-advance_from-requires-in-Variable-clause-here
+run_instruction-advance_from-requires-in-Variable-clause-here t c = c.requires.here
+
+pub run_instruction-returns-in-Variable-clause-leads : goal.run_instruction-returns-in-Variable-clause-leads
+run_instruction-returns-in-Variable-clause-leads t c = c.advance_from-in-Variable.ensures.leads
+
+pub run_instruction-advance_from-requires-in-Bool-clause-here : goal.run_instruction-advance_from-requires-in-Bool-clause-here
+run_instruction-advance_from-requires-in-Bool-clause-here t c = c.requires.here
+
+pub run_instruction-returns-in-Bool-clause-leads : goal.run_instruction-returns-in-Bool-clause-leads
+run_instruction-returns-in-Bool-clause-leads t c = c.advance_from-in-Bool.ensures.leads
+
+pub run_instruction-advance_from-requires-in-Int-clause-here : goal.run_instruction-advance_from-requires-in-Int-clause-here
+run_instruction-advance_from-requires-in-Int-clause-here t c = c.requires.here
+
+pub run_instruction-returns-in-Int-clause-leads : goal.run_instruction-returns-in-Int-clause-leads
+run_instruction-returns-in-Int-clause-leads t c = c.advance_from-in-Int.ensures.leads
+
+pub run_instruction-returns-in-Branch-clause-leads : goal.run_instruction-returns-in-Branch-clause-leads
+run_instruction-returns-in-Branch-clause-leads t c = rw c.in-Branch.is c.branch-at.ensures.leads
+
+pub run_instruction-returns-in-Macro-clause-leads : goal.run_instruction-returns-in-Macro-clause-leads
+run_instruction-returns-in-Macro-clause-leads t c = rw c.in-Macro.is c.run_macro.ensures.leads
+
 pub run_macro-pop-requires : goal.run_macro-pop-requires
 run_macro-pop-requires t c = operands _ _ _ _ _ _ _ c.requires.here
 
-pub run_macro-over_range-requires : goal.run_macro-over_range-requires
-run_macro-over_range-requires t c =
+pub run_macro-over_range-made-requires : goal.run_macro-over_range-made-requires
+run_macro-over_range-made-requires t c =
     let body = ahead _ _ _ _ _ _ _ c.args.end c.requires.here (inl refl) in
     let inside : c.args.end ≤ c.args.stop = body.1 in
     (omega arith, (enters _ _ _ _ _ _ _ _ c.requires.here, omega arith))
