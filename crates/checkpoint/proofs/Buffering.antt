@@ -1,6 +1,6 @@
 -- Pages that are filled, in a writer's buffer and on the device.
 use Rattle.std.proofs.Common.{arith, refl, ◌≡◌, ◌∙◌, sym, ap, subst, ◌<◌, ◌≤◌, ◌+◌, ◌-◌, ◌*◌, ◌++◌, ◌∷◌, [], ℕ, zero, suc, List, length, take, drop, slice_index, append_assoc}
-use Rattle.std.proofs.lemmas.List.{length-append, length-take, get_or_append_left, get_or-append_right, ext_get_or, append-nil, take_at}
+use Rattle.std.proofs.lemmas.List.{length-append, length-take, get_or_append_left, get_or-append_right, ext_get_or, append-nil, take_at, nil_from_length}
 use Rattle.device.specs.Disk.{Disk}
 use Rattle.device.specs.Run.{Ran}
 use Rattle.device.specs.Step.{Holds, Same, Torn}
@@ -15,7 +15,7 @@ use Rattle.checkpoint.specs.Filling.{pages_of}
 use Rattle.roots.specs.Install.{HasAt}
 use Rattle.checkpoint.specs.PageWriter.{ArePages, IsFilled, HasPages, Advances}
 use Rattle.checkpoint.proofs.Joining.{page_at, pages_at-more, sound_more}
-use Rattle.roots.proofs.Staging.{HasAt-more, part-HasAt, look_then_torn}
+use Rattle.roots.proofs.Staging.{HasAt-more, part-HasAt, look_then_torn, look_torn}
 
 -- ---- where bytes stand
 
@@ -176,6 +176,15 @@ filled_all writer first entries content filled none =
           filled.are;
     }
 
+-- there are none, and so nothing has to be written
+pub no_pages_there : (first : ℕ) (entries : List Entry) (content : List ℕ) → 512 * first ≤ length content → length (pages_of entries) ≡ 0
+    → HasPages first entries content
+no_pages_there first entries content inside none = record {
+  bytes = [];
+  there = record { inside = omega (arith, inside); each = λ k lt. absurd (omega (arith, lt)) };
+  are = subst (λ (ps : List (List Entry)). ArePages [] ps) (sym (nil_from_length (pages_of entries) none)) are_no_pages;
+}
+
 -- ---- what writing leaves
 
 -- a write inside of a range
@@ -205,3 +214,12 @@ pages_within disk old mid look new start writer none goes_on before same run =
     torn_within disk old new (512 * start.at) (32768 * (start.filled + start.left)) (512 * start.at) (32768 * start.left) (omega arith) (omega (arith, none))
     (look_then_within disk old mid look new (512 * start.at) (32768 * (start.filled + start.left)) (512 * writer.at) (32768 * (writer.filled + writer.left))
     (omega (arith, goes_on.at)) (omega (arith, goes_on.end)) before same run)
+
+-- and where the walk could not go on
+pub pages_looked : {D : Type 0} (disk : Disk D) (old mid look : D) (start : PageWriter) → start.filled ≡ 0
+    → Ran disk old mid (Torn (512 * start.at) (32768 * (start.filled + start.left))) → Ran disk mid look Same
+    → Ran disk old look (Torn (512 * start.at) (32768 * start.left))
+pages_looked disk old mid look start none before same =
+    torn_then disk old mid look (512 * start.at) (32768 * start.left) (512 * start.at) (32768 * start.left) (omega arith) (omega arith)
+    (torn_within disk old mid (512 * start.at) (32768 * (start.filled + start.left)) (512 * start.at) (32768 * start.left) (omega arith) (omega (arith, none)) before)
+    (look_torn disk mid look (512 * start.at) (32768 * start.left) same)

@@ -1,4 +1,5 @@
-use Rattle.std.proofs.Common.{rules, ◌≡◌, ◌∙◌, sym, ap, subst, ◌<◌, ◌≤◌, ◌++◌, ◌∷◌, ℕ, Bool, false, true≢false, IsTrue, List, [], map}
+use Rattle.std.proofs.Common.{rules, ⊎_elim, ◌≡◌, ◌∙◌, sym, ap, subst, ◌<◌, ◌≤◌, ◌++◌, ◌∷◌, ℕ, Bool, false, true≢false, IsTrue, List, [], map}
+use Rattle.std.proofs.lemmas.Result.{IfOk-from_err}
 use Rattle.std.specs.Prelude.{IsErrOf}
 use Rattle.gatelog.proofs.Walking.{same_then}
 use Rattle.pages.specs.Page.{Entry, room_of}
@@ -6,6 +7,7 @@ use Rattle.checkpoint.specs.Filling.{AllFit, keys_from, pages_of}
 use Rattle.checkpoint.specs.Index.{keys_of}
 use Rattle.checkpoint.specs.Pages.{first_key}
 use Rattle.checkpoint.specs.declared.filling.EntriesFault.TheVariants as EntriesFault
+use Rattle.checkpoint.proofs.Faults.{err_is, was_err, no_fault, one_of_two, failed_since}
 use Rattle.checkpoint.proofs.Cutting.{walked_all, walked_more, walked_long}
 use Rattle.checkpoint.proofs.filling.first_keys.Given.{Over}
 use Rattle.checkpoint.proofs.filling.first_keys.Goals.{After-into_first_keys}
@@ -94,3 +96,86 @@ returns-in_err-advance-clause-damaged g c keeps is all gives =
     let ahead : List ℕ → List Entry → Type 0 = λ x es. g.E.Entries.ahead c.walk.entries x es in
     let damaged : IsErrOf c.advance.result EntriesFault.Damaged = search rules in
     c.advance.ensures.damaged (inv.ran.kept keeps) damaged walked.rest (subst (λ x. ahead x walked.rest) (sym same) walked.there)
+
+pub returns-in_err-advance-clause-keys : goal.returns-in_err-advance-clause-keys
+returns-in_err-advance-clause-keys g c keeps all gives = IfOk-from_err c.from_residual.result _ c.from_residual.ensures.0
+
+pub returns-in_err-advance-clause-fit : goal.returns-in_err-advance-clause-fit
+returns-in_err-advance-clause-fit g c keeps all gives = IfOk-from_err c.from_residual.result _ c.from_residual.ensures.0
+
+pub returns-in_err-add-clause-keys : goal.returns-in_err-add-clause-keys
+returns-in_err-add-clause-keys g c keeps all gives = IfOk-from_err c.from_residual-in_err-add.result _ c.from_residual-in_err-add.ensures.0
+
+pub returns-in_err-add-clause-fit : goal.returns-in_err-add-clause-fit
+returns-in_err-add-clause-fit g c keeps all gives = IfOk-from_err c.from_residual-in_err-add.result _ c.from_residual-in_err-add.ensures.0
+
+pub returns-in_err-advance-clause-too_long : goal.returns-in_err-advance-clause-too_long
+returns-in_err-advance-clause-too_long g c keeps all gives told fit =
+    absurd (⊎_elim (λ is. cc) (λ is. cc)
+    (one_of_two c.from_residual.result c.advance.result EntriesFault.Device EntriesFault.Damaged EntriesFault.TooLong
+    c.from_residual.ensures.1 c.in_err-advance.was c.advance.ensures.refusal told))
+
+pub returns-in_err-add-clause-damaged : goal.returns-in_err-add-clause-damaged
+returns-in_err-add-clause-damaged g c keeps told all gives =
+    absurd (⊎_elim (λ is. cc) (λ is. cc)
+    (one_of_two c.from_residual-in_err-add.result c.add.result EntriesFault.TooLong EntriesFault.Memory EntriesFault.Damaged
+    c.from_residual-in_err-add.ensures.1 c.in_err-add.was c.add.ensures.refusal told))
+
+pub returns-in_err-add-clause-cause : goal.returns-in_err-add-clause-cause
+returns-in_err-add-clause-cause g c told =
+    absurd (⊎_elim (λ is. cc) (λ is. cc)
+    (one_of_two c.from_residual-in_err-add.result c.add.result EntriesFault.TooLong EntriesFault.Memory EntriesFault.Device
+    c.from_residual-in_err-add.ensures.1 c.in_err-add.was c.add.ensures.refusal told))
+
+pub returns-in_err-advance-clause-cause : goal.returns-in_err-advance-clause-cause
+returns-in_err-advance-clause-cause g c told =
+    failed_since g.D.Device.disk c.args.device.now c.walk.device c.advance.new.device c.walk.invariant.ran.count
+    (c.advance.ensures.cause (was_err c.in_err-advance.was (err_is c.from_residual.result _ EntriesFault.Device c.from_residual.ensures.1 told)))
+
+pub returns-in_err-advance-clause-gives : goal.returns-in_err-advance-clause-gives
+returns-in_err-advance-clause-gives g c content all gives = c.advance.ensures.gives content all (c.walk.invariant.gives content all gives)
+
+pub returns-in_err-advance-clause-reads : goal.returns-in_err-advance-clause-reads
+returns-in_err-advance-clause-reads g c k reads = c.walk.invariant.reads k (c.advance.ensures.reads k reads)
+
+pub returns-in_err-advance-clause-ran : goal.returns-in_err-advance-clause-ran
+returns-in_err-advance-clause-ran g c =
+    same_then g.D.Device.disk c.args.device.now c.walk.device c.advance.new.device c.walk.invariant.ran c.advance.ensures.ran
+
+pub returns-then-not-branch-clause-gives : goal.returns-then-not-branch-clause-gives
+returns-then-not-branch-clause-gives g c content all gives = c.advance.ensures.gives content all (c.walk.invariant.gives content all gives)
+
+pub returns-then-not-branch-clause-reads : goal.returns-then-not-branch-clause-reads
+returns-then-not-branch-clause-reads g c k reads = c.walk.invariant.reads k (c.advance.ensures.reads k reads)
+
+pub returns-then-not-branch-clause-ran : goal.returns-then-not-branch-clause-ran
+returns-then-not-branch-clause-ran g c =
+    same_then g.D.Device.disk c.args.device.now c.walk.device c.advance.new.device c.walk.invariant.ran c.advance.ensures.ran
+
+pub returns-in_err-add-clause-gives : goal.returns-in_err-add-clause-gives
+returns-in_err-add-clause-gives g c content all gives = c.advance.ensures.gives content all (c.walk.invariant.gives content all gives)
+
+pub returns-in_err-add-clause-reads : goal.returns-in_err-add-clause-reads
+returns-in_err-add-clause-reads g c k reads = c.walk.invariant.reads k (c.advance.ensures.reads k reads)
+
+pub returns-in_err-add-clause-ran : goal.returns-in_err-add-clause-ran
+returns-in_err-add-clause-ran g c =
+    same_then g.D.Device.disk c.args.device.now c.walk.device c.advance.new.device c.walk.invariant.ran c.advance.ensures.ran
+
+pub returns-then-not-branch-clause-too_long : goal.returns-then-not-branch-clause-too_long
+returns-then-not-branch-clause-too_long g c keeps all gives told fit = no_fault told
+
+pub returns-then-not-branch-clause-damaged : goal.returns-then-not-branch-clause-damaged
+returns-then-not-branch-clause-damaged g c keeps told all gives = no_fault told
+
+pub returns-then-not-branch-clause-cause : goal.returns-then-not-branch-clause-cause
+returns-then-not-branch-clause-cause g c told = absurd (no_fault told)
+
+pub walk-smaller : goal.walk-smaller
+walk-smaller g c = c.in_ok-advance.ensures.most c.if-not-branch.false
+
+pub key-requires : goal.key-requires
+key-requires g c = c.in_ok-advance.ensures.stands c.if-not-branch.false
+
+pub cell-requires : goal.cell-requires
+cell-requires g c = c.in_ok-advance.ensures.stands c.if-not-branch.false

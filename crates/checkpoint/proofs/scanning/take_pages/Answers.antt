@@ -1,4 +1,5 @@
-use Rattle.std.proofs.Common.{rules, arith, ◌≡◌, ◌∙◌, sym, ap, subst, ◌+◌, ◌*◌, ℕ, List, [], ◌∷◌, ◌++◌, length, IsTrue}
+use Rattle.std.proofs.Common.{rules, arith, ⊎_elim, ◌≡◌, ◌∙◌, sym, ap, subst, ◌+◌, ◌*◌, ℕ, List, [], ◌∷◌, ◌++◌, length, IsTrue}
+use Rattle.std.proofs.lemmas.Result.{IfOk-from_err}
 use Rattle.std.specs.Prelude.{IsErrOf}
 use Rattle.std.specs.FinMap.{is_sorted}
 use Rattle.gatelog.specs.Record.{part}
@@ -8,6 +9,7 @@ use Rattle.checkpoint.specs.Index.{IsIndexed}
 use Rattle.checkpoint.specs.Pages.{pages_at, joined}
 use Rattle.checkpoint.specs.Reader.{Heard}
 use Rattle.checkpoint.specs.declared.scanning.ScanFault.TheVariants as ScanFault
+use Rattle.checkpoint.proofs.Faults.{err_is, no_fault, one_of_two}
 use Rattle.checkpoint.proofs.Hearing.{heard_then}
 use Rattle.checkpoint.proofs.Joining.{page_at, pages_at-more, sound_more, sound_at, sorted_to, joined-push}
 use Rattle.checkpoint.proofs.Taking.{page_read}
@@ -67,3 +69,63 @@ loop-i-preserved g c =
           (λ none. subst Heard_page (read keeps) (c.in_ok-refused.ensures.heard none))
           c.in_ok-refused.ensures.refused);
     }
+
+pub returns-in_err-read-clause-whole : goal.returns-in_err-read-clause-whole
+returns-in_err-read-clause-whole g c keeps = IfOk-from_err c.from_residual.result _ c.from_residual.ensures.0
+
+pub returns-in_err-read-clause-indexed : goal.returns-in_err-read-clause-indexed
+returns-in_err-read-clause-indexed g c keeps = IfOk-from_err c.from_residual.result _ c.from_residual.ensures.0
+
+pub returns-in_err-read-clause-heard : goal.returns-in_err-read-clause-heard
+returns-in_err-read-clause-heard g c keeps = IfOk-from_err c.from_residual.result _ c.from_residual.ensures.0
+
+pub returns-in_err-read-clause-ran : goal.returns-in_err-read-clause-ran
+returns-in_err-read-clause-ran g c =
+    same_then g.D.Device.disk c.args.device.now c.loop-i.device c.read.new.self c.loop-i.invariant.ran c.read.ensures.ran
+
+pub returns-in_err-refused-clause-whole : goal.returns-in_err-refused-clause-whole
+returns-in_err-refused-clause-whole g c keeps = IfOk-from_err c.from_residual-in_err-refused.result _ c.from_residual-in_err-refused.ensures.0
+
+pub returns-in_err-refused-clause-indexed : goal.returns-in_err-refused-clause-indexed
+returns-in_err-refused-clause-indexed g c keeps = IfOk-from_err c.from_residual-in_err-refused.result _ c.from_residual-in_err-refused.ensures.0
+
+pub returns-in_err-refused-clause-heard : goal.returns-in_err-refused-clause-heard
+returns-in_err-refused-clause-heard g c keeps = IfOk-from_err c.from_residual-in_err-refused.result _ c.from_residual-in_err-refused.ensures.0
+
+pub returns-in_err-refused-clause-ran : goal.returns-in_err-refused-clause-ran
+returns-in_err-refused-clause-ran g c =
+    same_then g.D.Device.disk c.args.device.now c.loop-i.device c.read.new.self c.loop-i.invariant.ran c.read.ensures.ran
+
+pub returns-in_err-read-clause-page : goal.returns-in_err-read-clause-page
+returns-in_err-read-clause-page g c keeps told holds =
+    let is : ScanFault.Page ≡ ScanFault.Device = err_is c.from_residual.result _ ScanFault.Page c.from_residual.ensures.1 told in
+    absurd cc
+
+pub returns-in_err-read-clause-refusal : goal.returns-in_err-read-clause-refusal
+returns-in_err-read-clause-refusal g c told =
+    let is : ScanFault.Entry ≡ ScanFault.Device = err_is c.from_residual.result _ ScanFault.Entry c.from_residual.ensures.1 told in
+    absurd cc
+
+pub returns-in_err-refused-clause-refusal : goal.returns-in_err-refused-clause-refusal
+returns-in_err-refused-clause-refusal g c told =
+    absurd (⊎_elim (λ is. cc) (λ is. cc)
+    (one_of_two c.from_residual-in_err-refused.result c.take_page.result ScanFault.Page ScanFault.Memory ScanFault.Entry
+    c.from_residual-in_err-refused.ensures.1 c.in_err-refused.was c.take_page.ensures.refusal told))
+
+pub returns-in_err-refused-clause-cause : goal.returns-in_err-refused-clause-cause
+returns-in_err-refused-clause-cause g c told =
+    absurd (⊎_elim (λ is. cc) (λ is. cc)
+    (one_of_two c.from_residual-in_err-refused.result c.take_page.result ScanFault.Page ScanFault.Memory ScanFault.Device
+    c.from_residual-in_err-refused.ensures.1 c.in_err-refused.was c.take_page.ensures.refusal told))
+
+pub returns-clause-page : goal.returns-clause-page
+returns-clause-page g c keeps told holds = no_fault told
+
+pub returns-clause-refusal : goal.returns-clause-refusal
+returns-clause-refusal g c told = no_fault told
+
+pub returns-clause-cause : goal.returns-clause-cause
+returns-clause-cause g c told = absurd (no_fault told)
+
+pub returns-clause-ran : goal.returns-clause-ran
+returns-clause-ran g c = c.loop-i.invariant.ran
