@@ -21,6 +21,8 @@ use celtokens::{Sign, Token};
 use celtree::{Operator, Prefix, Tree, call, method};
 use std::alloc::{AllocError, Global};
 
+// What makes trees. A function that takes `rest` gives it beside the tree, so that a reader can end with the call.
+
 // Apart from `expression`, so that its boxes take no room on the stack of a long `a ? b : c ? d : ..`.
 fn conditional<'a, 'b>(
     alloc: Global,
@@ -141,6 +143,7 @@ fn map_of<'a, 'b>(
     Ok((tree, rest))
 }
 
+// The items and one more.
 fn with_item(mut items: Vec<Tree>, item: Box<Tree>) -> Result<Vec<Tree>, ParseFault>
     ensures { MatchResult result (λ v. v.items ≡ items.items ++ item.value ∷ []) (λ e. e ≡ fault.Memory) }
 {
@@ -148,6 +151,7 @@ fn with_item(mut items: Vec<Tree>, item: Box<Tree>) -> Result<Vec<Tree>, ParseFa
     Ok(items)
 }
 
+// The entries and one more.
 fn with_entry(
     mut entries: Vec<(Tree, Tree)>,
     key: Box<Tree>,

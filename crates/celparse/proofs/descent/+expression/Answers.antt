@@ -1,12 +1,11 @@
-use Rattle.std.proofs.Common.{◌≡◌, suc, ◌-◌, ◌++◌, [], ◌∷◌, map, encode_utf8_all, sym, arith}
+use Rattle.std.proofs.Common.{◌≡◌, suc, ◌-◌, sym, arith}
 use Rattle.std.proofs.lemmas.Option.{MatchOption-at_some}
 use Rattle.std.proofs.lemmas.Result.{IfOk-weaker, IfErr-weaker}
 use Rattle.celtokens.specs.Seen.{terminals}
 use Rattle.celparse.specs.Grammar.{Member, Literal}
 use Rattle.celparse.specs.Ends.{HasNoTree, Read, Refuses}
 use Rattle.celparse.specs.Ahead.{HasNoLiteral}
-use Rattle.celtree.specs.View.{view, views, pair_views}
-use Rattle.celtree.proofs.Views.{pair_view}
+use Rattle.celtree.specs.View.{view}
 use Rattle.celparse.proofs.Refusals.{refuses, handed_on, of_ok, of_err, of_memory, map-pair_view, view-push, no_tree_at, read_at}
 use Rattle.celparse.proofs.Chains.{going_start, start_none, going_next, next_none, going_end}
 use Rattle.celparse.proofs.Prefixes.{unary_plain, unary_plain_none, unary_prefixed, unary_prefixed_none, prefixed_again, prefixed_again_none, prefixed_bare}
@@ -17,16 +16,26 @@ use Rattle.celparse.proofs.Lists.{items_empty, items_first, items_read, items_no
 use Rattle.celparse.proofs.descent.+expression.Goals as goal
 
 pub composite-returns-in_err-arguments-in-Call-clause-none : goal.composite-returns-in_err-arguments-in-Call-clause-none
-composite-returns-in_err-arguments-in-Call-clause-none t c = handed_on c.from_residual.result c.in_err-arguments-in-Call.field-0.0 c.from_residual.ensures.1 (composite_no_arguments c.in-Call.name.now (terminals c.in-Call.inside.now) (terminals c.args.tokens.now) c.in-Call.ensures.0) c.in_err-arguments-in-Call.ensures.none
+composite-returns-in_err-arguments-in-Call-clause-none t c =
+    handed_on c.from_residual.result c.in_err-arguments-in-Call.field-0.0 c.from_residual.ensures.1
+    (composite_no_arguments c.in-Call.name.now _ _ c.in-Call.ensures.0)
+    c.in_err-arguments-in-Call.ensures.none
 
 pub composite-returns-in_err-items-in-Bracket-clause-none : goal.composite-returns-in_err-items-in-Bracket-clause-none
-composite-returns-in_err-items-in-Bracket-clause-none t c = handed_on c.from_residual-in_err-items-in-Bracket.result c.in_err-items-in-Bracket.field-0.0 c.from_residual-in_err-items-in-Bracket.ensures.1 (composite_no_list (terminals c.in-Bracket.inside.now) (terminals c.args.tokens.now) c.in-Bracket.ensures.0) c.in_err-items-in-Bracket.ensures.none
+composite-returns-in_err-items-in-Bracket-clause-none t c =
+    handed_on c.from_residual-in_err-items-in-Bracket.result c.in_err-items-in-Bracket.field-0.0 c.from_residual-in_err-items-in-Bracket.ensures.1
+    (composite_no_list _ _ c.in-Bracket.ensures.0)
+    c.in_err-items-in-Bracket.ensures.none
 
 pub composite-returns-in_err-entries-in-Brace-clause-none : goal.composite-returns-in_err-entries-in-Brace-clause-none
-composite-returns-in_err-entries-in-Brace-clause-none t c = handed_on c.from_residual-in_err-entries-in-Brace.result c.in_err-entries-in-Brace.field-0.0 c.from_residual-in_err-entries-in-Brace.ensures.1 (composite_no_map (terminals c.in-Brace.inside.now) (terminals c.args.tokens.now) c.in-Brace.ensures.0) c.in_err-entries-in-Brace.ensures.none
+composite-returns-in_err-entries-in-Brace-clause-none t c =
+    handed_on c.from_residual-in_err-entries-in-Brace.result c.in_err-entries-in-Brace.field-0.0 c.from_residual-in_err-entries-in-Brace.ensures.1
+    (composite_no_map _ _ c.in-Brace.ensures.0)
+    c.in_err-entries-in-Brace.ensures.none
 
 pub composite-returns-in-Name-clause-tree : goal.composite-returns-in-Name-clause-tree
-composite-returns-in-Name-clause-tree t c = of_ok _ c.named.result c.named.ensures (λ x h. rw (h.0, h.1) (composite_name (terminals c.args.tokens.now) c.in-Name.name.now (terminals c.in-Name.rest.now) c.in-Name.ensures.0 c.in-Name.ensures.1))
+composite-returns-in-Name-clause-tree t c =
+    of_ok _ c.named.result c.named.ensures (λ x h. rw (h.0, h.1) (composite_name _ c.in-Name.name.now _ c.in-Name.ensures.0 c.in-Name.ensures.1))
 
 pub composite-returns-in-Name-clause-none : goal.composite-returns-in-Name-clause-none
 composite-returns-in-Name-clause-none t c = of_memory _ _ c.named.result c.named.ensures
@@ -35,46 +44,58 @@ pub composite-returns-in-Name-clause-shorter : goal.composite-returns-in-Name-cl
 composite-returns-in-Name-clause-shorter t c = of_ok _ c.named.result c.named.ensures (λ x h. rw h.1 c.in-Name.ensures.2)
 
 pub composite-returns-in_ok-arguments-in-Call-clause-tree : goal.composite-returns-in_ok-arguments-in-Call-clause-tree
-composite-returns-in_ok-arguments-in-Call-clause-tree t c = of_ok _ c.function_call.result c.function_call.ensures (λ x h. rw h.1 (composite_call c.in-Call.name.now (terminals c.in-Call.inside.now) (terminals c.args.tokens.now) c.in-Call.ensures.0 (views c.in_ok-arguments-in-Call.arguments.items) (view x.0.value) (terminals c.in_ok-arguments-in-Call.rest.now) c.in_ok-arguments-in-Call.ensures.items h.0))
+composite-returns-in_ok-arguments-in-Call-clause-tree t c =
+    of_ok _ c.function_call.result c.function_call.ensures (λ x h. rw h.1 (composite_call c.in-Call.name.now _ _ c.in-Call.ensures.0 _ _ _ c.in_ok-arguments-in-Call.ensures.items h.0))
 
 pub composite-returns-in_ok-arguments-in-Call-clause-none : goal.composite-returns-in_ok-arguments-in-Call-clause-none
-composite-returns-in_ok-arguments-in-Call-clause-none t c = of_err _ c.function_call.result c.function_call.ensures (λ e h. refuses e (composite_no_call c.in-Call.name.now (terminals c.in-Call.inside.now) (terminals c.args.tokens.now) c.in-Call.ensures.0 (views c.in_ok-arguments-in-Call.arguments.items) (terminals c.in_ok-arguments-in-Call.rest.now) c.in_ok-arguments-in-Call.ensures.items) h)
+composite-returns-in_ok-arguments-in-Call-clause-none t c =
+    of_err _ c.function_call.result c.function_call.ensures (λ e h. refuses e (composite_no_call c.in-Call.name.now _ _ c.in-Call.ensures.0 _ _ c.in_ok-arguments-in-Call.ensures.items) h)
 
 pub composite-returns-in_ok-arguments-in-Call-clause-shorter : goal.composite-returns-in_ok-arguments-in-Call-clause-shorter
-composite-returns-in_ok-arguments-in-Call-clause-shorter t c = of_ok _ c.function_call.result c.function_call.ensures (λ x h. rw h.1 (omega (arith, c.in-Call.ensures.1, c.in_ok-arguments-in-Call.ensures.shorter)))
+composite-returns-in_ok-arguments-in-Call-clause-shorter t c =
+    of_ok _ c.function_call.result c.function_call.ensures (λ x h. rw h.1 (omega (arith, c.in-Call.ensures.1, c.in_ok-arguments-in-Call.ensures.shorter)))
 
 pub composite-returns-in-Parenthesis-clause-tree : goal.composite-returns-in-Parenthesis-clause-tree
-composite-returns-in-Parenthesis-clause-tree t c = IfOk-weaker c.expression_before.result _ _ (λ x h. composite_brackets (terminals c.in-Parenthesis.inside.now) (terminals c.args.tokens.now) c.in-Parenthesis.ensures.0 (view x.0.value) (terminals x.1.now) h) c.expression_before.ensures.tree
+composite-returns-in-Parenthesis-clause-tree t c =
+    IfOk-weaker c.expression_before.result _ _ (λ x h. composite_brackets _ _ c.in-Parenthesis.ensures.0 _ _ h) c.expression_before.ensures.tree
 
 pub composite-returns-in-Parenthesis-clause-none : goal.composite-returns-in-Parenthesis-clause-none
-composite-returns-in-Parenthesis-clause-none t c = IfErr-weaker c.expression_before.result _ _ (λ e h. refuses e (composite_no_inner (terminals c.in-Parenthesis.inside.now) (terminals c.args.tokens.now) c.in-Parenthesis.ensures.0) h) c.expression_before.ensures.none
+composite-returns-in-Parenthesis-clause-none t c =
+    IfErr-weaker c.expression_before.result _ _ (λ e h. refuses e (composite_no_inner _ _ c.in-Parenthesis.ensures.0) h) c.expression_before.ensures.none
 
 pub composite-returns-in-Parenthesis-clause-shorter : goal.composite-returns-in-Parenthesis-clause-shorter
-composite-returns-in-Parenthesis-clause-shorter t c = IfOk-weaker c.expression_before.result _ _ (λ x h. omega (arith, h, c.in-Parenthesis.ensures.1)) c.expression_before.ensures.shorter
+composite-returns-in-Parenthesis-clause-shorter t c =
+    IfOk-weaker c.expression_before.result _ _ (λ x h. omega (arith, h, c.in-Parenthesis.ensures.1)) c.expression_before.ensures.shorter
 
 pub composite-returns-in_ok-items-in-Bracket-clause-tree : goal.composite-returns-in_ok-items-in-Bracket-clause-tree
-composite-returns-in_ok-items-in-Bracket-clause-tree t c = of_ok _ c.list_of.result c.list_of.ensures (λ x h. rw (h.0, h.1) (composite_list (terminals c.in-Bracket.inside.now) (terminals c.args.tokens.now) c.in-Bracket.ensures.0 (views c.in_ok-items-in-Bracket.items.items) (terminals c.in_ok-items-in-Bracket.rest.now) c.in_ok-items-in-Bracket.ensures.items))
+composite-returns-in_ok-items-in-Bracket-clause-tree t c =
+    of_ok _ c.list_of.result c.list_of.ensures (λ x h. rw (h.0, h.1) (composite_list _ _ c.in-Bracket.ensures.0 _ _ c.in_ok-items-in-Bracket.ensures.items))
 
 pub composite-returns-in_ok-items-in-Bracket-clause-none : goal.composite-returns-in_ok-items-in-Bracket-clause-none
 composite-returns-in_ok-items-in-Bracket-clause-none t c = of_memory _ _ c.list_of.result c.list_of.ensures
 
 pub composite-returns-in_ok-items-in-Bracket-clause-shorter : goal.composite-returns-in_ok-items-in-Bracket-clause-shorter
-composite-returns-in_ok-items-in-Bracket-clause-shorter t c = of_ok _ c.list_of.result c.list_of.ensures (λ x h. rw h.1 (omega (arith, c.in-Bracket.ensures.1, c.in_ok-items-in-Bracket.ensures.shorter)))
+composite-returns-in_ok-items-in-Bracket-clause-shorter t c =
+    of_ok _ c.list_of.result c.list_of.ensures (λ x h. rw h.1 (omega (arith, c.in-Bracket.ensures.1, c.in_ok-items-in-Bracket.ensures.shorter)))
 
 pub composite-returns-in_ok-entries-in-Brace-clause-tree : goal.composite-returns-in_ok-entries-in-Brace-clause-tree
-composite-returns-in_ok-entries-in-Brace-clause-tree t c = of_ok _ c.map_of.result c.map_of.ensures (λ x h. rw (h.0, h.1) (composite_map (terminals c.in-Brace.inside.now) (terminals c.args.tokens.now) c.in-Brace.ensures.0 (pair_views c.in_ok-entries-in-Brace.entries.items) (terminals c.in_ok-entries-in-Brace.rest.now) c.in_ok-entries-in-Brace.ensures.entries))
+composite-returns-in_ok-entries-in-Brace-clause-tree t c =
+    of_ok _ c.map_of.result c.map_of.ensures (λ x h. rw (h.0, h.1) (composite_map _ _ c.in-Brace.ensures.0 _ _ c.in_ok-entries-in-Brace.ensures.entries))
 
 pub composite-returns-in_ok-entries-in-Brace-clause-none : goal.composite-returns-in_ok-entries-in-Brace-clause-none
 composite-returns-in_ok-entries-in-Brace-clause-none t c = of_memory _ _ c.map_of.result c.map_of.ensures
 
 pub composite-returns-in_ok-entries-in-Brace-clause-shorter : goal.composite-returns-in_ok-entries-in-Brace-clause-shorter
-composite-returns-in_ok-entries-in-Brace-clause-shorter t c = of_ok _ c.map_of.result c.map_of.ensures (λ x h. rw h.1 (omega (arith, c.in-Brace.ensures.1, c.in_ok-entries-in-Brace.ensures.shorter)))
+composite-returns-in_ok-entries-in-Brace-clause-shorter t c =
+    of_ok _ c.map_of.result c.map_of.ensures (λ x h. rw h.1 (omega (arith, c.in-Brace.ensures.1, c.in_ok-entries-in-Brace.ensures.shorter)))
 
 pub composite-returns-in-Nothing-clause-none : goal.composite-returns-in-Nothing-clause-none
-composite-returns-in-Nothing-clause-none t c = composite_nothing (terminals c.args.tokens.now) c.in-Nothing.ensures.0 c.in-Nothing.ensures.1 c.in-Nothing.ensures.2 c.in-Nothing.ensures.3
+composite-returns-in-Nothing-clause-none t c =
+    composite_nothing _ c.in-Nothing.ensures.0 c.in-Nothing.ensures.1 c.in-Nothing.ensures.2 c.in-Nothing.ensures.3
 
 pub entries-returns-then-is_empty-clause-entries : goal.entries-returns-then-is_empty-clause-entries
-entries-returns-then-is_empty-clause-entries t c = rw c.new-entries.ensures.items (entries_empty (terminals c.args.tokens.now) (terminals c.skip-is_empty.result.1.now) (c.skip-is_empty.ensures.found c.if-is_empty.true).0)
+entries-returns-then-is_empty-clause-entries t c =
+    rw c.new-entries.ensures.items (entries_empty _ _ (c.skip-is_empty.ensures.found c.if-is_empty.true).0)
 
 pub entries-returns-then-is_empty-clause-shorter : goal.entries-returns-then-is_empty-clause-shorter
 entries-returns-then-is_empty-clause-shorter t c = (c.skip-is_empty.ensures.found c.if-is_empty.true).1
@@ -82,43 +103,53 @@ entries-returns-then-is_empty-clause-shorter t c = (c.skip-is_empty.ensures.foun
 pub entries-more_entries-init : goal.entries-more_entries-init
 entries-more_entries-init t c =
     let all = c.skip-is_empty.ensures.kept c.if-is_empty.false in
-    record { here = rw (all.1, c.new-entries.ensures.items) (entries_first (terminals c.args.tokens.now) all.0); within = rw all.1 (omega arith) }
+    record { here = rw (all.1, c.new-entries.ensures.items) (entries_first _ all.0); within = rw all.1 (omega arith) }
 
 pub entries-returns-in_err-key-clause-none : goal.entries-returns-in_err-key-clause-none
-entries-returns-in_err-key-clause-none t c = handed_on c.from_residual.result c.in_err-key.field-0.0 c.from_residual.ensures.1 (λ none. entries_none (terminals c.args.tokens.now) (map pair_view c.more_entries.entries.items) (terminals c.more_entries.rest.now) c.more_entries.invariant.here (entry_no_key (terminals c.more_entries.rest.now) none)) c.in_err-key.ensures.none
+entries-returns-in_err-key-clause-none t c =
+    handed_on c.from_residual.result c.in_err-key.field-0.0 c.from_residual.ensures.1
+    (λ none. entries_none _ _ _ c.more_entries.invariant.here (entry_no_key _ none))
+    c.in_err-key.ensures.none
 
 pub entries-returns-in_err-value-clause-none : goal.entries-returns-in_err-value-clause-none
-entries-returns-in_err-value-clause-none t c = handed_on c.from_residual-in_err-value.result c.in_err-value.field-0.0 c.from_residual-in_err-value.ensures.1 (λ none. entries_none (terminals c.args.tokens.now) (map pair_view c.more_entries.entries.items) (terminals c.more_entries.rest.now) c.more_entries.invariant.here (entry_no_value (terminals c.more_entries.rest.now) (view c.in_ok-key.key.value) (terminals c.in_ok-key.beyond.now) c.in_ok-key.ensures.tree none)) c.in_err-value.ensures.none
+entries-returns-in_err-value-clause-none t c =
+    handed_on c.from_residual-in_err-value.result c.in_err-value.field-0.0 c.from_residual-in_err-value.ensures.1
+    (λ none. entries_none _ _ _ c.more_entries.invariant.here (entry_no_value _ _ _ c.in_ok-key.ensures.tree none))
+    c.in_err-value.ensures.none
 
 pub entries-returns-in-End-clause-entries : goal.entries-returns-in-End-clause-entries
 entries-returns-in-End-clause-entries t c =
-    let entry = entry_read (terminals c.more_entries.rest.now) (view c.in_ok-key.key.value) (terminals c.in_ok-key.beyond.now) (view c.in_ok-value.value.value) (terminals c.in_ok-value.after.now) c.in_ok-key.ensures.tree c.in_ok-value.ensures.tree in
-    let going = entries_read (terminals c.args.tokens.now) (map pair_view c.more_entries.entries.items) (terminals c.more_entries.rest.now) c.more_entries.invariant.here (view c.in_ok-key.key.value) (view c.in_ok-value.value.value) (terminals c.in_ok-value.after.now) entry in
-    rw (c.in_ok-longer.ensures, map-pair_view c.more_entries.entries.items (c.in_ok-key.key.value, c.in_ok-value.value.value)) (entries_end (terminals c.args.tokens.now) (map pair_view c.more_entries.entries.items ++ ((view c.in_ok-key.key.value), (view c.in_ok-value.value.value)) ∷ []) (terminals c.in_ok-value.after.now) going (terminals c.in-End.beyond.now) c.in-End.ensures.0)
+    let entry = entry_read _ _ _ _ _ c.in_ok-key.ensures.tree c.in_ok-value.ensures.tree in
+    let going = entries_read _ _ _ c.more_entries.invariant.here _ _ _ entry in
+    rw (c.in_ok-longer.ensures, map-pair_view c.more_entries.entries.items (c.in_ok-key.key.value, c.in_ok-value.value.value))
+    (entries_end _ _ _ going _ c.in-End.ensures.0)
 
 pub entries-more_entries-preserved : goal.entries-more_entries-preserved
 entries-more_entries-preserved t c =
-    let entry = entry_read (terminals c.more_entries.rest.now) (view c.in_ok-key.key.value) (terminals c.in_ok-key.beyond.now) (view c.in_ok-value.value.value) (terminals c.in_ok-value.after.now) c.in_ok-key.ensures.tree c.in_ok-value.ensures.tree in
-    let going = entries_read (terminals c.args.tokens.now) (map pair_view c.more_entries.entries.items) (terminals c.more_entries.rest.now) c.more_entries.invariant.here (view c.in_ok-key.key.value) (view c.in_ok-value.value.value) (terminals c.in_ok-value.after.now) entry in
+    let entry = entry_read _ _ _ _ _ c.in_ok-key.ensures.tree c.in_ok-value.ensures.tree in
+    let going = entries_read _ _ _ c.more_entries.invariant.here _ _ _ entry in
     record {
-      here = rw (c.in_ok-longer.ensures, map-pair_view c.more_entries.entries.items (c.in_ok-key.key.value, c.in_ok-value.value.value)) (entries_comma (terminals c.args.tokens.now) (map pair_view c.more_entries.entries.items ++ ((view c.in_ok-key.key.value), (view c.in_ok-value.value.value)) ∷ []) (terminals c.in_ok-value.after.now) going (terminals c.in-Comma.beyond.now) c.in-Comma.ensures.0 c.in-Comma.ensures.1);
+      here = rw (c.in_ok-longer.ensures, map-pair_view c.more_entries.entries.items (c.in_ok-key.key.value, c.in_ok-value.value.value))
+          (entries_comma _ _ _ going _ c.in-Comma.ensures.0 c.in-Comma.ensures.1);
       within = omega (arith, c.more_entries.invariant.within, c.in_ok-key.ensures.shorter, c.in_ok-value.ensures.shorter, c.in-Comma.ensures.2);
     }
 
 pub entries-returns-in-Wrong-clause-none : goal.entries-returns-in-Wrong-clause-none
 entries-returns-in-Wrong-clause-none t c =
-    let entry = entry_read (terminals c.more_entries.rest.now) (view c.in_ok-key.key.value) (terminals c.in_ok-key.beyond.now) (view c.in_ok-value.value.value) (terminals c.in_ok-value.after.now) c.in_ok-key.ensures.tree c.in_ok-value.ensures.tree in
-    let going = entries_read (terminals c.args.tokens.now) (map pair_view c.more_entries.entries.items) (terminals c.more_entries.rest.now) c.more_entries.invariant.here (view c.in_ok-key.key.value) (view c.in_ok-value.value.value) (terminals c.in_ok-value.after.now) entry in
-    entries_wrong (terminals c.args.tokens.now) (map pair_view c.more_entries.entries.items ++ ((view c.in_ok-key.key.value), (view c.in_ok-value.value.value)) ∷ []) (terminals c.in_ok-value.after.now) going c.in-Wrong.ensures.0 c.in-Wrong.ensures.1
+    let entry = entry_read _ _ _ _ _ c.in_ok-key.ensures.tree c.in_ok-value.ensures.tree in
+    let going = entries_read _ _ _ c.more_entries.invariant.here _ _ _ entry in
+    entries_wrong _ _ _ going c.in-Wrong.ensures.0 c.in-Wrong.ensures.1
 
 pub entries-returns-in-End-clause-shorter : goal.entries-returns-in-End-clause-shorter
-entries-returns-in-End-clause-shorter t c = omega (arith, c.more_entries.invariant.within, c.in_ok-key.ensures.shorter, c.in_ok-value.ensures.shorter, c.in-End.ensures.1)
+entries-returns-in-End-clause-shorter t c =
+    omega (arith, c.more_entries.invariant.within, c.in_ok-key.ensures.shorter, c.in_ok-value.ensures.shorter, c.in-End.ensures.1)
 
 pub entries-more_entries-smaller : goal.entries-more_entries-smaller
 entries-more_entries-smaller t c = omega (arith, c.in_ok-key.ensures.shorter, c.in_ok-value.ensures.shorter, c.in-Comma.ensures.2)
 
 pub items-returns-then-is_empty-clause-items : goal.items-returns-then-is_empty-clause-items
-items-returns-then-is_empty-clause-items t c = rw c.new-items.ensures.items (items_empty c.args.closing (terminals c.args.tokens.now) (terminals c.skip-is_empty.result.1.now) (rw c.close_sign.ensures at (c.skip-is_empty.ensures.found c.if-is_empty.true).0))
+items-returns-then-is_empty-clause-items t c =
+    rw c.new-items.ensures.items (items_empty c.args.closing _ _ (rw c.close_sign.ensures at (c.skip-is_empty.ensures.found c.if-is_empty.true).0))
 
 pub items-returns-then-is_empty-clause-shorter : goal.items-returns-then-is_empty-clause-shorter
 items-returns-then-is_empty-clause-shorter t c = (c.skip-is_empty.ensures.found c.if-is_empty.true).1
@@ -126,55 +157,85 @@ items-returns-then-is_empty-clause-shorter t c = (c.skip-is_empty.ensures.found 
 pub items-more_items-init : goal.items-more_items-init
 items-more_items-init t c =
     let all = c.skip-is_empty.ensures.kept c.if-is_empty.false in
-    record { here = rw (all.1, c.new-items.ensures.items) (items_first c.args.closing (terminals c.args.tokens.now) (rw c.close_sign.ensures at all.0)); within = rw all.1 (omega arith) }
+    record { here = rw (all.1, c.new-items.ensures.items) (items_first c.args.closing _ (rw c.close_sign.ensures at all.0)); within = rw all.1 (omega arith) }
 
 pub items-returns-in_err-item-clause-none : goal.items-returns-in_err-item-clause-none
-items-returns-in_err-item-clause-none t c = handed_on c.from_residual.result c.in_err-item.field-0.0 c.from_residual.ensures.1 (items_none c.args.closing (terminals c.args.tokens.now) (map view c.more_items.items.items) (terminals c.more_items.rest.now) c.more_items.invariant.here) c.in_err-item.ensures.none
+items-returns-in_err-item-clause-none t c =
+    handed_on c.from_residual.result c.in_err-item.field-0.0 c.from_residual.ensures.1
+    (items_none c.args.closing _ _ _ c.more_items.invariant.here)
+    c.in_err-item.ensures.none
 
 pub items-returns-in-End-clause-items : goal.items-returns-in-End-clause-items
-items-returns-in-End-clause-items t c = rw (c.in_ok-longer.ensures, view-push c.more_items.items.items c.in_ok-item.item.value) (items_end c.args.closing (terminals c.args.tokens.now) (map view c.more_items.items.items ++ (view c.in_ok-item.item.value) ∷ []) (terminals c.in_ok-item.after.now) (items_read c.args.closing (terminals c.args.tokens.now) (map view c.more_items.items.items) (terminals c.more_items.rest.now) c.more_items.invariant.here (view c.in_ok-item.item.value) (terminals c.in_ok-item.after.now) c.in_ok-item.ensures.tree) (terminals c.in-End.beyond.now) c.in-End.ensures.0)
+items-returns-in-End-clause-items t c =
+    let going = items_read c.args.closing _ _ _ c.more_items.invariant.here _ _ c.in_ok-item.ensures.tree in
+    rw (c.in_ok-longer.ensures, view-push c.more_items.items.items c.in_ok-item.item.value)
+    (items_end c.args.closing _ _ _ going _ c.in-End.ensures.0)
 
 pub items-more_items-preserved : goal.items-more_items-preserved
-items-more_items-preserved t c = record {
-  here = rw (c.in_ok-longer.ensures, view-push c.more_items.items.items c.in_ok-item.item.value) (items_comma c.args.closing (terminals c.args.tokens.now) (map view c.more_items.items.items ++ (view c.in_ok-item.item.value) ∷ []) (terminals c.in_ok-item.after.now) (items_read c.args.closing (terminals c.args.tokens.now) (map view c.more_items.items.items) (terminals c.more_items.rest.now) c.more_items.invariant.here (view c.in_ok-item.item.value) (terminals c.in_ok-item.after.now) c.in_ok-item.ensures.tree) (terminals c.in-Comma.beyond.now) c.in-Comma.ensures.0 c.in-Comma.ensures.1);
-  within = omega (arith, c.more_items.invariant.within, c.in_ok-item.ensures.shorter, c.in-Comma.ensures.2);
-}
+items-more_items-preserved t c =
+    let going = items_read c.args.closing _ _ _ c.more_items.invariant.here _ _ c.in_ok-item.ensures.tree in
+    record {
+      here = rw (c.in_ok-longer.ensures, view-push c.more_items.items.items c.in_ok-item.item.value)
+          (items_comma c.args.closing _ _ _ going _ c.in-Comma.ensures.0 c.in-Comma.ensures.1);
+      within = omega (arith, c.more_items.invariant.within, c.in_ok-item.ensures.shorter, c.in-Comma.ensures.2);
+    }
 
 pub items-returns-in-Wrong-clause-none : goal.items-returns-in-Wrong-clause-none
-items-returns-in-Wrong-clause-none t c = items_wrong c.args.closing (terminals c.args.tokens.now) (map view c.more_items.items.items ++ (view c.in_ok-item.item.value) ∷ []) (terminals c.in_ok-item.after.now) (items_read c.args.closing (terminals c.args.tokens.now) (map view c.more_items.items.items) (terminals c.more_items.rest.now) c.more_items.invariant.here (view c.in_ok-item.item.value) (terminals c.in_ok-item.after.now) c.in_ok-item.ensures.tree) c.in-Wrong.ensures.0 c.in-Wrong.ensures.1
+items-returns-in-Wrong-clause-none t c =
+    let going = items_read c.args.closing _ _ _ c.more_items.invariant.here _ _ c.in_ok-item.ensures.tree in
+    items_wrong c.args.closing _ _ _ going c.in-Wrong.ensures.0 c.in-Wrong.ensures.1
 
 pub items-returns-in-End-clause-shorter : goal.items-returns-in-End-clause-shorter
-items-returns-in-End-clause-shorter t c = omega (arith, c.more_items.invariant.within, c.in_ok-item.ensures.shorter, c.in-End.ensures.1)
+items-returns-in-End-clause-shorter t c =
+    omega (arith, c.more_items.invariant.within, c.in_ok-item.ensures.shorter, c.in-End.ensures.1)
 
 pub items-more_items-smaller : goal.items-more_items-smaller
 items-more_items-smaller t c = omega (arith, c.in_ok-item.ensures.shorter, c.in-Comma.ensures.2)
 
 pub expression-returns-in_err-test-clause-none : goal.expression-returns-in_err-test-clause-none
-expression-returns-in_err-test-clause-none t c = handed_on c.from_residual.result c.in_err-test.field-0.0 c.from_residual.ensures.1 (whole_none (terminals c.args.tokens.now)) c.in_err-test.ensures.none
+expression-returns-in_err-test-clause-none t c =
+    handed_on c.from_residual.result c.in_err-test.field-0.0 c.from_residual.ensures.1
+    (whole_none _)
+    c.in_err-test.ensures.none
 
 pub expression-returns-in-None-clause-tree : goal.expression-returns-in-None-clause-tree
-expression-returns-in-None-clause-tree t c = whole_simple (terminals c.args.tokens.now) (view c.in_ok-test.test.value) (terminals c.in_ok-test.rest.now) c.in_ok-test.ensures.tree c.in-None.ensures.value
+expression-returns-in-None-clause-tree t c = whole_simple _ _ _ c.in_ok-test.ensures.tree c.in-None.ensures.value
 
 pub expression-returns-in_err-first-in-Some-clause-none : goal.expression-returns-in_err-first-in-Some-clause-none
-expression-returns-in_err-first-in-Some-clause-none t c = handed_on c.from_residual-in_err-first-in-Some.result c.in_err-first-in-Some.field-0.0 c.from_residual-in_err-first-in-Some.ensures.1 (branches_none (terminals c.args.tokens.now) (view c.in_ok-test.test.value) (terminals c.in-Some.beyond.now) (branches (terminals c.args.tokens.now) (view c.in_ok-test.test.value) (terminals c.in_ok-test.rest.now) (terminals c.in-Some.beyond.now) c.in_ok-test.ensures.tree c.in-Some.ensures.value)) c.in_err-first-in-Some.ensures.none
+expression-returns-in_err-first-in-Some-clause-none t c =
+    handed_on c.from_residual-in_err-first-in-Some.result c.in_err-first-in-Some.field-0.0 c.from_residual-in_err-first-in-Some.ensures.1
+    (branches_none _ _ _ (branches _ _ _ _ c.in_ok-test.ensures.tree c.in-Some.ensures.value))
+    c.in_err-first-in-Some.ensures.none
 
 pub expression-returns-in-None-after-clause-none : goal.expression-returns-in-None-after-clause-none
-expression-returns-in-None-after-clause-none t c = branches_no_colon (terminals c.args.tokens.now) (view c.in_ok-test.test.value) (terminals c.in-Some.beyond.now) (branches (terminals c.args.tokens.now) (view c.in_ok-test.test.value) (terminals c.in_ok-test.rest.now) (terminals c.in-Some.beyond.now) c.in_ok-test.ensures.tree c.in-Some.ensures.value) (view c.in_ok-first-in-Some.first.value) (terminals c.in_ok-first-in-Some.rest.now) c.in_ok-first-in-Some.ensures.tree c.in-None-after.ensures.value
+expression-returns-in-None-after-clause-none t c =
+    branches_no_colon _ _ _ (branches _ _ _ _ c.in_ok-test.ensures.tree c.in-Some.ensures.value) _ _ c.in_ok-first-in-Some.ensures.tree c.in-None-after.ensures.value
 
 pub expression-returns-in_err-second-in-Some-after-clause-none : goal.expression-returns-in_err-second-in-Some-after-clause-none
-expression-returns-in_err-second-in-Some-after-clause-none t c = handed_on c.from_residual-in_err-second-in-Some-after.result c.in_err-second-in-Some-after.field-0.0 c.from_residual-in_err-second-in-Some-after.ensures.1 (branches_no_second (terminals c.args.tokens.now) (view c.in_ok-test.test.value) (terminals c.in-Some.beyond.now) (branches (terminals c.args.tokens.now) (view c.in_ok-test.test.value) (terminals c.in_ok-test.rest.now) (terminals c.in-Some.beyond.now) c.in_ok-test.ensures.tree c.in-Some.ensures.value) (view c.in_ok-first-in-Some.first.value) (terminals c.in_ok-first-in-Some.rest.now) (terminals c.in-Some-after.beyond.now) c.in_ok-first-in-Some.ensures.tree c.in-Some-after.ensures.value) c.in_err-second-in-Some-after.ensures.none
+expression-returns-in_err-second-in-Some-after-clause-none t c =
+    handed_on c.from_residual-in_err-second-in-Some-after.result c.in_err-second-in-Some-after.field-0.0 c.from_residual-in_err-second-in-Some-after.ensures.1
+    (branches_no_second _ _ _ (branches _ _ _ _ c.in_ok-test.ensures.tree c.in-Some.ensures.value) _ _ _ c.in_ok-first-in-Some.ensures.tree c.in-Some-after.ensures.value)
+    c.in_err-second-in-Some-after.ensures.none
 
 pub expression-returns-in_ok-second-in-Some-after-clause-tree : goal.expression-returns-in_ok-second-in-Some-after-clause-tree
-expression-returns-in_ok-second-in-Some-after-clause-tree t c = of_ok _ c.conditional.result c.conditional.ensures (λ x h. rw (h.0, h.1) (branches_both (terminals c.args.tokens.now) (view c.in_ok-test.test.value) (terminals c.in-Some.beyond.now) (branches (terminals c.args.tokens.now) (view c.in_ok-test.test.value) (terminals c.in_ok-test.rest.now) (terminals c.in-Some.beyond.now) c.in_ok-test.ensures.tree c.in-Some.ensures.value) (view c.in_ok-first-in-Some.first.value) (terminals c.in_ok-first-in-Some.rest.now) (terminals c.in-Some-after.beyond.now) c.in_ok-first-in-Some.ensures.tree c.in-Some-after.ensures.value (view c.in_ok-second-in-Some-after.second.value) (terminals c.in_ok-second-in-Some-after.rest.now) c.in_ok-second-in-Some-after.ensures.tree))
+expression-returns-in_ok-second-in-Some-after-clause-tree t c =
+    let two = branches _ _ _ _ c.in_ok-test.ensures.tree c.in-Some.ensures.value in
+    let read = branches_both _ _ _ two _ _ _ c.in_ok-first-in-Some.ensures.tree c.in-Some-after.ensures.value _ _ c.in_ok-second-in-Some-after.ensures.tree in
+    of_ok _ c.conditional.result c.conditional.ensures (λ x h. rw (h.0, h.1) read)
 
 pub expression-returns-in_ok-second-in-Some-after-clause-none : goal.expression-returns-in_ok-second-in-Some-after-clause-none
 expression-returns-in_ok-second-in-Some-after-clause-none t c = of_memory _ _ c.conditional.result c.conditional.ensures
 
 pub expression-returns-in_ok-second-in-Some-after-clause-shorter : goal.expression-returns-in_ok-second-in-Some-after-clause-shorter
-expression-returns-in_ok-second-in-Some-after-clause-shorter t c = of_ok _ c.conditional.result c.conditional.ensures (λ x h. rw h.1 (omega (arith, c.in_ok-test.ensures.shorter, c.in-Some.ensures.shorter, c.in_ok-first-in-Some.ensures.shorter, c.in-Some-after.ensures.shorter, c.in_ok-second-in-Some-after.ensures.shorter)))
+expression-returns-in_ok-second-in-Some-after-clause-shorter t c =
+    of_ok _ c.conditional.result c.conditional.ensures (λ x h. rw h.1
+    (omega (arith, c.in_ok-test.ensures.shorter, c.in-Some.ensures.shorter, c.in_ok-first-in-Some.ensures.shorter, c.in-Some-after.ensures.shorter, c.in_ok-second-in-Some-after.ensures.shorter)))
 
 pub expression_before-returns-in_err-tree-clause-none : goal.expression_before-returns-in_err-tree-clause-none
-expression_before-returns-in_err-tree-clause-none t c = handed_on c.from_residual.result c.in_err-tree.field-0.0 c.from_residual.ensures.1 (before_none c.args.sign (terminals c.args.tokens.now)) c.in_err-tree.ensures.none
+expression_before-returns-in_err-tree-clause-none t c =
+    handed_on c.from_residual.result c.in_err-tree.field-0.0 c.from_residual.ensures.1
+    (before_none c.args.sign _)
+    c.in_err-tree.ensures.none
 
 pub expression_before-returns-in-Some-clause-tree : goal.expression_before-returns-in-Some-clause-tree
 expression_before-returns-in-Some-clause-tree t c = rw c.in-Some.ensures.value at c.in_ok-tree.ensures.tree
@@ -183,7 +244,8 @@ pub expression_before-returns-in-Some-clause-shorter : goal.expression_before-re
 expression_before-returns-in-Some-clause-shorter t c = omega (arith, c.in_ok-tree.ensures.shorter, c.in-Some.ensures.shorter)
 
 pub expression_before-returns-in-None-clause-none : goal.expression_before-returns-in-None-clause-none
-expression_before-returns-in-None-clause-none t c = before_other c.args.sign (terminals c.args.tokens.now) (view c.in_ok-tree.tree.value) (terminals c.in_ok-tree.beyond.now) c.in_ok-tree.ensures.tree c.in-None.ensures.value
+expression_before-returns-in-None-clause-none t c =
+    before_other c.args.sign _ _ _ c.in_ok-tree.ensures.tree c.in-None.ensures.value
 
 pub infix-returns-in_err-left-clause-none : goal.infix-returns-in_err-left-clause-none
 infix-returns-in_err-left-clause-none t c = handed_on c.from_residual.result c.in_err-left.field-0.0 c.from_residual.ensures.1 (λ none. no_tree_at c.args.height (c.args.height - 1) (terminals c.args.tokens.now) (let e : c.args.height ≡ suc (c.args.height - 1) = omega arith in e) (start_none (c.args.height - 1) (terminals c.args.tokens.now) none)) c.in_err-left.ensures.none
@@ -201,43 +263,62 @@ pub infix-returns-in_err-right-in-Some-clause-none : goal.infix-returns-in_err-r
 infix-returns-in_err-right-in-Some-clause-none t c = handed_on c.from_residual-in_err-right-in-Some.result c.in_err-right-in-Some.field-0.0 c.from_residual-in_err-right-in-Some.ensures.1 (λ none. no_tree_at c.args.height (c.args.height - 1) (terminals c.args.tokens.now) (let e : c.args.height ≡ suc (c.args.height - 1) = omega arith in e) (next_none (c.args.height - 1) c.in-Some.ensures.value.0 c.in-Some.operator (terminals c.in-Some.beyond.now) c.in-Some.ensures.value.2 (terminals c.args.tokens.now) (view c.operators.left.value) (terminals c.operators.rest.now) c.operators.invariant.going c.in-Some.ensures.value.1 none)) c.in_err-right-in-Some.ensures.none
 
 pub member-returns-in_err-of-clause-none : goal.member-returns-in_err-of-clause-none
-member-returns-in_err-of-clause-none t c = handed_on c.from_residual.result c.in_err-of.field-0.0 c.from_residual.ensures.1 (member_none (terminals c.args.tokens.now)) c.in_err-of.ensures.none
+member-returns-in_err-of-clause-none t c =
+    handed_on c.from_residual.result c.in_err-of.field-0.0 c.from_residual.ensures.1
+    (member_none _)
+    c.in_err-of.ensures.none
 
 pub member-suffixes-init : goal.member-suffixes-init
-member-suffixes-init t c = record { going = member_start (terminals c.args.tokens.now) (view c.in_ok-of.of.value) (terminals c.in_ok-of.rest.now) c.in_ok-of.ensures.tree; shorter = c.in_ok-of.ensures.shorter }
+member-suffixes-init t c = record { going = member_start _ _ _ c.in_ok-of.ensures.tree; shorter = c.in_ok-of.ensures.shorter }
 
 pub member-suffixes-preserved-in-Field : goal.member-suffixes-preserved-in-Field
-member-suffixes-preserved-in-Field t c = record { going = rw c.in_ok-tree-in-Field.ensures (member_field (terminals c.args.tokens.now) (view c.suffixes.of.value) (terminals c.suffixes.rest.now) c.suffixes.invariant.going c.in-Field.ensures.0 (encode_utf8_all c.in-Field.name.now) c.in-Field.ensures.2 (terminals c.in-Field.beyond.now) c.in-Field.ensures.1 c.in-Field.ensures.3); shorter = omega (arith, c.in-Field.ensures.4, c.suffixes.invariant.shorter) }
+member-suffixes-preserved-in-Field t c = record {
+  going = rw c.in_ok-tree-in-Field.ensures (member_field _ _ _ c.suffixes.invariant.going c.in-Field.ensures.0 _ c.in-Field.ensures.2 _ c.in-Field.ensures.1 c.in-Field.ensures.3);
+  shorter = omega (arith, c.in-Field.ensures.4, c.suffixes.invariant.shorter);
+}
 
 pub member-returns-in_err-arguments-in-Method-clause-none : goal.member-returns-in_err-arguments-in-Method-clause-none
-member-returns-in_err-arguments-in-Method-clause-none t c = handed_on c.from_residual-in_err-arguments-in-Method.result c.in_err-arguments-in-Method.field-0.0 c.from_residual-in_err-arguments-in-Method.ensures.1 (member_no_arguments (terminals c.args.tokens.now) (view c.suffixes.of.value) (terminals c.suffixes.rest.now) c.suffixes.invariant.going c.in-Method.ensures.0 (encode_utf8_all c.in-Method.name.now) c.in-Method.ensures.2 (terminals c.in-Method.beyond.now) c.in-Method.ensures.1) c.in_err-arguments-in-Method.ensures.none
+member-returns-in_err-arguments-in-Method-clause-none t c =
+    handed_on c.from_residual-in_err-arguments-in-Method.result c.in_err-arguments-in-Method.field-0.0 c.from_residual-in_err-arguments-in-Method.ensures.1
+    (member_no_arguments _ _ _ c.suffixes.invariant.going c.in-Method.ensures.0 _ c.in-Method.ensures.2 _ c.in-Method.ensures.1)
+    c.in_err-arguments-in-Method.ensures.none
 
 pub member-returns-in-Nothing-clause-tree : goal.member-returns-in-Nothing-clause-tree
-member-returns-in-Nothing-clause-tree t c = member_end (terminals c.args.tokens.now) (view c.suffixes.of.value) (terminals c.suffixes.rest.now) c.suffixes.invariant.going c.in-Nothing.ensures.0 c.in-Nothing.ensures.1 c.in-Nothing.ensures.2
+member-returns-in-Nothing-clause-tree t c =
+    member_end _ _ _ c.suffixes.invariant.going c.in-Nothing.ensures.0 c.in-Nothing.ensures.1 c.in-Nothing.ensures.2
 
 pub member-returns-in-Wrong-clause-none : goal.member-returns-in-Wrong-clause-none
-member-returns-in-Wrong-clause-none t c = member_wrong (terminals c.args.tokens.now) (view c.suffixes.of.value) (terminals c.suffixes.rest.now) c.suffixes.invariant.going c.in-Wrong.ensures.0 c.in-Wrong.ensures.1
+member-returns-in-Wrong-clause-none t c = member_wrong _ _ _ c.suffixes.invariant.going c.in-Wrong.ensures.0 c.in-Wrong.ensures.1
 
 pub member-suffixes-preserved : goal.member-suffixes-preserved
 member-suffixes-preserved t c = record {
-  going = rw c.in_ok-tree-in-Index.ensures (member_index (terminals c.args.tokens.now) (view c.suffixes.of.value) (terminals c.suffixes.rest.now) c.suffixes.invariant.going (terminals c.in-Index.beyond.now) (view c.in_ok-index-in-Index.index.value) (terminals c.in_ok-index-in-Index.after.now) c.in-Index.ensures.0 c.in_ok-index-in-Index.ensures.tree);
+  going = rw c.in_ok-tree-in-Index.ensures (member_index _ _ _ c.suffixes.invariant.going _ _ _ c.in-Index.ensures.0 c.in_ok-index-in-Index.ensures.tree);
   shorter = omega (arith, c.in-Index.ensures.1, c.in_ok-index-in-Index.ensures.shorter, c.suffixes.invariant.shorter);
 }
 
 pub member-suffixes-preserved-in-Method : goal.member-suffixes-preserved-in-Method
 member-suffixes-preserved-in-Method t c = record {
-  going = member_method (terminals c.args.tokens.now) (view c.suffixes.of.value) (terminals c.suffixes.rest.now) c.suffixes.invariant.going c.in-Method.ensures.0 (encode_utf8_all c.in-Method.name.now) c.in-Method.ensures.2 (terminals c.in-Method.beyond.now) (views c.in_ok-arguments-in-Method.arguments.items) (view c.in_ok-tree-in-Method.tree.value) (terminals c.in_ok-arguments-in-Method.after.now) c.in-Method.ensures.1 c.in_ok-arguments-in-Method.ensures.items c.in_ok-tree-in-Method.ensures;
+  going = member_method _ _ _ c.suffixes.invariant.going c.in-Method.ensures.0 _ c.in-Method.ensures.2 _ _ _ _ c.in-Method.ensures.1 c.in_ok-arguments-in-Method.ensures.items c.in_ok-tree-in-Method.ensures;
   shorter = omega (arith, c.in-Method.ensures.3, c.in_ok-arguments-in-Method.ensures.shorter, c.suffixes.invariant.shorter);
 }
 
 pub member-returns-in_err-tree-in-Method-clause-none : goal.member-returns-in_err-tree-in-Method-clause-none
-member-returns-in_err-tree-in-Method-clause-none t c = handed_on c.from_residual-in_err-tree-in-Method.result c.in_err-tree-in-Method.field-0.0 c.from_residual-in_err-tree-in-Method.ensures.1 (member_no_call (terminals c.args.tokens.now) (view c.suffixes.of.value) (terminals c.suffixes.rest.now) c.suffixes.invariant.going c.in-Method.ensures.0 (encode_utf8_all c.in-Method.name.now) c.in-Method.ensures.2 (terminals c.in-Method.beyond.now) (views c.in_ok-arguments-in-Method.arguments.items) (terminals c.in_ok-arguments-in-Method.after.now) c.in-Method.ensures.1 c.in_ok-arguments-in-Method.ensures.items) c.in_err-tree-in-Method.ensures
+member-returns-in_err-tree-in-Method-clause-none t c =
+    handed_on c.from_residual-in_err-tree-in-Method.result c.in_err-tree-in-Method.field-0.0 c.from_residual-in_err-tree-in-Method.ensures.1
+    (member_no_call _ _ _ c.suffixes.invariant.going c.in-Method.ensures.0 _ c.in-Method.ensures.2 _ _ _ c.in-Method.ensures.1 c.in_ok-arguments-in-Method.ensures.items)
+    c.in_err-tree-in-Method.ensures
 
 pub member-returns-in_err-index-in-Index-clause-none : goal.member-returns-in_err-index-in-Index-clause-none
-member-returns-in_err-index-in-Index-clause-none t c = handed_on c.from_residual-in_err-index-in-Index.result c.in_err-index-in-Index.field-0.0 c.from_residual-in_err-index-in-Index.ensures.1 (member_no_index (terminals c.args.tokens.now) (view c.suffixes.of.value) (terminals c.suffixes.rest.now) c.suffixes.invariant.going (terminals c.in-Index.beyond.now) c.in-Index.ensures.0) c.in_err-index-in-Index.ensures.none
+member-returns-in_err-index-in-Index-clause-none t c =
+    handed_on c.from_residual-in_err-index-in-Index.result c.in_err-index-in-Index.field-0.0 c.from_residual-in_err-index-in-Index.ensures.1
+    (member_no_index _ _ _ c.suffixes.invariant.going _ c.in-Index.ensures.0)
+    c.in_err-index-in-Index.ensures.none
 
 pub prefixed-returns-in_err-of-in-Some-clause-none : goal.prefixed-returns-in_err-of-in-Some-clause-none
-prefixed-returns-in_err-of-in-Some-clause-none t c = handed_on c.from_residual.result c.in_err-of-in-Some.field-0.0 c.from_residual.ensures.1 (prefixed_again_none c.args.prefix (terminals c.args.tokens.now) (terminals c.in-Some.beyond.now) (sym c.in-Some.ensures.value)) c.in_err-of-in-Some.ensures.none
+prefixed-returns-in_err-of-in-Some-clause-none t c =
+    handed_on c.from_residual.result c.in_err-of-in-Some.field-0.0 c.from_residual.ensures.1
+    (prefixed_again_none c.args.prefix _ _ (sym c.in-Some.ensures.value))
+    c.in_err-of-in-Some.ensures.none
 
 pub prefixed-returns-in-None-clause-tree : goal.prefixed-returns-in-None-clause-tree
 prefixed-returns-in-None-clause-tree t c = IfOk-weaker c.member.result (λ x. Read Member (terminals c.args.tokens.now) (view x.0.value) (terminals x.1.now)) _ (λ x g. prefixed_bare c.args.prefix (terminals c.args.tokens.now) (view x.0.value) (terminals x.1.now) (sym c.in-None.ensures.value) g) c.member.ensures.tree
@@ -246,7 +327,10 @@ pub primary-returns-in-Some-clause-tree : goal.primary-returns-in-Some-clause-tr
 primary-returns-in-Some-clause-tree t c = primary_literal (terminals c.args.tokens.now) (view c.in-Some.tree.value) (terminals c.in_ok-found.rest.now) (MatchOption-at_some (HasNoLiteral (terminals c.args.tokens.now)) (λ t. Literal (terminals c.args.tokens.now) (view t.value) (terminals c.in_ok-found.rest.now)) c.in-Some.tree c.in-Some.is c.in_ok-found.ensures.value)
 
 pub unary-returns-in_err-of-in-Some-clause-none : goal.unary-returns-in_err-of-in-Some-clause-none
-unary-returns-in_err-of-in-Some-clause-none t c = handed_on c.from_residual.result c.in_err-of-in-Some.field-0.0 c.from_residual.ensures.1 (unary_prefixed_none c.in-Some.prefix (terminals c.args.tokens.now) (terminals c.in-Some.beyond.now) c.in-Some.ensures.value) c.in_err-of-in-Some.ensures.none
+unary-returns-in_err-of-in-Some-clause-none t c =
+    handed_on c.from_residual.result c.in_err-of-in-Some.field-0.0 c.from_residual.ensures.1
+    (unary_prefixed_none c.in-Some.prefix _ _ c.in-Some.ensures.value)
+    c.in_err-of-in-Some.ensures.none
 
 pub unary-returns-in-None-clause-tree : goal.unary-returns-in-None-clause-tree
 unary-returns-in-None-clause-tree t c = IfOk-weaker c.member.result (λ x. Read Member (terminals c.args.tokens.now) (view x.0.value) (terminals x.1.now)) _ (λ x g. unary_plain (terminals c.args.tokens.now) (view x.0.value) (terminals x.1.now) c.in-None.ensures.value g) c.member.ensures.tree
@@ -255,22 +339,26 @@ pub unary-returns-in-None-clause-none : goal.unary-returns-in-None-clause-none
 unary-returns-in-None-clause-none t c = IfErr-weaker c.member.result (λ e. Refuses e (HasNoTree Member (terminals c.args.tokens.now))) _ (λ e g. refuses e (unary_plain_none (terminals c.args.tokens.now) c.in-None.ensures.value) g) c.member.ensures.none
 
 pub prefixed-returns-in_ok-of-in-Some-clause-tree : goal.prefixed-returns-in_ok-of-in-Some-clause-tree
-prefixed-returns-in_ok-of-in-Some-clause-tree t c = of_ok _ c.unary_of.result c.unary_of.ensures (λ x h. rw (h.0, h.1) (prefixed_again c.args.prefix (terminals c.args.tokens.now) (terminals c.in-Some.beyond.now) (sym c.in-Some.ensures.value) (view c.in_ok-of-in-Some.of.value) (terminals c.in_ok-of-in-Some.rest.now) c.in_ok-of-in-Some.ensures.tree))
+prefixed-returns-in_ok-of-in-Some-clause-tree t c =
+    of_ok _ c.unary_of.result c.unary_of.ensures (λ x h. rw (h.0, h.1) (prefixed_again c.args.prefix _ _ (sym c.in-Some.ensures.value) _ _ c.in_ok-of-in-Some.ensures.tree))
 
 pub prefixed-returns-in_ok-of-in-Some-clause-none : goal.prefixed-returns-in_ok-of-in-Some-clause-none
 prefixed-returns-in_ok-of-in-Some-clause-none t c = of_memory _ _ c.unary_of.result c.unary_of.ensures
 
 pub prefixed-returns-in_ok-of-in-Some-clause-shorter : goal.prefixed-returns-in_ok-of-in-Some-clause-shorter
-prefixed-returns-in_ok-of-in-Some-clause-shorter t c = of_ok _ c.unary_of.result c.unary_of.ensures (λ x h. rw h.1 (omega (arith, c.in-Some.ensures.shorter, c.in_ok-of-in-Some.ensures.shorter)))
+prefixed-returns-in_ok-of-in-Some-clause-shorter t c =
+    of_ok _ c.unary_of.result c.unary_of.ensures (λ x h. rw h.1 (omega (arith, c.in-Some.ensures.shorter, c.in_ok-of-in-Some.ensures.shorter)))
 
 pub unary-returns-in_ok-of-in-Some-clause-tree : goal.unary-returns-in_ok-of-in-Some-clause-tree
-unary-returns-in_ok-of-in-Some-clause-tree t c = of_ok _ c.unary_of.result c.unary_of.ensures (λ x h. rw (h.0, h.1) (unary_prefixed c.in-Some.prefix (terminals c.args.tokens.now) (terminals c.in-Some.beyond.now) c.in-Some.ensures.value (view c.in_ok-of-in-Some.of.value) (terminals c.in_ok-of-in-Some.rest.now) c.in_ok-of-in-Some.ensures.tree))
+unary-returns-in_ok-of-in-Some-clause-tree t c =
+    of_ok _ c.unary_of.result c.unary_of.ensures (λ x h. rw (h.0, h.1) (unary_prefixed c.in-Some.prefix _ _ c.in-Some.ensures.value _ _ c.in_ok-of-in-Some.ensures.tree))
 
 pub unary-returns-in_ok-of-in-Some-clause-none : goal.unary-returns-in_ok-of-in-Some-clause-none
 unary-returns-in_ok-of-in-Some-clause-none t c = of_memory _ _ c.unary_of.result c.unary_of.ensures
 
 pub unary-returns-in_ok-of-in-Some-clause-shorter : goal.unary-returns-in_ok-of-in-Some-clause-shorter
-unary-returns-in_ok-of-in-Some-clause-shorter t c = of_ok _ c.unary_of.result c.unary_of.ensures (λ x h. rw h.1 (omega (arith, c.in-Some.ensures.shorter, c.in_ok-of-in-Some.ensures.shorter)))
+unary-returns-in_ok-of-in-Some-clause-shorter t c =
+    of_ok _ c.unary_of.result c.unary_of.ensures (λ x h. rw h.1 (omega (arith, c.in-Some.ensures.shorter, c.in_ok-of-in-Some.ensures.shorter)))
 
 -- each call is of fewer tokens, or of a function that stands lower
 
@@ -299,7 +387,8 @@ pub expression-infix-requires-in-Some : goal.expression-infix-requires-in-Some
 expression-infix-requires-in-Some t c = (omega (arith, c.decreases, c.in_ok-test.ensures.shorter, c.in-Some.ensures.shorter), tt)
 
 pub expression-expression-requires : goal.expression-expression-requires
-expression-expression-requires t c = (omega (arith, c.decreases, c.in_ok-test.ensures.shorter, c.in-Some.ensures.shorter, c.in_ok-first-in-Some.ensures.shorter, c.in-Some-after.ensures.shorter), tt)
+expression-expression-requires t c =
+    (omega (arith, c.decreases, c.in_ok-test.ensures.shorter, c.in-Some.ensures.shorter, c.in_ok-first-in-Some.ensures.shorter, c.in-Some-after.ensures.shorter), tt)
 
 pub expression_before-expression-requires : goal.expression_before-expression-requires
 expression_before-expression-requires t c = (omega (arith, c.decreases), tt)
