@@ -8,10 +8,9 @@ ghost use Rattle.apicore.specs.Step.{reason_code, reason_word};
 
 use crate::prepared::Prepared;
 use objects::LookupFault;
-use policy::Reason;
+use policy::{Reason, denial_text};
 use requests::{Refusal, Reply};
 use std::alloc::Global;
-use verdict::denial_text;
 
 /// The step that a refusal of the table makes.
 pub(crate) fn refused(alloc: Global, refusal: Refusal) -> Result<Prepared, LookupFault>

@@ -13,7 +13,8 @@ use Rattle.celmean.specs.Value.{Outcome, Gives}
 use Rattle.celvalues.specs.Documents.{json_value}
 use Rattle.instructions.specs.declared.instruction.Name.TheVariants as name_of
 use Rattle.evaluation.specs.Seen.{names_in}
-use Rattle.evaluation.specs.Environment.{value_or_null, request_of, seen}
+use Rattle.policy.specs.Request.{request_of}
+use Rattle.evaluation.specs.Environment.{value_or_null, seen}
 use Rattle.celmean.specs.Meaning.{Environment, mean}
 use Rattle.celtypes.specs.Typing.{Scope}
 use Rattle.instructions.specs.declared.instruction.Name.{Name}

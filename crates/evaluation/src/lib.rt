@@ -17,13 +17,11 @@
 mod answers;
 mod messages;
 mod outcomes;
-mod request;
 mod scene;
 mod together;
 mod validations;
 
 pub use answers::{Conditions, Denial};
 pub use messages::failure;
-pub use request::request_document;
 pub use together::conditions;
 pub use validations::evaluate;

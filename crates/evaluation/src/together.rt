@@ -5,7 +5,8 @@ ghost use Rattle.serde_json.specs.View.{view};
 ghost use Rattle.celtree.specs.Tree.{Expr};
 ghost use Rattle.policy.specs.Rules.{attempt_seen};
 ghost use Rattle.policy.specs.Spec.{named_seen, policy_seen};
-ghost use Rattle.evaluation.specs.Environment.{request_of, seen};
+ghost use Rattle.policy.specs.Request.{request_of};
+ghost use Rattle.evaluation.specs.Environment.{seen};
 ghost use Rattle.evaluation.specs.Trees.{conditions_of};
 ghost use Rattle.evaluation.specs.Denials.{conditions};
 ghost use Rattle.evaluation.specs.Ready.{AreReady};
@@ -51,7 +52,7 @@ fn conditions_by<'p>(
 }
 
 /// What the match conditions of a policy say of a write together, by the policy's plans. `request` is the write's
-/// [`request_document`](crate::request_document).
+/// [`request_document`](policy::request_document).
 ///
 /// # Errors
 ///

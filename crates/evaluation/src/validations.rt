@@ -5,7 +5,8 @@ ghost use Rattle.serde_json.specs.View.{view};
 ghost use Rattle.celtree.specs.Tree.{Expr};
 ghost use Rattle.policy.specs.Rules.{attempt_seen};
 ghost use Rattle.policy.specs.Spec.{policy_seen, validation_seen};
-ghost use Rattle.evaluation.specs.Environment.{request_of, seen};
+ghost use Rattle.policy.specs.Request.{request_of};
+ghost use Rattle.evaluation.specs.Environment.{seen};
 ghost use Rattle.evaluation.specs.Denials.{evaluate};
 ghost use Rattle.evaluation.specs.Ready.{AreReady};
 ghost use Rattle.evaluation.specs.Seen.{denial_seen, names_of, world_of};
@@ -136,7 +137,7 @@ fn evaluate_by(
 }
 
 /// What the variables and the validations of a policy say of a write whose match conditions are met, by the policy's plans: the first
-/// denial, if there is one. `request` is the write's [`request_document`](crate::request_document).
+/// denial, if there is one. `request` is the write's [`request_document`](policy::request_document).
 ///
 /// A variable is bound to its outcome, so an error in it arises where it is used. A validation that is false is a denial with its
 /// reason. What is neither true nor false is a [`failure`].

@@ -2,5 +2,4 @@ pub mod Standing
 pub mod Turns
 pub mod Ascending
 pub mod BindingTurns
-pub mod Lists
 pub mod Faults

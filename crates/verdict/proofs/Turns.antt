@@ -7,7 +7,7 @@ use Rattle.policy.specs.Spec as spec
 use Rattle.policy.specs.declared.binding.Action.{Action}
 use Rattle.policy.specs.declared.binding.Action.TheVariants.{Warn}
 use Rattle.evaluation.specs.Denials.{Denial}
-use Rattle.verdict.specs.OneBinding.{warning}
+use Rattle.policy.specs.Texts.{warning}
 use Rattle.expressions.specs.Objects.{Objects}
 use Rattle.policy.specs.Rules.{Attempt}
 use Rattle.verdict.specs.Admission.{denial_by, finding}

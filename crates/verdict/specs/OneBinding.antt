@@ -1,10 +1,8 @@
--- What one binding of a policy says of a write, and what is said of it (Kubernetes, "Validating Admission Policy").
-use Rattle.std.specs.Prelude.{ℕ, ◌∷◌, ◌++◌, ◌==◌, ◌&&◌, ◌||◌, List, [], map, take, nat_le, if◌then◌else◌, codes, chars, Option, Some, None}
-use Rattle.std.specs.List.{flat_map}
+-- What one binding of a policy says of a write (Kubernetes, "Validating Admission Policy").
+use Rattle.std.specs.Prelude.{◌++◌, List, if◌then◌else◌, codes, Option, Some, None}
 use Rattle.celtree.specs.Tree.{Expr}
 use Rattle.policy.specs.Rules.{Attempt}
 use Rattle.policy.specs.Matching.{is_matched}
-use Rattle.policy.specs.Forms.{Text}
 use Rattle.policy.specs.Spec as spec
 use Rattle.policy.specs.declared.params.NotFound.{NotFound}
 use Rattle.policy.specs.declared.params.NotFound.TheVariants as when_not_found
@@ -13,8 +11,6 @@ use Rattle.evaluation.specs.Environment.{seen}
 use Rattle.evaluation.specs.Denials.{Denial, failure, Conditions, met, unmet, neither, conditions, first_denial, evaluate}
 use Rattle.expressions.specs.Listed.{Shown}
 use Rattle.verdict.specs.Parameters.{Parameters, found, misconfigured, not_found, parameters}
-
--- ---- one binding
 
 -- where no parameter is found, the binding says whether the write passes
 abbrev pub on_not_found : spec.Policy → Option spec.ParamRef → Option Denial
@@ -39,25 +35,3 @@ on_conditions objects p trees b w (neither name) = failure p.failure_policy (cod
 abbrev pub denial : Shown → spec.Policy → List Expr → spec.Binding → Attempt → Option Denial
 denial objects p trees b w =
     if is_matched p.constraints b.resources w then on_conditions objects p trees b w (conditions (conditions_of p trees) (seen w None)) else None
-
--- ---- what is said
-
-abbrev pub named_by : (policy binding : Text) → Text
-named_by policy binding = codes "ValidatingAdmissionPolicy '" ++ (policy ++ (codes "' with binding '" ++ (binding ++ codes "'")))
-
--- the message of the refusal of a write that is denied
-abbrev pub denial_text : (policy binding message : Text) → Text
-denial_text policy binding message = named_by policy binding ++ (codes " denied request: " ++ message)
-
--- what is not printable ASCII becomes a question mark
-abbrev pub printable : (character : ℕ) → ℕ
-printable c = if nat_le 0x20 c && nat_le c 0x7E then c else 63
-
--- a quote and a backslash stand after a backslash
-abbrev pub escaped : (character : ℕ) → List ℕ
-escaped c = if c == 34 || c == 92 then 92 ∷ c ∷ [] else c ∷ []
-
--- the text of a warning (RFC 9111 section 5.5, "Warning", as a quoted string): 256 characters at most, before quotes and backslashes are escaped
-abbrev pub warning : (policy binding message : Text) → Text
-warning policy binding message =
-    flat_map escaped (take 256 (map printable (chars (codes "Validation failed for " ++ (named_by policy binding ++ (codes ": " ++ message))))))

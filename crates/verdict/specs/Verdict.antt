@@ -6,7 +6,7 @@ use Rattle.policy.specs.declared.binding.Action.{Action}
 use Rattle.policy.specs.declared.binding.Action.TheVariants.{Deny, Warn}
 use Rattle.policy.specs.declared.validation.Reason.{Reason}
 use Rattle.evaluation.specs.Denials.{Denial}
-use Rattle.verdict.specs.OneBinding.{warning}
+use Rattle.policy.specs.Texts.{warning}
 
 pub data Verdict : Type 0 where
   admitted : (warnings : List Text) → Verdict

@@ -26,9 +26,7 @@ mod admission;
 mod laws;
 mod one_binding;
 mod parameters;
-mod texts;
 
 pub use admission::{Verdict, admit};
 pub use laws::bindings_ascend;
 pub use one_binding::denial;
-pub use texts::{denial_text, warning};

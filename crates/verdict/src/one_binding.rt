@@ -8,7 +8,8 @@ ghost use Rattle.policy.specs.Matching.{is_matched};
 ghost use Rattle.plancode.specs.Plans.{Judged};
 ghost use Rattle.expressions.specs.Specification.{these, spoiled, plans_seen};
 ghost use Rattle.policy.specs.Spec.{policy_seen, binding_seen, param_ref_seen};
-ghost use Rattle.evaluation.specs.Environment.{request_of, seen};
+ghost use Rattle.policy.specs.Request.{request_of};
+ghost use Rattle.evaluation.specs.Environment.{seen};
 ghost use Rattle.evaluation.specs.Denials.{first_denial, evaluate, failure};
 ghost use Rattle.evaluation.specs.Ready.{AreReady};
 ghost use Rattle.evaluation.specs.Seen.{conditions_seen, denial_seen};
@@ -23,11 +24,11 @@ ghost use Rattle.objects.specs.declared.fault.LookupFault.TheVariants as LookupF
 
 use crate::parameters::{Parameters, parameters_of};
 use documents::Doc;
-use evaluation::{Conditions, Denial, conditions, evaluate, failure, request_document};
+use evaluation::{Conditions, Denial, conditions, evaluate, failure};
 use expressions::{Lookup, StoredPlans};
 use objects::{LookupFault, Part};
 use plancode::Verified;
-use policy::{Attempt, Binding, NotFound, Policy, matches};
+use policy::{Attempt, Binding, NotFound, Policy, matches, request_document};
 use serde_json::Value as Json;
 use std::alloc::{AllocError, Global};
 

@@ -3,7 +3,7 @@ use Rattle.std.proofs.lemmas.List.{map_push}
 use Rattle.policy.specs.declared.binding.Action.TheVariants.{Warn}
 use Rattle.evaluation.specs.Seen.{denial_seen}
 use Rattle.policy.specs.Forms.{Text}
-use Rattle.verdict.specs.OneBinding.{warning}
+use Rattle.policy.specs.Texts.{warning}
 use Rattle.verdict.specs.Turns.{after_warnings}
 use Rattle.verdict.proofs.Turns.{warned}
 use Rattle.verdict.proofs.admission.decide.Goals as goal

@@ -2,7 +2,7 @@ use Rattle.std.proofs.Common.{◌≡◌, ◌≤◌, map, drop, string_bytes}
 use Rattle.std.specs.Prelude.{IfSome}
 use Rattle.serde_json.specs.View.{view}
 use Rattle.policy.specs.Rules.{attempt_seen}
-use Rattle.evaluation.specs.Environment.{request_of}
+use Rattle.policy.specs.Request.{request_of}
 use Rattle.verdict.specs.Admission.{finding}
 use Rattle.expressions.specs.Objects.{Objects, HaveTrees}
 use Rattle.verdict.specs.Verdict.{verdict_of}

@@ -1,13 +1,14 @@
 //! The document `request`.
 
 ghost use Rattle.std.specs.Prelude.{◌≡◌, IfOk, OnOk};
-ghost use Rattle.serde_json.specs.Data.{put, string};
+ghost use Rattle.serde_json.specs.Data.{put, string, object, no_members};
 ghost use Rattle.serde_json.specs.View.{view, members_view};
 ghost use Rattle.policy.specs.Rules.{attempt_seen};
-ghost use Rattle.evaluation.specs.Environment.{operation_name, kind_of, resource_of, request_of};
+ghost use Rattle.policy.specs.Request.{operation_name, kind_of, resource_of, request_of};
 
+use crate::attempt::Attempt;
+use crate::match_rules::Operation;
 use names::Resource;
-use policy::{Attempt, Operation};
 use serde_json::{Map, Value as Json};
 use std::alloc::{AllocError, Global};
 
@@ -66,6 +67,24 @@ fn resource_of(alloc: Global, resource: Resource) -> Result<Json, AllocError>
     Ok(Json::Object(members))
 }
 
+// Puts what the attempt does, and to which object.
+fn put_members(
+    alloc: Global,
+    members: &mut Map<String, Json>,
+    attempt: &Attempt<'_>,
+) -> Result<(), AllocError>
+    requires { members_view members.old.entries ≡ no_members }
+    ensures { OnOk result (object (members_view members.new.entries) ≡ request_of (attempt_seen attempt.now)) }
+{
+    let resource = attempt.key.resource();
+    put(alloc, members, "resource", resource_of(alloc, resource)?)?;
+    put(alloc, members, "kind", kind_of(alloc, resource)?)?;
+    put_text(alloc, members, "namespace", attempt.key.namespace())?;
+    put_text(alloc, members, "name", attempt.key.name())?;
+    let operation = operation_name(attempt.operation);
+    put_text(alloc, members, "operation", operation)
+}
+
 /// The document `request` that expressions see: the operation, and the name, the namespace (an empty text if it has none), the kind
 /// and the resource of the object.
 ///
@@ -75,22 +94,7 @@ fn resource_of(alloc: Global, resource: Resource) -> Result<Json, AllocError>
 pub fn request_document(alloc: Global, attempt: &Attempt<'_>) -> Result<Json, AllocError>
     ensures { IfOk result (λ d. view d ≡ request_of (attempt_seen attempt.now)) }
 {
-    let resource = attempt.key.resource();
     let mut members = Map::new(alloc);
-    put(
-        alloc,
-        &mut members,
-        "resource",
-        resource_of(alloc, resource)?,
-    )?;
-    put(alloc, &mut members, "kind", kind_of(alloc, resource)?)?;
-    put_text(alloc, &mut members, "namespace", attempt.key.namespace())?;
-    put_text(alloc, &mut members, "name", attempt.key.name())?;
-    put_text(
-        alloc,
-        &mut members,
-        "operation",
-        operation_name(attempt.operation),
-    )?;
+    put_members(alloc, &mut members, attempt)?;
     Ok(Json::Object(members))
 }

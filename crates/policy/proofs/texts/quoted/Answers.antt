@@ -2,8 +2,8 @@ use Rattle.std.proofs.Common.{ℕ, ◌+◌, List, ◌∷◌, ◌++◌, map, drop
 use Rattle.std.proofs.lemmas.List.{append-nil, at_drop_more, at_drop_all}
 use Rattle.std.proofs.lemmas.Result.{IfOk-from_err}
 use Rattle.std.specs.List.{flat_map}
-use Rattle.verdict.specs.OneBinding.{printable, escaped}
-use Rattle.verdict.proofs.texts.quoted.Goals as goal
+use Rattle.policy.specs.Texts.{printable, escaped}
+use Rattle.policy.proofs.texts.quoted.Goals as goal
 
 pub loop-character-init : goal.loop-character-init
 loop-character-init c = ap (λ (t : List ℕ). t ++ flat_map escaped (map printable c.args.characters.now)) c.new-text.ensures.bytes

@@ -1,7 +1,7 @@
 use Rattle.std.proofs.Common.{◌≡◌, ◌++◌, map, drop, string_bytes}
 use Rattle.std.specs.List.{flat_map}
-use Rattle.verdict.specs.OneBinding.{printable, escaped}
-use Rattle.verdict.proofs.texts.quoted.Given as goal
+use Rattle.policy.specs.Texts.{printable, escaped}
+use Rattle.policy.proofs.texts.quoted.Given as goal
 
 -- what was written, and then the rest
 abbrev pub invariant-loop-character : goal.invariant-loop-character

@@ -1,8 +1,8 @@
 use Rattle.std.proofs.Common.{◌≡◌, List, ℕ, map, take, chars, string_bytes, ap, ◌∙◌}
 use Rattle.std.proofs.lemmas.Result.{IfOk-weaker}
 use Rattle.std.specs.List.{flat_map}
-use Rattle.verdict.specs.OneBinding.{printable, escaped, warning}
-use Rattle.verdict.proofs.texts.warning.Goals as goal
+use Rattle.policy.specs.Texts.{printable, escaped, warning}
+use Rattle.policy.proofs.texts.warning.Goals as goal
 
 pub returns : goal.returns
 returns c =

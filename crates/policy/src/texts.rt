@@ -2,21 +2,20 @@
 
 ghost use Rattle.std.specs.Prelude.{◌≡◌, ◌++◌, ℕ, List, map, take, chars, codes, IfOk, OnOk, string_bytes};
 ghost use Rattle.std.specs.List.{flat_map};
-ghost use Rattle.verdict.specs.OneBinding.{named_by, denial_text, printable, escaped, warning};
+ghost use Rattle.policy.specs.Texts.{named_by, denial_text, printable, escaped, warning};
 
 use std::alloc::{AllocError, Global};
 
 // Names the policy and the binding after the text.
-fn name_both(alloc: Global, front: &str, policy: &str, binding: &str) -> Result<String, AllocError>
-    ensures { IfOk result (λ s. string_bytes s ≡ front.now ++ named_by policy.now binding.now) }
+fn push_names(text: &mut String, policy: &str, binding: &str) -> Result<(), AllocError>
+    ensures { OnOk result (string_bytes text.new ≡ string_bytes text.old ++ named_by policy.now binding.now) }
 {
-    let mut text = String::from_str(alloc, front)?;
     text.push_str("ValidatingAdmissionPolicy '")?;
     text.push_str(policy)?;
     text.push_str("' with binding '")?;
     text.push_str(binding)?;
     text.push_str("'")?;
-    Ok(text)
+    Ok(())
 }
 
 /// The message of the refusal of a write that is denied: it names the policy and the binding, and says what the policy says.
@@ -32,7 +31,8 @@ pub fn denial_text(
 ) -> Result<String, AllocError>
     ensures { IfOk result (λ s. string_bytes s ≡ denial_text policy.now binding.now message.now) }
 {
-    let mut text = name_both(alloc, "", policy, binding)?;
+    let mut text = String::new(alloc);
+    push_names(&mut text, policy, binding)?;
     text.push_str(" denied request: ")?;
     text.push_str(message)?;
     Ok(text)
@@ -78,7 +78,7 @@ fn quoted(alloc: Global, characters: &[char]) -> Result<String, AllocError>
 }
 
 // The first characters, so many at most.
-#[tactic(auto, using(crate::proofs::Lists::all_taken))]
+#[tactic(auto, using(crate::proofs::Parts::all_taken))]
 fn first(characters: &[char], count: usize) -> &[char]
     ensures { result.now ≡ take count characters.now }
 {
@@ -91,7 +91,7 @@ fn first(characters: &[char], count: usize) -> &[char]
 }
 
 // The first characters of the text, so many at most before quotes and backslashes are escaped.
-#[tactic(auto, using(crate::proofs::Lists::taken_first))]
+#[tactic(auto, using(crate::proofs::Parts::taken_first))]
 fn quoted_front(alloc: Global, text: &str, count: usize) -> Result<String, AllocError>
     ensures { IfOk result (λ s. string_bytes s ≡ flat_map escaped (take count (map printable (chars text.now)))) }
 {
@@ -107,7 +107,8 @@ fn warning_text(
 ) -> Result<String, AllocError>
     ensures { IfOk result (λ s. string_bytes s ≡ codes "Validation failed for " ++ (named_by policy.now binding.now ++ (codes ": " ++ message.now))) }
 {
-    let mut text = name_both(alloc, "Validation failed for ", policy, binding)?;
+    let mut text = String::from_str(alloc, "Validation failed for ")?;
+    push_names(&mut text, policy, binding)?;
     text.push_str(": ")?;
     text.push_str(message)?;
     Ok(text)

@@ -1,5 +1,5 @@
 use Rattle.serde_json.proofs.Views.{members_view-insert_entry}
-use Rattle.evaluation.proofs.request.put.Goals as goal
+use Rattle.policy.proofs.request.put.Goals as goal
 
 pub returns : goal.returns
 returns c =
