@@ -113,37 +113,31 @@ fn push_path(alloc: Global, folder: &str, name: &str, paths: &mut Vec<String>) -
     Ok(())
 }
 
-// Adds the paths of the files of a folder, ascending, without those that tell of the others.
+// Adds the paths of the files of a folder, without those that tell of the others.
 fn push_files<R: Files + Alloc<A = Global> + Clone + Drop>(
     rt: &R,
     alloc: Global,
     folder: &str,
     paths: &mut Vec<String>,
 ) -> io::Result<()> {
-    let mut found = Vec::new(alloc);
     for entry in fs::read_dir(rt, folder)? {
-        push_path(alloc, folder, entry?.file_name(), &mut found)?;
+        push_path(alloc, folder, entry?.file_name(), paths)?;
     }
-    found.sort()?;
-    paths.append(&mut found)?;
     Ok(())
 }
 
-/// The paths that the arguments name, or else those of the files of these folders, folder by folder, ascending, without those that end
-/// in `.md`.
+/// The paths that the arguments name, or else those of the files of these folders, ascending, without those that end in `.md`.
 pub fn paths<R: Files + Env + Alloc<A = Global> + Clone + Drop>(
     rt: &R,
     alloc: Global,
     folders: &[&str],
 ) -> io::Result<Vec<String>> {
-    let mut paths = Vec::new(alloc);
-    for word in env::args(rt)?.skip(1) {
-        paths.push(word)?;
-    }
+    let mut paths: Vec<String> = env::args(rt)?.skip(1).collect(alloc)?;
     if paths.is_empty() {
         for folder in folders.iter() {
             push_files(rt, alloc, folder, &mut paths)?;
         }
+        paths.sort()?;
     }
     Ok(paths)
 }
