@@ -1,6 +1,5 @@
 -- A store whose next generation is told, and then written.
 use Rattle.std.proofs.Common.{arith, ◌≡◌, ◌∙◌, sym, ap, subst, ◌⊎◌, inl, inr, ⊎_elim, [], true, false, Result, Ok, Err, OnOk, OnErr, IsErrOf}
-use Rattle.std.specs.Result.{IsErrAnd}
 use Rattle.device.specs.declared.device.Device.{Ghosts}
 use Rattle.device.specs.Disk.{Disk, HasFailed}
 use Rattle.device.specs.Run.{Ran, Stands}
@@ -35,10 +34,6 @@ on_ok_three P Q R S (Ok x) to p q s = to p q s
 on_ok_three P Q R S (Err e) to p q s = tt
 
 -- what is known of an error that is told
-pub err_is : {T E : Type 0} (r : Result T E) (P : E → Type 0) (e : E) → IsErrAnd r P → IsErrOf r e → P e
-err_is (Ok x) P e holds is = absurd holds
-err_is (Err f) P e holds is = let same : f ≡ e = cc in subst P same holds
-
 pub at_error : {T E : Type 0} (P : Type 0) (r : Result T E) (e : E) → IsErrOf r e → OnErr r P → P
 at_error P (Ok x) e is holds = cc
 at_error P (Err f) e is holds = holds

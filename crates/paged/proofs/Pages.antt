@@ -1,5 +1,5 @@
 -- What reading the pages of a root tells.
-use Rattle.std.proofs.Common.{arith, ◌≡◌, ◌∙◌, refl, sym, ap, subst, ◌⊎◌, inl, inr, ⊎_elim, ℕ, suc, zero, ◌+◌, ◌*◌, ◌≤◌, ◌<◌, ◌^◌, Bool, true, false, cond, List, [], ◌∷◌, ◌++◌, length, map, length-append, Result, Ok, Err}
+use Rattle.std.proofs.Common.{arith, ◌≡◌, ◌∙◌, refl, sym, ap, subst, ◌⊎◌, inl, inr, ⊎_elim, ℕ, suc, zero, ◌+◌, ◌*◌, ◌≤◌, ◌<◌, ◌^◌, Bool, true, false, cond, List, [], ◌∷◌, ◌++◌, length, map, length-append, Result}
 use Rattle.std.proofs.lemmas.List.{length-map}
 use Rattle.std.specs.Prelude.{not, IsTrue, IsErrOf}
 use Rattle.std.specs.FinMap.{is_sorted}
@@ -19,6 +19,7 @@ use Rattle.roots.specs.Root.{log_start}
 use Rattle.checkpoint.specs.Pages.{pages_at, pages_of_root, joined, first_key, AreSound, HoldsPages, HoldsEntries, IsIndex}
 use Rattle.checkpoint.specs.declared.scanning.ScanFault.{ScanFault}
 use Rattle.checkpoint.specs.declared.scanning.ScanFault.TheVariants as scan_fault
+use Rattle.checkpoint.proofs.Faults.{err_is}
 use Rattle.records.specs.Entries.{stored_entry}
 use Rattle.snapshots.specs.declared.sieve.Sieve.{Sieve}
 use Rattle.snapshots.specs.Sieve.{is_object, kept_of, objects_among, chosen_of, IsSieved}
@@ -145,11 +146,6 @@ restored_of_none rules lies all count number core empty uncounted is =
     )
 
 -- ---- faults
-
--- what is known of an error that is told
-pub err_is : {T E : Type 0} (r : Result T E) (P : E → Type 0) (e : E) → IsErrAnd r P → IsErrOf r e → P e
-err_is (Ok x) P e holds is = absurd holds
-err_is (Err f) P e holds is = let same : f ≡ e = cc in subst P same holds
 
 scan_page : (f : ScanFault) → Page ≡ of_scan_fault f → f ≡ scan_fault.Page
 scan_page scan_fault.Page is = refl

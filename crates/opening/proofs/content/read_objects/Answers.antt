@@ -17,7 +17,7 @@ use Rattle.recovery.specs.Written.{IsWritten}
 use Rattle.paged.specs.Lying.{base_of, LiesBelow}
 use Rattle.durable.specs.Rules.{first_rules}
 use Rattle.durable.specs.declared.fault.Fault.TheVariants as Fault
-use Rattle.durable.proofs.Renewing.{err_is}
+use Rattle.checkpoint.proofs.Faults.{err_is}
 use Rattle.opening.proofs.Bases.{base_held, base_entries, page_entry_or_plans, log_or_plans}
 use Rattle.durable.proofs.Numbers.{first_numbers}
 use Rattle.opening.proofs.Reading.{redone_holds}

@@ -10,7 +10,8 @@ use Rattle.durable.specs.Settled.{root_of, revision_of}
 use Rattle.durable.proofs.Answering.{held}
 use Rattle.durable.proofs.Keeping.{root_is}
 use Rattle.durable.proofs.Numbers.{history_kept}
-use Rattle.durable.proofs.Renewing.{err_is, on_ok_three, at_either, never_exhausted, settled_between, revision_between, serves_unchanged, settled_unchanged, keepable_here, moments_renewed, settled_renewed, serves_renewed, left_renewed}
+use Rattle.checkpoint.proofs.Faults.{err_is}
+use Rattle.durable.proofs.Renewing.{on_ok_three, at_either, never_exhausted, settled_between, revision_between, serves_unchanged, settled_unchanged, keepable_here, moments_renewed, settled_renewed, serves_renewed, left_renewed}
 use Rattle.durable.proofs.Unwritten.{held_after, left_read, moments_read}
 use Rattle.durable.proofs.store.Store.compact.Goals as goal
 
