@@ -1,7 +1,7 @@
 //! What an admission policy says of a write, by the plans of its expressions (Kubernetes, "Validating Admission Policy").
 //!
 //! ```text
-//! let request = request_document(alloc, &attempt)?;
+//! let request = policy::request_document(alloc, &attempt)?;
 //! match conditions(alloc, &policy, &plans, &attempt, &request)? {
 //!     Conditions::Met => evaluate(alloc, &policy, &plans, &attempt, &request, param)?,   // its denial, if it has one
 //!     Conditions::Unmet => None,

@@ -5,7 +5,7 @@
 //! match admit(alloc, &mut lookup, &attempt)? {
 //!     Verdict::Admitted(warnings) => reply(warnings),
 //!     Verdict::Denied { policy, binding, reason, message } => {
-//!         refuse(reason, denial_text(alloc, &policy, &binding, &message)?)
+//!         refuse(reason, policy::denial_text(alloc, &policy, &binding, &message)?)
 //!     }
 //! }
 //! ```
