@@ -39,10 +39,12 @@ fn conditions_by<'p>(
         plans_left.split_first(),
     ) {
         let outcome = given_by(alloc, plan, scene, &[])?;
-        if is_false(&outcome) {
+        let (holds, fails) = (is_true(&outcome), is_false(&outcome));
+        drop(outcome);
+        if fails {
             return Ok(Conditions::Unmet);
         }
-        if !is_true(&outcome) && matches!(kept, Conditions::Met) {
+        if !holds && matches!(kept, Conditions::Met) {
             kept = Conditions::Neither(condition.name.as_str());
         }
         rest = others;

@@ -70,10 +70,12 @@ fn denial_by(
     ensures { IfOk result (λ o. option_map denial_seen o ≡ told policy (validation_seen validation.now) (line_by (option_map (λ p. p.now) message.entry) (world_of scene.now variables.now)) (given_by plan.now (world_of scene.now variables.now))) }
 {
     let outcome = given_by(alloc, plan, scene, variables)?;
-    if is_true(&outcome) {
+    let (holds, fails) = (is_true(&outcome), is_false(&outcome));
+    drop(outcome);
+    if holds {
         return Ok(None);
     }
-    if is_false(&outcome) {
+    if fails {
         let line = line_by(alloc, message, scene, variables)?;
         let message = said(alloc, validation, line)?;
         return Ok(Some(Denial {

@@ -104,6 +104,19 @@ fn index_document<'a>(
     }
 }
 
+fn index_at<'a>(
+    alloc: Global,
+    of: &Held<'a>,
+    index: &Outcome,
+) -> Result<Held<'a>, AllocError>
+    ensures { IfOk result (λ h. held_seen h ≡ with_values indexed (held_seen of.now) (outcome_of index.now)) }
+{
+    match of {
+        Held::Document(document) => index_document(alloc, document, index),
+        Held::Owned(of) => Ok(Held::Owned(index_of(of, index)?)),
+    }
+}
+
 /// `e[i]`
 pub(crate) fn index<'a>(
     alloc: Global,
@@ -113,10 +126,10 @@ pub(crate) fn index<'a>(
     ensures { IfOk result (λ h. held_seen h ≡ with_values indexed (held_seen of.entry) (held_seen index.entry)) }
 {
     let index = into_outcome(alloc, index)?;
-    match of {
-        Held::Document(document) => index_document(alloc, document, &index),
-        Held::Owned(of) => Ok(Held::Owned(index_of(&of, &index)?)),
-    }
+    let part = index_at(alloc, &of, &index);
+    drop(index);
+    drop(of);
+    part
 }
 
 fn is_true_document(document: &Json) -> bool

@@ -33,7 +33,9 @@ pub fn take_has(alloc: Global, name: &str, stack: &mut Vec<Held<'_>>) -> Result<
     ensures { OnOk result (stack_seen stack.new.items ≡ on_one (with_value (has_member name.now)) (stack_seen stack.old.items)) }
 {
     let held = pop(stack);
-    put(stack, has(alloc, name, &held)?)
+    let given = has(alloc, name, &held);
+    drop(held);
+    put(stack, given?)
 }
 
 /// `e[i]`
@@ -101,7 +103,9 @@ pub fn take_unary(
     ensures { OnOk result (stack_seen stack.new.items ≡ on_one (with_value (prefixed prefix)) (stack_seen stack.old.items)) }
 {
     let operand = into_outcome(alloc, pop(stack))?;
-    put(stack, prefixed(prefix, &operand))
+    let given = prefixed(prefix, &operand);
+    drop(operand);
+    put(stack, given)
 }
 
 fn operator(binary: Binary) -> Operator
@@ -138,8 +142,11 @@ pub fn take_binary(
     requires { 2 ≤ length stack.old.items }
     ensures { OnOk result (stack_seen stack.new.items ≡ on_two (with_values (on_values (operator binary))) (stack_seen stack.old.items)) }
 {
-    let (left, right) = pop_outcomes(alloc, stack)?;
-    put(stack, on_outcomes(binary, &left, &right)?)
+    let operands = pop_outcomes(alloc, stack)?;
+    let (left, right) = &operands;
+    let given = on_outcomes(binary, left, right);
+    drop(operands);
+    put(stack, given?)
 }
 
 /// `a && b`
@@ -147,8 +154,11 @@ pub fn take_both(alloc: Global, stack: &mut Vec<Held<'_>>) -> Result<(), AllocEr
     requires { 2 ≤ length stack.old.items }
     ensures { OnOk result (stack_seen stack.new.items ≡ on_two both (stack_seen stack.old.items)) }
 {
-    let (left, right) = pop_outcomes(alloc, stack)?;
-    put(stack, both(&left, &right))
+    let operands = pop_outcomes(alloc, stack)?;
+    let (left, right) = &operands;
+    let given = both(left, right);
+    drop(operands);
+    put(stack, given)
 }
 
 /// `a || b`
@@ -156,8 +166,11 @@ pub fn take_either(alloc: Global, stack: &mut Vec<Held<'_>>) -> Result<(), Alloc
     requires { 2 ≤ length stack.old.items }
     ensures { OnOk result (stack_seen stack.new.items ≡ on_two either (stack_seen stack.old.items)) }
 {
-    let (left, right) = pop_outcomes(alloc, stack)?;
-    put(stack, either(&left, &right))
+    let operands = pop_outcomes(alloc, stack)?;
+    let (left, right) = &operands;
+    let given = either(left, right);
+    drop(operands);
+    put(stack, given)
 }
 
 // The one operand as the arguments of a call.
@@ -176,7 +189,9 @@ fn take_one(alloc: Global, name: &str, stack: &mut Vec<Held<'_>>) -> Result<(), 
 {
     let operand = into_outcome(alloc, pop(stack))?;
     let arguments = alone(alloc, operand)?;
-    put(stack, called(alloc, name, &arguments)?)
+    let given = called(alloc, name, &arguments);
+    drop(arguments);
+    put(stack, given?)
 }
 
 // `s.f(t)`
