@@ -89,8 +89,9 @@ fn bindings<'a, L: Lookup<'a>>(alloc: Global, lookup: &mut L) -> Result<Vec<Name
     ensures damaged { (part : Part) → IsErrOf result (LookupFault.Damaged part) → L.is_damaged lookup.new }
 {
     let listed = lookup.bindings(alloc)?;
-    let bindings = bindings_among(alloc, &listed)?;
-    Ok(bindings)
+    let bindings = bindings_among(alloc, &listed);
+    drop(listed);
+    Ok(bindings?)
 }
 
 // The denial of the write by a policy that was found, if it has the form of one and gives one.

@@ -147,13 +147,13 @@ fn on_conditions<'a, L: Lookup<'a>>(
                 attempt,
                 request,
                 &parameters,
-            )?;
-            Ok(denial)
+            );
+            drop(parameters);
+            Ok(denial?)
         }
         Conditions::Unmet => Ok(None),
         Conditions::Neither(name) => {
-            let denial = failed(alloc, policy, "match condition error: ", name)?;
-            Ok(denial)
+            Ok(failed(alloc, policy, "match condition error: ", name)?)
         }
     }
 }
@@ -227,7 +227,7 @@ pub fn denial<'a, L: Lookup<'a>>(
         Some(told) => told,
         None => request_document(alloc, attempt)?,
     };
-    let denial = asked(alloc, lookup, policy, plans, binding, attempt, &told)?;
+    let denial = asked(alloc, lookup, policy, plans, binding, attempt, &told);
     *request = Some(told);
-    Ok(denial)
+    denial
 }
