@@ -4,10 +4,10 @@ use Rattle.std.proofs.lemmas.Option.{same_Some}
 use Rattle.celtokens.specs.Terminal.{Terminal}
 use Rattle.celtree.specs.declared.tree.Operator.{Operator}
 use Rattle.celtree.specs.Tree.{Expr, Infix}
-use Rattle.celparse.specs.Operators.{infix_of}
+use Rattle.celtokens.specs.Operators.{infix_of}
 use Rattle.celparse.specs.Grammar.{Height, Chain, Spells, operand, last, infixed}
 use Rattle.celparse.specs.Ends.{Ends, Read, HasNoTree}
-use Rattle.celparse.specs.Ahead.{HasNoOperator}
+use Rattle.celtokens.specs.Ahead.{HasNoOperator}
 use Rattle.celparse.proofs.Ending.{ends_down, ends_at_operator, goes_on, ends_up}
 
 chain_ends : {h : ℕ} {a t : Expr} {m r : List Terminal} → Spells (Chain h a) m t r → Ends (Height (suc h)) r → Ends (Height h) m

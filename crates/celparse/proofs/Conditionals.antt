@@ -7,7 +7,7 @@ use Rattle.celtokens.specs.Terminal as token
 use Rattle.celtree.specs.Tree.{Expr, Conditional}
 use Rattle.celparse.specs.Grammar.{Whole, Height, Spells, simple, conditional}
 use Rattle.celparse.specs.Ends.{Ends, Read, HasNoTree, HasNoTreeBefore}
-use Rattle.celparse.specs.Ahead.{IsNotNext}
+use Rattle.celtokens.specs.Ahead.{IsNotNext}
 use Rattle.celparse.proofs.Ending.{ends_whole, whole_ends}
 
 simple_only : (i : List Terminal) (t : Expr) (r : List Terminal) → Read (Height 5) i t r → IsNotNext sign.Question r → (u : Expr) (s : List Terminal) → Spells Whole i u s → Ends Whole s → (u ≡ t) × (s ≡ r)

@@ -7,10 +7,10 @@ use Rattle.celtokens.specs.Terminal.{Terminal}
 use Rattle.celtokens.specs.Terminal as token
 use Rattle.celtree.specs.declared.tree.Operator.{Operator}
 use Rattle.celtree.specs.declared.tree.Prefix.{Prefix}
-use Rattle.celparse.specs.Operators.{infix_of}
+use Rattle.celtokens.specs.Operators.{infix_of}
 use Rattle.celparse.specs.Grammar.{Primary, Member, Whole, Prefixed, Height}
 use Rattle.celparse.specs.Ends.{is_open, is_suffix, is_question, is_below, Ends}
-use Rattle.celparse.specs.Ahead.{IsNotNext, HasNoOperator}
+use Rattle.celtokens.specs.Ahead.{IsNotNext, HasNoOperator}
 
 is_below_down : (h : ℕ) (o : Option (ℕ × Operator)) → is_below (suc h) o ≡ false → is_below h o ≡ false
 is_below_down h None e = refl

@@ -1,4 +1,3 @@
-pub mod Literals
 pub mod Ending
 pub mod Chains
 pub mod Prefixes

@@ -3,15 +3,17 @@ use Rattle.std.proofs.Common.{◌≡◌, ◌∙◌, ℕ, Bool, true, false, Some
 use Rattle.celtokens.specs.declared.sign.Sign.TheVariants as sign
 use Rattle.celtokens.specs.Terminal.{Terminal}
 use Rattle.celtokens.specs.Terminal as token
-use Rattle.celparse.specs.declared.items.Closing.{Closing}
-use Rattle.celparse.specs.declared.items.Closing.TheVariants as closing
+use Rattle.celtokens.specs.declared.closing.Closing.{Closing}
+use Rattle.celtokens.specs.declared.closing.Closing.TheVariants as closing
 use Rattle.celtree.specs.declared.tree.Prefix.{Prefix}
 use Rattle.celtree.specs.declared.tree.Prefix.TheVariants as prefix_of
 use Rattle.celtree.specs.Tree.{Expr, Exprs, no_items, item, Pairs, no_pairs, pair}
-use Rattle.celparse.specs.Operators.{after_prefix}
-use Rattle.celparse.specs.Grammar.{Primary, Whole, Height, close_sign, trails, Ending, close, trailing, literal_of, one_token, negative_int, Spells, literal, name, call, brackets, list, map, member, plain, prefixed, operand, simple, conditional, Items, empty, some, MoreItems, end, comma, Entries, no_entry, entries, MoreEntries, end_entries, comma_entry}
+use Rattle.celtokens.specs.Operators.{after_prefix}
+use Rattle.celtokens.specs.Literal.{literal_of, one_token, negative_int}
+use Rattle.celtokens.specs.Closing.{close_sign, trails, Ending, close, trailing}
+use Rattle.celparse.specs.Grammar.{Primary, Whole, Height, Spells, literal, name, call, brackets, list, map, member, plain, prefixed, operand, simple, conditional, Items, empty, some, MoreItems, end, comma, Entries, no_entry, entries, MoreEntries, end_entries, comma_entry}
 use Rattle.celparse.specs.Ends.{Ends, Read, HasNoTree, HasNoTreeBefore, ReadItems, HasNoItems, ReadEntry, HasNoEntry, ReadEntries, HasNoEntries}
-use Rattle.celparse.specs.Ahead.{IsNotNext}
+use Rattle.celtokens.specs.Ahead.{IsNotNext}
 use Rattle.celtree.specs.View.{items_of, pairs_of}
 
 -- no tree begins with a closing sign

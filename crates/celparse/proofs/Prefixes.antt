@@ -7,10 +7,11 @@ use Rattle.celtokens.specs.Terminal as token
 use Rattle.celtree.specs.declared.tree.Prefix.{Prefix}
 use Rattle.celtree.specs.declared.tree.Prefix.TheVariants as prefix_of
 use Rattle.celtree.specs.Tree.{Expr, Unary}
-use Rattle.celparse.specs.Operators.{after_prefix}
-use Rattle.celparse.specs.Grammar.{Primary, Member, Prefixed, Height, literal_of, one_token, negative_int, Spells, literal, name, call, brackets, list, map, member, plain, prefixed, bare, again}
+use Rattle.celtokens.specs.Operators.{after_prefix}
+use Rattle.celtokens.specs.Literal.{literal_of, one_token, negative_int}
+use Rattle.celparse.specs.Grammar.{Primary, Member, Prefixed, Height, Spells, literal, name, call, brackets, list, map, member, plain, prefixed, bare, again}
 use Rattle.celparse.specs.Ends.{Ends, Read, HasNoTree}
-use Rattle.celparse.specs.Ahead.{HasNoPrefix}
+use Rattle.celtokens.specs.Ahead.{HasNoPrefix}
 use Rattle.celparse.proofs.Ending.{ends_member, ends_zero, member_prefixed, prefixed_member}
 
 literal_no_prefix : (p : Prefix) (w : Terminal) (r m : List Terminal) (t : Expr) → after_prefix p (w ∷ r) ≡ Some m → literal_of w ≡ Some t → ⊥

@@ -4,12 +4,13 @@ use Rattle.std.proofs.lemmas.Option.{same_Some}
 use Rattle.celtokens.specs.declared.sign.Sign.TheVariants as sign
 use Rattle.celtokens.specs.Terminal.{Terminal}
 use Rattle.celtokens.specs.Terminal as token
-use Rattle.celparse.specs.declared.items.Closing.TheVariants as closing
+use Rattle.celtokens.specs.declared.closing.Closing.TheVariants as closing
 use Rattle.celtree.specs.Tree.{Expr, Exprs, Pairs, Name, Sequence, Mapping}
 use Rattle.celtree.specs.Calls.{call_of}
-use Rattle.celparse.specs.Grammar.{Primary, Whole, Literal, one_token, negative_int, Spells, literal, name, call, brackets, list, map, Items}
+use Rattle.celtokens.specs.Literal.{Literal, one_token, negative_int}
+use Rattle.celparse.specs.Grammar.{Primary, Whole, Spells, literal, name, call, brackets, list, map, Items}
 use Rattle.celparse.specs.Ends.{Ends, Read, HasNoTreeBefore, ReadPrimary, HasNoPrimary, ReadComposite, HasNoComposite, ReadItems, HasNoItems, ReadEntries, HasNoEntries}
-use Rattle.celparse.specs.Ahead.{IsNotNext, HasNoName, HasNoLiteral}
+use Rattle.celtokens.specs.Ahead.{IsNotNext, HasNoName, HasNoLiteral}
 
 -- there is one literal in front
 one_literal : (i : List Terminal) (t u : Expr) (r s : List Terminal) → Literal i t r → Literal i u s → (u ≡ t) × (s ≡ r)

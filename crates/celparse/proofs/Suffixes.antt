@@ -4,13 +4,13 @@ use Rattle.std.proofs.lemmas.Option.{same_Some}
 use Rattle.celtokens.specs.declared.sign.Sign.TheVariants as sign
 use Rattle.celtokens.specs.Terminal.{Terminal}
 use Rattle.celtokens.specs.Terminal as token
-use Rattle.celparse.specs.declared.items.Closing.TheVariants as closing
+use Rattle.celtokens.specs.declared.closing.Closing.TheVariants as closing
 use Rattle.celtree.specs.Tree.{Expr, Exprs, Field, Index}
 use Rattle.celtree.specs.Calls.{method_of}
-use Rattle.celparse.specs.Operators.{selector}
+use Rattle.celtokens.specs.Operators.{selector}
 use Rattle.celparse.specs.Grammar.{Primary, Member, Whole, Suffixes, Spells, member, no_suffix, field, method, index, Items}
 use Rattle.celparse.specs.Ends.{Ends, Read, HasNoTree, HasNoTreeBefore, ReadPrimary, HasNoPrimary, ReadItems, HasNoItems}
-use Rattle.celparse.specs.Ahead.{IsNotNext, HasNoSelector}
+use Rattle.celtokens.specs.Ahead.{IsNotNext, HasNoSelector}
 use Rattle.celparse.proofs.Ending.{ends_primary, no_suffix_next}
 
 suffixes_ends : {e t : Expr} {m r : List Terminal} → Spells (Suffixes e) m t r → Ends Member r → Ends Primary m

@@ -5,12 +5,13 @@ use Rattle.celtokens.specs.declared.sign.Sign.TheVariants as sign
 use Rattle.celtokens.specs.Terminal.{Terminal}
 use Rattle.celtokens.specs.Terminal as token
 use Rattle.celtree.specs.declared.tree.Operator.{Operator}
-use Rattle.celparse.specs.declared.items.Closing.{Closing}
+use Rattle.celtokens.specs.declared.closing.Closing.{Closing}
 use Rattle.celparse.specs.declared.fault.ParseFault.{ParseFault}
 use Rattle.celparse.specs.declared.fault.ParseFault.TheVariants as fault
 use Rattle.celtree.specs.Tree.{Expr, Exprs, Pairs}
-use Rattle.celparse.specs.Operators.{infix_of}
-use Rattle.celparse.specs.Grammar.{Level, Primary, Member, Whole, Suffixes, Prefixed, Height, Chain, Literal, Spells, Items, Entries}
+use Rattle.celtokens.specs.Operators.{infix_of}
+use Rattle.celtokens.specs.Literal.{Literal}
+use Rattle.celparse.specs.Grammar.{Level, Primary, Member, Whole, Suffixes, Prefixed, Height, Chain, Spells, Items, Entries}
 
 abbrev pub is_open : Terminal → Bool
 is_open (token.Mark sign.OpenParenthesis) = true

@@ -1,33 +1,17 @@
 -- The grammar of CEL, one constructor a production: tokens, the tree that they spell, and what follows them.
-use Rattle.std.specs.Prelude.{◌≡◌, ℕ, suc, pos, neg_ℤ, ◌≤◌, ◌^◌, nat_lt, Bool, true, false, Option, Some, None, List, [], ◌∷◌, encode_utf8_all, if◌then◌else◌}
-use Rattle.celtokens.specs.declared.sign.Sign.{Sign}
+use Rattle.std.specs.Prelude.{◌≡◌, ℕ, suc, Some, List, [], ◌∷◌, encode_utf8_all}
 use Rattle.celtokens.specs.declared.sign.Sign.TheVariants as sign
 use Rattle.celtokens.specs.Terminal.{Terminal}
 use Rattle.celtokens.specs.Terminal as token
 use Rattle.celtree.specs.declared.tree.Prefix.{Prefix}
 use Rattle.celtree.specs.declared.tree.Operator.{Operator}
-use Rattle.celparse.specs.declared.items.Closing.{Closing}
-use Rattle.celparse.specs.declared.items.Closing.TheVariants as closing
-use Rattle.celtree.specs.Tree.{Expr, Null, Truth, Int, Uint, Text, Name, Field, Index, Sequence, Mapping, Unary, Infix, Conditional, Exprs, no_items, item, Pairs, no_pairs, pair}
+use Rattle.celtokens.specs.declared.closing.Closing.{Closing}
+use Rattle.celtokens.specs.declared.closing.Closing.TheVariants as closing
+use Rattle.celtree.specs.Tree.{Expr, Name, Field, Index, Sequence, Mapping, Unary, Infix, Conditional, Exprs, no_items, item, Pairs, no_pairs, pair}
 use Rattle.celtree.specs.Calls.{call_of, method_of}
-use Rattle.celparse.specs.Operators.{infix_of, after_prefix, selector}
-
--- the tree of a literal of one token: a signed one lies in 64 bits, and so does an unsigned one
-abbrev pub literal_of : Terminal → Option Expr
-literal_of (token.Int n) = if nat_lt n (2 ^ 63) then Some (Int (pos n)) else None
-literal_of (token.Uint n) = if nat_lt n (2 ^ 64) then Some (Uint n) else None
-literal_of (token.Quoted t) = Some (Text (encode_utf8_all t))
-literal_of token.True = Some (Truth true)
-literal_of token.False = Some (Truth false)
-literal_of token.Null = Some Null
-literal_of _ = None
-
--- a literal: one token, or `-` and an INT token
-pub data Literal : List Terminal → Expr → List Terminal → Type 0 where
-  -- LITERAL = INT | UINT | STRING | "true" | "false" | "null"
-  one_token : {w : Terminal} {r : List Terminal} {t : Expr} → literal_of w ≡ Some t → Literal (w ∷ r) t r
-  -- INT = ["-"] DIGIT {DIGIT} | ..
-  negative_int : {n : ℕ} {r : List Terminal} → n ≤ 2 ^ 63 → Literal (token.Mark sign.Minus ∷ token.Int n ∷ r) (Int (neg_ℤ (pos n))) r
+use Rattle.celtokens.specs.Operators.{infix_of, after_prefix, selector}
+use Rattle.celtokens.specs.Literal.{Literal}
+use Rattle.celtokens.specs.Closing.{close_sign, Ending}
 
 -- The levels of the grammar. Heights: 0 Unary, 1 Mul, 2 Add, 3 Rel, 4 And, 5 Or. Suffixes stand after a tree, and a chain of operands of height h after its left side.
 pub data Level : Type 0 where
@@ -36,25 +20,6 @@ pub data Level : Type 0 where
   Prefixed : (prefix : Prefix) → Level
   Height : (height : ℕ) → Level
   Chain : (height : ℕ) (left : Expr) → Level
-
--- the sign that ends a list
-abbrev pub close_sign : Closing → Sign
-close_sign closing.Parenthesis = sign.CloseParenthesis
-close_sign closing.Bracket = sign.CloseBracket
-close_sign closing.Brace = sign.CloseBrace
-
--- a comma may stand after the last item of a list or map literal, but not of a call's arguments
-abbrev pub trails : Closing → Bool
-trails closing.Parenthesis = false
-trails closing.Bracket = true
-trails closing.Brace = true
-
--- the end of a list that has an item, and what follows it
-pub data Ending (c : Closing) : List Terminal → List Terminal → Type 0 where
-  -- ")"  |  "]"  |  "}"
-  close : {r : List Terminal} → Ending c (token.Mark (close_sign c) ∷ r) r
-  -- "," "]"  |  "," "}"
-  trailing : {r : List Terminal} → trails c ≡ true → Ending c (token.Mark sign.Comma ∷ token.Mark (close_sign c) ∷ r) r
 
 mutual
   pub data Spells : Level → List Terminal → Expr → List Terminal → Type 0 where

@@ -1,4 +1,2 @@
-pub mod Operators
 pub mod Grammar
 pub mod Ends
-pub mod Ahead

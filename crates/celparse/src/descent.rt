@@ -10,14 +10,11 @@ ghost use Rattle.celtree.specs.Tree.{Conditional, Field, Index, Infix, Mapping, 
 ghost use Rattle.celtree.specs.Calls.{call_of, method_of};
 ghost use Rattle.celtree.specs.View.{view, views, pair_views};
 
-use crate::ahead::{
-    Separator, Start, Suffix, after, after_prefix, operator_at, prefix_at, primary_at,
-    separator_at, skip, suffix_at,
-};
 use crate::fault::ParseFault;
-use crate::items::{Closing, close_sign};
-use crate::literal::{literal, text_of};
-use celtokens::{Sign, Token};
+use celtokens::{
+    Closing, Separator, Sign, Start, Suffix, Token, after, after_prefix, close_sign, literal_at,
+    operator_at, prefix_at, primary_at, separator_at, skip, suffix_at, text_of,
+};
 use celtree::{Operator, Prefix, Tree, call, method};
 use std::alloc::{AllocError, Global};
 
@@ -306,7 +303,7 @@ fn primary<'a, 'b>(
     ensures none { IfErr result (λ e. Refuses e (HasNoPrimary (terminals tokens.now))) }
     ensures shorter { IfOk result (λ x. length x.1.now < length tokens.now) }
 {
-    let (found, rest) = literal(alloc, tokens)?;
+    let (found, rest) = literal_at(alloc, tokens)?;
     match found {
         Some(tree) => Ok((tree, rest)),
         None => composite(alloc, tokens),

@@ -7,11 +7,8 @@
 //! depth by who calls it.
 #![tactic(auto)]
 
-mod ahead;
 mod descent;
 mod fault;
-mod items;
-mod literal;
 
 pub use descent::expression;
 pub use fault::ParseFault;

@@ -4,6 +4,7 @@ use Rattle.std.specs.Prelude.{nat_lt, pos}
 use Rattle.std.proofs.lemmas.Option.{same_Some, cond_some}
 use Rattle.std.proofs.lemmas.Str.{encodes-chars}
 use Rattle.celtokens.specs.declared.sign.Sign.TheVariants as sign
+use Rattle.celtokens.specs.declared.closing.Closing.{Closing}
 use Rattle.celtokens.specs.Terminal.{Terminal}
 use Rattle.celtokens.specs.Terminal as token
 use Rattle.celtree.specs.declared.tree.Macro.{Macro}
@@ -12,9 +13,11 @@ use Rattle.celtree.specs.declared.tree.Prefix.{Prefix}
 use Rattle.celtree.specs.declared.tree.Prefix.TheVariants as prefix_of
 use Rattle.celtree.specs.Tree.{Expr, Null, Truth, Int, Uint, Text, Field, Has, Call, Method, Over, Exprs, no_items, item, Pairs}
 use Rattle.celtree.specs.Calls.{macro_named, selection, variable, has_of, macro_of_three, macro_over, unless_macro, method_or_macro, call_of, method_of}
-use Rattle.celparse.specs.Operators.{begins_with_int, after_prefix, selector}
+use Rattle.celtokens.specs.Operators.{begins_with_int, after_prefix, selector}
+use Rattle.celtokens.specs.Literal.{literal_of, Literal, one_token, negative_int}
+use Rattle.celtokens.specs.Closing.{Ending, close, trailing}
 use Rattle.celparse.specs.Grammar as grammar
-use Rattle.celparse.specs.Grammar.{literal_of, Literal, Level, Suffixes, Chain, close_sign, Ending, Spells, Items, MoreItems, Entries, MoreEntries}
+use Rattle.celparse.specs.Grammar.{Level, Suffixes, Chain, Spells, Items, MoreItems, Entries, MoreEntries}
 use Rattle.celread.specs.Reading.{IsReadAs}
 use Rattle.celtree.specs.Size.{nodes, nodes_of_items, nodes_of_pairs, text_bytes, text_bytes_of_items, text_bytes_of_pairs}
 use Rattle.celread.proofs.Weights.{bytes_are, weight, weights, lexed_weights}
@@ -104,8 +107,8 @@ one_token_size token.Null t h = let same = same_Some Null t h in omega (arith, a
 one_token_size _ t h = absurd (cc)
 
 literal_size : {i r : List Terminal} {t : Expr} → Literal i t r → size t + weights r ≤ weights i
-literal_size (grammar.one_token {w = w} {r = r} {t = t} e) = let le = one_token_size w t e in omega arith
-literal_size (grammar.negative_int le) = omega arith
+literal_size (one_token {w = w} {r = r} {t = t} e) = let le = one_token_size w t e in omega arith
+literal_size (negative_int le) = omega arith
 
 -- a field's name and the dot before it weigh as much as the field's node and its name's bytes
 selector_weight : (w : Terminal) (f : List ℕ) → selector w ≡ Some f → (length f ≤ weight w) × (1 ≤ weight w)
@@ -122,10 +125,9 @@ prefix_weight prefix_of.Not (token.Mark sign.Bang ∷ i) m h = let same = same_S
 prefix_weight prefix_of.Negate (token.Mark sign.Minus ∷ i) m h = let le = prefix_weight_at (begins_with_int i) i m h in omega arith
 prefix_weight _ _ m h = absurd (cc)
 
--- (c is the kind of the closing sign, whose type celparse keeps to itself)
-ending_weight : {c : _} {i r : List Terminal} → Ending c i r → weights r ≤ weights i
-ending_weight grammar.close = omega arith
-ending_weight (grammar.trailing e) = omega arith
+ending_weight : {c : Closing} {i r : List Terminal} → Ending c i r → weights r ≤ weights i
+ending_weight close = omega arith
+ending_weight (trailing e) = omega arith
 
 -- the tree on the left of what a level spells
 abbrev left_size : Level → ℕ

@@ -7,3 +7,4 @@ pub mod Texts
 pub mod Words
 pub mod Lexed
 pub mod Identifiers
+pub mod Literals

@@ -9,3 +9,7 @@ pub mod Word
 pub mod Lexeme
 pub mod Lexes
 pub mod Seen
+pub mod Operators
+pub mod Literal
+pub mod Closing
+pub mod Ahead

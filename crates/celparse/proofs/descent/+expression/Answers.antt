@@ -2,9 +2,10 @@ use Rattle.std.proofs.Common.{◌≡◌, suc, ◌-◌, sym, arith}
 use Rattle.std.proofs.lemmas.Option.{MatchOption-at_some}
 use Rattle.std.proofs.lemmas.Result.{IfOk-weaker, IfErr-weaker}
 use Rattle.celtokens.specs.Seen.{terminals}
-use Rattle.celparse.specs.Grammar.{Member, Literal}
+use Rattle.celtokens.specs.Literal.{Literal}
+use Rattle.celparse.specs.Grammar.{Member}
 use Rattle.celparse.specs.Ends.{HasNoTree, Read, Refuses}
-use Rattle.celparse.specs.Ahead.{HasNoLiteral}
+use Rattle.celtokens.specs.Ahead.{HasNoLiteral}
 use Rattle.celtree.specs.View.{view}
 use Rattle.celparse.proofs.Refusals.{refuses, handed_on, of_ok, of_err, of_memory, map-pair_view, view-push, no_tree_at, read_at}
 use Rattle.celparse.proofs.Chains.{going_start, start_none, going_next, next_none, going_end}

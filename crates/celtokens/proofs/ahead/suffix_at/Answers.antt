@@ -1,6 +1,6 @@
 use Rattle.std.proofs.Common.{inl, inr}
 use Rattle.celtokens.specs.Seen.{terminals}
-use Rattle.celparse.proofs.ahead.suffix_at.Goals as goal
+use Rattle.celtokens.proofs.ahead.suffix_at.Goals as goal
 
 pub returns-in-None-selector_at : goal.returns-in-None-selector_at
 returns-in-None-selector_at c = (terminals c.in-Some.beyond.now, inr (c.in-Some.ensures.value, c.in-None-selector_at.ensures.value))

@@ -1,13 +1,14 @@
 //! Literals.
 
-ghost use Rattle.std.specs.Prelude.{◌≡◌, ◌<◌, ◌≤◌, ◌^◌, pos, neg_ℤ, length, option_map, string_bytes, encode_utf8_all, IfOk, IfErr, IfSome, OnSome, MatchOption};
+ghost use Rattle.std.specs.Prelude.{◌≡◌, ◌<◌, ◌≤◌, ◌^◌, pos, neg_ℤ, length, option_map, string_bytes, encode_utf8_all, IfOk, IfSome, OnSome, MatchOption};
 ghost use Rattle.celtokens.specs.Seen.{number, terminal, terminals};
-ghost use Rattle.celparse.specs.Grammar.{Literal, literal_of};
+ghost use Rattle.celtokens.specs.Literal.{Literal, literal_of};
 ghost use Rattle.celtree.specs.View.{view};
-ghost use Rattle.celparse.specs.Ahead.{HasNoLiteral, IsNegative, HasNoNegative, IsNegativeInt, IsNoNegativeInt};
+ghost use Rattle.celtokens.specs.Ahead.{HasNoLiteral, IsNegative, HasNoNegative, IsNegativeInt, IsNoNegativeInt};
 
 use crate::ahead::{after, first};
-use celtokens::{Number, Sign, Token};
+use crate::sign::Sign;
+use crate::token::{Number, Token};
 use celtree::Tree;
 use std::alloc::{AllocError, Global};
 
@@ -27,7 +28,11 @@ fn negative(digits: Number<'_>) -> Option<i64>
 }
 
 /// The text of the characters.
-pub(crate) fn text_of(alloc: Global, chars: &[char]) -> Result<String, AllocError>
+///
+/// # Errors
+///
+/// [`AllocError`] where no memory is left.
+pub fn text_of(alloc: Global, chars: &[char]) -> Result<String, AllocError>
     ensures { IfOk result (λ s. string_bytes s ≡ encode_utf8_all chars.now) }
 {
     chars.iter().copied().collect::<String>(alloc)
@@ -86,8 +91,12 @@ fn negative_literal<'a, 'b>(tokens: &'b [Token<'a>]) -> Option<(i64, &'b [Token<
     }
 }
 
-/// The literal in front, if there is one, and what follows it.
-pub(crate) fn literal<'a, 'b>(
+/// The tree of the literal in front, if there is one, and what follows it (CEL language definition, "Syntax").
+///
+/// # Errors
+///
+/// [`AllocError`] where no memory is left.
+pub fn literal_at<'a, 'b>(
     alloc: Global,
     tokens: &'b [Token<'a>],
 ) -> Result<(Option<Box<Tree>>, &'b [Token<'a>]), AllocError>

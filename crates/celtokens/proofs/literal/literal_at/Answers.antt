@@ -1,12 +1,12 @@
 use Rattle.std.proofs.Common.{◌≡◌, ℤ, sym, rules, w64, SFits}
 use Rattle.std.proofs.lemmas.Int.{to_z-of_z}
 use Rattle.celtokens.specs.Seen.{terminals}
-use Rattle.celparse.specs.Grammar.{one_token}
+use Rattle.celtokens.specs.Literal.{one_token}
 use Rattle.celtree.specs.Tree as expr
 use Rattle.celtree.specs.View.{view}
 use Rattle.celtree.specs.declared.tree.Tree.{Int, the_lemmas}
-use Rattle.celparse.proofs.Literals.{negative_literal}
-use Rattle.celparse.proofs.literal.literal.Goals as goal
+use Rattle.celtokens.proofs.Literals.{negative_literal}
+use Rattle.celtokens.proofs.literal.literal_at.Goals as goal
 
 view-Int : (v : ℤ) → view (Int v) ≡ expr.Int v
 view-Int v = search (rules, the_lemmas)

@@ -1,13 +1,13 @@
 //! The ends of lists of items.
 
 ghost use Rattle.std.specs.Prelude.{◌≡◌};
-ghost use Rattle.celparse.specs.Grammar.{close_sign, trails};
+ghost use Rattle.celtokens.specs.Closing.{close_sign, trails};
 
-use celtokens::Sign;
+use crate::sign::Sign;
 
 /// The sign that ends a list of items.
 #[derive(Clone, Copy)]
-pub(crate) enum Closing {
+pub enum Closing {
     /// `)`, after a call's arguments.
     Parenthesis,
     /// `]`, after the items of a list literal.
@@ -17,7 +17,7 @@ pub(crate) enum Closing {
 }
 
 /// The sign itself.
-pub(crate) fn close_sign(closing: Closing) -> Sign
+pub fn close_sign(closing: Closing) -> Sign
     ensures { result ≡ close_sign closing }
 {
     match closing {

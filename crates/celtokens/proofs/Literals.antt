@@ -2,8 +2,8 @@
 use Rattle.std.proofs.Common.{◌≡◌, ◌∙◌, ℤ, List, ◌∷◌, None, sym, refl}
 use Rattle.celtokens.specs.Terminal.{Terminal}
 use Rattle.celtree.specs.Tree.{Int}
-use Rattle.celparse.specs.Grammar.{Literal, one_token, negative_int, literal_of}
-use Rattle.celparse.specs.Ahead.{HasNoLiteral, IsNegative, HasNoNegative}
+use Rattle.celtokens.specs.Literal.{Literal, one_token, negative_int, literal_of}
+use Rattle.celtokens.specs.Ahead.{HasNoLiteral, IsNegative, HasNoNegative}
 
 -- no literal where the first token is none, and no negative number stands there
 no_literal_at : (w : Terminal) (m : List Terminal) → literal_of w ≡ None → HasNoNegative (w ∷ m) → HasNoLiteral (w ∷ m)

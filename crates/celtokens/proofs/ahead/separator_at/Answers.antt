@@ -1,6 +1,6 @@
 use Rattle.std.proofs.Common.{sym, arith}
-use Rattle.celparse.specs.Grammar.{close, trailing}
-use Rattle.celparse.proofs.ahead.separator_at.Goals as goal
+use Rattle.celtokens.specs.Closing.{close, trailing}
+use Rattle.celtokens.proofs.ahead.separator_at.Goals as goal
 
 pub returns-in-Some : goal.returns-in-Some
 returns-in-Some c = (rw (c.in-Some.ensures.value, c.close_sign.ensures) close, c.in-Some.ensures.shorter)

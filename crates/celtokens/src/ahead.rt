@@ -1,13 +1,14 @@
-//! Looks at the tokens in front.
+//! What stands in front of the tokens that are left (CEL language definition, "Syntax").
 
 ghost use Rattle.std.specs.Prelude.{◌≡◌, ◌<◌, ◌∷◌, [], true, false, length, Some, IfSome, MatchOption, option_map};
 ghost use Rattle.celtokens.specs.Seen.{terminal, terminals};
 ghost use Rattle.celtokens.specs.Terminal.{Mark};
-ghost use Rattle.celparse.specs.Operators.{infix_sign, infix_of, begins_with_int, after_prefix};
-ghost use Rattle.celparse.specs.Ahead.{IsNotNext, IsOperator, HasNoOperator, HasNoPrefix, IsName, HasNoName, IsSelector, HasNoSelector, IsStart, IsSuffix, IsSeparator};
+ghost use Rattle.celtokens.specs.Operators.{infix_sign, infix_of, begins_with_int, after_prefix};
+ghost use Rattle.celtokens.specs.Ahead.{IsNotNext, IsOperator, HasNoOperator, HasNoPrefix, IsName, HasNoName, IsSelector, HasNoSelector, IsStart, IsSuffix, IsSeparator};
 
-use crate::items::{Closing, close_sign, trails};
-use celtokens::{Sign, Token};
+use crate::closing::{Closing, close_sign, trails};
+use crate::sign::Sign;
+use crate::token::Token;
 use celtree::{Operator, Prefix};
 
 /// The token in front, and what follows it.
@@ -19,7 +20,7 @@ pub(crate) fn first<'a, 'b>(tokens: &'b [Token<'a>]) -> Option<(&'b Token<'a>, &
 }
 
 /// What follows the sign, if it stands in front.
-pub(crate) fn after<'a, 'b>(tokens: &'b [Token<'a>], sign: Sign) -> Option<&'b [Token<'a>]>
+pub fn after<'a, 'b>(tokens: &'b [Token<'a>], sign: Sign) -> Option<&'b [Token<'a>]>
     ensures value { MatchOption result (IsNotNext sign (terminals tokens.now)) (λ x. terminals tokens.now ≡ Mark sign ∷ terminals x.now) }
     ensures shorter { IfSome result (λ x. length x.now < length tokens.now) }
 {
@@ -31,7 +32,7 @@ pub(crate) fn after<'a, 'b>(tokens: &'b [Token<'a>], sign: Sign) -> Option<&'b [
 }
 
 /// Whether the sign stands in front, and the tokens from what follows it on, or all of them.
-pub(crate) fn skip<'a, 'b>(tokens: &'b [Token<'a>], sign: Sign) -> (bool, &'b [Token<'a>])
+pub fn skip<'a, 'b>(tokens: &'b [Token<'a>], sign: Sign) -> (bool, &'b [Token<'a>])
     ensures found { result.0 ≡ true → (terminals tokens.now ≡ Mark sign ∷ terminals result.1.now) × (length result.1.now < length tokens.now) }
     ensures kept { result.0 ≡ false → IsNotNext sign (terminals tokens.now) × (result.1.now ≡ tokens.now) }
 {
@@ -77,7 +78,7 @@ fn infix(token: &Token<'_>) -> Option<(u8, Operator)>
 }
 
 /// The operator between operands of the height in front, and what follows it.
-pub(crate) fn operator_at<'a, 'b>(
+pub fn operator_at<'a, 'b>(
     tokens: &'b [Token<'a>],
     height: u8,
 ) -> Option<(Operator, &'b [Token<'a>])>
@@ -111,10 +112,7 @@ fn begins_with_int(tokens: &[Token<'_>]) -> bool
 }
 
 /// What follows the prefix operator, if it stands in front. The operand of `-` does not begin with an INT token.
-pub(crate) fn after_prefix<'a, 'b>(
-    tokens: &'b [Token<'a>],
-    prefix: Prefix,
-) -> Option<&'b [Token<'a>]>
+pub fn after_prefix<'a, 'b>(tokens: &'b [Token<'a>], prefix: Prefix) -> Option<&'b [Token<'a>]>
     ensures value { option_map (λ x. terminals x.now) result ≡ after_prefix prefix (terminals tokens.now) }
     ensures shorter { IfSome result (λ x. length x.now < length tokens.now) }
 {
@@ -134,7 +132,7 @@ pub(crate) fn after_prefix<'a, 'b>(
 }
 
 /// The prefix operator in front, and what follows it.
-pub(crate) fn prefix_at<'a, 'b>(tokens: &'b [Token<'a>]) -> Option<(Prefix, &'b [Token<'a>])>
+pub fn prefix_at<'a, 'b>(tokens: &'b [Token<'a>]) -> Option<(Prefix, &'b [Token<'a>])>
     ensures value { MatchOption result (HasNoPrefix (terminals tokens.now)) (λ x. after_prefix x.0 (terminals tokens.now) ≡ Some (terminals x.1.now)) }
     ensures shorter { IfSome result (λ x. length x.1.now < length tokens.now) }
 {
@@ -174,17 +172,23 @@ fn selector_at<'a, 'b>(tokens: &'b [Token<'a>]) -> Option<(&'a [char], &'b [Toke
 }
 
 /// What a primary expression that is no literal begins with, and what follows that.
-pub(crate) enum Start<'a, 'b> {
+pub enum Start<'a, 'b> {
+    /// A name that no `(` follows.
     Name(&'a [char], &'b [Token<'a>]),
+    /// A name and `(`.
     Call(&'a [char], &'b [Token<'a>]),
+    /// `(`
     Parenthesis(&'b [Token<'a>]),
+    /// `[`
     Bracket(&'b [Token<'a>]),
+    /// `{`
     Brace(&'b [Token<'a>]),
+    /// None of these.
     Nothing,
 }
 
 /// How the primary expression in front begins.
-pub(crate) fn primary_at<'a, 'b>(tokens: &'b [Token<'a>]) -> Start<'a, 'b>
+pub fn primary_at<'a, 'b>(tokens: &'b [Token<'a>]) -> Start<'a, 'b>
     ensures { IsStart tokens.now result }
 {
     match name_at(tokens) {
@@ -206,17 +210,21 @@ pub(crate) fn primary_at<'a, 'b>(tokens: &'b [Token<'a>]) -> Start<'a, 'b>
 }
 
 /// A suffix in front, and what follows it.
-pub(crate) enum Suffix<'a, 'b> {
+pub enum Suffix<'a, 'b> {
+    /// A dot and a name that no `(` follows.
     Field(&'a [char], &'b [Token<'a>]),
+    /// A dot, a name and `(`.
     Method(&'a [char], &'b [Token<'a>]),
+    /// `[`
     Index(&'b [Token<'a>]),
     /// A suffix that the grammar does not have: `(`, or a dot without a name.
     Wrong,
+    /// None of these.
     Nothing,
 }
 
 /// The suffix in front.
-pub(crate) fn suffix_at<'a, 'b>(tokens: &'b [Token<'a>]) -> Suffix<'a, 'b>
+pub fn suffix_at<'a, 'b>(tokens: &'b [Token<'a>]) -> Suffix<'a, 'b>
     ensures { IsSuffix tokens.now result }
 {
     match after(tokens, Sign::Dot) {
@@ -238,7 +246,7 @@ pub(crate) fn suffix_at<'a, 'b>(tokens: &'b [Token<'a>]) -> Suffix<'a, 'b>
 }
 
 /// What follows an item of a list.
-pub(crate) enum Separator<'a, 'b> {
+pub enum Separator<'a, 'b> {
     /// The list's end, and what follows it.
     End(&'b [Token<'a>]),
     /// A comma before another item, and what follows the comma.
@@ -248,7 +256,7 @@ pub(crate) enum Separator<'a, 'b> {
 }
 
 /// The separator in front.
-pub(crate) fn separator_at<'a, 'b>(tokens: &'b [Token<'a>], closing: Closing) -> Separator<'a, 'b>
+pub fn separator_at<'a, 'b>(tokens: &'b [Token<'a>], closing: Closing) -> Separator<'a, 'b>
     ensures { IsSeparator closing tokens.now result }
 {
     match after(tokens, close_sign(closing)) {

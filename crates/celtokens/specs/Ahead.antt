@@ -8,16 +8,17 @@ use Rattle.celtokens.specs.Terminal.{Terminal}
 use Rattle.celtokens.specs.Terminal as token
 use Rattle.celtree.specs.declared.tree.Operator.{Operator}
 use Rattle.celtree.specs.declared.tree.Prefix.TheVariants as prefix_of
-use Rattle.celparse.specs.declared.ahead.Start.{Start}
-use Rattle.celparse.specs.declared.ahead.Start.TheVariants as start
-use Rattle.celparse.specs.declared.items.Closing.{Closing}
-use Rattle.celparse.specs.declared.ahead.Separator.{Separator}
-use Rattle.celparse.specs.declared.ahead.Separator.TheVariants as separator
-use Rattle.celparse.specs.declared.ahead.Suffix.{Suffix}
-use Rattle.celparse.specs.declared.ahead.Suffix.TheVariants as suffix
+use Rattle.celtokens.specs.declared.ahead.Start.{Start}
+use Rattle.celtokens.specs.declared.ahead.Start.TheVariants as start
+use Rattle.celtokens.specs.declared.closing.Closing.{Closing}
+use Rattle.celtokens.specs.declared.ahead.Separator.{Separator}
+use Rattle.celtokens.specs.declared.ahead.Separator.TheVariants as separator
+use Rattle.celtokens.specs.declared.ahead.Suffix.{Suffix}
+use Rattle.celtokens.specs.declared.ahead.Suffix.TheVariants as suffix
 use Rattle.celtree.specs.Tree.{Expr}
-use Rattle.celparse.specs.Grammar.{Literal, Ending, close_sign, trails}
-use Rattle.celparse.specs.Operators.{infix_of, after_prefix, selector}
+use Rattle.celtokens.specs.Operators.{infix_of, after_prefix, selector}
+use Rattle.celtokens.specs.Literal.{Literal}
+use Rattle.celtokens.specs.Closing.{Ending, close_sign, trails}
 
 -- the sign does not stand in front
 abbrev pub IsNotNext : Sign → List Terminal → Type 0
