@@ -1,3 +1,4 @@
+pub mod Nests
 pub mod Weights
 pub mod Sizes
 pub mod Alone
