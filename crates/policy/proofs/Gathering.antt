@@ -2,10 +2,13 @@
 use Rattle.std.proofs.Common.{◌≡◌, ◌<◌, ◌+◌, ℕ, suc, List, [], ◌∷◌, ◌++◌, Option, Some, None, option_map, map, length, get_or, drop, drop-cons, add-one, refl, sym, ap, ◌∙◌, rules}
 use Rattle.std.proofs.lemmas.Grind.{common_steps}
 use Rattle.std.proofs.lemmas.List.{append-nil, length-map, map_push}
-use Rattle.serde_json.specs.Data.{Data}
+use Rattle.serde_json.specs.Data.{Data, Members, member}
 use Rattle.serde_json.specs.View.{view, items_view}
 use Rattle.serde_json.specs.declared.value.Value.{Value}
-use Rattle.policy.specs.Forms.{after, each, given}
+use Rattle.documents.specs.Requirement.{Requirement, requirement_seen}
+use Rattle.documents.specs.declared.requirement.Requirement as code
+use Rattle.policy.specs.Forms.{Text, after, each, given}
+use Rattle.policy.specs.MatchRules.{label_of, labels_of}
 
 pub after_more : {A : Type 0} (xs : List A) (x : A) (o : Option (List A)) → after xs (option_map (λ ys. x ∷ ys) o) ≡ after (xs ++ x ∷ []) o
 after_more xs x None = refl
@@ -24,6 +27,14 @@ mapped_append f xs ys = search (rules, common_steps)
 pub same_option : {A : Type 0} (o : Option A) → option_map (λ x. x) o ≡ o
 same_option None = refl
 same_option (Some x) = refl
+
+-- the first label is read
+pub label_read : (whole : Option (List Requirement)) (read : List code.Requirement) (r : code.Requirement) (key : Text) (d : Data) (rest : Members)
+    → label_of key d ≡ Some (requirement_seen r) → whole ≡ after (map requirement_seen read) (labels_of (member key d rest))
+    → whole ≡ after (map requirement_seen (read ++ r ∷ [])) (labels_of rest)
+label_read whole read r key d rest found before =
+    before ∙ ap (λ (o : Option Requirement). after (map requirement_seen read) (given o (λ label. option_map (λ labels. label ∷ labels) (labels_of rest)))) found
+    ∙ after_more (map requirement_seen read) (requirement_seen r) (labels_of rest) ∙ ap (λ (ys : List Requirement). after ys (labels_of rest)) (sym (map_push requirement_seen read r))
 
 -- what is left of a list begins with its next item
 each_next : {A : Type 0} (f : Data → Option A) (xs : List Value) (i : ℕ) (x : Value) → i < length xs → x ≡ get_or xs i x

@@ -26,6 +26,10 @@ all_among names (member k d ms) = is_among names k && all_among names ms
 abbrev pub has_only : List Text → Data → Bool
 has_only names d = option_map_or (all_among names) (as_object d) false
 
+-- what passes the test
+abbrev pub passing : {A : Type 0} → (A → Bool) → Option A → Option A
+passing test o = given o (λ x. provided (test x) (Some x))
+
 -- a member that must be there
 abbrev pub field : {A : Type 0} → Text → (Data → Option A) → Data → Option A
 field name f d = given (get name d) f

@@ -1,10 +1,13 @@
 //! Bindings.
 
-ghost use Rattle.std.specs.Prelude.{◌≡◌, IfOk, option_map};
+ghost use Rattle.std.specs.Prelude.{◌≡◌, None, Some, codes, option_map, IfOk, IsErrOf, string_bytes};
+ghost use Rattle.serde_json.specs.Find.{as_str};
 ghost use Rattle.serde_json.specs.View.{view};
-ghost use Rattle.policy.specs.Bindings.{binding_of};
-ghost use Rattle.policy.specs.Forms.{only};
+ghost use Rattle.names.specs.Name.{is_name};
+ghost use Rattle.policy.specs.Bindings.{action_of, binding_of};
+ghost use Rattle.policy.specs.Forms.{given, field, list_of, only, passing};
 ghost use Rattle.policy.specs.Spec.{binding_seen};
+ghost use Rattle.policy.specs.declared.form.FormFault.TheVariants as FormFault;
 
 use crate::form::{
     Form, FormFault, has_only, optional, optional_or, required, required_list, spec_of,
@@ -73,24 +76,11 @@ impl Form for Action {
     ghost seen = { λ action. action };
 
     fn read(_alloc: Global, part: &Json) -> Result<Action, FormFault> {
-        let text = part.as_str().ok_or(FormFault::BadForm)?;
-        if text == "Deny" {
-            Ok(Action::Deny)
-        } else if text == "Warn" {
-            Ok(Action::Warn)
-        } else {
-            Err(FormFault::BadForm)
+        match part.as_str() {
+            Some("Deny") => Ok(Action::Deny),
+            Some("Warn") => Ok(Action::Warn),
+            _ => Err(FormFault::BadForm),
         }
-    }
-}
-
-// The only action, if there is exactly one.
-fn only_action(actions: &[Action]) -> Option<Action>
-    ensures { result ≡ only actions.now }
-{
-    match actions {
-        [action] => Some(*action),
-        _ => None,
     }
 }
 
@@ -117,22 +107,36 @@ impl Form for Binding {
         ) {
             return Err(FormFault::BadForm);
         }
-        let policy: String = required(alloc, part, "policyName")?;
-        if !check_name(policy.as_str()) {
-            return Err(FormFault::BadForm);
-        }
-        let actions: Vec<Action> = required_list(alloc, part, "validationActions")?;
-        let action = only_action(&actions).ok_or(FormFault::BadForm)?;
-        let everything = MatchRules {
-            rules: Vec::new(alloc),
-            excluded: Vec::new(alloc),
-            objects: Vec::new(alloc),
-        };
         Ok(Binding {
-            policy,
-            action,
-            resources: optional_or(alloc, part, "matchResources", everything)?,
+            policy: policy_name(alloc, part)?,
+            action: only_action(alloc, part)?,
+            resources: optional_or(alloc, part, "matchResources", MatchRules::everything(alloc))?,
             param_ref: optional(alloc, part, "paramRef")?,
         })
+    }
+}
+
+// The name of the policy.
+fn policy_name(alloc: Global, spec: &Json) -> Result<String, FormFault>
+    ensures read { IfOk result (λ s. passing is_name (field (codes "policyName") as_str (view spec.now)) ≡ Some (string_bytes s)) }
+    ensures refused { IsErrOf result FormFault.BadForm → passing is_name (field (codes "policyName") as_str (view spec.now)) ≡ None }
+{
+    let name: String = required(alloc, spec, "policyName")?;
+    if check_name(name.as_str()) {
+        Ok(name)
+    } else {
+        Err(FormFault::BadForm)
+    }
+}
+
+// The only action.
+fn only_action(alloc: Global, spec: &Json) -> Result<Action, FormFault>
+    ensures read { IfOk result (λ action. given (field (codes "validationActions") (list_of action_of) (view spec.now)) only ≡ Some action) }
+    ensures refused { IsErrOf result FormFault.BadForm → given (field (codes "validationActions") (list_of action_of) (view spec.now)) only ≡ None }
+{
+    let actions: Vec<Action> = required_list(alloc, spec, "validationActions")?;
+    match &actions[..] {
+        [action] => Ok(*action),
+        _ => Err(FormFault::BadForm),
     }
 }

@@ -67,8 +67,10 @@ impl Form for String {
     ghost seen = { string_bytes };
 
     fn read(alloc: Global, part: &Json) -> Result<String, FormFault> {
-        let text = part.as_str().ok_or(FormFault::BadForm)?;
-        Ok(String::from_str(alloc, text)?)
+        match part.as_str() {
+            Some(text) => Ok(String::from_str(alloc, text)?),
+            None => Err(FormFault::BadForm),
+        }
     }
 }
 

@@ -1,6 +1,11 @@
 //! What rules ask of a write.
 
+ghost use Rattle.std.specs.Prelude.{◌≡◌};
+ghost use Rattle.policy.specs.MatchRules.{no_rules};
+ghost use Rattle.policy.specs.Rules.{match_rules_seen};
+
 use documents::Requirement;
+use std::alloc::Global;
 
 /// What a write does to its object.
 #[derive(Clone, Copy, PartialEq, Eq)]
@@ -66,4 +71,17 @@ pub struct MatchRules {
     pub excluded: Vec<Rule>,
     /// The object, or the one before the write, is there and meets all of these.
     pub objects: Vec<Requirement>,
+}
+
+impl MatchRules {
+    // For all writes, as a binding's resources.
+    pub(crate) fn everything(alloc: Global) -> MatchRules
+        ensures { match_rules_seen result ≡ no_rules }
+    {
+        MatchRules {
+            rules: Vec::new(alloc),
+            excluded: Vec::new(alloc),
+            objects: Vec::new(alloc),
+        }
+    }
 }

@@ -50,13 +50,10 @@ impl Form for NotFound {
     ghost seen = { λ action. action };
 
     fn read(_alloc: Global, part: &Json) -> Result<NotFound, FormFault> {
-        let text = part.as_str().ok_or(FormFault::BadForm)?;
-        if text == "Allow" {
-            Ok(NotFound::Allow)
-        } else if text == "Deny" {
-            Ok(NotFound::Deny)
-        } else {
-            Err(FormFault::BadForm)
+        match part.as_str() {
+            Some("Allow") => Ok(NotFound::Allow),
+            Some("Deny") => Ok(NotFound::Deny),
+            _ => Err(FormFault::BadForm),
         }
     }
 }

@@ -1,9 +1,13 @@
 //! Policies.
 
-ghost use Rattle.std.specs.Prelude.{◌≡◌, IfOk, option_map};
+ghost use Rattle.std.specs.Prelude.{◌≡◌, [], None, Some, codes, map, option_map, IfOk, IsErrOf};
 ghost use Rattle.serde_json.specs.View.{view};
-ghost use Rattle.policy.specs.Policies.{policy_of};
-ghost use Rattle.policy.specs.Spec.{policy_seen};
+ghost use Rattle.policy.specs.Forms.{field, perhaps, list_of, passing};
+ghost use Rattle.policy.specs.MatchRules.{match_rules_of};
+ghost use Rattle.policy.specs.Policies.{policy_of, named_of, has_rules, are_conditions, are_variables};
+ghost use Rattle.policy.specs.Rules.{match_rules_seen};
+ghost use Rattle.policy.specs.Spec.{named_seen, policy_seen};
+ghost use Rattle.policy.specs.declared.form.FormFault.TheVariants as FormFault;
 
 use crate::attempt::is_guarded;
 use crate::form::{
@@ -81,13 +85,10 @@ impl Form for FailurePolicy {
     ghost seen = { λ failure_policy. failure_policy };
 
     fn read(_alloc: Global, part: &Json) -> Result<FailurePolicy, FormFault> {
-        let text = part.as_str().ok_or(FormFault::BadForm)?;
-        if text == "Fail" {
-            Ok(FailurePolicy::Fail)
-        } else if text == "Ignore" {
-            Ok(FailurePolicy::Ignore)
-        } else {
-            Err(FormFault::BadForm)
+        match part.as_str() {
+            Some("Fail") => Ok(FailurePolicy::Fail),
+            Some("Ignore") => Ok(FailurePolicy::Ignore),
+            _ => Err(FormFault::BadForm),
         }
     }
 }
@@ -109,14 +110,10 @@ impl Form for Resource {
         }
         let version: String = required(alloc, part, "apiVersion")?;
         let kind: String = required(alloc, part, "kind")?;
-        let resource = ResourceTable::with_kind(version.as_str(), kind.as_str()).ok_or(
-            FormFault::BadForm,
-        )?;
         // Policies and bindings are no parameters: what is left are the objects that policies guard.
-        if is_guarded(resource) {
-            Ok(resource)
-        } else {
-            Err(FormFault::BadForm)
+        match ResourceTable::with_kind(version.as_str(), kind.as_str()) {
+            Some(resource) if is_guarded(resource) => Ok(resource),
+            _ => Err(FormFault::BadForm),
         }
     }
 }
@@ -132,7 +129,6 @@ impl Form for Policy {
 
     ghost seen = { policy_seen };
 
-    #[tactic(auto, using(crate::proofs::Gathering::mapped_length, crate::proofs::Gathering::same_option))]
     fn read(alloc: Global, part: &Json) -> Result<Policy, FormFault> {
         if !has_only(
             part,
@@ -147,28 +143,53 @@ impl Form for Policy {
         ) {
             return Err(FormFault::BadForm);
         }
-        let failure_policy = optional_or(alloc, part, "failurePolicy", FailurePolicy::Fail)?;
-        let param_kind: Option<Resource> = optional(alloc, part, "paramKind")?;
-        let constraints: MatchRules = required(alloc, part, "matchConstraints")?;
-        if constraints.rules.is_empty() {
-            return Err(FormFault::BadForm);
-        }
-        let conditions: Vec<Named> = optional_list(alloc, part, "matchConditions")?;
-        if !are_conditions(&conditions) {
-            return Err(FormFault::BadForm);
-        }
-        let variables: Vec<Named> = optional_list(alloc, part, "variables")?;
-        if !are_variables(&variables) {
-            return Err(FormFault::BadForm);
-        }
-        let validations: Vec<Validation> = required_filled_list(alloc, part, "validations")?;
         Ok(Policy {
-            failure_policy,
-            param_kind,
-            constraints,
-            conditions,
-            variables,
-            validations,
+            failure_policy: optional_or(alloc, part, "failurePolicy", FailurePolicy::Fail)?,
+            param_kind: optional(alloc, part, "paramKind")?,
+            constraints: constraints(alloc, part)?,
+            conditions: conditions(alloc, part)?,
+            variables: variables(alloc, part)?,
+            validations: required_filled_list(alloc, part, "validations")?,
         })
+    }
+}
+
+// The writes that a policy is for, by at least one rule.
+#[tactic(auto, using(crate::proofs::Gathering::mapped_length))]
+fn constraints(alloc: Global, spec: &Json) -> Result<MatchRules, FormFault>
+    ensures read { IfOk result (λ m. passing has_rules (field (codes "matchConstraints") match_rules_of (view spec.now)) ≡ Some (match_rules_seen m)) }
+    ensures refused { IsErrOf result FormFault.BadForm → passing has_rules (field (codes "matchConstraints") match_rules_of (view spec.now)) ≡ None }
+{
+    let constraints: MatchRules = required(alloc, spec, "matchConstraints")?;
+    if constraints.rules.is_empty() {
+        Err(FormFault::BadForm)
+    } else {
+        Ok(constraints)
+    }
+}
+
+// The conditions, with distinct names.
+fn conditions(alloc: Global, spec: &Json) -> Result<Vec<Named>, FormFault>
+    ensures read { IfOk result (λ v. passing are_conditions (perhaps (codes "matchConditions") (list_of named_of) [] (view spec.now)) ≡ Some (map named_seen v.items)) }
+    ensures refused { IsErrOf result FormFault.BadForm → passing are_conditions (perhaps (codes "matchConditions") (list_of named_of) [] (view spec.now)) ≡ None }
+{
+    let conditions: Vec<Named> = optional_list(alloc, spec, "matchConditions")?;
+    if are_conditions(&conditions) {
+        Ok(conditions)
+    } else {
+        Err(FormFault::BadForm)
+    }
+}
+
+// The variables, with distinct identifiers.
+fn variables(alloc: Global, spec: &Json) -> Result<Vec<Named>, FormFault>
+    ensures read { IfOk result (λ v. passing are_variables (perhaps (codes "variables") (list_of named_of) [] (view spec.now)) ≡ Some (map named_seen v.items)) }
+    ensures refused { IsErrOf result FormFault.BadForm → passing are_variables (perhaps (codes "variables") (list_of named_of) [] (view spec.now)) ≡ None }
+{
+    let variables: Vec<Named> = optional_list(alloc, spec, "variables")?;
+    if are_variables(&variables) {
+        Ok(variables)
+    } else {
+        Err(FormFault::BadForm)
     }
 }

@@ -41,13 +41,10 @@ impl Form for Entry {
     ghost seen = { entry_seen };
 
     fn read(alloc: Global, part: &Json) -> Result<Entry, FormFault> {
-        let text = part.as_str().ok_or(FormFault::BadForm)?;
-        if text == "*" {
-            Ok(Entry::Any)
-        } else if is_plain(text) {
-            Ok(Entry::Exactly(String::from_str(alloc, text)?))
-        } else {
-            Err(FormFault::BadForm)
+        match part.as_str() {
+            Some("*") => Ok(Entry::Any),
+            Some(text) if is_plain(text) => Ok(Entry::Exactly(String::from_str(alloc, text)?)),
+            _ => Err(FormFault::BadForm),
         }
     }
 }
@@ -63,17 +60,12 @@ impl Form for OperationEntry {
     ghost seen = { λ operation. operation };
 
     fn read(_alloc: Global, part: &Json) -> Result<OperationEntry, FormFault> {
-        let text = part.as_str().ok_or(FormFault::BadForm)?;
-        if text == "*" {
-            Ok(OperationEntry::Any)
-        } else if text == "CREATE" {
-            Ok(OperationEntry::Exactly(Operation::Create))
-        } else if text == "UPDATE" {
-            Ok(OperationEntry::Exactly(Operation::Update))
-        } else if text == "DELETE" {
-            Ok(OperationEntry::Exactly(Operation::Delete))
-        } else {
-            Err(FormFault::BadForm)
+        match part.as_str() {
+            Some("*") => Ok(OperationEntry::Any),
+            Some("CREATE") => Ok(OperationEntry::Exactly(Operation::Create)),
+            Some("UPDATE") => Ok(OperationEntry::Exactly(Operation::Update)),
+            Some("DELETE") => Ok(OperationEntry::Exactly(Operation::Delete)),
+            _ => Err(FormFault::BadForm),
         }
     }
 }
@@ -89,15 +81,11 @@ impl Form for RuleScope {
     ghost seen = { λ scope. scope };
 
     fn read(_alloc: Global, part: &Json) -> Result<RuleScope, FormFault> {
-        let text = part.as_str().ok_or(FormFault::BadForm)?;
-        if text == "Cluster" {
-            Ok(RuleScope::Cluster)
-        } else if text == "Namespaced" {
-            Ok(RuleScope::Namespaced)
-        } else if text == "*" {
-            Ok(RuleScope::Every)
-        } else {
-            Err(FormFault::BadForm)
+        match part.as_str() {
+            Some("Cluster") => Ok(RuleScope::Cluster),
+            Some("Namespaced") => Ok(RuleScope::Namespaced),
+            Some("*") => Ok(RuleScope::Every),
+            _ => Err(FormFault::BadForm),
         }
     }
 }

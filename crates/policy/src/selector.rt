@@ -1,11 +1,9 @@
 //! Selectors of objects by their labels.
 
-ghost use Rattle.std.specs.Prelude.{◌≡◌, None, Some, map, IfOk, OnOk, IsErrOf};
-ghost use Rattle.serde_json.specs.Data.{Members, member};
+ghost use Rattle.std.specs.Prelude.{◌≡◌, None, Some, map, option_map, IfOk, IsErrOf, string_bytes};
 ghost use Rattle.serde_json.specs.View.{view, members_view};
 ghost use Rattle.documents.specs.Requirement.{requirement_seen};
-ghost use Rattle.policy.specs.Forms.{after};
-ghost use Rattle.policy.specs.MatchRules.{labels_of};
+ghost use Rattle.policy.specs.MatchRules.{label_of, labels_of, requirement};
 ghost use Rattle.policy.specs.declared.form.FormFault.TheVariants as FormFault;
 
 use crate::form::{Form, FormFault, has_only, optional_list, optional_or, required};
@@ -33,17 +31,12 @@ impl Form for Operator {
     ghost seen = { λ operator. operator };
 
     fn read(_alloc: Global, part: &Json) -> Result<Operator, FormFault> {
-        let text = part.as_str().ok_or(FormFault::BadForm)?;
-        if text == "In" {
-            Ok(Operator::In)
-        } else if text == "NotIn" {
-            Ok(Operator::NotIn)
-        } else if text == "Exists" {
-            Ok(Operator::Exists)
-        } else if text == "DoesNotExist" {
-            Ok(Operator::DoesNotExist)
-        } else {
-            Err(FormFault::BadForm)
+        match part.as_str() {
+            Some("In") => Ok(Operator::In),
+            Some("NotIn") => Ok(Operator::NotIn),
+            Some("Exists") => Ok(Operator::Exists),
+            Some("DoesNotExist") => Ok(Operator::DoesNotExist),
+            _ => Err(FormFault::BadForm),
         }
     }
 }
@@ -59,7 +52,6 @@ impl Form for Requirement {
 
     ghost seen = { requirement_seen };
 
-    #[tactic(auto, using(crate::proofs::Gathering::mapped_length))]
     fn read(alloc: Global, part: &Json) -> Result<Requirement, FormFault> {
         if !has_only(part, &["key", "operator", "values"]) {
             return Err(FormFault::BadForm);
@@ -67,16 +59,21 @@ impl Form for Requirement {
         let key: String = required(alloc, part, "key")?;
         let operator: Operator = required(alloc, part, "operator")?;
         let values: Vec<String> = optional_list(alloc, part, "values")?;
-        match operator {
-            Operator::In if values.is_empty() => Err(FormFault::BadForm),
-            Operator::In => Ok(Requirement::IsOneOf(key, values)),
-            Operator::NotIn if values.is_empty() => Err(FormFault::BadForm),
-            Operator::NotIn => Ok(Requirement::IsNoneOf(key, values)),
-            Operator::Exists if values.is_empty() => Ok(Requirement::IsThere(key)),
-            Operator::Exists => Err(FormFault::BadForm),
-            Operator::DoesNotExist if values.is_empty() => Ok(Requirement::IsAbsent(key)),
-            Operator::DoesNotExist => Err(FormFault::BadForm),
-        }
+        requirement(operator, key, values).ok_or(FormFault::BadForm)
+    }
+}
+
+// What is asked of the label: `In` and `NotIn` have values, the others have none.
+#[tactic(auto, using(crate::proofs::Gathering::mapped_length))]
+fn requirement(operator: Operator, key: String, values: Vec<String>) -> Option<Requirement>
+    ensures { option_map requirement_seen result ≡ requirement operator (string_bytes key) (map string_bytes values.items) }
+{
+    match (operator, values.is_empty()) {
+        (Operator::In, false) => Some(Requirement::IsOneOf(key, values)),
+        (Operator::NotIn, false) => Some(Requirement::IsNoneOf(key, values)),
+        (Operator::Exists, true) => Some(Requirement::IsThere(key)),
+        (Operator::DoesNotExist, true) => Some(Requirement::IsAbsent(key)),
+        _ => None,
     }
 }
 
@@ -99,9 +96,12 @@ impl Form for Labels {
     ghost seen = { λ labels. map requirement_seen labels.requirements.items };
 
     fn read(alloc: Global, part: &Json) -> Result<Labels, FormFault> {
-        let members = part.as_object().ok_or(FormFault::BadForm)?;
-        let requirements = requirements_of_labels(alloc, members)?;
-        Ok(Labels { requirements })
+        match part.as_object() {
+            Some(members) => Ok(Labels {
+                requirements: requirements_of_labels(alloc, members)?,
+            }),
+            None => Err(FormFault::BadForm),
+        }
     }
 }
 
@@ -115,31 +115,20 @@ fn requirements_of_labels(
 {
     let mut requirements = Vec::new(alloc);
     for (key, member) in members.iter() {
-        push_label(alloc, &mut requirements, key.as_str(), member)?;
+        requirements.push(label(alloc, key.as_str(), member)?)?;
     }
     Ok(requirements)
 }
 
 // The label has the value that the member spells.
-#[tactic(auto, using(crate::proofs::Gathering::after_more))]
-fn push_label(
-    alloc: Global,
-    requirements: &mut Vec<Requirement>,
-    key: &str,
-    part: &Json,
-) -> Result<(), FormFault>
-    ensures read { (rest : Members) → OnOk result
-        (after (map requirement_seen requirements.old.items) (labels_of (member key.now (view part.now) rest))
-        ≡ after (map requirement_seen requirements.new.items) (labels_of rest)) }
-    ensures refused { (rest : Members) → IsErrOf result FormFault.BadForm
-        → after (map requirement_seen requirements.old.items) (labels_of (member key.now (view part.now) rest)) ≡ None }
+fn label(alloc: Global, key: &str, part: &Json) -> Result<Requirement, FormFault>
+    ensures read { IfOk result (λ r. label_of key.now (view part.now) ≡ Some (requirement_seen r)) }
+    ensures refused { IsErrOf result FormFault.BadForm → label_of key.now (view part.now) ≡ None }
 {
     let value: String = Form::read(alloc, part)?;
-    let key = String::from_str(alloc, key)?;
     let mut values = Vec::new(alloc);
     values.push(value)?;
-    requirements.push(Requirement::IsOneOf(key, values))?;
-    Ok(())
+    Ok(Requirement::IsOneOf(String::from_str(alloc, key)?, values))
 }
 
 /// A selector: what is asked of the labels of an object.

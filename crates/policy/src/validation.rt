@@ -37,17 +37,12 @@ impl Form for Reason {
     ghost seen = { λ reason. reason };
 
     fn read(_alloc: Global, part: &Json) -> Result<Reason, FormFault> {
-        let text = part.as_str().ok_or(FormFault::BadForm)?;
-        if text == "Unauthorized" {
-            Ok(Reason::Unauthorized)
-        } else if text == "Forbidden" {
-            Ok(Reason::Forbidden)
-        } else if text == "Invalid" {
-            Ok(Reason::Invalid)
-        } else if text == "RequestEntityTooLarge" {
-            Ok(Reason::RequestEntityTooLarge)
-        } else {
-            Err(FormFault::BadForm)
+        match part.as_str() {
+            Some("Unauthorized") => Ok(Reason::Unauthorized),
+            Some("Forbidden") => Ok(Reason::Forbidden),
+            Some("Invalid") => Ok(Reason::Invalid),
+            Some("RequestEntityTooLarge") => Ok(Reason::RequestEntityTooLarge),
+            _ => Err(FormFault::BadForm),
         }
     }
 }
