@@ -84,11 +84,17 @@ fn are_precondition_members(members: &Map<String, Value>) -> bool
     ensures { result ≡ each_member is_precondition (members_view members.now.entries) }
 {
     for (name, value) in members.iter() {
-        if name.as_str() != "resourceVersion" || !value.is_string() {
+        if !is_precondition(name.as_str(), value) {
             return false;
         }
     }
     true
+}
+
+fn is_precondition(name: &str, value: &Value) -> bool
+    ensures { result ≡ is_precondition name.now (view value.now) }
+{
+    name == "resourceVersion" && value.is_string()
 }
 
 // The text of the revision that the options ask for.

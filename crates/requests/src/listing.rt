@@ -74,9 +74,9 @@ fn put_list(
     requires empty { document.old ≡ object no_members }
     ensures { OnOk result (document.new ≡ list_of resource revision items) }
 {
+    document.put(alloc, "items", items)?;
     document.put(alloc, "metadata", list_metadata(alloc, revision)?)?;
     document.put(alloc, "kind", Doc::from(list_kind(alloc, resource)?))?;
-    document.put(alloc, "items", items)?;
     put_text(document, alloc, "apiVersion", resource.api_version())
 }
 

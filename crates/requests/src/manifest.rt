@@ -2,14 +2,16 @@ ghost use Rattle.std.specs.Prelude.{◌≡◌, ◌≤◌, ℕ, List, Option, tru
 ghost use Rattle.std.specs.Option.{option_map_or};
 ghost use Rattle.std.specs.Str.{bytes_eq};
 ghost use Rattle.serde_json.specs.Data.{depth};
-ghost use Rattle.documents.specs.Json.{text};
-ghost use Rattle.documents.specs.Document.{Document as DocumentData, metadata_text};
-ghost use Rattle.requests.specs.Manifest.{target, is_target, key_at, fits_path, asks_for_version, document_conditions, body_refusal, stored_document, manifest_of, sound, IsManifestOf, HasForm, BodyHasForm};
+ghost use Rattle.documents.specs.Json.{text, without_member};
+ghost use Rattle.documents.specs.Document.{Document as DocumentData, metadata_of, metadata_text};
+ghost use Rattle.requests.specs.Manifest.{target, is_target, key_at, fits_path, asks_for_version, document_conditions, body_refusal, with_namespace, stored_document, manifest_of, sound, IsManifestOf, HasForm, BodyHasForm};
 ghost use Rattle.names.specs.Key.{is_key};
+ghost use Rattle.names.specs.Resource.{row};
 ghost use Rattle.requests.specs.Refusal.{first_of};
 ghost use Rattle.requests.specs.declared.manifest.BodyFault.TheVariants.{Memory};
 
 use crate::refusal::Refusal;
+use crate::reply::put_text;
 use documents::{Doc, Document, ReadFault, has_kind, has_metadata, metadata_copy, metadata_text};
 use names::{Key, KeyFault, Resource, Scope, check_name, check_namespace};
 use std::alloc::{AllocError, Global};
@@ -252,18 +254,27 @@ fn stored_document(
 ) -> Result<Document, AllocError>
     ensures { (name : Option (List ℕ)) → IfOk result (λ d. d ≡ stored_document (target resource namespace.now name) document) }
 {
-    let mut metadata = metadata_copy(&document)?;
-    metadata.remove("resourceVersion");
-    if resource.is_namespaced() {
-        metadata.put(
-            alloc,
-            "namespace",
-            Doc::from(String::from_str(alloc, namespace)?),
-        )?;
-    }
+    let metadata = stored_metadata(alloc, resource, namespace, &document)?;
     let mut stored = document;
     stored.put(alloc, "metadata", metadata)?;
     Ok(Document::new(stored))
+}
+
+// The metadata of what is stored.
+fn stored_metadata(
+    alloc: Global,
+    resource: Resource,
+    namespace: &str,
+    document: &Doc,
+) -> Result<Doc, AllocError>
+    ensures { IfOk result (λ m. m ≡ with_namespace (row resource).scope namespace.now (without_member (codes "resourceVersion") (metadata_of document.now))) }
+{
+    let mut metadata = metadata_copy(document)?;
+    metadata.remove("resourceVersion");
+    if resource.is_namespaced() {
+        put_text(&mut metadata, alloc, "namespace", namespace)?;
+    }
+    Ok(metadata)
 }
 
 // The key of a body's object, whose name and namespace are well-formed.

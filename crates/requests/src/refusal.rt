@@ -70,21 +70,12 @@ pub enum Refusal {
     StorageFailed,
 }
 
-#[derive(Clone, Copy)]
-struct Answer {
-    code: u16,
-    reason: &'static str,
-    message: &'static str,
-}
-
 impl Refusal {
-    // The table of the texts.
-    fn answer(self) -> Answer
-        ensures code { result.code ≡ (answer self).code }
-        ensures reason { result.reason.now ≡ (answer self).reason }
-        ensures message { result.message.now ≡ (answer self).message }
+    // The table of codes, reasons and messages.
+    fn answer(self) -> (u16, &'static str, &'static str)
+        ensures { answer self ≡ record { code = result.0; reason = result.1.now; message = result.2.now } }
     {
-        let (code, reason, message) = match self {
+        match self {
             Refusal::MalformedRequest => (400, "BadRequest", "malformed or unfinished request"),
             Refusal::UnservedVersion => (505, "VersionNotSupported", "only HTTP/1.1 is served"),
             Refusal::TooManyFields => (
@@ -131,11 +122,6 @@ impl Refusal {
             Refusal::RevisionExhausted => (507, "InsufficientStorage", "revision exhausted"),
             Refusal::OutOfMemory => (503, "ServiceUnavailable", "out of memory"),
             Refusal::StorageFailed => (500, "InternalError", "storage failed"),
-        };
-        Answer {
-            code,
-            reason,
-            message,
         }
     }
 
@@ -143,20 +129,23 @@ impl Refusal {
     pub fn code(self) -> u16
         ensures { result ≡ (answer self).code }
     {
-        self.answer().code
+        let (code, _, _) = self.answer();
+        code
     }
 
     /// The reason, a word for programs.
     pub fn reason(self) -> &'static str
         ensures { result.now ≡ (answer self).reason }
     {
-        self.answer().reason
+        let (_, reason, _) = self.answer();
+        reason
     }
 
     /// The message, for people.
     pub fn message(self) -> &'static str
         ensures { result.now ≡ (answer self).message }
     {
-        self.answer().message
+        let (_, _, message) = self.answer();
+        message
     }
 }
