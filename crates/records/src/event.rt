@@ -16,7 +16,7 @@ ghost use Rattle.records.specs.Holding.{IsStorableEvent};
 use crate::bytes::{EVENT, behind_mark, marked, number_bytes, split_number};
 use crate::entry::Entry;
 use crate::entry_fault::EntryFault;
-use crate::stored_write::read_document;
+use crate::stored_write::read_manifest;
 use byteorder::{BigEndian, ByteOrder};
 use documents::Document;
 use fields::short_field;
@@ -108,11 +108,11 @@ fn read_told(alloc: Global, bytes: &[u8]) -> Result<(Key, Document), EntryFault>
     ensures damaged { IsErrOf result EntryFault.Damaged
         → (k : KeyData) (d : DocumentData) → HasForm k d → field 2 (key_bytes k) ++ text d.json ≢ bytes.now }
 {
-    let (key, text) = short_field(bytes).ok_or(EntryFault::Damaged)?;
-    let key = Key::read(alloc, key)?;
-    let manifest = read_document(alloc, &key, text)?;
-    let document = manifest.document().clone()?;
-    Ok((key, document))
+    let Some((key, text)) = short_field(bytes) else {
+        return Err(EntryFault::Damaged);
+    };
+    let manifest = read_manifest(alloc, key, text)?;
+    Ok(manifest.into_parts())
 }
 
 /// Reads an event from its entry: a key, and the cell that stands under it.
@@ -126,8 +126,12 @@ pub fn read_event(alloc: Global, key: &[u8], cell: &[u8]) -> Result<Event<Docume
     ensures damaged { IsErrOf result EntryFault.Damaged
         → (e : EventData DocumentData) → IsStorableEvent e → event_entry e ≢ (key.now, cell.now) }
 {
-    let revision = read_revision(key).ok_or(EntryFault::Damaged)?;
-    let (change, rest) = split_change(cell).ok_or(EntryFault::Damaged)?;
+    let Some(revision) = read_revision(key) else {
+        return Err(EntryFault::Damaged);
+    };
+    let Some((change, rest)) = split_change(cell) else {
+        return Err(EntryFault::Damaged);
+    };
     let (key, document) = read_told(alloc, rest)?;
     Ok(Event {
         revision,

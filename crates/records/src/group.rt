@@ -6,7 +6,7 @@ ghost use Rattle.gatelog.specs.Payload.{payload_of};
 ghost use Rattle.documents.specs.Json.{text};
 ghost use Rattle.documents.specs.Document.{Document};
 ghost use Rattle.requests.specs.History.{Write, put, delete};
-ghost use Rattle.records.specs.Payload.{payload, group_limit};
+ghost use Rattle.records.specs.Payload.{write_bytes, payload, group_limit};
 
 use crate::write_bytes::{delete_bytes, put_bytes};
 use gatelog::{Body, LogFault};
@@ -47,6 +47,23 @@ impl Group {
         }
     }
 
+    // A write more, of these bytes.
+    fn add(&mut self, bytes: &[u8]) -> Result<(), LogFault>
+        requires { count_of self.old < group_limit }
+        ensures added { (ws : List (Write (List ℕ))) (w : Write (List ℕ)) → Gathers self.old ws → bytes.now ≡ write_bytes w
+            → OnOk result (Gathers self.new (ws ++ w ∷ [])) }
+        ensures same { (ws : List (Write (List ℕ))) → Gathers self.old ws → OnErr result (Gathers self.new ws) }
+        ensures long { (ws : List (Write (List ℕ))) (w : Write (List ℕ)) → Gathers self.old ws → bytes.now ≡ write_bytes w
+            → IsErrOf result LogFault.TooLong → 67108864 < length (payload (ws ++ w ∷ [])) }
+        ensures refusal { IsErrOf result LogFault.Device → ⊥ }
+        ensures count { count_of self.new ≤ count_of self.old + 1 }
+        ensures uncounted { OnErr result (count_of self.new ≡ count_of self.old) }
+    {
+        self.body.extend(bytes)?;
+        self.count += 1;
+        Ok(())
+    }
+
     /// A put more, of the document of this text at this key, with these plans.
     ///
     /// # Errors
@@ -70,9 +87,7 @@ impl Group {
         ensures uncounted { OnErr result (count_of self.new ≡ count_of self.old) }
     {
         let bytes = put_bytes(alloc, key, document_text, plans)?;
-        self.body.extend(&bytes)?;
-        self.count += 1;
-        Ok(())
+        self.add(&bytes)
     }
 
     /// A deletion more, at this key.
@@ -91,9 +106,7 @@ impl Group {
         ensures uncounted { OnErr result (count_of self.new ≡ count_of self.old) }
     {
         let bytes = delete_bytes(alloc, key)?;
-        self.body.extend(&bytes)?;
-        self.count += 1;
-        Ok(())
+        self.add(&bytes)
     }
 
     /// The body of the record, where there are writes.

@@ -13,7 +13,7 @@ ghost use Rattle.records.specs.Holding.{IsStorableObject};
 use crate::bytes::{OBJECT, behind_mark, marked, number_bytes, split_number};
 use crate::entry::Entry;
 use crate::entry_fault::EntryFault;
-use crate::stored_write::read_document;
+use crate::stored_write::read_manifest;
 use documents::Document;
 use names::Key;
 use requests::Manifest;
@@ -64,9 +64,12 @@ pub fn read_object(alloc: Global, key: &[u8], cell: &[u8]) -> Result<StoredObjec
     ensures damaged { IsErrOf result EntryFault.Damaged
         → (k : KeyData) (d : DocumentData) (revision : ℕ) → IsStorableObject k d revision → object_entry k d revision ≢ (key.now, cell.now) }
 {
-    let key = behind_mark(OBJECT, key).ok_or(EntryFault::Damaged)?;
-    let (revision, text) = split_number(cell).ok_or(EntryFault::Damaged)?;
-    let key = Key::read(alloc, key)?;
-    let manifest = read_document(alloc, &key, text)?;
+    let Some(key) = behind_mark(OBJECT, key) else {
+        return Err(EntryFault::Damaged);
+    };
+    let Some((revision, text)) = split_number(cell) else {
+        return Err(EntryFault::Damaged);
+    };
+    let manifest = read_manifest(alloc, key, text)?;
     Ok(StoredObject { manifest, revision })
 }

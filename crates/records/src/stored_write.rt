@@ -1,6 +1,6 @@
 ghost use Rattle.std.specs.Prelude.{◌≡◌, ◌≢◌, ◌++◌, ℕ, List, IsTrue, IfOk, IsErrOf};
 ghost use Rattle.documents.specs.Json.{text};
-ghost use Rattle.names.specs.Key.{Key as KeyData, is_key};
+ghost use Rattle.names.specs.Key.{Key as KeyData, is_key, key_bytes};
 ghost use Rattle.documents.specs.Document.{Document};
 ghost use Rattle.requests.specs.Codes.{document_in};
 ghost use Rattle.requests.specs.Manifest.{HasForm};
@@ -31,7 +31,9 @@ pub(crate) fn read_one(alloc: Global, bytes: &[u8]) -> Result<(StoredWrite<'_>, 
     ensures form { IfOk result (λ p. IsStorable (write_of p.0)) }
     ensures damaged { IsErrOf result RecordFault.Damaged → (w : Write (List ℕ)) (rest : List ℕ) → IsStorable w → write_bytes w ++ rest ≢ bytes.now }
 {
-    let (kind, fields) = bytes.split_first().ok_or(RecordFault::Damaged)?;
+    let Some((kind, fields)) = bytes.split_first() else {
+        return Err(RecordFault::Damaged);
+    };
     match *kind {
         PUT => {
             let (manifest, plans, rest) = read_put(alloc, fields)?;
@@ -52,12 +54,33 @@ fn read_put(alloc: Global, bytes: &[u8]) -> Result<(Manifest, &[u8], &[u8]), Rec
     ensures damaged { IsErrOf result RecordFault.Damaged → (k : KeyData) (d : Document) (plans rest : List ℕ)
         → IsStorable (put k d plans) → fields (put k d plans) ++ rest ≢ bytes.now }
 {
-    let (key, rest) = short_field(bytes).ok_or(RecordFault::Damaged)?;
-    let (document, rest) = long_field(rest).ok_or(RecordFault::Damaged)?;
-    let (plans, rest) = long_field(rest).ok_or(RecordFault::Damaged)?;
-    let key = Key::read(alloc, key)?;
-    let manifest = read_document(alloc, &key, document)?;
+    let Some((key, rest)) = short_field(bytes) else {
+        return Err(RecordFault::Damaged);
+    };
+    let Some((document, rest)) = long_field(rest) else {
+        return Err(RecordFault::Damaged);
+    };
+    let Some((plans, rest)) = long_field(rest) else {
+        return Err(RecordFault::Damaged);
+    };
+    let manifest = read_manifest(alloc, key, document)?;
     Ok((manifest, plans, rest))
+}
+
+/// Reads a manifest from the bytes of its key and the text of its document. `Damaged` where no document that has its key's form has these.
+pub(crate) fn read_manifest(
+    alloc: Global,
+    key: &[u8],
+    document_text: &[u8],
+) -> Result<Manifest, RecordFault>
+    ensures key { IfOk result (λ m. key_bytes m.key ≡ key.now) }
+    ensures form { IfOk result (λ m. HasForm m.key (document_in m.body)) }
+    ensures text { IfOk result (λ m. text (document_in m.body).json ≡ document_text.now) }
+    ensures damaged { IsErrOf result RecordFault.Damaged
+        → (k : KeyData) (d : Document) → HasForm k d → key_bytes k ≡ key.now → text d.json ≢ document_text.now }
+{
+    let key = Key::read(alloc, key)?;
+    read_document(alloc, &key, document_text)
 }
 
 /// Reads the text of a document that is stored at a key. `Damaged` where no document of the key's form has this text.
@@ -92,7 +115,9 @@ fn read_delete(alloc: Global, bytes: &[u8]) -> Result<(Key, &[u8]), RecordFault>
     ensures damaged { IsErrOf result RecordFault.Damaged → (k : KeyData) (rest : List ℕ)
         → IsTrue (is_key k) → fields (delete k) ++ rest ≢ bytes.now }
 {
-    let (key, rest) = short_field(bytes).ok_or(RecordFault::Damaged)?;
+    let Some((key, rest)) = short_field(bytes) else {
+        return Err(RecordFault::Damaged);
+    };
     let key = Key::read(alloc, key)?;
     Ok((key, rest))
 }

@@ -1,6 +1,6 @@
 use Rattle.std.proofs.Common.{rules, arith, ◌≡◌, ◌∙◌, sym, ap, subst, ◌+◌, List, ℕ, [], ◌∷◌, ◌++◌, drop, take, length}
 use Rattle.std.specs.Prelude.{IsErrOf}
-use Rattle.std.proofs.lemmas.List.{take_more, drop_more, drop_all, length-take-le}
+use Rattle.std.proofs.lemmas.List.{take-append-drop, take_more, drop_more, drop_all, length-take-le}
 use Rattle.std.specs.Int.{div_ceil}
 use Rattle.pages.specs.Page.{Entry}
 use Rattle.records.specs.declared.entry_fault.EntryFault.TheVariants as EntryFault
@@ -69,3 +69,15 @@ loop-entry-preserved c =
     let count : div_ceil (length new) 16384 ≡ i + 1 =
     sym (count_pieces k new) ∙ ap length read ∙ length-take-le (i + 1) all (omega (arith, within)) in
     (omega (arith, inv.0), read, few_bytes new (omega (arith, count, inv.0, c.in_ok-is_piece.ensures.few c.if-not-branch.false)))
+
+pub returns-then-not-branch-clause-entries : goal.returns-then-not-branch-clause-entries
+returns-then-not-branch-clause-entries c =
+    let all : List Entry = c.args.entries.now in
+    let inv = c.loop-entry.invariant in
+    (λ j. inv.1 j ++ drop (inv.0 j) all) ∙ take-append-drop c.loop-entry.entry-index all
+
+pub returns-clause-entries : goal.returns-clause-entries
+returns-clause-entries c =
+    let all : List Entry = c.args.entries.now in
+    let inv = c.loop-entry.invariant in
+    (λ j. inv.1 j ++ drop (inv.0 j) all) ∙ take-append-drop c.loop-entry.entry-index all

@@ -1,4 +1,4 @@
-use Rattle.std.proofs.Common.{rules, arith, ◌≡◌, ◌∙◌, sym, subst, ◌-◌, true, ℕ, List, ◌++◌, map, take, drop, length}
+use Rattle.std.proofs.Common.{rules, arith, ◌≡◌, ◌∙◌, sym, ap, subst, ◌-◌, true, ℕ, List, ◌++◌, map, take, drop, length}
 use Rattle.std.specs.Prelude.{IsErrOf}
 use Rattle.std.proofs.lemmas.List.{take_rest}
 use Rattle.objects.specs.declared.event.Event.{Event}
@@ -8,6 +8,7 @@ use Rattle.pages.specs.Page.{Entry}
 use Rattle.records.specs.declared.entry_fault.EntryFault.TheVariants as EntryFault
 use Rattle.records.specs.Entries.{event_entry, plans_among}
 use Rattle.records.specs.EntryLaws.{bytes_beside}
+use Rattle.records.specs.Reading.{entry_read}
 use Rattle.records.proofs.FoundAgain.{plans_otherwise, all_stored, all_events, all_followed, one_events, view_split}
 use Rattle.records.proofs.reading.read_view.Goals as goal
 
@@ -78,3 +79,17 @@ returns-clause-found c rules_of v holds same revision =
     (c.in_ok-events.ensures.entries ∙ take_rest behind c.in_ok-objects.count ∙ found.1)
     in
     λ i. record { objects = found.0 i; revision = sym revision i; events = are i }
+
+pub returns-clause-entries : goal.returns-clause-entries
+returns-clause-entries c =
+    let all : List Entry = c.args.entries.now in
+    let n = c.len.result in
+    let behind : List Entry = take (length all - n) (drop n all) in
+    let read = c.in_ok-read in
+    let len : n ≡ length read.read.items = omega (arith, c.len.ensures, c.in_ok-read.read.ok.0) in
+    let rest : behind ≡ drop (length read.read.items) all = take_rest all n ∙ ap (λ (m : ℕ). drop m all) len in
+    let objects = c.in_ok-objects.ensures.objects in
+    let events : map event_entry c.in_ok-events.events.items ≡ drop c.in_ok-objects.count behind = c.in_ok-events.ensures.entries ∙ take_rest behind c.in_ok-objects.count in
+    (λ i. objects i ++ (plans_among bytes_beside c.in_ok-objects.objects.items ++ events i))
+    ∙ ap (λ (back : List Entry). map entry_read read.read.items ++ back) (c.in_ok-objects.ensures.entries ∙ rest)
+    ∙ read.ensures.entries
