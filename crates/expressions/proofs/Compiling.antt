@@ -1,6 +1,6 @@
 -- Expressions that are compiled one after another.
 use Rattle.std.proofs.Common.{◌≡◌, ℕ, ◌+◌, ◌<◌, ◌≤◌, List, [], ◌∷◌, ◌++◌, length, map, drop, get_or, refl, sym, ap, subst, ◌∙◌, append_assoc, arith, length-append, length-drop, Option, Some, None}
-use Rattle.std.proofs.lemmas.List.{append-nil, length-map, map_push, at_drop_more}
+use Rattle.std.proofs.lemmas.List.{append-nil, length-map, map_push, at_drop_more, at_drop_all}
 use Rattle.std.specs.List.{AllByRecursion, flat_map}
 use Rattle.std.specs.Option.{option_map_or}
 use Rattle.celtree.specs.Tree.{Expr}
@@ -143,6 +143,11 @@ pub never_short : {A B : Type 0} (f : A → Source) (xs : List A) (i : ℕ) (g :
     {p : Policy} {ss : List Source} {es : List Expr} {vs : Variables} {done : List Judged}
     → i < length xs → length trees ≡ 0 → Planning p ss es vs done (map f (drop i xs)) (map g trees) → ⊥
 never_short f xs i g trees inside none so_far = no_tree_left f (drop i xs) g trees (omega (arith, length-drop i xs)) none so_far
+
+pub ends_at : {A : Type 0} (f : A → Source) (xs : List A) (i : ℕ) (later : List Expr) {p : Policy} {ss : List Source} {es : List Expr} {vs : Variables} {done : List Judged}
+    → length xs ≤ i → Planning p ss es vs done (map f (drop i xs)) later → done ≡ each_plan [] ss es
+ends_at f xs i later {p} {ss} {es} {vs} {done} after so_far =
+    sym (ends (subst (λ (r : List Source). Planning p ss es vs done r later) (at_drop_all (map f) xs i after) so_far))
 
 -- ---- the program's lists
 

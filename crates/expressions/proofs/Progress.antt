@@ -91,7 +91,11 @@ goes_on_at f xs i d {p} {ss} {vs} {ws} {done} more e inside so_far next is =
     let was : Progress p ss vs done (f (get_or xs i d) ∷ map f (drop (i + 1) xs)) = subst (λ (r : List Source). Progress p ss vs done r) here so_far in
     subst (λ (x : List Expr). Progress p ss ws x (map f (drop (i + 1) xs))) (sym is) (goes_on was next)
 
-pub ends_typed_at : {A : Type 0} (f : A → Source) (xs : List A) (i : ℕ) {p : Policy} {ss : List Source} {vs : Variables} {done : List Expr}
-    → length xs ≤ i → Progress p ss vs done (map f (drop i xs)) → AreTyped p [] ss done
-ends_typed_at f xs i {p} {ss} {vs} {done} after so_far =
-    ends_typed (subst (λ (r : List Source). Progress p ss vs done r) (at_drop_all (map f) xs i after) so_far)
+pub stops_at : {A : Type 0} (f : A → Source) (xs : List A) (i : ℕ) (d : A) {p : Policy} {ss : List Source} {vs : Variables} {done : List Expr}
+    → i < length xs → Progress p ss vs done (map f (drop i xs)) → IsBad p vs (f (get_or xs i d)) → IsFirstBad p [] ss (f (get_or xs i d)).text × AreUntyped p ss
+stops_at f xs i d {p} {ss} {vs} {done} inside so_far bad =
+    stops (subst (λ (r : List Source). Progress p ss vs done r) (at_drop_more (map f) xs i d inside) so_far) bad
+
+pub at_end : {A : Type 0} (f : A → Source) (xs : List A) (i : ℕ) {p : Policy} {ss : List Source} {vs : Variables} {done : List Expr}
+    → length xs ≤ i → Progress p ss vs done (map f (drop i xs)) → Progress p ss vs done []
+at_end f xs i {p} {ss} {vs} {done} after so_far = subst (λ (r : List Source). Progress p ss vs done r) (at_drop_all (map f) xs i after) so_far
