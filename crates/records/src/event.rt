@@ -1,6 +1,6 @@
 //! The entry of an event.
 
-ghost use Rattle.std.specs.Prelude.{◌≡◌, ◌≢◌, ◌∷◌, ◌++◌, ℕ, List, None, IfOk, OnOk, IfSome, IsErrOf};
+ghost use Rattle.std.specs.Prelude.{◌≡◌, ◌≢◌, ◌∷◌, ◌++◌, ℕ, List, None, IfOk, IfSome, IsErrOf};
 ghost use Rattle.byteorder.specs.Endian.{big_bytes};
 ghost use Rattle.fields.specs.Field.{field};
 ghost use Rattle.documents.specs.Json.{text};
@@ -17,7 +17,7 @@ use crate::bytes::{EVENT, behind_mark, marked, number_bytes, split_number};
 use crate::entry::Entry;
 use crate::entry_fault::EntryFault;
 use crate::stored_write::read_manifest;
-use byteorder::{BigEndian, ByteOrder};
+use crate::write_bytes::add_key;
 use documents::Document;
 use fields::short_field;
 use names::Key;
@@ -45,18 +45,6 @@ fn numbered(number: u8) -> Option<Change>
         3 => Some(Change::Deleted),
         _ => None,
     }
-}
-
-// A key's bytes, with their number in front in two bytes. A well-formed key has at most 318 bytes.
-fn add_key(cell: &mut Vec<u8>, alloc: Global, key: &Key) -> Result<(), AllocError>
-    ensures { OnOk result (cell.new.items ≡ cell.old.items ++ field 2 (key_bytes key.now)) }
-{
-    let bytes = key.bytes(alloc)?;
-    prove!(key.name().len() <= 253);
-    let mut size = [0; 2];
-    BigEndian::write_u16(&mut size, bytes.len() as u16);
-    cell.extend_from_slice(&size)?;
-    cell.extend_from_slice(&bytes)
 }
 
 // What stands under an event's revision.

@@ -18,8 +18,8 @@ pub(crate) const PUT: u8 = 1;
 
 pub(crate) const DELETE: u8 = 2;
 
-// Adds a key's bytes, with their number in front in two bytes. A well-formed key has at most 318 bytes.
-fn add_key(bytes: &mut Vec<u8>, alloc: Global, key: &Key) -> Result<(), AllocError>
+/// Adds a key's bytes, with their number in front in two bytes. A well-formed key has at most 318 bytes.
+pub(crate) fn add_key(bytes: &mut Vec<u8>, alloc: Global, key: &Key) -> Result<(), AllocError>
     ensures { OnOk result (bytes.new.items ≡ bytes.old.items ++ field 2 (key_bytes key.now)) }
 {
     let spelled = key.bytes(alloc)?;
