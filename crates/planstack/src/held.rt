@@ -104,11 +104,7 @@ fn index_document<'a>(
     }
 }
 
-fn index_at<'a>(
-    alloc: Global,
-    of: &Held<'a>,
-    index: &Outcome,
-) -> Result<Held<'a>, AllocError>
+fn index_at<'a>(alloc: Global, of: &Held<'a>, index: &Outcome) -> Result<Held<'a>, AllocError>
     ensures { IfOk result (λ h. held_seen h ≡ with_values indexed (held_seen of.now) (outcome_of index.now)) }
 {
     match of {

@@ -152,9 +152,7 @@ fn on_conditions<'a, L: Lookup<'a>>(
             Ok(denial?)
         }
         Conditions::Unmet => Ok(None),
-        Conditions::Neither(name) => {
-            Ok(failed(alloc, policy, "match condition error: ", name)?)
-        }
+        Conditions::Neither(name) => { Ok(failed(alloc, policy, "match condition error: ", name)?) }
     }
 }
 
