@@ -78,8 +78,7 @@ pub fn write_sector(alloc: Global, device: &mut MemDevice, line: &mut Line<'_>) 
         Err(wrong) => return line.fail(wrong),
     };
     let mut sector = [0; 512];
-    for (place, byte) in sector.iter_mut().zip(first.iter()) {
-        *place = *byte;
-    }
+    let size = first.len().min(512);
+    sector[..size].copy_from_slice(&first[..size]);
     line.answer.word(write_each(device, from, to, &sector));
 }
