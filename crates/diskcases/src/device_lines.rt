@@ -106,20 +106,25 @@ pub fn firsts(alloc: Global, device: &mut MemDevice, line: &mut Line<'_>) {
     line.spell(alloc, found.as_slice());
 }
 
+/// The bytes up to the last that is not zero.
+pub(crate) fn without_zeros(sector: &[u8; 512]) -> &[u8] {
+    let mut end = 0;
+    for (place, byte) in sector.iter().enumerate() {
+        if *byte != 0 {
+            end = place + 1;
+        }
+    }
+    sector.get(..end).unwrap_or(&[])
+}
+
 /// The bytes of a sector up to its last that is not zero.
 pub fn sector(alloc: Global, device: &mut MemDevice, line: &mut Line<'_>) {
     let Ok(found) = read_sector(device, line.number()) else {
         return line.answer.word("device failed");
     };
-    let mut end = 0;
-    for (place, byte) in found.iter().enumerate() {
-        if *byte != 0 {
-            end = place + 1;
-        }
-    }
-    match found.get(..end) {
-        Some(bytes) if end > 0 => line.spell(alloc, bytes),
-        _ => line.answer.word("zeros"),
+    match without_zeros(&found) {
+        [] => line.answer.word("zeros"),
+        bytes => line.spell(alloc, bytes),
     }
 }
 

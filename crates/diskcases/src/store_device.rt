@@ -1,6 +1,6 @@
 //! Lines on the device of a store that is shut.
 
-use crate::device_lines::{counts, length, new_device, read_sector};
+use crate::device_lines::{counts, length, new_device, read_sector, without_zeros};
 use crate::line::Line;
 use crate::log_lines::LogLines;
 use crate::notation::byte;
@@ -86,13 +86,7 @@ fn sector(alloc: Global, device: &mut MemDevice, line: &mut Line<'_>) {
         line.spell(alloc, &[found[0]]);
         return line.answer.word("throughout");
     }
-    let mut end = 0;
-    for (place, byte) in found.iter().enumerate() {
-        if *byte != 0 {
-            end = place + 1;
-        }
-    }
-    line.spell(alloc, found.get(..end).unwrap_or(&[]));
+    line.spell(alloc, without_zeros(&found));
 }
 
 /// Answers a line on the device of a store that is shut, after its word.
