@@ -10,7 +10,7 @@ ghost use Rattle.requests.specs.declared.stored.Stored.{Stored as StoredData};
 ghost use Rattle.roots.specs.Root.{log_start};
 ghost use Rattle.snapshots.specs.Stock.{root_of};
 ghost use Rattle.snapshots.specs.BaseFaults.{of_stock_fault};
-ghost use Rattle.snapshots.specs.Whole.{found_of, stored_of, whole};
+ghost use Rattle.snapshots.specs.Whole.{found_of, whole};
 ghost use Rattle.snapshots.specs.declared.stock_fault.StockFault.TheVariants as StockFault;
 
 use crate::making::FromDocument;
@@ -114,20 +114,24 @@ fn found(stocked: Option<Stocked>) -> Option<Found>
     }
 }
 
-// What is stored, with what stands beside it.
-fn stored<P, M: FromDocument<P>>(
+// An object, with what stands beside its document.
+fn whole<P, M: FromDocument<P>>(
     alloc: Global,
     making: &M,
-    stocked: Stocked,
-) -> Result<Stored<P>, AllocError>
-    ensures { IfOk result (λ stored. stored ≡ stored_of (M.made making.now) stocked) }
+    object: (Key, Stocked),
+) -> Result<(Key, Stored<P>), AllocError>
+    ensures { IfOk result (λ made. made ≡ whole (M.made making.now) object) }
 {
-    let beside = making.make(alloc, &stocked.document)?;
-    Ok(Stored {
-        document: stocked.document,
-        beside,
-        revision: stocked.revision,
-    })
+    let beside = making.make(alloc, &object.1.document)?;
+    let (key, Stocked { document, revision }) = object;
+    Ok((
+        key,
+        Stored {
+            document,
+            beside,
+            revision,
+        },
+    ))
 }
 
 // The same of objects.
@@ -139,9 +143,8 @@ fn all_of<P: Drop, M: FromDocument<P>>(
     ensures { IfOk result (λ listed. listed.items ≡ map (whole (M.made making.now)) objects.items) }
 {
     let mut listed = Vec::new(alloc);
-    for (key, stocked) in objects {
-        let stored = stored(alloc, making, stocked)?;
-        listed.push((key, stored))?;
+    for object in objects {
+        listed.push(whole(alloc, making, object)?)?;
     }
     Ok(listed)
 }

@@ -18,9 +18,7 @@ pub(crate) fn prefix_of(
 ) -> Result<Vec<u8>, AllocError>
     ensures { IfOk result (λ prefix. prefix.items ≡ prefix_of resource (option_map (λ text. text.now) namespace.entry)) }
 {
-    let mut prefix = Vec::new(alloc);
-    prefix.push(OBJECT)?;
-    prefix.push(resource.number())?;
+    let mut prefix = [OBJECT, resource.number()].to_vec(alloc)?;
     if let Some(namespace) = namespace {
         prefix.extend_from_slice(namespace.as_bytes())?;
         prefix.push(0)?;

@@ -170,13 +170,10 @@ impl Stock {
     {
         let bytes = entry_key(alloc, key)?;
         let place = self.shelf.bring(alloc, device, &bytes)?;
-        match self.found.get(key) {
-            Some(stocked) => Ok(Some(stocked.clone()?)),
-            None => self.read(alloc, device, place, &bytes, key),
-        }
+        self.read(alloc, device, place, &bytes, key)
     }
 
-    // The same, of the page that was brought into memory; and what is read is kept.
+    // The same, of the page that was brought into memory: what was found before is not read again, and what is read is kept.
     fn read<D: Device>(
         &mut self,
         alloc: Global,
@@ -195,6 +192,9 @@ impl Stock {
         ensures damaged { (objects : List (KeyData × StockedData)) → Stocks D.disk device.now self.old objects → IsErrOf result StockFault.Damaged → ⊥ }
         ensures cause { IsErrOf result StockFault.Device → ⊥ }
     {
+        if let Some(stocked) = self.found.get(key) {
+            return Ok(Some(stocked.clone()?));
+        }
         let (stocked, cell_bytes) = match self.shelf.cell(device, place, bytes) {
             Some(cell) => (read_entry(alloc, bytes, cell)?.1, cell.len()),
             None => return Ok(None),

@@ -11,9 +11,8 @@ one_more f listed pushed x y here rest pushes gives is =
     ap (λ ys. ys ++ map f rest) pushes ∙ append_assoc listed (y ∷ []) (map f rest) ∙ ap (λ z. listed ++ z ∷ map f rest) gives
     ∙ sym (ap (λ xs. listed ++ map f xs) is)
 
-pub loop-key-preserved : goal.loop-key-preserved
-loop-key-preserved g c =
-    one_more (whole (g.M.FromDocument.made c.args.making.now)) c.loop-key.listed.items c.push.new.self.items (c.in-Some.key, c.in-Some.stocked)
-    (c.in-Some.key, c.in_ok-stored.stored) (into_iter_items c.loop-key.key-iterator) (into_iter_items c.next.new.self) c.in_ok-push.ensures.items
-    (ap (λ stored. (c.in-Some.key, stored)) c.in_ok-stored.ensures) c.in-Some.ensures.steps.0
-    ∙ c.loop-key.invariant
+pub loop-object-preserved : goal.loop-object-preserved
+loop-object-preserved g c =
+    one_more (whole (g.M.FromDocument.made c.args.making.now)) c.loop-object.listed.items c.push.new.self.items c.in-Some.object c.in_ok-whole.field-0
+    (into_iter_items c.loop-object.object-iterator) (into_iter_items c.next.new.self) c.in_ok-push.ensures.items c.in_ok-whole.ensures c.in-Some.ensures.steps.0
+    ∙ c.loop-object.invariant

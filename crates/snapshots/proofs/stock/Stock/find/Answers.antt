@@ -5,14 +5,6 @@ pub returns-in_err-place-clause-kept : goal.returns-in_err-place-clause-kept
 returns-in_err-place-clause-kept g c objects stocks =
     still g.D.Device.disk c.args.device.now c.bring.new.device c.args.self.now _ c.bring.ensures.kept objects (λ among. among) stocks
 
-pub returns-in_err-clone-in-Some-clause-kept : goal.returns-in_err-clone-in-Some-clause-kept
-returns-in_err-clone-in-Some-clause-kept g c objects stocks =
-    still g.D.Device.disk c.args.device.now c.bring.new.device c.args.self.now _ c.bring.ensures.kept objects (λ among. among) stocks
-
-pub returns-in-Some-clause-kept : goal.returns-in-Some-clause-kept
-returns-in-Some-clause-kept g c objects stocks =
-    still g.D.Device.disk c.args.device.now c.bring.new.device c.args.self.now _ c.bring.ensures.kept objects (λ among. among) stocks
-
 pub returns-clause-found : goal.returns-clause-found
 returns-clause-found g c objects stocks =
     c.read.ensures.found objects (still g.D.Device.disk c.args.device.now c.bring.new.device c.args.self.now _ c.bring.ensures.kept objects (λ among. among) stocks)
@@ -24,3 +16,9 @@ returns-clause-kept g c objects stocks =
 pub returns-clause-damaged : goal.returns-clause-damaged
 returns-clause-damaged g c objects stocks is =
     c.read.ensures.damaged objects (still g.D.Device.disk c.args.device.now c.bring.new.device c.args.self.now _ c.bring.ensures.kept objects (λ among. among) stocks) is
+
+pub returns-clause-ran : goal.returns-clause-ran
+returns-clause-ran g c = c.bring.ensures.ran
+
+pub returns-clause-cause : goal.returns-clause-cause
+returns-clause-cause g c is = absurd (c.read.ensures.cause is)

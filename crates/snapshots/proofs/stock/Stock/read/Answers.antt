@@ -1,4 +1,4 @@
-use Rattle.std.proofs.Common.{rules, ◌≡◌, List, Some, None}
+use Rattle.std.proofs.Common.{rules, ◌≡◌, ◌∙◌, sym, ap, List, Some, None}
 use Rattle.std.specs.FinMap.{find}
 use Rattle.std.specs.Prelude.{IsErrOf}
 use Rattle.pages.specs.Page.{Entry, bytes_cmp}
@@ -6,11 +6,11 @@ use Rattle.records.specs.declared.entry_fault.EntryFault.TheVariants as EntryFau
 use Rattle.snapshots.proofs.Holding.{none_there, stands_there, read_there, still_with}
 use Rattle.snapshots.proofs.stock.Stock.read.Goals as goal
 
-pub returns-in_err-read_entry-in-Some-clause-damaged : goal.returns-in_err-read_entry-in-Some-clause-damaged
-returns-in_err-read_entry-in-Some-clause-damaged g c objects stocks is =
+pub returns-in_err-read_entry-in-Some-cell-clause-damaged : goal.returns-in_err-read_entry-in-Some-cell-clause-damaged
+returns-in_err-read_entry-in-Some-cell-clause-damaged g c objects stocks is =
     let entries : List Entry = stocks.entries in
-    let found : Some c.in-Some.cell.now ≡ find bytes_cmp c.args.bytes.now entries = c.in-Some.ensures entries stocks.shelves in
-    let there = stands_there entries objects stocks.hold c.args.key.now c.requires.key c.args.bytes.now c.requires.bytes c.in-Some.cell.now found in
+    let found : Some c.in-Some-cell.cell.now ≡ find bytes_cmp c.args.bytes.now entries = c.in-Some-cell.ensures entries stocks.shelves in
+    let there = stands_there entries objects stocks.hold c.args.key.now c.requires.key c.args.bytes.now c.requires.bytes c.in-Some-cell.cell.now found in
     let bad : IsErrOf c.read_entry.result EntryFault.Damaged = search rules in
     c.read_entry.ensures.damaged bad (c.args.key.now, there.0) there.2 there.3
 
@@ -21,18 +21,31 @@ returns-in-None-clause-found g c objects stocks =
 
 pub returns-in_err-keep-clause-kept : goal.returns-in_err-keep-clause-kept
 returns-in_err-keep-clause-kept g c =
-    let read = c.in_ok-read_entry-in-Some.ensures in
+    let read = c.in_ok-read_entry-in-Some-cell.ensures in
     still_with g.D.Device.disk c.args.device.now c.args.self.now c.keep.new.self c.keep.ensures.shelf c.args.key.now c.requires.key c.args.bytes.now
-    c.requires.bytes c.in-Some.cell.now c.in_ok-read_entry-in-Some.field-0 c.in-Some.ensures read.storable read.entry c.keep.ensures.found
+    c.requires.bytes c.in-Some-cell.cell.now c.in_ok-read_entry-in-Some-cell.field-0 c.in-Some-cell.ensures read.storable read.entry c.keep.ensures.found
 
 pub returns-clause-found : goal.returns-clause-found
 returns-clause-found g c objects stocks =
-    let read = c.in_ok-read_entry-in-Some.ensures in
-    read_there stocks.entries objects stocks.hold c.args.key.now c.requires.key c.args.bytes.now c.requires.bytes c.in-Some.cell.now
-    c.in_ok-read_entry-in-Some.field-0 (c.in-Some.ensures stocks.entries stocks.shelves) read.storable read.entry
+    let read = c.in_ok-read_entry-in-Some-cell.ensures in
+    read_there stocks.entries objects stocks.hold c.args.key.now c.requires.key c.args.bytes.now c.requires.bytes c.in-Some-cell.cell.now
+    c.in_ok-read_entry-in-Some-cell.field-0 (c.in-Some-cell.ensures stocks.entries stocks.shelves) read.storable read.entry
 
 pub returns-clause-kept : goal.returns-clause-kept
 returns-clause-kept g c =
-    let read = c.in_ok-read_entry-in-Some.ensures in
+    let read = c.in_ok-read_entry-in-Some-cell.ensures in
     still_with g.D.Device.disk c.args.device.now c.args.self.now c.keep.new.self c.keep.ensures.shelf c.args.key.now c.requires.key c.args.bytes.now
-    c.requires.bytes c.in-Some.cell.now c.in_ok-read_entry-in-Some.field-0 c.in-Some.ensures read.storable read.entry c.keep.ensures.found
+    c.requires.bytes c.in-Some-cell.cell.now c.in_ok-read_entry-in-Some-cell.field-0 c.in-Some-cell.ensures read.storable read.entry c.keep.ensures.found
+
+pub returns-in_err-clone-clause-kept : goal.returns-in_err-clone-clause-kept
+returns-in_err-clone-clause-kept g c objects stocks = stocks
+
+pub returns-in-Some-clause-kept : goal.returns-in-Some-clause-kept
+returns-in-Some-clause-kept g c objects stocks = stocks
+
+pub returns-in-None-clause-kept : goal.returns-in-None-clause-kept
+returns-in-None-clause-kept g c objects stocks = stocks
+
+pub returns-in-Some-clause-found : goal.returns-in-Some-clause-found
+returns-in-Some-clause-found g c objects stocks =
+    sym (stocks.found c.args.key.now c.in_ok-clone.field-0 (sym c.in-Some.ensures.value ∙ ap (λ stocked. Some stocked) (sym c.in_ok-clone.ensures.cases)))
