@@ -1,1 +1,2 @@
+pub mod Connectives
 pub mod Machine

@@ -23,10 +23,10 @@ use celmean::{LONGEST_RANGE, Outcome, Value, list_items, range_of, reduced};
 use celtree::Macro;
 use instructions::{Instruction, Slot};
 use plancode::Verified;
+use planmachine::Connective;
 use planstack::{
-    Held, into_outcome, is_false, is_true, pop, push, put, take_binary, take_both, take_call,
-    take_either, take_field, take_has, take_index, take_list, take_map, take_top, take_unary,
-    topmost,
+    Held, into_outcome, is_false, is_true, pop, push, put, take_binary, take_call, take_connected,
+    take_field, take_has, take_index, take_list, take_map, take_top, take_unary, topmost,
 };
 use std::alloc::{AllocError, Global};
 
@@ -106,8 +106,8 @@ fn advance<'a>(
         Instruction::Unary(prefix) => take_unary(alloc, *prefix, stack),
         Instruction::Binary(binary) => take_binary(alloc, *binary, stack),
         Instruction::Call(function) => take_call(alloc, *function, stack),
-        Instruction::And => take_both(alloc, stack),
-        Instruction::Or => take_either(alloc, stack),
+        Instruction::And => take_connected(alloc, Connective::And, stack),
+        Instruction::Or => take_connected(alloc, Connective::Or, stack),
         Instruction::IfFalse(_) | Instruction::IfTrue(_) | Instruction::Jump(_) => unreachable!(),
         Instruction::Branch(_, _) | Instruction::Macro(_, _) => unreachable!(),
     }

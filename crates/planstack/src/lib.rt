@@ -10,7 +10,7 @@ mod stack;
 
 pub use held::{Held, into_outcome, is_false, is_true};
 pub use operations::{
-    take_binary, take_both, take_call, take_either, take_field, take_has, take_index, take_list,
-    take_map, take_unary,
+    take_binary, take_call, take_connected, take_field, take_has, take_index, take_list, take_map,
+    take_unary,
 };
 pub use stack::{pop, push, put, take_top, topmost};

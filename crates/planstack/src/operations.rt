@@ -3,19 +3,20 @@
 ghost use Rattle.std.specs.Prelude.{◌≡◌, ◌+◌, ◌<◌, ◌≤◌, [], ◌∷◌, reverse, take, drop, length, vec_len, OnOk, IfOk, IfSome, IfNone};
 ghost use Rattle.celmean.specs.Value.{with_value, with_values};
 ghost use Rattle.celmean.specs.Collections.{member, has_member, indexed, list_of, map_of};
-ghost use Rattle.celmean.specs.Macros.{both, either};
 ghost use Rattle.celmean.specs.Operators.{prefixed, on_values};
 ghost use Rattle.celmean.specs.Functions.{called, method_called};
 ghost use Rattle.celmean.specs.Seen.{outcome_of, outcomes_seen, outcome_pairs_seen};
 ghost use Rattle.instructions.specs.Judging.{operand_count};
+ghost use Rattle.planmachine.specs.Connectives.{connected};
 ghost use Rattle.planmachine.specs.Machine.{on_one, on_two, on_call, in_pairs, operator};
 ghost use Rattle.planstack.specs.Seen.{stack_seen};
 
 use crate::held::{Held, field, has, index, into_outcome};
 use crate::stack::{pop, pop_outcomes, pop_two, push, put, take_many, take_topmost};
-use celmean::{Outcome, both, called, either, infixed, list_of, map_of, method_called, prefixed};
+use celmean::{Outcome, called, infixed, list_of, map_of, method_called, prefixed};
 use celtree::{Operator, Prefix};
 use instructions::{Binary, Function};
+use planmachine::{Connective, connected};
 use std::alloc::{AllocError, Global};
 
 /// `e.name`
@@ -149,26 +150,18 @@ pub fn take_binary(
     put(stack, given?)
 }
 
-/// `a && b`
-pub fn take_both(alloc: Global, stack: &mut Vec<Held<'_>>) -> Result<(), AllocError>
+/// `a && b` or `a || b`
+pub fn take_connected(
+    alloc: Global,
+    connective: Connective,
+    stack: &mut Vec<Held<'_>>,
+) -> Result<(), AllocError>
     requires { 2 ≤ length stack.old.items }
-    ensures { OnOk result (stack_seen stack.new.items ≡ on_two both (stack_seen stack.old.items)) }
+    ensures { OnOk result (stack_seen stack.new.items ≡ on_two (connected connective) (stack_seen stack.old.items)) }
 {
     let operands = pop_outcomes(alloc, stack)?;
     let (left, right) = &operands;
-    let given = both(left, right);
-    drop(operands);
-    put(stack, given)
-}
-
-/// `a || b`
-pub fn take_either(alloc: Global, stack: &mut Vec<Held<'_>>) -> Result<(), AllocError>
-    requires { 2 ≤ length stack.old.items }
-    ensures { OnOk result (stack_seen stack.new.items ≡ on_two either (stack_seen stack.old.items)) }
-{
-    let operands = pop_outcomes(alloc, stack)?;
-    let (left, right) = &operands;
-    let given = either(left, right);
+    let given = connected(connective, left, right);
     drop(operands);
     put(stack, given)
 }
