@@ -3,8 +3,8 @@
 use crate::notation::repeated;
 use cases::{Wrong, first_word, number};
 use celmean::Value;
-use celvalues::document_value;
 use documents::Doc;
+use planstack::document_value;
 use std::alloc::{AllocError, Global};
 use std::mem::replace;
 

@@ -10,7 +10,7 @@ use Rattle.celtree.specs.Nesting.{nests_within}
 use Rattle.serde_json.specs.Data.{Data}
 use Rattle.policy.specs.Rules.{Attempt}
 use Rattle.celmean.specs.Value.{Outcome, Gives}
-use Rattle.celvalues.specs.Documents.{json_value}
+use Rattle.planstack.specs.Documents.{json_value}
 use Rattle.instructions.specs.declared.instruction.Name.TheVariants as name_of
 use Rattle.evaluation.specs.Seen.{names_in}
 use Rattle.policy.specs.Request.{request_of}

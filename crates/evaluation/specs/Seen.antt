@@ -5,7 +5,7 @@ use Rattle.serde_json.specs.View.{view}
 use Rattle.celmean.specs.declared.value.Outcome as code_outcome
 use Rattle.celmean.specs.Seen.{outcomes_seen}
 use Rattle.celmean.specs.Value.{Outcome, Gives}
-use Rattle.celvalues.specs.Documents.{json_value}
+use Rattle.planstack.specs.Documents.{json_value}
 use Rattle.instructions.specs.declared.instruction.Name.{Name}
 use Rattle.instructions.specs.declared.instruction.Name.TheVariants as name_of
 use Rattle.planmachine.specs.Machine.{World}

@@ -4,7 +4,7 @@ use Rattle.instructions.specs.declared.instruction.Name.{Name}
 use Rattle.instructions.specs.declared.instruction.Name.TheVariants as name_of
 use Rattle.celmean.specs.Value.{Outcome, Gives}
 use Rattle.celmean.specs.Seen.{outcomes_seen}
-use Rattle.celvalues.specs.Documents.{json_value}
+use Rattle.planstack.specs.Documents.{json_value}
 use Rattle.planmachine.specs.Machine.{World}
 use Rattle.planrun.specs.declared.bound.Bindings.{Bindings}
 

@@ -3,7 +3,7 @@ use Rattle.std.specs.Prelude.{List, map, reverse}
 use Rattle.serde_json.specs.View.{view}
 use Rattle.celmean.specs.Value.{Outcome, Gives}
 use Rattle.celmean.specs.Seen.{outcome_of}
-use Rattle.celvalues.specs.Documents.{json_value}
+use Rattle.planstack.specs.Documents.{json_value}
 use Rattle.planstack.specs.declared.held.Held.{Held}
 use Rattle.planstack.specs.declared.held.Held.TheVariants as held
 

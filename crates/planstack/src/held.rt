@@ -6,11 +6,12 @@ ghost use Rattle.celmean.specs.Value.{Gives, or_error, truth_or_error, with_valu
 ghost use Rattle.celmean.specs.Collections.{member, has_member, indexed};
 ghost use Rattle.celmean.specs.Macros.{is_true, is_false};
 ghost use Rattle.celmean.specs.Seen.{outcome_of};
-ghost use Rattle.celvalues.specs.Documents.{json_value};
+ghost use Rattle.planstack.specs.Documents.{json_value};
 ghost use Rattle.planstack.specs.Seen.{held_seen};
 
+use crate::document::value_of;
+use crate::parts::{has_member, item, member};
 use celmean::{Outcome, Value, has_member_of, index_of, member_of};
-use celvalues::{has_member, item, member, value_of};
 use serde_json::Value as Json;
 use std::alloc::{AllocError, Global};
 

@@ -1,13 +1,19 @@
-//! The stack of the machine that runs compiled expressions, and what instructions do to its top.
+//! The values of documents, the stack of the machine that runs compiled expressions, and what instructions do to its top.
 //!
-//! It holds outcomes, and parts of documents where they lie: what an expression takes from a document is copied only where an operation needs a value.
+//! `specs/Documents.antt` says what value a JSON value has in the Common Expression Language (CEL): null, truth values, numbers, texts,
+//! lists, and maps whose keys are texts. [`document_value`] gives that of a document, as a copy.
+//!
+//! The stack holds outcomes, and parts of documents where they lie: what an expression takes from a document is copied only where an operation needs a value.
 //! Who takes from the stack knows that the outcomes are there, as in a well-formed plan they are.
 #![tactic(auto)]
 
+mod document;
 mod held;
 mod operations;
+mod parts;
 mod stack;
 
+pub use document::document_value;
 pub use held::{Held, into_outcome, is_false, is_true};
 pub use operations::{
     take_binary, take_call, take_connected, take_field, take_has, take_index, take_list, take_map,

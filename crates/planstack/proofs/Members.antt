@@ -11,7 +11,7 @@ use Rattle.celmean.specs.Value.{Value, Text, Int, or_error, truth_or_error}
 use Rattle.celmean.specs.Collections as value
 use Rattle.celmean.specs.Collections.{lookup, item_at}
 use Rattle.celmean.proofs.Lists.{items-sequence, entries-mapping, is_some-option_map}
-use Rattle.celvalues.specs.Documents.{json_value, item_values, member_values}
+use Rattle.planstack.specs.Documents.{json_value, item_values, member_values}
 
 picked : (o : Ordering) (d : Data) (x : Option Value) (m : Option Data) → x ≡ option_map json_value m
     → (if is_eq o then Some (json_value d) else x) ≡ option_map json_value (match_ordering o m (Some d) m)

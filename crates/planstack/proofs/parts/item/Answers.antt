@@ -1,7 +1,7 @@
 use Rattle.std.proofs.Common.{rules, refl}
 use Rattle.serde_json.specs.View.{view}
-use Rattle.celvalues.proofs.Members.{indexed-json_value}
-use Rattle.celvalues.proofs.parts.item.Goals as goal
+use Rattle.planstack.proofs.Members.{indexed-json_value}
+use Rattle.planstack.proofs.parts.item.Goals as goal
 
 pub returns-in-Some : goal.returns-in-Some
 returns-in-Some c =

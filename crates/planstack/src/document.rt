@@ -4,7 +4,7 @@ ghost use Rattle.std.specs.Prelude.{◌≡◌, IfOk};
 ghost use Rattle.serde_json.specs.View.{number_view, view, items_view, members_view};
 ghost use Rattle.celmean.specs.Seen.{value_of, values_seen, entries_seen};
 ghost use Rattle.celmean.specs.Value.{items, entries};
-ghost use Rattle.celvalues.specs.Documents.{json_value, number_value, item_values, member_values};
+ghost use Rattle.planstack.specs.Documents.{json_value, number_value, item_values, member_values};
 
 use celmean::Value;
 use documents::Doc;
@@ -28,7 +28,7 @@ pub fn document_value(alloc: Global, document: &Doc) -> Result<Value, AllocError
 ///
 /// Where no memory is left.
 #[cycle(value)]
-pub fn value_of(alloc: Global, json: &Json) -> Result<Value, AllocError>
+pub(crate) fn value_of(alloc: Global, json: &Json) -> Result<Value, AllocError>
     ensures { IfOk result (λ v. value_of v ≡ json_value (view json.now)) }
 {
     match json {

@@ -1,8 +1,8 @@
 use Rattle.std.proofs.Common.{refl}
 use Rattle.serde_json.specs.View.{view}
 use Rattle.celmean.proofs.Lists.{is_some-option_map}
-use Rattle.celvalues.proofs.Members.{has_member-json_value}
-use Rattle.celvalues.proofs.parts.has_member.Goals as goal
+use Rattle.planstack.proofs.Members.{has_member-json_value}
+use Rattle.planstack.proofs.parts.has_member.Goals as goal
 
 pub returns-then-is_object : goal.returns-then-is_object
 returns-then-is_object c =

@@ -1,8 +1,8 @@
 use Rattle.std.proofs.Common.{◌≡◌, ◌++◌, drop}
 use Rattle.serde_json.specs.View.{items_view, members_view}
 use Rattle.celmean.specs.Seen.{values_seen, entries_seen}
-use Rattle.celvalues.specs.Documents.{item_values, member_values}
-use Rattle.celvalues.proofs.document.+value.Given as goal
+use Rattle.planstack.specs.Documents.{item_values, member_values}
+use Rattle.planstack.proofs.document.+value.Given as goal
 
 -- what is there, and the values of what is left, are all values
 abbrev pub invariant-values_of_items-loop-item : goal.invariant-values_of_items-loop-item

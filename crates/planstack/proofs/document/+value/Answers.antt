@@ -6,8 +6,8 @@ use Rattle.celmean.specs.Seen.{value_of, entry_seen, values_seen, entries_seen}
 use Rattle.celmean.specs.Value.{Text}
 use Rattle.celmean.specs.declared.value.Value as program
 use Rattle.celmean.proofs.Inside.{value_of-Text}
-use Rattle.celvalues.specs.Documents.{json_value, item_values, member_values}
-use Rattle.celvalues.proofs.document.+value.Goals as goal
+use Rattle.planstack.specs.Documents.{json_value, item_values, member_values}
+use Rattle.planstack.proofs.document.+value.Goals as goal
 
 map_more : {A B : Type 0} (f : A → B) (xs : List A) (x : A) (w : B) (rest : List B) → f x ≡ w → map f (xs ++ x ∷ []) ++ rest ≡ map f xs ++ w ∷ rest
 map_more f [] x w rest e = ap (λ v. v ∷ rest) e

@@ -2,8 +2,8 @@ use Rattle.std.proofs.Common.{ap}
 use Rattle.serde_json.specs.View.{view}
 use Rattle.serde_json.specs.Find.{get}
 use Rattle.celmean.specs.Value.{or_error}
-use Rattle.celvalues.proofs.Members.{member-json_value, seen_of}
-use Rattle.celvalues.proofs.parts.member.Goals as goal
+use Rattle.planstack.proofs.Members.{member-json_value, seen_of}
+use Rattle.planstack.proofs.parts.member.Goals as goal
 
 pub returns : goal.returns
 returns c =
