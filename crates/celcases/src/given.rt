@@ -4,7 +4,7 @@ use crate::notation::repeated;
 use cases::{Wrong, first_word, number};
 use celmean::Value;
 use documents::Doc;
-use planstack::document_value;
+use planstack::value_of;
 use std::alloc::{AllocError, Global};
 use std::mem::replace;
 
@@ -76,7 +76,7 @@ impl Documents {
     pub(crate) fn values(&self, alloc: Global) -> Result<Vec<Value>, Wrong> {
         let mut values = Vec::new(alloc);
         for document in [&self.object, &self.old_object, &self.request, &self.params] {
-            values.push(document_value(alloc, document)?)?;
+            values.push(value_of(alloc, document.value())?)?;
         }
         Ok(values)
     }

@@ -7,20 +7,8 @@ ghost use Rattle.celmean.specs.Value.{items, entries};
 ghost use Rattle.planstack.specs.Documents.{json_value, number_value, item_values, member_values};
 
 use celmean::Value;
-use documents::Doc;
 use serde_json::{Map, Number, Value as Json};
 use std::alloc::{AllocError, Global};
-
-/// The value of a document.
-///
-/// # Errors
-///
-/// Where no memory is left.
-pub fn document_value(alloc: Global, document: &Doc) -> Result<Value, AllocError>
-    ensures { IfOk result (λ v. value_of v ≡ json_value document.now) }
-{
-    value_of(alloc, document.value())
-}
 
 /// The value of a JSON value: of a document, or of a part of one.
 ///
@@ -28,7 +16,7 @@ pub fn document_value(alloc: Global, document: &Doc) -> Result<Value, AllocError
 ///
 /// Where no memory is left.
 #[cycle(value)]
-pub(crate) fn value_of(alloc: Global, json: &Json) -> Result<Value, AllocError>
+pub fn value_of(alloc: Global, json: &Json) -> Result<Value, AllocError>
     ensures { IfOk result (λ v. value_of v ≡ json_value (view json.now)) }
 {
     match json {

@@ -1,7 +1,7 @@
 //! The values of documents, the stack of the machine that runs compiled expressions, and what instructions do to its top.
 //!
 //! `specs/Documents.antt` says what value a JSON value has in the Common Expression Language (CEL): null, truth values, numbers, texts,
-//! lists, and maps whose keys are texts. [`document_value`] gives that of a document, as a copy.
+//! lists, and maps whose keys are texts. [`value_of`] gives it, as a copy.
 //!
 //! The stack holds outcomes, and parts of documents where they lie: what an expression takes from a document is copied only where an operation needs a value.
 //! Who takes from the stack knows that the outcomes are there, as in a well-formed plan they are.
@@ -13,7 +13,7 @@ mod operations;
 mod parts;
 mod stack;
 
-pub use document::document_value;
+pub use document::value_of;
 pub use held::{Held, into_outcome, is_false, is_true};
 pub use operations::{
     take_binary, take_call, take_connected, take_field, take_has, take_index, take_list, take_map,
