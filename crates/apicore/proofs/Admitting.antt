@@ -6,7 +6,7 @@ use Rattle.requests.specs.History as write
 use Rattle.requests.specs.View.{after, after_all}
 use Rattle.celtree.specs.Tree.{Expr}
 use Rattle.expressions.specs.Specification.{Specification}
-use Rattle.verdict.specs.Verdict.{Verdict, admitted, denied}
+use Rattle.denials.specs.Verdict.{Verdict, admitted, denied}
 use Rattle.recovery.specs.Standing.{Write, View}
 use Rattle.recovery.specs.Conditions.{Condition, first_of, own_conditions, asks_for, put_of}
 use Rattle.apicore.specs.Admitted.{IsAdmitted, AreAdmitted, verdict_on}

@@ -35,7 +35,7 @@ use Rattle.policy.specs.declared.validation.Reason.{Reason}
 use Rattle.expressions.specs.Specification.{Specification, these, plans_in}
 use Rattle.expressions.specs.Specification as stands
 use Rattle.verdict.specs.Admission.{verdict}
-use Rattle.verdict.specs.Verdict.{Verdict, admitted, denied}
+use Rattle.denials.specs.Verdict.{Verdict, admitted, denied}
 use Rattle.recovery.specs.Beside.{Beside, spelled}
 use Rattle.recovery.specs.Shown.{plans_held, Shows, IsOver}
 use Rattle.recovery.specs.Standing.{Write, View, write_with_plans}

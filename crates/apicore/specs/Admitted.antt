@@ -3,7 +3,7 @@ use Rattle.std.specs.Prelude.{List, [], ◌∷◌}
 use Rattle.objects.specs.declared.format.Rules.{Rules}
 use Rattle.requests.specs.View.{after}
 use Rattle.verdict.specs.Admission.{verdict}
-use Rattle.verdict.specs.Verdict.{Verdict, admitted, denied}
+use Rattle.denials.specs.Verdict.{Verdict, admitted, denied}
 use Rattle.recovery.specs.Standing.{Write, View}
 use Rattle.recovery.specs.Attempts.{objects_of, attempt_of}
 

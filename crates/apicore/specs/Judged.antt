@@ -5,7 +5,7 @@ use Rattle.requests.specs.Reply.{Reply}
 use Rattle.requests.specs.View as seen
 use Rattle.holdings.specs.Prepared.{writes_of, AreNext}
 use Rattle.recovery.specs.Beside.{Beside}
-use Rattle.verdict.specs.Verdict.{Verdict, admitted, denied}
+use Rattle.denials.specs.Verdict.{Verdict, admitted, denied}
 use Rattle.recovery.specs.Shown.{plans_held}
 use Rattle.recovery.specs.Standing.{Write, write_with_plans}
 use Rattle.recovery.specs.Conditions.{Refusal, denied_by}

@@ -15,7 +15,7 @@ use Rattle.policy.specs.declared.validation.Reason.{Reason}
 use Rattle.policy.specs.declared.validation.Reason.TheVariants.{Unauthorized, Forbidden, Invalid, RequestEntityTooLarge}
 use Rattle.expressions.specs.Specification.{Specification}
 use Rattle.policy.specs.Texts.{denial_text}
-use Rattle.verdict.specs.Verdict.{Verdict, admitted, denied}
+use Rattle.denials.specs.Verdict.{Verdict, admitted, denied}
 use Rattle.recovery.specs.Standing.{Write, History, View}
 use Rattle.recovery.specs.Conditions.{Refusal, known, with_bad_expression, denied_by, Condition, first_of, own_conditions, asks_for}
 use Rattle.apicore.specs.Admitted.{verdict_on}

@@ -18,7 +18,7 @@ ghost use Rattle.holdings.specs.Prepared.{writes_of, AreNext, HasRoomFor};
 ghost use Rattle.holdings.specs.Sources.{found_in};
 ghost use Rattle.expressions.specs.Specification.{these, plans_in};
 ghost use Rattle.verdict.specs.Admission.{verdict};
-ghost use Rattle.verdict.specs.Seen.{verdict_seen};
+ghost use Rattle.denials.specs.Seen.{verdict_seen};
 ghost use Rattle.recovery.specs.Beside.{Beside as BesideData, spelled};
 ghost use Rattle.apicore.specs.Judged.{IsJudged};
 ghost use Rattle.recovery.specs.Looked.{HasLooked, IsAsBefore};
@@ -28,6 +28,7 @@ ghost use Rattle.recovery.specs.Attempts.{objects_of};
 
 use crate::prepared::Prepared;
 use crate::refusing::denied;
+use denials::Verdict;
 use documents::Document;
 use expressions::StoredPlans;
 use holdings::{Found, PreparedWrite, Source};
@@ -39,7 +40,7 @@ use recovery::{Beside, Core, Sight, put_attempt};
 use requests::{Manifest, Reply};
 use serde_json::Value;
 use std::alloc::Global;
-use verdict::{Verdict, admit};
+use verdict::admit;
 
 // The verdict of what the core shows on a write.
 fn verdict_of<S: Source<Beside>>(

@@ -31,9 +31,10 @@ use Rattle.expressions.specs.Expressions.{condition, variable, validation, messa
 use Rattle.expressions.specs.Typed.{AreTyped}
 use Rattle.expressions.specs.Plans.{plan_of, each_plan}
 use Rattle.evaluation.specs.Trees.{named_trees, tests}
-use Rattle.evaluation.specs.Denials.{Conditions, conditions, and_then, with_variables, on_tests, line_of, evaluate}
+use Rattle.denials.specs.Denials.{line_of, told}
+use Rattle.evaluation.specs.Denials.{Conditions, conditions, and_then, with_variables, on_tests, evaluate}
 use Rattle.evaluation.specs.Ready.{AreReady}
-use Rattle.evaluation.specs.ByPlans.{Agree, given_by, conditions_by, outcomes_by, line_by, told, tests_by, evaluate_by}
+use Rattle.evaluation.specs.ByPlans.{Agree, given_by, conditions_by, outcomes_by, line_by, tests_by, evaluate_by}
 
 -- The world is the environment, whose variables have these names.
 pub record Fits (names : List Text) (w : World) (env : Environment) : Type 0 where

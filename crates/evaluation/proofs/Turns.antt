@@ -6,10 +6,10 @@ use Rattle.plancode.specs.Plans.{Judged}
 use Rattle.policy.specs.declared.validation.Validation as code_validation
 use Rattle.policy.specs.Spec.{Validation, validation_seen}
 use Rattle.policy.specs.declared.policy.FailurePolicy.{FailurePolicy}
-use Rattle.evaluation.specs.declared.answers.Denial as code_denial
-use Rattle.evaluation.specs.Seen.{denial_seen}
-use Rattle.evaluation.specs.Denials.{Denial}
-use Rattle.evaluation.specs.ByPlans.{given_by, message_plan, after_plan, line_by, told, tests_by}
+use Rattle.denials.specs.declared.denial.Denial as code_denial
+use Rattle.denials.specs.Seen.{denial_seen}
+use Rattle.denials.specs.Denials.{Denial, told}
+use Rattle.evaluation.specs.ByPlans.{given_by, message_plan, after_plan, line_by, tests_by}
 
 -- one that says nothing leaves it to the others
 pub no_denial : (f : FailurePolicy) (v : Validation) (vs : List Validation) (j : Judged) (js left : List Judged) (w : World) (m : Option Judged)

@@ -1,8 +1,7 @@
 -- What a policy says of a write by its plans: what the plan of an expression gives stands for what the expression means.
-use Rattle.std.specs.Prelude.{◌≡◌, ◌∷◌, ◌++◌, ◌==◌, List, [], codes, drop, take, length, if◌then◌else◌, Option, Some, None, unwrap_or, option_and_then}
+use Rattle.std.specs.Prelude.{◌≡◌, ◌∷◌, ◌++◌, ◌==◌, List, [], drop, take, length, if◌then◌else◌, Option, Some, None, option_and_then}
 use Rattle.std.specs.Option.{option_map_or}
 use Rattle.celmean.specs.Value.{Outcome, Error}
-use Rattle.celmean.specs.Macros.{is_true, is_false}
 use Rattle.instructions.specs.declared.instruction.Name.{Name}
 use Rattle.celmean.specs.Meaning.{Environment, bound}
 use Rattle.plan.specs.Correct.{spelled}
@@ -11,7 +10,8 @@ use Rattle.plancode.specs.Plans.{Judged}
 use Rattle.policy.specs.Forms.{Text}
 use Rattle.policy.specs.Spec.{Named, Validation, Policy}
 use Rattle.policy.specs.declared.policy.FailurePolicy.{FailurePolicy}
-use Rattle.evaluation.specs.Denials.{Denial, Conditions, met, and_then, failure, line_of}
+use Rattle.denials.specs.Denials.{Denial, line_of, told}
+use Rattle.evaluation.specs.Denials.{Conditions, met, and_then}
 
 -- the declared names stand for the same
 abbrev pub Agree : (Name → Outcome) → Environment → Type 0
@@ -45,17 +45,6 @@ after_plan (Some text) (j ∷ js) = js
 -- the line that the message expression gives, if there is one
 abbrev pub line_by : Option Judged → World → Option Text
 line_by m w = option_and_then (λ j. line_of (given_by j w)) m
-
--- the line, or else the message, or else the expression
-abbrev pub said : Validation → (line : Option Text) → Text
-said v line = unwrap_or line (unwrap_or v.message (codes "failed expression: " ++ v.expression))
-
--- what a validation with this outcome says, where this line would be said of it
-abbrev pub told : FailurePolicy → Validation → (line : Option Text) → Outcome → Option Denial
-told f v line o =
-    if is_true o then None
-    else (if is_false o then Some (record { reason = v.reason; message = said v line })
-    else failure f (codes "expression error: " ++ v.expression))
 
 abbrev pub tests_by : FailurePolicy → List Validation → List Judged → World → Option Denial
 tests_by f [] js w = None

@@ -1,27 +1,15 @@
 -- What a policy says of a write (Kubernetes, "Validating Admission Policy": match conditions, variables, validations, failure policy).
-use Rattle.std.specs.Prelude.{ℕ, ◌∷◌, ◌++◌, ◌==◌, ◌||◌, List, [], Bool, codes, if◌then◌else◌, Option, Some, None, unwrap_or, option_and_then}
-use Rattle.std.specs.List.{list_all, list_any}
+use Rattle.std.specs.Prelude.{◌∷◌, ◌++◌, List, [], codes, if◌then◌else◌, Option, Some, None, unwrap_or, option_and_then}
 use Rattle.std.specs.Option.{option_map_or}
 use Rattle.celtree.specs.Tree.{Expr}
-use Rattle.celmean.specs.Value.{Null, Truth, Int, Uint, Text, Sequence, Mapping, Outcome, Gives, Error}
+use Rattle.celmean.specs.Value.{Outcome}
 use Rattle.celmean.specs.Meaning.{Environment, mean}
 use Rattle.celmean.specs.Macros.{is_true, is_false}
 use Rattle.policy.specs.Forms as form
 use Rattle.policy.specs.Spec.{Policy}
 use Rattle.policy.specs.declared.policy.FailurePolicy.{FailurePolicy}
-use Rattle.policy.specs.declared.policy.FailurePolicy.TheVariants.{Fail, Ignore}
-use Rattle.policy.specs.declared.validation.Reason.{Reason}
-use Rattle.policy.specs.declared.validation.Reason.TheVariants.{Invalid}
+use Rattle.denials.specs.Denials.{Denial, failure, line_of}
 use Rattle.evaluation.specs.Trees.{NamedTree, Test, variables_of, tests_of}
-
-pub record Denial : Type 0 where
-  pub reason : Reason
-  pub message : form.Text
-
--- what cannot be evaluated is denied, or passes
-abbrev pub failure : FailurePolicy → (message : form.Text) → Option Denial
-failure Fail message = Some (record { reason = Invalid; message = message })
-failure Ignore message = None
 
 -- ---- match conditions
 
@@ -51,25 +39,6 @@ with_variables [] env = env
 with_variables (v ∷ vs) env = with_variables vs (record { names = env.names; variables = env.variables ++ (v.name, mean v.tree env) ∷ [] })
 
 -- ---- messages
-
--- a space or a tab
-abbrev pub is_blank : ℕ → Bool
-is_blank byte = byte == 32 || byte == 9
-
--- a line feed or a carriage return
-abbrev pub breaks_line : ℕ → Bool
-breaks_line byte = byte == 10 || byte == 13
-
--- a text on one line that is not blank
-abbrev pub line_of : Outcome → Option form.Text
-line_of (Gives (Text s)) = if list_all is_blank s || list_any breaks_line s then None else Some s
-line_of (Gives Null) = None
-line_of (Gives (Truth b)) = None
-line_of (Gives (Int z)) = None
-line_of (Gives (Uint n)) = None
-line_of (Gives (Sequence vs)) = None
-line_of (Gives (Mapping es)) = None
-line_of Error = None
 
 -- what the message expression gives, or else the message, or else the expression
 abbrev pub message_of : Test → Environment → form.Text

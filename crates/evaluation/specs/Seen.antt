@@ -1,5 +1,5 @@
 -- What the program's answers stand for, and what its names stand for.
-use Rattle.std.specs.Prelude.{List, string_bytes}
+use Rattle.std.specs.Prelude.{List}
 use Rattle.serde_json.specs.Data.{Data}
 use Rattle.serde_json.specs.View.{view}
 use Rattle.celmean.specs.declared.value.Outcome as code_outcome
@@ -12,11 +12,7 @@ use Rattle.planmachine.specs.Machine.{World}
 use Rattle.evaluation.specs.declared.scene.Scene.{Scene}
 use Rattle.evaluation.specs.declared.answers.Conditions as code_conditions
 use Rattle.evaluation.specs.declared.answers.Conditions.TheVariants as code
-use Rattle.evaluation.specs.declared.answers.Denial as code_denial
-use Rattle.evaluation.specs.Denials.{Denial, Conditions, met, unmet, neither}
-
-abbrev pub denial_seen : code_denial.Denial → Denial
-denial_seen d = record { reason = d.reason; message = string_bytes d.message }
+use Rattle.evaluation.specs.Denials.{Conditions, met, unmet, neither}
 
 abbrev pub conditions_seen : code_conditions.Conditions → Conditions
 conditions_seen code.Met = met

@@ -1,15 +1,4 @@
-//! What a policy says of a write.
-
-use policy::Reason;
-
-/// Why a write is not admitted.
-#[derive(Drop)]
-pub struct Denial {
-    /// The reason, which decides the status code.
-    pub reason: Reason,
-    /// What is said.
-    pub message: String,
-}
+//! What match conditions say.
 
 /// What the match conditions of a policy say together.
 #[derive(Clone, Copy)]

@@ -15,13 +15,11 @@
 #![tactic(auto)]
 
 mod answers;
-mod messages;
 mod outcomes;
 mod scene;
 mod together;
 mod validations;
 
-pub use answers::{Conditions, Denial};
-pub use messages::failure;
+pub use answers::Conditions;
 pub use together::conditions;
 pub use validations::evaluate;

@@ -9,14 +9,15 @@ ghost use Rattle.policy.specs.Request.{request_of};
 ghost use Rattle.evaluation.specs.Environment.{seen};
 ghost use Rattle.evaluation.specs.Denials.{evaluate};
 ghost use Rattle.evaluation.specs.Ready.{AreReady};
-ghost use Rattle.evaluation.specs.Seen.{denial_seen, names_of, world_of};
-ghost use Rattle.evaluation.specs.ByPlans.{given_by, message_plan, after_plan, line_by, told, tests_by, evaluate_by};
+ghost use Rattle.denials.specs.Denials.{told};
+ghost use Rattle.denials.specs.Seen.{denial_seen};
+ghost use Rattle.evaluation.specs.Seen.{names_of, world_of};
+ghost use Rattle.evaluation.specs.ByPlans.{given_by, message_plan, after_plan, line_by, tests_by, evaluate_by};
 
-use crate::answers::Denial;
-use crate::messages::{failure, line_of, prefixed, said};
 use crate::outcomes::{given_by, outcomes_by, split};
 use crate::scene::{Scene, or_null};
-use celmean::{Outcome, is_false, is_true};
+use celmean::{Outcome, is_false};
+use denials::{Denial, line_of, told};
 use plancode::Verified;
 use policy::{Attempt, FailurePolicy, Policy, Validation};
 use serde_json::Value as Json;
@@ -70,21 +71,12 @@ fn denial_by(
     ensures { IfOk result (λ o. option_map denial_seen o ≡ told policy (validation_seen validation.now) (line_by (option_map (λ p. p.now) message.entry) (world_of scene.now variables.now)) (given_by plan.now (world_of scene.now variables.now))) }
 {
     let outcome = given_by(alloc, plan, scene, variables)?;
-    let (holds, fails) = (is_true(&outcome), is_false(&outcome));
-    drop(outcome);
-    if holds {
-        return Ok(None);
-    }
-    if fails {
-        let line = line_by(alloc, message, scene, variables)?;
-        let message = said(alloc, validation, line)?;
-        return Ok(Some(Denial {
-            reason: validation.reason,
-            message,
-        }));
-    }
-    let text = prefixed(alloc, "expression error: ", validation.expression.as_str())?;
-    Ok(failure(policy, text))
+    let line = if is_false(&outcome) {
+        line_by(alloc, message, scene, variables)?
+    } else {
+        None
+    };
+    told(alloc, policy, validation, outcome, line)
 }
 
 // The first denial.
@@ -142,7 +134,7 @@ fn evaluate_by(
 /// denial, if there is one. `request` is the write's [`request_document`](policy::request_document).
 ///
 /// A variable is bound to its outcome, so an error in it arises where it is used. A validation that is false is a denial with its
-/// reason. What is neither true nor false is a [`failure`].
+/// reason. What is neither true nor false is a [`failure`](denials::failure).
 ///
 /// # Errors
 ///

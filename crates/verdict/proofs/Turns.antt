@@ -1,26 +1,12 @@
--- One warning more.
-use Rattle.std.proofs.Common.{◌≡◌, ℕ, suc, ◌+◌, ◌<◌, ◌≤◌, List, [], ◌∷◌, ◌++◌, length, get_or, map, drop, drop-cons, add-one, refl, sym, ap, ◌∙◌, rules}
-use Rattle.std.proofs.lemmas.Grind.{common_steps}
+-- One binding's turn.
+use Rattle.std.proofs.Common.{◌≡◌, ℕ, suc, ◌+◌, ◌<◌, ◌≤◌, List, [], ◌∷◌, ◌++◌, length, get_or, map, drop, drop-cons, add-one, refl, sym, ap, ◌∙◌}
 use Rattle.std.proofs.lemmas.List.{append-nil, drop_all}
 use Rattle.policy.specs.Forms.{Text}
 use Rattle.policy.specs.Spec as spec
-use Rattle.policy.specs.declared.binding.Action.{Action}
-use Rattle.policy.specs.declared.binding.Action.TheVariants.{Warn}
-use Rattle.evaluation.specs.Denials.{Denial}
-use Rattle.policy.specs.Texts.{warning}
+use Rattle.denials.specs.Verdict.{Verdict, admitted, denied, decide, verdict_of, after_warnings}
 use Rattle.expressions.specs.Objects.{Objects}
 use Rattle.policy.specs.Rules.{Attempt}
 use Rattle.verdict.specs.Admission.{denial_by, finding}
-use Rattle.verdict.specs.Verdict.{Verdict, admitted, denied, and_warn, on_action, decide, verdict_of}
-use Rattle.verdict.specs.Turns.{after_warnings}
-
-one_more : (ws : List Text) (t : Text) (rest : Verdict) → after_warnings ws (and_warn t rest) ≡ after_warnings (ws ++ t ∷ []) rest
-one_more ws t (admitted ts) = let p : ws ++ (t ∷ ts) ≡ (ws ++ t ∷ []) ++ ts = search (rules, common_steps) in ap admitted p
-one_more ws t (denied policy binding reason message) = refl
-
-pub warned : (ws : List Text) (a : Action) (name : Text) (b : spec.Binding) (d : Denial) (rest : Verdict) → a ≡ Warn
-    → after_warnings ws (on_action a name b d rest) ≡ after_warnings (ws ++ warning b.policy name d.message ∷ []) rest
-warned ws a name b d rest is = ap (λ (x : Action). after_warnings ws (on_action x name b d rest)) is ∙ one_more ws (warning b.policy name d.message) rest
 
 -- the verdict of the bindings that are left is that of the next one, before those after it
 left : (objects : Objects) (w : Attempt) (n : ℕ) (bs : List (Text × spec.Binding)) (b : Text × spec.Binding) → n < length bs → b ≡ get_or bs n b

@@ -8,11 +8,11 @@ use Rattle.policy.specs.Forms.{Text}
 use Rattle.policy.specs.Bindings.{binding_of}
 use Rattle.policy.specs.Policies.{policy_of}
 use Rattle.policy.specs.Spec.{Binding}
-use Rattle.evaluation.specs.Denials.{Denial}
+use Rattle.denials.specs.Denials.{Denial}
+use Rattle.denials.specs.Verdict.{Verdict, Finding, verdict_of}
 use Rattle.expressions.specs.Objects.{Object, Objects, policy_key, shown_objects}
 use Rattle.expressions.specs.Listed.{listed}
 use Rattle.verdict.specs.OneBinding.{denial}
-use Rattle.verdict.specs.Verdict.{Verdict, Finding, verdict_of}
 
 -- the denial by a binding: none where its policy is not there
 abbrev pub denial_by : Objects → Attempt → Binding → Option Denial

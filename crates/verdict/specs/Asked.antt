@@ -4,7 +4,8 @@ use Rattle.celtree.specs.Tree.{Expr}
 use Rattle.policy.specs.Rules.{Attempt}
 use Rattle.evaluation.specs.Trees.{conditions_of}
 use Rattle.evaluation.specs.Environment.{seen}
-use Rattle.evaluation.specs.Denials.{Denial, conditions}
+use Rattle.denials.specs.Denials.{Denial}
+use Rattle.evaluation.specs.Denials.{conditions}
 use Rattle.policy.specs.Spec as spec
 use Rattle.policy.specs.Spec.{Binding}
 use Rattle.expressions.specs.Listed.{Shown}

@@ -1,6 +1,4 @@
-pub mod Verdict
 pub mod Admission
-pub mod Seen
 pub mod Turns
 pub mod Laws
 pub mod Parameters

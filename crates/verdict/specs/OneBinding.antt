@@ -8,7 +8,8 @@ use Rattle.policy.specs.declared.params.NotFound.{NotFound}
 use Rattle.policy.specs.declared.params.NotFound.TheVariants as when_not_found
 use Rattle.evaluation.specs.Trees.{conditions_of}
 use Rattle.evaluation.specs.Environment.{seen}
-use Rattle.evaluation.specs.Denials.{Denial, failure, Conditions, met, unmet, neither, conditions, first_denial, evaluate}
+use Rattle.denials.specs.Denials.{Denial, failure}
+use Rattle.evaluation.specs.Denials.{Conditions, met, unmet, neither, conditions, first_denial, evaluate}
 use Rattle.expressions.specs.Listed.{Shown}
 use Rattle.verdict.specs.Parameters.{Parameters, found, misconfigured, not_found, parameters}
 

@@ -1,14 +1,13 @@
--- One binding and one policy as they are held, and a verdict after warnings.
-use Rattle.std.specs.Prelude.{◌++◌, List, option_map, option_and_then, Option}
+-- One binding and one policy as they are held.
+use Rattle.std.specs.Prelude.{option_map, option_and_then, Option}
 use Rattle.names.specs.Key.{Key}
 use Rattle.policy.specs.Rules.{Attempt}
 use Rattle.policy.specs.Policies.{policy_of}
-use Rattle.evaluation.specs.Denials.{Denial}
+use Rattle.denials.specs.Denials.{Denial}
 use Rattle.policy.specs.Forms.{Text}
 use Rattle.policy.specs.Spec.{Binding}
 use Rattle.expressions.specs.Objects.{Object, Objects, Held, shown_objects}
 use Rattle.verdict.specs.OneBinding.{denial}
-use Rattle.verdict.specs.Verdict.{Verdict, admitted, denied}
 
 -- the binding with its name
 abbrev pub held_binding : Key × Held → Option (Text × Binding)
@@ -17,8 +16,3 @@ held_binding o = option_map (λ b. (o.0.name, b)) o.1.binding
 -- the denial by a binding of a policy that is there
 abbrev pub denial_by_policy : Objects → Attempt → Binding → Object → Option Denial
 denial_by_policy objects w b o = option_and_then (λ p. denial (shown_objects objects) p o.trees b w) (policy_of o.document.json)
-
--- the warnings before those of the rest, if the rest is admitted
-abbrev pub after_warnings : List Text → Verdict → Verdict
-after_warnings texts (admitted more) = admitted (texts ++ more)
-after_warnings texts (denied policy binding reason message) = denied policy binding reason message

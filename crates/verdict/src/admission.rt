@@ -8,44 +8,26 @@ ghost use Rattle.plancode.specs.Plans.{Judged};
 ghost use Rattle.policy.specs.Rules.{attempt_seen};
 ghost use Rattle.expressions.specs.Specification.{these, plans_seen};
 ghost use Rattle.policy.specs.Request.{request_of};
-ghost use Rattle.evaluation.specs.Seen.{denial_seen};
+ghost use Rattle.denials.specs.Seen.{denial_seen, verdict_seen};
+ghost use Rattle.denials.specs.Verdict as model;
+ghost use Rattle.denials.specs.Verdict.{after_warnings};
 ghost use Rattle.expressions.specs.Objects.{Object, Objects, HasTrees, HaveTrees, held};
 ghost use Rattle.expressions.specs.LookupSeen.{held_by, listed_seen};
 ghost use Rattle.verdict.specs.Admission.{bindings, denial_by, finding, verdict};
-ghost use Rattle.verdict.specs.Verdict as model;
-ghost use Rattle.verdict.specs.Seen.{verdict_seen};
-ghost use Rattle.verdict.specs.Turns.{after_warnings, held_binding, denial_by_policy};
+ghost use Rattle.verdict.specs.Turns.{held_binding, denial_by_policy};
 ghost use Rattle.names.specs.declared.resource.Resource.TheVariants.{ValidatingAdmissionPolicy};
 ghost use Rattle.objects.specs.Failing.{HasGrown};
 ghost use Rattle.objects.specs.declared.fault.Part.{Part};
 ghost use Rattle.objects.specs.declared.fault.LookupFault.TheVariants as LookupFault;
 
 use crate::one_binding::denial;
-use evaluation::Denial;
+use denials::{Denial, Verdict, decide};
 use expressions::{Bound, Found, Listed, Lookup};
 use objects::LookupFault;
-use policy::{Action, Attempt, Reason, warning};
+use policy::Attempt;
 use serde_json::Value as Json;
 use std::alloc::{AllocError, Global};
 use std::marker::Model;
-
-/// Whether a write is admitted.
-#[derive(Drop)]
-pub enum Verdict {
-    /// It is, with these warnings.
-    Admitted(Vec<String>),
-    /// It is not.
-    Denied {
-        /// The name of the policy that denies it.
-        policy: String,
-        /// The name of the binding by which it does.
-        binding: String,
-        /// The reason, which decides the status code.
-        reason: Reason,
-        /// What the policy says.
-        message: String,
-    },
-}
 
 // A binding with its name, lent.
 #[derive(Drop)]
@@ -155,35 +137,6 @@ fn denial_by<'a, L: Lookup<'a>>(
     denial_of(alloc, lookup, &found, bound, attempt, request)
 }
 
-// Denies the write, or adds a warning.
-#[tactic(auto, using(crate::proofs::Turns::warned))]
-fn decide(
-    alloc: Global,
-    warnings: &mut Vec<String>,
-    named: &Named<'_>,
-    denial: Denial,
-) -> Result<Option<Verdict>, AllocError>
-    ensures { (rest : model.Verdict) → IfOk result (λ o.
-        after_warnings (map string_bytes warnings.old.items) (model.decide named.now.0 named.now.1 (Some (denial_seen denial)) rest)
-        ≡ option_map_or verdict_seen o (after_warnings (map string_bytes warnings.new.items) rest)) }
-{
-    let Denial { reason, message } = denial;
-    let binding = named.bound.binding();
-    let policy = binding.policy.as_str();
-    match binding.action {
-        Action::Deny => Ok(Some(Verdict::Denied {
-            policy: String::from_str(alloc, policy)?,
-            binding: String::from_str(alloc, named.name)?,
-            reason,
-            message,
-        })),
-        Action::Warn => {
-            warnings.push(warning(alloc, policy, named.name, message.as_str())?)?;
-            Ok(None)
-        }
-    }
-}
-
 // A binding's turn: the verdict where it denies the write; its warning, if it gives one, stands after those before it. The write's document is made
 // where a policy is asked for it, and once.
 fn turn<'a, L: Lookup<'a>>(
@@ -206,7 +159,7 @@ fn turn<'a, L: Lookup<'a>>(
     ensures damaged { (part : Part) → IsErrOf result (LookupFault.Damaged part) → (objects : Objects) → L.shows lookup.old objects → ⊥ }
 {
     match denial_by(alloc, lookup, named.bound, attempt, request)? {
-        Some(denial) => Ok(decide(alloc, warnings, named, denial)?),
+        Some(denial) => Ok(decide(alloc, warnings, named.name, named.bound.binding(), denial)?),
         None => Ok(None),
     }
 }

@@ -27,6 +27,6 @@ mod laws;
 mod one_binding;
 mod parameters;
 
-pub use admission::{Verdict, admit};
+pub use admission::admit;
 pub use laws::bindings_ascend;
 pub use one_binding::denial;

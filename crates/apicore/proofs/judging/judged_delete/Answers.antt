@@ -4,7 +4,7 @@ use Rattle.objects.specs.declared.fault.LookupFault.TheVariants as LookupFault
 use Rattle.requests.specs.History.{delete}
 use Rattle.requests.specs.Mapped.{mapped_write}
 use Rattle.requests.specs.Reply.{showing}
-use Rattle.verdict.specs.Seen.{verdict_seen}
+use Rattle.denials.specs.Seen.{verdict_seen}
 use Rattle.recovery.specs.Shown.{plans_held}
 use Rattle.recovery.proofs.Found.{stored_found}
 use Rattle.recovery.proofs.Looking.{looked_after}

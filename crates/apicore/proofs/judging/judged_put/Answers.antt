@@ -6,7 +6,7 @@ use Rattle.serde_json.specs.View.{view}
 use Rattle.requests.specs.Codes.{document_in}
 use Rattle.requests.specs.History.{put}
 use Rattle.requests.specs.Reply.{Reply, showing}
-use Rattle.verdict.specs.Seen.{verdict_seen}
+use Rattle.denials.specs.Seen.{verdict_seen}
 use Rattle.recovery.proofs.Looking.{looked_after}
 use Rattle.apicore.proofs.Deciding.{admitted_judged, denied_judged, put_planned, some_mapped}
 use Rattle.apicore.proofs.judging.judged_put.Goals as goal

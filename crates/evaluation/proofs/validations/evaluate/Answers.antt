@@ -7,7 +7,8 @@ use Rattle.plancode.specs.Plans.{Judged}
 use Rattle.policy.specs.Spec.{policy_seen, named_seen}
 use Rattle.evaluation.specs.Environment.{seen}
 use Rattle.evaluation.specs.Denials.{evaluate}
-use Rattle.evaluation.specs.Seen.{denial_seen, names_in}
+use Rattle.denials.specs.Seen.{denial_seen}
+use Rattle.evaluation.specs.Seen.{names_in}
 use Rattle.evaluation.specs.ByPlans.{evaluate_by}
 use Rattle.evaluation.proofs.Meant.{seen_agrees, evaluate_meant}
 use Rattle.evaluation.proofs.validations.evaluate.Goals as goal

@@ -4,7 +4,7 @@ use Rattle.std.proofs.lemmas.Result.{IfOk-weaker}
 use Rattle.names.specs.Key.{Key}
 use Rattle.objects.specs.Objects.{value_at}
 use Rattle.policy.specs.Rules.{attempt_seen}
-use Rattle.evaluation.specs.Seen.{denial_seen}
+use Rattle.denials.specs.Seen.{denial_seen}
 use Rattle.expressions.specs.Objects.{Object, all_held, policy_key}
 use Rattle.expressions.specs.LookupSeen.{held_by}
 use Rattle.verdict.specs.Admission.{denial_by}

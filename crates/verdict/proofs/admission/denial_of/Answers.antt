@@ -9,7 +9,7 @@ use Rattle.policy.specs.Spec.{Policy, Binding, policy_seen, binding_seen}
 use Rattle.expressions.specs.Plans.{plans_of}
 use Rattle.expressions.specs.Specification.{plans_in}
 use Rattle.evaluation.specs.Ready.{AreReady}
-use Rattle.evaluation.specs.Seen.{denial_seen}
+use Rattle.denials.specs.Seen.{denial_seen}
 use Rattle.expressions.specs.Objects.{Held, shown_objects}
 use Rattle.verdict.specs.OneBinding.{denial}
 use Rattle.verdict.specs.Turns.{denial_by_policy}

@@ -5,8 +5,8 @@ use Rattle.policy.specs.Rules.{attempt_seen}
 use Rattle.policy.specs.Request.{request_of}
 use Rattle.verdict.specs.Admission.{finding}
 use Rattle.expressions.specs.Objects.{Objects, HaveTrees}
-use Rattle.verdict.specs.Verdict.{verdict_of}
-use Rattle.verdict.specs.Turns.{after_warnings}
+use Rattle.denials.specs.Verdict.{verdict_of}
+use Rattle.denials.specs.Verdict.{after_warnings}
 use Rattle.verdict.proofs.admission.verdict_of.Given as goal
 
 -- the warnings so far, and then the verdict of the bindings that are left

@@ -1,11 +1,11 @@
 -- The verdict of all bindings on a write (Kubernetes, "Validating Admission Policy").
-use Rattle.std.specs.Prelude.{◌∷◌, List, [], Option, Some, None}
+use Rattle.std.specs.Prelude.{◌∷◌, ◌++◌, List, [], Option, Some, None}
 use Rattle.policy.specs.Forms.{Text}
 use Rattle.policy.specs.Spec as spec
 use Rattle.policy.specs.declared.binding.Action.{Action}
 use Rattle.policy.specs.declared.binding.Action.TheVariants.{Deny, Warn}
 use Rattle.policy.specs.declared.validation.Reason.{Reason}
-use Rattle.evaluation.specs.Denials.{Denial}
+use Rattle.denials.specs.Denials.{Denial}
 use Rattle.policy.specs.Texts.{warning}
 
 pub data Verdict : Type 0 where
@@ -35,3 +35,8 @@ decide name b (Some d) rest = on_action b.action name b d rest
 abbrev pub verdict_of : List Finding → Verdict
 verdict_of [] = admitted []
 verdict_of (f ∷ fs) = decide f.name f.binding f.denial (verdict_of fs)
+
+-- the warnings before those of the rest, if the rest is admitted
+abbrev pub after_warnings : List Text → Verdict → Verdict
+after_warnings texts (admitted more) = admitted (texts ++ more)
+after_warnings texts (denied policy binding reason message) = denied policy binding reason message

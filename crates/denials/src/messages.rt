@@ -1,30 +1,14 @@
-//! What is said of a write that is denied.
+//! What a denial says.
 
 ghost use Rattle.std.specs.Prelude.{◌≡◌, ◌++◌, option_map, string_bytes, IfOk};
 ghost use Rattle.std.specs.List.{list_all, list_any};
 ghost use Rattle.celmean.specs.Seen.{outcome_of};
-ghost use Rattle.evaluation.specs.Denials.{failure, is_blank, breaks_line, line_of};
-ghost use Rattle.evaluation.specs.Seen.{denial_seen};
-ghost use Rattle.evaluation.specs.ByPlans.{said};
+ghost use Rattle.denials.specs.Denials.{is_blank, breaks_line, line_of, said};
 ghost use Rattle.policy.specs.Spec.{validation_seen};
 
-use crate::answers::Denial;
 use celmean::{Outcome, Value};
-use policy::{FailurePolicy, Reason, Validation};
+use policy::Validation;
 use std::alloc::{AllocError, Global};
-
-/// The denial of a write for which the policy cannot be evaluated: none where the policy lets it pass.
-pub fn failure(policy: FailurePolicy, message: String) -> Option<Denial>
-    ensures { option_map denial_seen result ≡ failure policy (string_bytes message) }
-{
-    match policy {
-        FailurePolicy::Fail => Some(Denial {
-            reason: Reason::Invalid,
-            message,
-        }),
-        FailurePolicy::Ignore => None,
-    }
-}
 
 fn is_blank(text: &[u8]) -> bool
     ensures { result ≡ list_all is_blank text.now }
@@ -39,7 +23,7 @@ fn breaks_line(text: &[u8]) -> bool
 }
 
 /// The text that an outcome is, if it is one on one line that is not blank.
-pub(crate) fn line_of(outcome: Outcome) -> Option<String>
+pub fn line_of(outcome: Outcome) -> Option<String>
     ensures { option_map string_bytes result ≡ line_of (outcome_of outcome) }
 {
     match outcome {
