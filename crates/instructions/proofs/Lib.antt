@@ -16,3 +16,8 @@ pub mod OverTables
 pub mod Low
 pub mod Walking
 pub mod Rooms
+pub mod Texts
+pub mod Fields
+pub mod Tables
+pub mod Spelling
+pub mod Again

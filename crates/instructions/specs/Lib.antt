@@ -2,6 +2,7 @@ pub mod Op
 pub mod Seen
 pub mod Bytes
 pub mod Faults
+pub mod Reading
 pub mod Judging
 pub mod WellFormed
 pub mod Bodies

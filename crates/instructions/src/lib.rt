@@ -4,7 +4,7 @@
 //! instruction that takes them. A target is the number of an instruction, counted from 0, and lies ahead of the instruction that
 //! names it. `specs/Op.antt` has the instructions as pure data, which the contracts of the crates above speak of.
 //!
-//! `specs/Bytes.antt` has the bytes of each instruction, which [`encode`] writes, `specs/WellFormed.antt` which plans are well formed, and
+//! `specs/Bytes.antt` has the bytes of each instruction, which [`encode`] writes and [`instruction_at`] reads (`specs/Reading.antt`), `specs/WellFormed.antt` which plans are well formed, and
 //! `specs/Judging.antt` the first fault of a plan that is not, which [`check`] finds in two passes over the instructions.
 #![tactic(auto)]
 
@@ -15,10 +15,14 @@ mod instruction;
 mod judging;
 mod laws;
 mod macros;
+mod numbers;
+mod operands;
 mod writing;
 
 pub use fault::CodeFault;
 pub use instruction::{Binary, Function, Instruction, Name, Plan, Slot};
 pub use judging::check;
 pub use laws::sound_where_well_formed;
+pub use numbers::short_at;
+pub use operands::instruction_at;
 pub use writing::{encode, name_byte};

@@ -17,12 +17,13 @@ use Rattle.instructions.specs.Judging.{first_fault}
 use Rattle.instructions.specs.WellFormed.{IsWellFormed}
 use Rattle.instructions.proofs.WellFormed.{sound_is_well_formed}
 use Rattle.instructions.proofs.Passing.{well_formed_is_sound}
-use Rattle.plancode.specs.Reading.{number_at, op_at, ops_at, nothing_after, plan_of, decoded}
-use Rattle.plancode.specs.Plans.{NamesUpTo, UsesNamesUpTo, Judged}
+use Rattle.instructions.specs.Reading.{number_at, op_at, NamesUpTo}
+use Rattle.plancode.specs.Reading.{ops_at, nothing_after, plan_of, decoded}
+use Rattle.plancode.specs.Plans.{UsesNamesUpTo, Judged}
 use Rattle.instructions.proofs.Low.{bind_ok}
-use Rattle.plancode.proofs.Fields.{IsBytes, test_ok, ok_is, Takes, Takes-then, wide16, number_takes, short_again}
-use Rattle.plancode.proofs.Spelling.{Room, op_takes}
-use Rattle.plancode.proofs.Again.{op_again}
+use Rattle.instructions.proofs.Fields.{IsBytes, test_ok, ok_is, Takes, Takes-then, wide16, number_takes, short_again}
+use Rattle.instructions.proofs.Spelling.{Room, op_takes}
+use Rattle.instructions.proofs.Again.{op_again}
 
 ops_take : (g : Name) (n : ℕ) (bytes : List ℕ) (x : List Op × List ℕ) → IsBytes bytes → ops_at g n bytes ≡ Ok x → Takes bytes (flat_map spelled x.0) x.1 × (length x.0 ≡ n) × AllByRecursion (Room g) x.0
 unfolding ops_at

@@ -5,7 +5,8 @@ use Rattle.instructions.specs.declared.fault.CodeFault.{CodeFault}
 use Rattle.instructions.specs.declared.instruction.Name.{Name}
 use Rattle.instructions.specs.Op.{Op}
 use Rattle.instructions.specs.Faults.{◌>>=◌, Fails}
-use Rattle.plancode.specs.Reading.{op_at, ops_at}
+use Rattle.instructions.specs.Reading.{op_at}
+use Rattle.plancode.specs.Reading.{ops_at}
 use Rattle.instructions.proofs.Failing.{fails}
 
 -- what was read before, and what is still read

@@ -7,8 +7,6 @@
 #![tactic(auto)]
 
 mod laws;
-mod numbers;
-mod operands;
 mod reading;
 mod verified;
 

@@ -5,9 +5,7 @@ ghost use Rattle.instructions.specs.Faults.{Gives};
 ghost use Rattle.instructions.specs.Seen.{op_of, ops_of};
 ghost use Rattle.plancode.specs.Reading.{ops_at, plan_of};
 
-use crate::numbers::short;
-use crate::operands::instruction;
-use instructions::{CodeFault, Instruction, Name};
+use instructions::{CodeFault, Instruction, Name, instruction_at, short_at};
 use std::alloc::Global;
 
 // So many instructions, and the bytes after them.
@@ -22,7 +20,7 @@ fn instructions(
     let mut read = Vec::new(alloc);
     let mut rest = bytes;
     for _ in 0..count {
-        let (first, after) = instruction(alloc, greatest, rest)?;
+        let (first, after) = instruction_at(alloc, greatest, rest)?;
         read.push(first)?;
         rest = after;
     }
@@ -38,7 +36,7 @@ pub(crate) fn plan(
 ) -> Result<Vec<Instruction>, CodeFault>
     ensures { Gives (λ v. ops_of v.items) result (plan_of greatest bytes.now) }
 {
-    let (count, rest) = short(bytes)?;
+    let (count, rest) = short_at(bytes)?;
     let (read, rest) = instructions(alloc, count, greatest, rest)?;
     if !rest.is_empty() {
         return Err(CodeFault::TrailingBytes);

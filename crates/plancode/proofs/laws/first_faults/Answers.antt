@@ -1,7 +1,8 @@
 use Rattle.std.proofs.Common.{refl}
 use Rattle.std.specs.Str.{chars, is_utf8}
 use Rattle.instructions.specs.Judging.{first_fault}
-use Rattle.plancode.specs.Reading.{decoded, plan_of, ops_at, op_at, operands_at, taking_at, leading_at, branch_at, macro_at, text_at}
+use Rattle.instructions.specs.Reading.{op_at, operands_at, taking_at, leading_at, branch_at, macro_at, text_at}
+use Rattle.plancode.specs.Reading.{decoded, plan_of, ops_at}
 use Rattle.plancode.proofs.laws.first_faults.Goals as goal
 
 pub returns : goal.returns

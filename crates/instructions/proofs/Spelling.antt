@@ -10,11 +10,10 @@ use Rattle.instructions.specs.Op.{Op, PushInt, PushUint, PushText, PushTruth, Pu
 use Rattle.instructions.specs.Faults.{◌>>=◌}
 use Rattle.instructions.specs.Bytes.{short, long, text_bytes, spelled, Fits, truth_number, name_number, slot_number, prefix_number, binary_number, function_number, macro_number}
 use Rattle.instructions.specs.declared.instruction.Name.{Name}
-use Rattle.plancode.specs.Plans.{NamesUpTo}
-use Rattle.plancode.specs.Reading.{number_at, text_at, truth_of, name_up_to, slot_of, prefix_of, binary_of, function_of, macro_of, with_byte, with_short, with_long, with_text, branch_at, macro_at, leading_at, taking_at, operands_at, op_at}
+use Rattle.instructions.specs.Reading.{number_at, text_at, truth_of, name_up_to, slot_of, prefix_of, binary_of, function_of, macro_of, with_byte, with_short, with_long, with_text, branch_at, macro_at, leading_at, taking_at, operands_at, op_at, NamesUpTo}
 use Rattle.instructions.proofs.Low.{bind_ok}
-use Rattle.plancode.proofs.Fields.{IsBytes, IsBytes-rest, ok_is, Takes, Takes-then, wide16, wide64, number_takes, text_takes}
-use Rattle.plancode.proofs.Tables.{truth_takes, name_up_to_takes, slot_takes, prefix_takes, binary_takes, function_takes, macro_takes}
+use Rattle.instructions.proofs.Fields.{IsBytes, IsBytes-rest, ok_is, Takes, Takes-then, wide16, wide64, number_takes, text_takes}
+use Rattle.instructions.proofs.Tables.{truth_takes, name_up_to_takes, slot_takes, prefix_takes, binary_takes, function_takes, macro_takes}
 
 -- the operands of an instruction have room, and its name is declared
 abbrev pub Room : Name → Op → Type 0

@@ -10,7 +10,7 @@ use Rattle.instructions.specs.declared.fault.CodeFault.{CodeFault}
 use Rattle.instructions.specs.declared.fault.CodeFault.TheVariants as fault
 use Rattle.instructions.specs.Faults.{◌>>=◌}
 use Rattle.instructions.specs.Bytes.{short, long, text_bytes}
-use Rattle.plancode.specs.Reading.{number_at, text_at, text_of, text_of_length}
+use Rattle.instructions.specs.Reading.{number_at, text_at, text_of, text_of_length}
 use Rattle.instructions.proofs.Low.{bind_ok}
 
 abbrev pub IsBytes : List ℕ → Type 0

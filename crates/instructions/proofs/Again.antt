@@ -9,10 +9,9 @@ use Rattle.instructions.specs.Op.{Op, PushInt, PushUint, PushText, PushTruth, Pu
 use Rattle.instructions.specs.Faults.{◌>>=◌}
 use Rattle.instructions.specs.Bytes.{short, long, text_bytes, spelled, Fits, macro_number}
 use Rattle.instructions.specs.declared.instruction.Name.{Name}
-use Rattle.plancode.specs.Plans.{NamesUpTo}
-use Rattle.plancode.specs.Reading.{number_at, with_short, with_long, with_text, branch_at, macro_at, leading_at, taking_at, operands_at, op_at}
-use Rattle.plancode.proofs.Fields.{short_again, long_again, text_again}
-use Rattle.plancode.proofs.Tables.{truth_again, name_up_to_again, slot_again, prefix_again, binary_again, function_again, macro_again}
+use Rattle.instructions.specs.Reading.{number_at, with_short, with_long, with_text, branch_at, macro_at, leading_at, taking_at, operands_at, op_at, NamesUpTo}
+use Rattle.instructions.proofs.Fields.{short_again, long_again, text_again}
+use Rattle.instructions.proofs.Tables.{truth_again, name_up_to_again, slot_again, prefix_again, binary_again, function_again, macro_again}
 
 with_short_again : (make : ℕ → Op) (n : ℕ) (rest : List ℕ) → n < 2 ^ 16 → with_short make (short n ++ rest) ≡ Ok (make n, rest)
 with_short_again make n rest lt = ap (λ r. r >>= λ x. Ok (make x.0, x.1)) (short_again n rest lt)

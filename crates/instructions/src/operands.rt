@@ -23,7 +23,7 @@ ghost use Rattle.instructions.specs.Op.{
   Jump,
 };
 ghost use Rattle.instructions.specs.Seen.{op_of};
-ghost use Rattle.plancode.specs.Reading.{
+ghost use Rattle.instructions.specs.Reading.{
   truth_of,
   name_of,
   name_up_to,
@@ -42,9 +42,11 @@ ghost use Rattle.plancode.specs.Reading.{
   op_at,
 };
 
-use crate::numbers::{byte, long, short, text};
+use crate::fault::CodeFault;
+use crate::instruction::{Binary, Function, Instruction, Name, Slot};
+use crate::numbers::{byte, long, short_at, text};
+use crate::writing::name_byte;
 use celtree::{Macro, Prefix};
-use instructions::{Binary, CodeFault, Function, Instruction, Name, Slot, name_byte};
 use std::alloc::Global;
 
 fn truth_named(number: u8) -> Result<bool, CodeFault>
@@ -153,8 +155,8 @@ fn macro_named(number: u8) -> Result<Macro, CodeFault>
 fn branch(bytes: &[u8]) -> Result<(Instruction, &[u8]), CodeFault>
     ensures { Gives (λ x. (op_of x.0, x.1.now)) result (branch_at bytes.now) }
 {
-    let (otherwise, rest) = short(bytes)?;
-    let (end, rest) = short(rest)?;
+    let (otherwise, rest) = short_at(bytes)?;
+    let (end, rest) = short_at(rest)?;
     Ok((Instruction::Branch(otherwise, end), rest))
 }
 
@@ -164,7 +166,7 @@ fn over(bytes: &[u8]) -> Result<(Instruction, &[u8]), CodeFault>
 {
     let (number, rest) = byte(bytes)?;
     let kind = macro_named(number)?;
-    let (end, rest) = short(rest)?;
+    let (end, rest) = short_at(rest)?;
     Ok((Instruction::Macro(kind, end), rest))
 }
 
@@ -177,7 +179,7 @@ fn with_short(number: u8, bytes: &[u8]) -> Result<(Instruction, &[u8]), CodeFaul
         if number == 19 then with_short IfFalse bytes.now else
         if number == 20 then with_short IfTrue bytes.now else with_short Jump bytes.now) }
 {
-    let (value, rest) = short(bytes)?;
+    let (value, rest) = short_at(bytes)?;
     let instruction = match number {
         7 => Instruction::Variable(value),
         12 => Instruction::List(value),
@@ -279,7 +281,7 @@ fn with_operands(
 
 /// The instruction at the front, and the bytes after it; the first fault where there is none.
 #[tactic(auto, unfolding(crate::specs::Reading::op_at))]
-pub(crate) fn instruction(
+pub fn instruction_at(
     alloc: Global,
     greatest: Name,
     bytes: &[u8],

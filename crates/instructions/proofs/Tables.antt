@@ -17,7 +17,7 @@ use Rattle.instructions.specs.declared.fault.CodeFault.{CodeFault}
 use Rattle.instructions.specs.declared.fault.CodeFault.TheVariants as fault
 use Rattle.instructions.specs.Faults.{◌>>=◌}
 use Rattle.instructions.specs.Bytes.{truth_number, name_number, slot_number, prefix_number, binary_number, function_number, macro_number}
-use Rattle.plancode.specs.Reading.{truth_of, name_of, name_up_to, slot_of, prefix_of, binary_of, function_of, macro_of}
+use Rattle.instructions.specs.Reading.{truth_of, name_of, name_up_to, slot_of, prefix_of, binary_of, function_of, macro_of}
 use Rattle.instructions.proofs.Low.{bind_ok}
 
 -- a number that is compared with those of a few values, one after the other, is read as the one that has it

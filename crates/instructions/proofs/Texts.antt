@@ -3,7 +3,7 @@ use Rattle.std.proofs.Common.{◌≡◌, ℕ, Bool, true, false, List, Ok, Err, 
 use Rattle.std.specs.Str.{IsUtf8, is_utf8}
 use Rattle.std.proofs.lemmas.Str.{IsUtf8-from_is_utf8, is_utf8-from_IsUtf8}
 use Rattle.instructions.specs.declared.fault.CodeFault.TheVariants as fault
-use Rattle.plancode.specs.Reading.{text_of}
+use Rattle.instructions.specs.Reading.{text_of}
 
 pub text_of-utf8 : (bytes text : List ℕ) → IsUtf8 bytes → text ≡ bytes → text_of bytes ≡ Ok text
 text_of-utf8 bytes text is same = rw (is_utf8-from_IsUtf8 bytes is, same) refl

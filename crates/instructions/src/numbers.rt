@@ -3,9 +3,9 @@
 ghost use Rattle.std.specs.Prelude.{◌≡◌, string_bytes, IfOk};
 ghost use Rattle.std.specs.Int.{w16, w64};
 ghost use Rattle.instructions.specs.Faults.{Gives};
-ghost use Rattle.plancode.specs.Reading.{byte_at, number_at, text_at, text_of, text_of_length};
+ghost use Rattle.instructions.specs.Reading.{byte_at, number_at, text_at, text_of, text_of_length};
 
-use instructions::CodeFault;
+use crate::fault::CodeFault;
 use std::alloc::Global;
 
 /// The first byte, and the bytes after it; [`CodeFault::Truncated`] where there is none.
@@ -19,7 +19,7 @@ pub(crate) fn byte(bytes: &[u8]) -> Result<(u8, &[u8]), CodeFault>
 }
 
 /// A number of two bytes, and the bytes after it; [`CodeFault::Truncated`] where there are fewer.
-pub(crate) fn short(bytes: &[u8]) -> Result<(u16, &[u8]), CodeFault>
+pub fn short_at(bytes: &[u8]) -> Result<(u16, &[u8]), CodeFault>
     ensures { Gives (λ x. (x.0, x.1.now)) result (number_at w16 bytes.now) }
 {
     if bytes.len() < 2 {
@@ -70,6 +70,6 @@ fn text_of_size(alloc: Global, size: usize, bytes: &[u8]) -> Result<(String, &[u
 pub(crate) fn text(alloc: Global, bytes: &[u8]) -> Result<(String, &[u8]), CodeFault>
     ensures { Gives (λ x. (string_bytes x.0, x.1.now)) result (text_at bytes.now) }
 {
-    let (size, rest) = short(bytes)?;
+    let (size, rest) = short_at(bytes)?;
     text_of_size(alloc, size as usize, rest)
 }
