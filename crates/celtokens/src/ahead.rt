@@ -4,7 +4,7 @@ ghost use Rattle.std.specs.Prelude.{◌≡◌, ◌<◌, ◌∷◌, [], true, fal
 ghost use Rattle.celtokens.specs.Seen.{terminal, terminals};
 ghost use Rattle.celtokens.specs.Terminal.{Mark};
 ghost use Rattle.celtokens.specs.Operators.{infix_sign, infix_of, begins_with_int, after_prefix};
-ghost use Rattle.celtokens.specs.Ahead.{IsNotNext, IsOperator, HasNoOperator, HasNoPrefix, IsName, HasNoName, IsSelector, HasNoSelector, IsStart, IsSuffix, IsSeparator};
+ghost use Rattle.celtokens.specs.Ahead.{IsNotNext, IsOperator, HasNoOperator, HasNoPrefix, IsSelector, HasNoSelector, IsStart, IsSuffix, IsSeparator};
 
 use crate::closing::{Closing, close_sign, trails};
 use crate::sign::Sign;
@@ -24,7 +24,9 @@ pub fn after<'a, 'b>(tokens: &'b [Token<'a>], sign: Sign) -> Option<&'b [Token<'
     ensures value { MatchOption result (IsNotNext sign (terminals tokens.now)) (λ x. terminals tokens.now ≡ Mark sign ∷ terminals x.now) }
     ensures shorter { IfSome result (λ x. length x.now < length tokens.now) }
 {
-    let (token, rest) = first(tokens)?;
+    let Some((token, rest)) = first(tokens) else {
+        return None;
+    };
     match token {
         Token::Sign(found) if *found == sign => Some(rest),
         _ => None,
@@ -85,30 +87,19 @@ pub fn operator_at<'a, 'b>(
     ensures value { MatchOption result (HasNoOperator height (terminals tokens.now)) (λ x. IsOperator height (terminals tokens.now) x.0 (terminals x.1.now)) }
     ensures shorter { IfSome result (λ x. length x.1.now < length tokens.now) }
 {
-    let (token, rest) = first(tokens)?;
+    let Some((token, rest)) = first(tokens) else {
+        return None;
+    };
     match infix(token) {
-        Some((found, operator)) => {
-            if found == height {
-                Some((operator, rest))
-            } else {
-                None
-            }
-        }
-        None => None,
+        Some((found, operator)) if found == height => Some((operator, rest)),
+        _ => None,
     }
 }
 
 fn begins_with_int(tokens: &[Token<'_>]) -> bool
     ensures { result ≡ begins_with_int (terminals tokens.now) }
 {
-    match first(tokens) {
-        Some((token, _)) => match token {
-            Token::Int(_) => true,
-            Token::Ident(_) | Token::Reserved(_) | Token::False | Token::In | Token::Null => false,
-            Token::True | Token::Uint(_) | Token::Text(_) | Token::Sign(_) => false,
-        },
-        None => false,
-    }
+    matches!(tokens, [Token::Int(_), ..])
 }
 
 /// What follows the prefix operator, if it stands in front. The operand of `-` does not begin with an INT token.
@@ -145,29 +136,17 @@ pub fn prefix_at<'a, 'b>(tokens: &'b [Token<'a>]) -> Option<(Prefix, &'b [Token<
     }
 }
 
-fn name_at<'a, 'b>(tokens: &'b [Token<'a>]) -> Option<(&'a [char], &'b [Token<'a>])>
-    ensures value { MatchOption result (HasNoName (terminals tokens.now)) (λ x. IsName (terminals tokens.now) x.0.now (terminals x.1.now)) }
-    ensures shorter { IfSome result (λ x. length x.1.now < length tokens.now) }
-{
-    let (token, rest) = first(tokens)?;
-    match token {
-        Token::Ident(name) => Some((name, rest)),
-        Token::Reserved(_) | Token::False | Token::In | Token::Null | Token::True => None,
-        Token::Int(_) | Token::Uint(_) | Token::Text(_) | Token::Sign(_) => None,
-    }
-}
-
 // The name that may follow a dot, and what follows it.
 fn selector_at<'a, 'b>(tokens: &'b [Token<'a>]) -> Option<(&'a [char], &'b [Token<'a>])>
     ensures value { MatchOption result (HasNoSelector (terminals tokens.now)) (λ x. IsSelector (terminals tokens.now) x.0.now (terminals x.1.now)) }
     ensures shorter { IfSome result (λ x. length x.1.now < length tokens.now) }
 {
-    let (token, rest) = first(tokens)?;
+    let Some((token, rest)) = first(tokens) else {
+        return None;
+    };
     match token {
-        Token::Ident(name) => Some((name, rest)),
-        Token::Reserved(name) => Some((name, rest)),
-        Token::False | Token::In | Token::Null | Token::True => None,
-        Token::Int(_) | Token::Uint(_) | Token::Text(_) | Token::Sign(_) => None,
+        Token::Ident(name) | Token::Reserved(name) => Some((name, rest)),
+        _ => None,
     }
 }
 
@@ -191,21 +170,18 @@ pub enum Start<'a, 'b> {
 pub fn primary_at<'a, 'b>(tokens: &'b [Token<'a>]) -> Start<'a, 'b>
     ensures { IsStart tokens.now result }
 {
-    match name_at(tokens) {
-        Some((name, rest)) => match after(rest, Sign::OpenParenthesis) {
+    let Some((token, rest)) = first(tokens) else {
+        return Start::Nothing;
+    };
+    match token {
+        Token::Ident(name) => match after(rest, Sign::OpenParenthesis) {
             Some(inside) => Start::Call(name, inside),
             None => Start::Name(name, rest),
         },
-        None => match after(tokens, Sign::OpenParenthesis) {
-            Some(inside) => Start::Parenthesis(inside),
-            None => match after(tokens, Sign::OpenBracket) {
-                Some(inside) => Start::Bracket(inside),
-                None => match after(tokens, Sign::OpenBrace) {
-                    Some(inside) => Start::Brace(inside),
-                    None => Start::Nothing,
-                },
-            },
-        },
+        Token::Sign(Sign::OpenParenthesis) => Start::Parenthesis(rest),
+        Token::Sign(Sign::OpenBracket) => Start::Bracket(rest),
+        Token::Sign(Sign::OpenBrace) => Start::Brace(rest),
+        _ => Start::Nothing,
     }
 }
 
@@ -227,21 +203,20 @@ pub enum Suffix<'a, 'b> {
 pub fn suffix_at<'a, 'b>(tokens: &'b [Token<'a>]) -> Suffix<'a, 'b>
     ensures { IsSuffix tokens.now result }
 {
-    match after(tokens, Sign::Dot) {
-        Some(beyond) => match selector_at(beyond) {
+    let Some((token, beyond)) = first(tokens) else {
+        return Suffix::Nothing;
+    };
+    match token {
+        Token::Sign(Sign::Dot) => match selector_at(beyond) {
             Some((name, rest)) => match after(rest, Sign::OpenParenthesis) {
                 Some(inside) => Suffix::Method(name, inside),
                 None => Suffix::Field(name, rest),
             },
             None => Suffix::Wrong,
         },
-        None => match after(tokens, Sign::OpenBracket) {
-            Some(inside) => Suffix::Index(inside),
-            None => match after(tokens, Sign::OpenParenthesis) {
-                Some(_) => Suffix::Wrong,
-                None => Suffix::Nothing,
-            },
-        },
+        Token::Sign(Sign::OpenBracket) => Suffix::Index(beyond),
+        Token::Sign(Sign::OpenParenthesis) => Suffix::Wrong,
+        _ => Suffix::Nothing,
     }
 }
 
