@@ -12,13 +12,20 @@ fn code_point(chars: &[char], radix: u32, count: usize) -> Option<(char, &[char]
     ensures value { option_map (λ x. (x.0, x.1.now)) result ≡ code_point radix count chars.now }
     ensures shorter { IfSome result (λ x. length x.1.now < length chars.now) }
 {
-    let (digits, rest) = chars.split_at_checked(count)?;
-    let mut code: u64 = 0;
+    let Some((digits, rest)) = chars.split_at_checked(count) else {
+        return None;
+    };
+    let mut code: u32 = 0;
     for digit in digits {
-        code = code * u64::from(radix) + u64::from(digit.to_digit(radix)?);
+        let Some(value) = digit.to_digit(radix) else {
+            return None;
+        };
+        code = code * radix + value;
     }
-    let named = char::from_u32(u32::try_from(code).ok()?)?;
-    Some((named, rest))
+    match char::from_u32(code) {
+        Some(named) => Some((named, rest)),
+        None => None,
+    }
 }
 
 // What a sign or a letter names.
@@ -55,7 +62,9 @@ pub(crate) fn escape(chars: &[char]) -> Option<(char, &[char])>
     ensures value { option_map (λ x. (x.0, x.1.now)) result ≡ escape chars.now }
     ensures shorter { IfSome result (λ x. length x.1.now < length chars.now) }
 {
-    let (letter, rest) = chars.split_first()?;
+    let Some((letter, rest)) = chars.split_first() else {
+        return None;
+    };
     if let Some(named) = named(*letter) {
         Some((named, rest))
     } else if let Some(count) = hex_len(*letter) {
