@@ -36,7 +36,6 @@ pub(crate) fn is_in(kind: Kind, c: char) -> bool
 }
 
 /// All the characters of the kind at the front, and what follows them.
-#[tactic(auto, using(crate::proofs::Runs::front_take, crate::proofs::Runs::beyond_drop))]
 pub(crate) fn split_run(chars: &[char], kind: Kind) -> (&[char], &[char])
     ensures run { result.0.now ≡ front kind chars.now }
     ensures rest { result.1.now ≡ beyond kind chars.now }
