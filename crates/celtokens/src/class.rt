@@ -45,6 +45,8 @@ fn is_quote(c: char) -> bool
 pub(crate) fn first_quote(chars: &[char]) -> Option<char>
     ensures { result ≡ first_quote chars.now }
 {
-    let first = chars.first()?;
-    if is_quote(*first) { Some(*first) } else { None }
+    match chars.first() {
+        Some(first) if is_quote(*first) => Some(*first),
+        _ => None,
+    }
 }

@@ -15,7 +15,9 @@ use std::alloc::{AllocError, Global};
 fn signed(digits: Number<'_>) -> Option<i64>
     ensures { MatchOption result (2 ^ 63 ≤ number digits.entry) (λ v. (number digits.entry < 2 ^ 63) × (v ≡ pos (number digits.entry))) }
 {
-    let value = digits.value()?;
+    let Some(value) = digits.value() else {
+        return None;
+    };
     i64::try_from(value).ok()
 }
 
@@ -23,7 +25,9 @@ fn signed(digits: Number<'_>) -> Option<i64>
 fn negative(digits: Number<'_>) -> Option<i64>
     ensures { MatchOption result (2 ^ 63 < number digits.entry) (λ v. (number digits.entry ≤ 2 ^ 63) × (v ≡ neg_ℤ (pos (number digits.entry)))) }
 {
-    let value = digits.value()?;
+    let Some(value) = digits.value() else {
+        return None;
+    };
     0i64.checked_sub_unsigned(value)
 }
 
@@ -51,14 +55,11 @@ fn one_token(alloc: Global, token: &Token<'_>) -> Result<Option<Box<Tree>>, Allo
             Some(value) => Tree::Uint(value),
             None => return Ok(None),
         },
-        Token::Text(text) => {
-            let text = text_of(alloc, text)?;
-            Tree::Text(text)
-        }
+        Token::Text(text) => Tree::Text(text_of(alloc, text)?),
         Token::True => Tree::Bool(true),
         Token::False => Tree::Bool(false),
         Token::Null => Tree::Null,
-        Token::Ident(_) | Token::Reserved(_) | Token::In | Token::Sign(_) => return Ok(None),
+        _ => return Ok(None),
     };
     let tree = Box::new(alloc, tree)?;
     Ok(Some(tree))
@@ -69,8 +70,7 @@ fn negative_int(token: &Token<'_>) -> Option<i64>
 {
     match token {
         Token::Int(digits) => negative(*digits),
-        Token::Ident(_) | Token::Reserved(_) | Token::False | Token::In | Token::Null => None,
-        Token::True | Token::Uint(_) | Token::Text(_) | Token::Sign(_) => None,
+        _ => None,
     }
 }
 

@@ -20,10 +20,16 @@ impl Number<'_> {
         let radix = self.radix;
         let mut value: u64 = 0;
         for c in self.digits {
-            let digit = c.to_digit(radix)?;
-            value = value
-                .checked_mul(u64::from(radix))?
-                .checked_add(u64::from(digit))?;
+            let Some(digit) = c.to_digit(radix) else {
+                return None;
+            };
+            let Some(shifted) = value.checked_mul(u64::from(radix)) else {
+                return None;
+            };
+            let Some(next) = shifted.checked_add(u64::from(digit)) else {
+                return None;
+            };
+            value = next;
         }
         Some(value)
     }

@@ -56,7 +56,9 @@ fn character(chars: &[char], style: Style) -> Option<(char, &[char])>
     ensures value { option_map (λ x. (x.0, x.1.now)) result ≡ character style chars.now }
     ensures shorter { IfSome result (λ x. length x.1.now < length chars.now) }
 {
-    let (first, rest) = chars.split_first()?;
+    let Some((first, rest)) = chars.split_first() else {
+        return None;
+    };
     if *first == '\\' && !style.raw {
         escape(rest)
     } else if is_line_end(*first) && !style.tripled {
