@@ -1,6 +1,6 @@
 //! The functions.
 
-ghost use Rattle.std.specs.Prelude.{◌≡◌, ◌≢◌, ◌∷◌, [], pos, codes, IfOk};
+ghost use Rattle.std.specs.Prelude.{◌≡◌, ◌∷◌, [], pos, IfOk};
 ghost use Rattle.celmean.specs.Value.{Int, Gives, with_value};
 ghost use Rattle.celmean.specs.Arithmetic.{signed};
 ghost use Rattle.celmean.specs.Functions.{size, to_int, to_uint, to_string, function, called, text_test, test_values, size_method, method_called};
@@ -30,7 +30,7 @@ fn size(value: &Value) -> Outcome
         Value::Text(text) => text_size(text),
         Value::List(items) => count(items.len()),
         Value::Map(entries) => count(entries.len()),
-        Value::Null | Value::Bool(_) | Value::Int(_) | Value::Uint(_) => Outcome::Error,
+        _ => Outcome::Error,
     }
 }
 
@@ -59,7 +59,7 @@ fn to_int(value: &Value) -> Outcome
         Value::Int(number) => Outcome::Gives(Value::Int(*number)),
         Value::Uint(number) => signed_of_unsigned(*number),
         Value::Text(text) => signed_of_text(text),
-        Value::Null | Value::Bool(_) | Value::List(_) | Value::Map(_) => Outcome::Error,
+        _ => Outcome::Error,
     }
 }
 
@@ -70,7 +70,7 @@ fn to_uint(value: &Value) -> Outcome
         Value::Uint(number) => Outcome::Gives(Value::Uint(*number)),
         Value::Int(number) => unsigned_of_signed(*number),
         Value::Text(text) => unsigned_of_text(text),
-        Value::Null | Value::Bool(_) | Value::List(_) | Value::Map(_) => Outcome::Error,
+        _ => Outcome::Error,
     }
 }
 
@@ -81,22 +81,7 @@ fn to_string(alloc: Global, value: &Value) -> Result<Outcome, AllocError>
         Value::Text(text) => Ok(Outcome::Gives(Value::Text(text.clone()?))),
         Value::Int(number) => Ok(Outcome::Gives(Value::Text(signed_text(alloc, *number)?))),
         Value::Uint(number) => Ok(Outcome::Gives(Value::Text(unsigned_text(alloc, *number)?))),
-        Value::Null | Value::Bool(_) | Value::List(_) | Value::Map(_) => Ok(Outcome::Error),
-    }
-}
-
-// The function of a name with one argument, of those that take no memory.
-fn plain_function(name: &str, argument: &Value) -> Outcome
-    ensures { name.now ≢ codes "string" → name.now ≢ codes "dyn" → outcome_of result ≡ function name.now (value_of argument.now) }
-{
-    if name == "size" {
-        size(argument)
-    } else if name == "int" {
-        to_int(argument)
-    } else if name == "uint" {
-        to_uint(argument)
-    } else {
-        Outcome::Error
+        _ => Ok(Outcome::Error),
     }
 }
 
@@ -104,12 +89,13 @@ fn plain_function(name: &str, argument: &Value) -> Outcome
 fn function(alloc: Global, name: &str, argument: &Value) -> Result<Outcome, AllocError>
     ensures { IfOk result (λ o. outcome_of o ≡ function name.now (value_of argument.now)) }
 {
-    if name == "string" {
-        to_string(alloc, argument)
-    } else if name == "dyn" {
-        Ok(Outcome::Gives(argument.clone()?))
-    } else {
-        Ok(plain_function(name, argument))
+    match name {
+        "size" => Ok(size(argument)),
+        "int" => Ok(to_int(argument)),
+        "uint" => Ok(to_uint(argument)),
+        "string" => to_string(alloc, argument),
+        "dyn" => Ok(Outcome::Gives(argument.clone()?)),
+        _ => Ok(Outcome::Error),
     }
 }
 
@@ -139,38 +125,29 @@ pub fn called(alloc: Global, name: &str, arguments: &Vec<Outcome>) -> Result<Out
 fn text_test(name: &str, left: &str, right: &str) -> Outcome
     ensures { outcome_of result ≡ text_test name.now left.now right.now }
 {
-    if name == "contains" {
-        Outcome::Gives(Value::Bool(contains(left, right)))
-    } else if name == "startsWith" {
-        Outcome::Gives(Value::Bool(starts_with(left, right)))
-    } else if name == "endsWith" {
-        Outcome::Gives(Value::Bool(ends_with(left, right)))
-    } else {
-        Outcome::Error
+    match name {
+        "contains" => Outcome::Gives(Value::Bool(contains(left, right))),
+        "startsWith" => Outcome::Gives(Value::Bool(starts_with(left, right))),
+        "endsWith" => Outcome::Gives(Value::Bool(ends_with(left, right))),
+        _ => Outcome::Error,
     }
 }
 
 fn test_values(name: &str, left: &Value, right: &Value) -> Outcome
     ensures { outcome_of result ≡ test_values name.now (value_of left.now) (value_of right.now) }
 {
-    match left {
-        Value::Text(first) => match right {
-            Value::Text(second) => text_test(name, first, second),
-            Value::Null | Value::Bool(_) | Value::Int(_) | Value::Uint(_) => Outcome::Error,
-            Value::List(_) | Value::Map(_) => Outcome::Error,
-        },
-        Value::Null | Value::Bool(_) | Value::Int(_) | Value::Uint(_) => Outcome::Error,
-        Value::List(_) | Value::Map(_) => Outcome::Error,
+    match (left, right) {
+        (Value::Text(first), Value::Text(second)) => text_test(name, first, second),
+        _ => Outcome::Error,
     }
 }
 
 fn size_method(name: &str, of: &Value) -> Outcome
     ensures { outcome_of result ≡ size_method name.now (value_of of.now) }
 {
-    if name == "size" {
-        size(of)
-    } else {
-        Outcome::Error
+    match name {
+        "size" => size(of),
+        _ => Outcome::Error,
     }
 }
 
