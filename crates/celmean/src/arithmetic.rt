@@ -139,28 +139,12 @@ fn joined_lists(left: &Vec<Value>, right: &Vec<Value>) -> Result<Outcome, AllocE
 pub(crate) fn sum(left: &Value, right: &Value) -> Result<Outcome, AllocError>
     ensures { IfOk result (λ o. outcome_of o ≡ sum (value_of left.now) (value_of right.now)) }
 {
-    match left {
-        Value::Int(first) => match right {
-            Value::Int(second) => Ok(signed_sum(*first, *second)),
-            Value::Null | Value::Bool(_) | Value::Uint(_) => Ok(Outcome::Error),
-            Value::Text(_) | Value::List(_) | Value::Map(_) => Ok(Outcome::Error),
-        },
-        Value::Uint(first) => match right {
-            Value::Uint(second) => Ok(unsigned_sum(*first, *second)),
-            Value::Null | Value::Bool(_) | Value::Int(_) => Ok(Outcome::Error),
-            Value::Text(_) | Value::List(_) | Value::Map(_) => Ok(Outcome::Error),
-        },
-        Value::Text(first) => match right {
-            Value::Text(second) => joined_texts(first, second),
-            Value::Null | Value::Bool(_) | Value::Int(_) | Value::Uint(_) => Ok(Outcome::Error),
-            Value::List(_) | Value::Map(_) => Ok(Outcome::Error),
-        },
-        Value::List(first) => match right {
-            Value::List(second) => joined_lists(first, second),
-            Value::Null | Value::Bool(_) | Value::Int(_) | Value::Uint(_) => Ok(Outcome::Error),
-            Value::Text(_) | Value::Map(_) => Ok(Outcome::Error),
-        },
-        Value::Null | Value::Bool(_) | Value::Map(_) => Ok(Outcome::Error),
+    match (left, right) {
+        (Value::Int(first), Value::Int(second)) => Ok(signed_sum(*first, *second)),
+        (Value::Uint(first), Value::Uint(second)) => Ok(unsigned_sum(*first, *second)),
+        (Value::Text(first), Value::Text(second)) => joined_texts(first, second),
+        (Value::List(first), Value::List(second)) => joined_lists(first, second),
+        _ => Ok(Outcome::Error),
     }
 }
 
@@ -168,19 +152,10 @@ pub(crate) fn sum(left: &Value, right: &Value) -> Result<Outcome, AllocError>
 pub(crate) fn difference(left: &Value, right: &Value) -> Outcome
     ensures { outcome_of result ≡ difference (value_of left.now) (value_of right.now) }
 {
-    match left {
-        Value::Int(first) => match right {
-            Value::Int(second) => signed_difference(*first, *second),
-            Value::Null | Value::Bool(_) | Value::Uint(_) => Outcome::Error,
-            Value::Text(_) | Value::List(_) | Value::Map(_) => Outcome::Error,
-        },
-        Value::Uint(first) => match right {
-            Value::Uint(second) => unsigned_difference(*first, *second),
-            Value::Null | Value::Bool(_) | Value::Int(_) => Outcome::Error,
-            Value::Text(_) | Value::List(_) | Value::Map(_) => Outcome::Error,
-        },
-        Value::Null | Value::Bool(_) => Outcome::Error,
-        Value::Text(_) | Value::List(_) | Value::Map(_) => Outcome::Error,
+    match (left, right) {
+        (Value::Int(first), Value::Int(second)) => signed_difference(*first, *second),
+        (Value::Uint(first), Value::Uint(second)) => unsigned_difference(*first, *second),
+        _ => Outcome::Error,
     }
 }
 
@@ -188,19 +163,10 @@ pub(crate) fn difference(left: &Value, right: &Value) -> Outcome
 pub(crate) fn product(left: &Value, right: &Value) -> Outcome
     ensures { outcome_of result ≡ product (value_of left.now) (value_of right.now) }
 {
-    match left {
-        Value::Int(first) => match right {
-            Value::Int(second) => signed_product(*first, *second),
-            Value::Null | Value::Bool(_) | Value::Uint(_) => Outcome::Error,
-            Value::Text(_) | Value::List(_) | Value::Map(_) => Outcome::Error,
-        },
-        Value::Uint(first) => match right {
-            Value::Uint(second) => unsigned_product(*first, *second),
-            Value::Null | Value::Bool(_) | Value::Int(_) => Outcome::Error,
-            Value::Text(_) | Value::List(_) | Value::Map(_) => Outcome::Error,
-        },
-        Value::Null | Value::Bool(_) => Outcome::Error,
-        Value::Text(_) | Value::List(_) | Value::Map(_) => Outcome::Error,
+    match (left, right) {
+        (Value::Int(first), Value::Int(second)) => signed_product(*first, *second),
+        (Value::Uint(first), Value::Uint(second)) => unsigned_product(*first, *second),
+        _ => Outcome::Error,
     }
 }
 
@@ -208,19 +174,10 @@ pub(crate) fn product(left: &Value, right: &Value) -> Outcome
 pub(crate) fn quotient(left: &Value, right: &Value) -> Outcome
     ensures { outcome_of result ≡ quotient (value_of left.now) (value_of right.now) }
 {
-    match left {
-        Value::Int(first) => match right {
-            Value::Int(second) => signed_quotient(*first, *second),
-            Value::Null | Value::Bool(_) | Value::Uint(_) => Outcome::Error,
-            Value::Text(_) | Value::List(_) | Value::Map(_) => Outcome::Error,
-        },
-        Value::Uint(first) => match right {
-            Value::Uint(second) => unsigned_quotient(*first, *second),
-            Value::Null | Value::Bool(_) | Value::Int(_) => Outcome::Error,
-            Value::Text(_) | Value::List(_) | Value::Map(_) => Outcome::Error,
-        },
-        Value::Null | Value::Bool(_) => Outcome::Error,
-        Value::Text(_) | Value::List(_) | Value::Map(_) => Outcome::Error,
+    match (left, right) {
+        (Value::Int(first), Value::Int(second)) => signed_quotient(*first, *second),
+        (Value::Uint(first), Value::Uint(second)) => unsigned_quotient(*first, *second),
+        _ => Outcome::Error,
     }
 }
 
@@ -228,19 +185,10 @@ pub(crate) fn quotient(left: &Value, right: &Value) -> Outcome
 pub(crate) fn remainder(left: &Value, right: &Value) -> Outcome
     ensures { outcome_of result ≡ remainder (value_of left.now) (value_of right.now) }
 {
-    match left {
-        Value::Int(first) => match right {
-            Value::Int(second) => signed_remainder(*first, *second),
-            Value::Null | Value::Bool(_) | Value::Uint(_) => Outcome::Error,
-            Value::Text(_) | Value::List(_) | Value::Map(_) => Outcome::Error,
-        },
-        Value::Uint(first) => match right {
-            Value::Uint(second) => unsigned_remainder(*first, *second),
-            Value::Null | Value::Bool(_) | Value::Int(_) => Outcome::Error,
-            Value::Text(_) | Value::List(_) | Value::Map(_) => Outcome::Error,
-        },
-        Value::Null | Value::Bool(_) => Outcome::Error,
-        Value::Text(_) | Value::List(_) | Value::Map(_) => Outcome::Error,
+    match (left, right) {
+        (Value::Int(first), Value::Int(second)) => signed_remainder(*first, *second),
+        (Value::Uint(first), Value::Uint(second)) => unsigned_remainder(*first, *second),
+        _ => Outcome::Error,
     }
 }
 
@@ -250,7 +198,6 @@ pub(crate) fn negation(value: &Value) -> Outcome
 {
     match value {
         Value::Int(number) => signed_negation(*number),
-        Value::Null | Value::Bool(_) | Value::Uint(_) => Outcome::Error,
-        Value::Text(_) | Value::List(_) | Value::Map(_) => Outcome::Error,
+        _ => Outcome::Error,
     }
 }
