@@ -48,13 +48,10 @@ fn indexed(of: &Value, index: &Value) -> Result<Outcome, AllocError>
     match of {
         Value::List(items) => match index {
             Value::Int(place) => copy_or_error(item_at(items, *place)),
-            Value::Null | Value::Bool(_) | Value::Uint(_) => Ok(Outcome::Error),
-            Value::Text(_) | Value::List(_) | Value::Map(_) => Ok(Outcome::Error),
+            _ => Ok(Outcome::Error),
         },
         Value::Map(entries) => copy_or_error(lookup(index, entries)),
-        Value::Null | Value::Bool(_) | Value::Int(_) | Value::Uint(_) | Value::Text(_) => Ok(
-            Outcome::Error,
-        ),
+        _ => Ok(Outcome::Error),
     }
 }
 
@@ -73,8 +70,7 @@ fn member(alloc: Global, name: &str, of: &Value) -> Result<Outcome, AllocError>
             let key = text_value(alloc, name)?;
             copy_or_error(lookup(&key, entries))
         }
-        Value::Null | Value::Bool(_) | Value::Int(_) | Value::Uint(_) => Ok(Outcome::Error),
-        Value::Text(_) | Value::List(_) => Ok(Outcome::Error),
+        _ => Ok(Outcome::Error),
     }
 }
 
@@ -87,8 +83,7 @@ fn has_member(alloc: Global, name: &str, of: &Value) -> Result<Outcome, AllocErr
             let key = text_value(alloc, name)?;
             Ok(Outcome::Gives(Value::Bool(lookup(&key, entries).is_some())))
         }
-        Value::Null | Value::Bool(_) | Value::Int(_) | Value::Uint(_) => Ok(Outcome::Error),
-        Value::Text(_) | Value::List(_) => Ok(Outcome::Error),
+        _ => Ok(Outcome::Error),
     }
 }
 
@@ -110,8 +105,7 @@ pub(crate) fn contained(value: &Value, of: &Value) -> Outcome
     match of {
         Value::List(items) => Outcome::Gives(Value::Bool(is_among(value, items))),
         Value::Map(entries) => Outcome::Gives(Value::Bool(lookup(value, entries).is_some())),
-        Value::Null | Value::Bool(_) | Value::Int(_) | Value::Uint(_) | Value::Text(_) =>
-            Outcome::Error,
+        _ => Outcome::Error,
     }
 }
 

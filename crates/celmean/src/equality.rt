@@ -22,40 +22,33 @@ pub(crate) fn same(left: &Value, right: &Value) -> bool
     match left {
         Value::Null => match right {
             Value::Null => true,
-            Value::Bool(_) | Value::Int(_) | Value::Uint(_) => false,
-            Value::Text(_) | Value::List(_) | Value::Map(_) => false,
+            _ => false,
         },
         Value::Bool(first) => match right {
             Value::Bool(second) => *first == *second,
-            Value::Null | Value::Int(_) | Value::Uint(_) => false,
-            Value::Text(_) | Value::List(_) | Value::Map(_) => false,
+            _ => false,
         },
         Value::Int(first) => match right {
             Value::Int(second) => *first == *second,
             Value::Uint(second) => same_number(*first, *second),
-            Value::Null | Value::Bool(_) => false,
-            Value::Text(_) | Value::List(_) | Value::Map(_) => false,
+            _ => false,
         },
         Value::Uint(first) => match right {
             Value::Int(second) => same_number(*second, *first),
             Value::Uint(second) => *first == *second,
-            Value::Null | Value::Bool(_) => false,
-            Value::Text(_) | Value::List(_) | Value::Map(_) => false,
+            _ => false,
         },
         Value::Text(first) => match right {
             Value::Text(second) => first.as_str() == second.as_str(),
-            Value::Null | Value::Bool(_) | Value::Int(_) | Value::Uint(_) => false,
-            Value::List(_) | Value::Map(_) => false,
+            _ => false,
         },
         Value::List(first) => match right {
             Value::List(second) => all_same(first, second),
-            Value::Null | Value::Bool(_) | Value::Int(_) | Value::Uint(_) => false,
-            Value::Text(_) | Value::Map(_) => false,
+            _ => false,
         },
         Value::Map(first) => match right {
             Value::Map(second) => entries_same(first, second),
-            Value::Null | Value::Bool(_) | Value::Int(_) | Value::Uint(_) => false,
-            Value::Text(_) | Value::List(_) => false,
+            _ => false,
         },
     }
 }

@@ -18,12 +18,8 @@ pub fn is_true(outcome: &Outcome) -> bool
     ensures { result ≡ is_true (outcome_of outcome.now) }
 {
     match outcome {
-        Outcome::Gives(value) => match value {
-            Value::Bool(truth) => *truth,
-            Value::Null | Value::Int(_) | Value::Uint(_) => false,
-            Value::Text(_) | Value::List(_) | Value::Map(_) => false,
-        },
-        Outcome::Error => false,
+        Outcome::Gives(Value::Bool(truth)) => *truth,
+        _ => false,
     }
 }
 
@@ -32,26 +28,15 @@ pub fn is_false(outcome: &Outcome) -> bool
     ensures { result ≡ is_false (outcome_of outcome.now) }
 {
     match outcome {
-        Outcome::Gives(value) => match value {
-            Value::Bool(truth) => !*truth,
-            Value::Null | Value::Int(_) | Value::Uint(_) => false,
-            Value::Text(_) | Value::List(_) | Value::Map(_) => false,
-        },
-        Outcome::Error => false,
+        Outcome::Gives(Value::Bool(truth)) => !*truth,
+        _ => false,
     }
 }
 
 fn is_truth(outcome: &Outcome) -> bool
     ensures { result ≡ is_truth (outcome_of outcome.now) }
 {
-    match outcome {
-        Outcome::Gives(value) => match value {
-            Value::Bool(_) => true,
-            Value::Null | Value::Int(_) | Value::Uint(_) => false,
-            Value::Text(_) | Value::List(_) | Value::Map(_) => false,
-        },
-        Outcome::Error => false,
-    }
+    matches!(outcome, Outcome::Gives(Value::Bool(_)))
 }
 
 /// `a && b`: false if either is false, else the error if either is no truth value, else true.
@@ -261,8 +246,7 @@ pub fn list_items(outcome: &Outcome) -> Option<&Vec<Value>>
     match outcome {
         Outcome::Gives(value) => match value {
             Value::List(items) => Some(items),
-            Value::Null | Value::Bool(_) | Value::Int(_) => None,
-            Value::Uint(_) | Value::Text(_) | Value::Map(_) => None,
+            _ => None,
         },
         Outcome::Error => None,
     }
@@ -280,8 +264,7 @@ pub fn range_of(alloc: Global, outcome: &Outcome) -> Result<Option<Vec<Value>>, 
         Outcome::Gives(value) => match value {
             Value::List(items) => Ok(Some(copy_items(items)?)),
             Value::Map(entries) => Ok(Some(keys(alloc, entries)?)),
-            Value::Null | Value::Bool(_) | Value::Int(_) => Ok(None),
-            Value::Uint(_) | Value::Text(_) => Ok(None),
+            _ => Ok(None),
         },
         Outcome::Error => Ok(None),
     }

@@ -19,8 +19,7 @@ fn denial(value: &Value) -> Outcome
 {
     match value {
         Value::Bool(truth) => Outcome::Gives(Value::Bool(!*truth)),
-        Value::Null | Value::Int(_) | Value::Uint(_) => Outcome::Error,
-        Value::Text(_) | Value::List(_) | Value::Map(_) => Outcome::Error,
+        _ => Outcome::Error,
     }
 }
 
@@ -99,17 +98,6 @@ pub fn infixed(operator: Operator, left: &Outcome, right: &Outcome) -> Result<Ou
     match operator {
         Operator::And => Ok(both(left, right)),
         Operator::Or => Ok(either(left, right)),
-        Operator::Multiply => on_outcomes(Operator::Multiply, left, right),
-        Operator::Divide => on_outcomes(Operator::Divide, left, right),
-        Operator::Remainder => on_outcomes(Operator::Remainder, left, right),
-        Operator::Add => on_outcomes(Operator::Add, left, right),
-        Operator::Subtract => on_outcomes(Operator::Subtract, left, right),
-        Operator::Less => on_outcomes(Operator::Less, left, right),
-        Operator::LessEqual => on_outcomes(Operator::LessEqual, left, right),
-        Operator::Greater => on_outcomes(Operator::Greater, left, right),
-        Operator::GreaterEqual => on_outcomes(Operator::GreaterEqual, left, right),
-        Operator::Equal => on_outcomes(Operator::Equal, left, right),
-        Operator::NotEqual => on_outcomes(Operator::NotEqual, left, right),
-        Operator::In => on_outcomes(Operator::In, left, right),
+        _ => on_outcomes(operator, left, right),
     }
 }

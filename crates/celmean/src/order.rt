@@ -31,27 +31,23 @@ pub(crate) fn less(left: &Value, right: &Value) -> Option<bool>
     match left {
         Value::Bool(first) => match right {
             Value::Bool(second) => Some(!*first && *second),
-            Value::Null | Value::Int(_) | Value::Uint(_) => None,
-            Value::Text(_) | Value::List(_) | Value::Map(_) => None,
+            _ => None,
         },
         Value::Int(first) => match right {
             Value::Int(second) => Some(*first < *second),
             Value::Uint(second) => Some(signed_first(*first, *second)),
-            Value::Null | Value::Bool(_) => None,
-            Value::Text(_) | Value::List(_) | Value::Map(_) => None,
+            _ => None,
         },
         Value::Uint(first) => match right {
             Value::Int(second) => Some(unsigned_first(*first, *second)),
             Value::Uint(second) => Some(*first < *second),
-            Value::Null | Value::Bool(_) => None,
-            Value::Text(_) | Value::List(_) | Value::Map(_) => None,
+            _ => None,
         },
         Value::Text(first) => match right {
             Value::Text(second) => Some(text_before(first, second)),
-            Value::Null | Value::Bool(_) | Value::Int(_) | Value::Uint(_) => None,
-            Value::List(_) | Value::Map(_) => None,
+            _ => None,
         },
-        Value::Null | Value::List(_) | Value::Map(_) => None,
+        _ => None,
     }
 }
 
@@ -63,7 +59,7 @@ pub(crate) fn key_rank(value: &Value) -> Option<u8>
         Value::Bool(_) => Some(0),
         Value::Int(_) | Value::Uint(_) => Some(1),
         Value::Text(_) => Some(2),
-        Value::Null | Value::List(_) | Value::Map(_) => None,
+        _ => None,
     }
 }
 
