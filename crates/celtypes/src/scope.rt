@@ -60,7 +60,11 @@ fn local_type<'a>(name: &str, locals: &[Local<'a>]) -> Option<&'a CelType>
 fn is_declared(has_params: bool, name: &str) -> bool
     ensures { result ≡ is_declared has_params name.now }
 {
-    name == "object" || name == "oldObject" || name == "request" || has_params && name == "params"
+    match name {
+        "object" | "oldObject" | "request" => true,
+        "params" => has_params,
+        _ => false,
+    }
 }
 
 /// The type of a name.
@@ -102,10 +106,7 @@ pub(crate) fn bind<'a>(
 ) -> Result<Vec<Local<'a>>, AllocError>
     ensures { IfOk result (λ v. v.items ≡ first.entry ∷ locals.now) }
 {
-    let mut all = Vec::new(alloc);
-    all.push(first)?;
-    for local in locals {
-        all.push(*local)?;
-    }
+    let mut all = Vec::from_slice(alloc, locals)?;
+    all.insert(0, first)?;
     Ok(all)
 }
