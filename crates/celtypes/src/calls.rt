@@ -1,12 +1,12 @@
 //! Calls, macros and literals of lists and maps.
 
-ghost use Rattle.std.specs.Prelude.{◌≡◌, option_map, IfOk};
-ghost use Rattle.celtypes.specs.Computed.{given, function_type, call_type, is_text_test, size_method_type, text_test_type, method_type, macro_type, mapping_type};
+ghost use Rattle.std.specs.Prelude.{◌≡◌, Some, option_map, IfOk};
+ghost use Rattle.celtypes.specs.Computed.{given, function_type, call_type, element, is_text_test, size_method_type, text_test_type, method_type, macro_type, mapping_type};
 ghost use Rattle.celtypes.specs.Seen.{type_seen, types_seen};
-ghost use Rattle.celtypes.specs.Types.{int, uint, string};
+ghost use Rattle.celtypes.specs.Types.{int, uint, string, list};
 
 use crate::rows::{are_keys, bool_if, fits_bool, fits_convertible, fits_sized, fits_string};
-use crate::types::{CelType, copy, element, list_of, map_of};
+use crate::types::{CelType, element, list_of};
 use celtree::Macro;
 use std::alloc::{AllocError, Global};
 
@@ -14,18 +14,13 @@ use std::alloc::{AllocError, Global};
 fn function_type(name: &str, of: &CelType) -> Option<CelType>
     ensures { option_map type_seen result ≡ function_type name.now (type_seen of.now) }
 {
-    if name == "size" {
-        fits_sized(of).then_some(CelType::Int)
-    } else if name == "int" {
-        fits_convertible(of).then_some(CelType::Int)
-    } else if name == "uint" {
-        fits_convertible(of).then_some(CelType::Uint)
-    } else if name == "string" {
-        fits_convertible(of).then_some(CelType::Text)
-    } else if name == "dyn" {
-        Some(CelType::Dyn)
-    } else {
-        None
+    match name {
+        "size" => fits_sized(of).then_some(CelType::Int),
+        "int" => fits_convertible(of).then_some(CelType::Int),
+        "uint" => fits_convertible(of).then_some(CelType::Uint),
+        "string" => fits_convertible(of).then_some(CelType::Text),
+        "dyn" => Some(CelType::Dyn),
+        _ => None,
     }
 }
 
@@ -42,7 +37,7 @@ pub(crate) fn call_type(name: &str, arguments: &Vec<CelType>) -> Option<CelType>
 fn is_text_test(name: &str) -> bool
     ensures { result ≡ is_text_test name.now }
 {
-    name == "contains" || name == "startsWith" || name == "endsWith"
+    matches!(name, "contains" | "startsWith" | "endsWith")
 }
 
 fn size_method_type(name: &str, of: &CelType) -> Option<CelType>
@@ -72,26 +67,32 @@ pub(crate) fn method_type(name: &str, of: &CelType, arguments: &Vec<CelType>) ->
 pub(crate) fn macro_type(
     alloc: Global,
     kind: Macro,
-    item: &CelType,
-    body: &CelType,
+    item: CelType,
+    body: CelType,
 ) -> Result<Option<CelType>, AllocError>
-    ensures { IfOk result (λ o. option_map type_seen o ≡ macro_type kind (type_seen item.now) (type_seen body.now)) }
+    ensures { IfOk result (λ o. option_map type_seen o ≡ macro_type kind (type_seen item) (type_seen body)) }
 {
     match kind {
-        Macro::All | Macro::Exists | Macro::ExistsOne => Ok(bool_if(fits_bool(body))),
-        Macro::Map => {
-            let body = copy(body)?;
-            Ok(Some(list_of(alloc, body)?))
-        }
+        Macro::All | Macro::Exists | Macro::ExistsOne => Ok(bool_if(fits_bool(&body))),
+        Macro::Map => list_of(alloc, body),
         Macro::Filter => {
-            if fits_bool(body) {
-                let item = copy(item)?;
-                Ok(Some(list_of(alloc, item)?))
+            if fits_bool(&body) {
+                list_of(alloc, item)
             } else {
                 Ok(None)
             }
         }
     }
+}
+
+/// `[e]`
+pub(crate) fn sequence_type(
+    alloc: Global,
+    items: &Vec<CelType>,
+) -> Result<Option<CelType>, AllocError>
+    ensures { IfOk result (λ o. option_map type_seen o ≡ Some (list (element (types_seen items.now.items)))) }
+{
+    Ok(Some(CelType::List(element(alloc, items)?)))
 }
 
 /// `{k: v}`
@@ -103,9 +104,9 @@ pub(crate) fn mapping_type(
     ensures { IfOk result (λ o. option_map type_seen o ≡ mapping_type (types_seen keys.now.items) (types_seen values.now.items)) }
 {
     if are_keys(keys) {
-        let key = element(keys)?;
-        let value = element(values)?;
-        Ok(Some(map_of(alloc, key, value)?))
+        let key = element(alloc, keys)?;
+        let value = element(alloc, values)?;
+        Ok(Some(CelType::Map(key, value)))
     } else {
         Ok(None)
     }

@@ -1,22 +1,22 @@
 //! The type of a tree.
 
-ghost use Rattle.std.specs.Prelude.{◌≡◌, ℕ, List, option_map, option_and_then, string_bytes, IfOk, IfErr};
+ghost use Rattle.std.specs.Prelude.{◌≡◌, ℕ, List, if◌then◌else◌, None, option_map, option_and_then, string_bytes, IfOk, IfErr};
 ghost use Rattle.celtree.specs.Tree as expr;
 ghost use Rattle.celtree.specs.View.{view, views, pair_views};
 ghost use Rattle.celtypes.specs.declared.fault.TypeFault.TheVariants as fault;
-ghost use Rattle.celtypes.specs.Computed.{presence_type, infix_type, type_of, types_of, key_types_of, value_types_of};
+ghost use Rattle.celtypes.specs.Computed.{common, index_type, infix_type, method_type, macro_type, type_of, types_of, key_types_of, value_types_of};
 ghost use Rattle.celtypes.specs.Seen.{type_seen, types_seen, scope_seen, declared};
 ghost use Rattle.celtypes.specs.Typing.{HasType, HasNoType, bind};
 
-use crate::calls::call_type;
+use crate::calls::{call_type, sequence_type};
 use crate::fault::TypeFault;
 use crate::operands::{
-    conditional_of, index_of, infix_of, macro_of, mapping_of, method_of, range_of,
+    conditional_of, index_of, infix_of, is_test, macro_of, mapping_of, method_of, range_of,
 };
 use crate::rows::{field_type, prefix_type, presence_type};
 use crate::scope::{Env, Local, Scope, bind, name_type, variable_type};
-use crate::types::{CelType, element, list_of};
-use celtree::{Operator, Prefix, Tree, is_variables};
+use crate::types::CelType;
+use celtree::{Macro, Operator, Prefix, Tree, is_variables};
 use std::alloc::{AllocError, Global};
 
 // The type of the tree, or none. Apart from `typed_variant`, so that a long sum or a long chain of prefix operators or fields takes
@@ -52,11 +52,10 @@ fn typed_variant(
         Tree::Text(_) => Ok(Some(CelType::Text)),
         Tree::Name(name) => name_type(name, scope),
         Tree::Field(of, name) => typed_field(alloc, of, name, scope),
-        Tree::Has(of, _) => typed_presence(alloc, of, scope),
+        Tree::Has(of, _) => Ok(typed(alloc, of, scope)?.and_then(presence_type)),
         Tree::Index(of, index) => {
             let of = typed(alloc, of, scope)?;
-            let index = typed(alloc, index, scope)?;
-            index_of(of, index)
+            typed_index(alloc, index, of, scope)
         }
         Tree::List(items) => typed_list(alloc, items, scope),
         Tree::Map(entries) => typed_map(alloc, entries, scope),
@@ -66,26 +65,19 @@ fn typed_variant(
             typed_infix(alloc, *operator, right, left, scope)
         }
         Tree::Conditional(test, first, second) => {
-            let test = typed(alloc, test, scope)?;
+            let is_test = is_test(typed(alloc, test, scope)?);
             let first = typed(alloc, first, scope)?;
-            let second = typed(alloc, second, scope)?;
-            conditional_of(test, first, second)
+            typed_second(alloc, second, is_test, first, scope)
         }
         Tree::Call(name, arguments) => typed_call(alloc, name, arguments, scope),
         Tree::Method(of, name, arguments) => {
             let of = typed(alloc, of, scope)?;
-            let arguments = typed_items(alloc, arguments, scope)?;
-            Ok(method_of(name, of, arguments))
+            typed_method(alloc, arguments, name, of, scope)
         }
         Tree::Macro(kind, of, variable, body) => {
             let of = typed(alloc, of, scope)?;
-            match range_of(variable, of)? {
-                Some(item) => {
-                    let body = typed_body(alloc, body, variable, &item, scope)?;
-                    macro_of(alloc, *kind, &item, body)
-                }
-                None => Ok(None),
-            }
+            let item = range_of(variable, of);
+            typed_macro(alloc, *kind, body, variable, item, scope)
         }
     }
 }
@@ -100,25 +92,9 @@ fn typed_field(
     ensures { IfOk result (λ o. option_map type_seen o ≡ type_of (expr.Field (view of.now.value) (string_bytes name.now)) (scope_seen scope.now)) }
 {
     if is_variables(of) {
-        return variable_type(name, scope.variables);
-    }
-    match typed(alloc, of, scope)? {
-        Some(of) => field_type(&of),
-        None => Ok(None),
-    }
-}
-
-#[cycle(typed)]
-fn typed_presence(
-    alloc: Global,
-    of: &Box<Tree>,
-    scope: &Scope<'_>,
-) -> Result<Option<CelType>, AllocError>
-    ensures { IfOk result (λ o. option_map type_seen o ≡ option_and_then presence_type (type_of (view of.now.value) (scope_seen scope.now))) }
-{
-    match typed(alloc, of, scope)? {
-        Some(of) => Ok(presence_type(&of)),
-        None => Ok(None),
+        variable_type(name, scope.variables)
+    } else {
+        Ok(typed(alloc, of, scope)?.and_then(field_type))
     }
 }
 
@@ -131,10 +107,7 @@ fn typed_list(
     ensures { IfOk result (λ o. option_map type_seen o ≡ type_of (expr.Sequence (views items.now.items)) (scope_seen scope.now)) }
 {
     match typed_items(alloc, items, scope)? {
-        Some(types) => {
-            let item = element(&types)?;
-            Ok(Some(list_of(alloc, item)?))
-        }
+        Some(types) => sequence_type(alloc, &types),
         None => Ok(None),
     }
 }
@@ -182,6 +155,35 @@ fn typed_infix(
     infix_of(alloc, operator, left, right)
 }
 
+// The same for an index, by the type of what it goes into.
+#[cycle(typed)]
+fn typed_index(
+    alloc: Global,
+    index: &Box<Tree>,
+    of: Option<CelType>,
+    scope: &Scope<'_>,
+) -> Result<Option<CelType>, AllocError>
+    ensures { IfOk result (λ o. option_map type_seen o ≡ option_and_then (λ t. option_and_then (index_type t) (type_of (view index.now.value) (scope_seen scope.now))) (option_map type_seen of)) }
+{
+    let index = typed(alloc, index, scope)?;
+    Ok(index_of(of, index))
+}
+
+// The same for a conditional, by whether its test may be one and by the type of its first branch.
+#[cycle(typed)]
+fn typed_second(
+    alloc: Global,
+    second: &Box<Tree>,
+    is_test: bool,
+    first: Option<CelType>,
+    scope: &Scope<'_>,
+) -> Result<Option<CelType>, AllocError>
+    ensures { IfOk result (λ o. option_map type_seen o ≡ if is_test then option_and_then (λ t. option_map (common t) (type_of (view second.now.value) (scope_seen scope.now))) (option_map type_seen first) else None) }
+{
+    let second = typed(alloc, second, scope)?;
+    Ok(conditional_of(is_test, first, second))
+}
+
 #[cycle(typed)]
 fn typed_call(
     alloc: Global,
@@ -195,6 +197,40 @@ fn typed_call(
         Some(arguments) => Ok(call_type(name, &arguments)),
         None => Ok(None),
     }
+}
+
+// The type of a method's call, by the type of what it is called on.
+#[cycle(typed)]
+fn typed_method(
+    alloc: Global,
+    arguments: &Vec<Tree>,
+    name: &String,
+    of: Option<CelType>,
+    scope: &Scope<'_>,
+) -> Result<Option<CelType>, AllocError>
+    ensures { IfOk result (λ o. option_map type_seen o ≡ option_and_then (λ t. option_and_then (method_type (string_bytes name.now) t) (types_of (views arguments.now.items) (scope_seen scope.now))) (option_map type_seen of)) }
+{
+    let arguments = typed_items(alloc, arguments, scope)?;
+    Ok(method_of(name, of, arguments))
+}
+
+// The type of a macro, by the type of its variable.
+#[cycle(typed)]
+fn typed_macro(
+    alloc: Global,
+    kind: Macro,
+    body: &Box<Tree>,
+    variable: &str,
+    item: Option<CelType>,
+    scope: &Scope<'_>,
+) -> Result<Option<CelType>, AllocError>
+    ensures { IfOk result (λ o. option_map type_seen o ≡ option_and_then (λ i. option_and_then (macro_type kind i) (type_of (view body.now.value) (bind variable.now i (scope_seen scope.now)))) (option_map type_seen item)) }
+{
+    let Some(item) = item else {
+        return Ok(None);
+    };
+    let body = typed_body(alloc, body, variable, &item, scope)?;
+    macro_of(alloc, kind, item, body)
 }
 
 // The type of a macro's body, where its variable is an item.

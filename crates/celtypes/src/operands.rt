@@ -1,42 +1,31 @@
 //! The rows, over operands that may have no type. Then neither has the whole.
 
-ghost use Rattle.std.specs.Prelude.{◌≡◌, option_map, option_and_then, IfOk};
-ghost use Rattle.celtypes.specs.Computed.{range_type, index_type, infix_type, conditional_type, mapping_type, method_type, macro_type};
+ghost use Rattle.std.specs.Prelude.{◌≡◌, false, if◌then◌else◌, None, MatchOption, option_map, option_and_then, IfOk};
+ghost use Rattle.celtypes.specs.Computed.{fits_bool, common, range_type, index_type, infix_type, mapping_type, method_type, macro_type};
 ghost use Rattle.celtypes.specs.Seen.{type_seen, types_seen};
 
 use crate::calls::{macro_type, mapping_type, method_type};
-use crate::rows::{conditional_type, index_type, infix_type, item_type};
-use crate::types::CelType;
+use crate::rows::{fits_bool, index_type, infix_type, item_type};
+use crate::types::{CelType, common};
 use celtree::{Macro, Operator};
 use std::alloc::{AllocError, Global};
 
 /// The type of a macro's variable: `variables` is none.
-pub(crate) fn range_of(variable: &str, of: Option<CelType>) -> Result<Option<CelType>, AllocError>
-    ensures { IfOk result (λ o. option_map type_seen o ≡ range_type variable.now (option_map type_seen of)) }
+pub(crate) fn range_of(variable: &str, of: Option<CelType>) -> Option<CelType>
+    ensures { option_map type_seen result ≡ range_type variable.now (option_map type_seen of) }
 {
     if variable == "variables" {
-        return Ok(None);
-    }
-    match of {
-        Some(of) => item_type(&of),
-        None => Ok(None),
+        None
+    } else {
+        of.and_then(item_type)
     }
 }
 
 /// `e[i]`
-pub(crate) fn index_of(
-    of: Option<CelType>,
-    index: Option<CelType>,
-) -> Result<Option<CelType>, AllocError>
-    ensures { IfOk result (λ o. option_map type_seen o ≡ option_and_then (λ t. option_and_then (index_type t) (option_map type_seen index)) (option_map type_seen of)) }
+pub(crate) fn index_of(of: Option<CelType>, index: Option<CelType>) -> Option<CelType>
+    ensures { option_map type_seen result ≡ option_and_then (λ t. option_and_then (index_type t) (option_map type_seen index)) (option_map type_seen of) }
 {
-    match of {
-        Some(of) => match index {
-            Some(index) => index_type(&of, &index),
-            None => Ok(None),
-        },
-        None => Ok(None),
-    }
+    index_type(of?, &index?)
 }
 
 /// `a + b` and the like.
@@ -57,24 +46,26 @@ pub(crate) fn infix_of(
     }
 }
 
-/// `c ? a : b`
+/// Whether what has the type may be the test of a conditional.
+pub(crate) fn is_test(of: Option<CelType>) -> bool
+    ensures { MatchOption of (result ≡ false) (λ t. result ≡ fits_bool (type_seen t)) }
+{
+    match of {
+        Some(of) => fits_bool(&of),
+        None => false,
+    }
+}
+
+/// `c ? a : b`, by whether the test may be one.
 pub(crate) fn conditional_of(
-    test: Option<CelType>,
+    is_test: bool,
     first: Option<CelType>,
     second: Option<CelType>,
-) -> Result<Option<CelType>, AllocError>
-    ensures { IfOk result (λ o. option_map type_seen o ≡ option_and_then (λ s. option_and_then (λ t. option_and_then (conditional_type s t) (option_map type_seen second)) (option_map type_seen first)) (option_map type_seen test)) }
+) -> Option<CelType>
+    ensures { option_map type_seen result ≡ if is_test then option_and_then (λ t. option_map (common t) (option_map type_seen second)) (option_map type_seen first) else None }
 {
-    match test {
-        Some(test) => match first {
-            Some(first) => match second {
-                Some(second) => conditional_type(&test, &first, &second),
-                None => Ok(None),
-            },
-            None => Ok(None),
-        },
-        None => Ok(None),
-    }
+    let both = common(first?, &second?);
+    is_test.then_some(both)
 }
 
 /// `{k: v}`
@@ -102,26 +93,20 @@ pub(crate) fn method_of(
 ) -> Option<CelType>
     ensures { option_map type_seen result ≡ option_and_then (λ t. option_and_then (method_type name.now t) (option_map (λ v. types_seen v.items) arguments)) (option_map type_seen of) }
 {
-    match of {
-        Some(of) => match arguments {
-            Some(arguments) => method_type(name, &of, &arguments),
-            None => None,
-        },
-        None => None,
-    }
+    method_type(name, &of?, &arguments?)
 }
 
 /// `e.all(x, body)` and the like.
 pub(crate) fn macro_of(
     alloc: Global,
     kind: Macro,
-    item: &CelType,
+    item: CelType,
     body: Option<CelType>,
 ) -> Result<Option<CelType>, AllocError>
-    ensures { IfOk result (λ o. option_map type_seen o ≡ option_and_then (macro_type kind (type_seen item.now)) (option_map type_seen body)) }
+    ensures { IfOk result (λ o. option_map type_seen o ≡ option_and_then (macro_type kind (type_seen item)) (option_map type_seen body)) }
 {
     match body {
-        Some(body) => macro_type(alloc, kind, item, &body),
+        Some(body) => macro_type(alloc, kind, item, body),
         None => Ok(None),
     }
 }

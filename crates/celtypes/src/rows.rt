@@ -1,7 +1,7 @@
 //! What operators and functions take and give.
 
 ghost use Rattle.std.specs.Prelude.{◌≡◌, option_map, IfOk};
-ghost use Rattle.celtypes.specs.Computed.{given, fits_bool, fits_int, fits_uint, fits_string, fits_number, fits_convertible, fits_key, are_keys, fits_sized, fits_ordered, list_sum, dyn_sum, sum_type, dyn_number, number_type, compares, has_items, item_type, index_type, field_type, presence_type, prefix_type, infix_type, conditional_type};
+ghost use Rattle.celtypes.specs.Computed.{given, fits_bool, fits_int, fits_uint, fits_string, fits_number, fits_convertible, fits_key, are_keys, fits_sized, fits_ordered, list_sum, dyn_sum, sum_type, dyn_number, number_type, compares, has_items, item_type, index_type, field_type, presence_type, prefix_type, infix_type};
 ghost use Rattle.celtypes.specs.Seen.{type_seen, types_seen};
 ghost use Rattle.celtypes.specs.Types.{bool};
 
@@ -95,11 +95,8 @@ fn list_sum(alloc: Global, item: &CelType, right: &CelType) -> Result<Option<Cel
     ensures { IfOk result (λ o. option_map type_seen o ≡ list_sum (type_seen item.now) (type_seen right.now)) }
 {
     match right {
-        CelType::List(other) => {
-            let item = common(item, other)?;
-            Ok(Some(list_of(alloc, item)?))
-        }
-        CelType::Dyn => Ok(Some(list_of(alloc, CelType::Dyn)?)),
+        CelType::List(other) => list_of(alloc, common(copy(item)?, other)),
+        CelType::Dyn => list_of(alloc, CelType::Dyn),
         CelType::Int | CelType::Uint | CelType::Bool | CelType::Text => Ok(None),
         CelType::Null | CelType::Map(_, _) => Ok(None),
     }
@@ -112,7 +109,7 @@ fn dyn_sum(alloc: Global, right: &CelType) -> Result<Option<CelType>, AllocError
         CelType::Int => Ok(Some(CelType::Int)),
         CelType::Uint => Ok(Some(CelType::Uint)),
         CelType::Text => Ok(Some(CelType::Text)),
-        CelType::List(_) => Ok(Some(list_of(alloc, CelType::Dyn)?)),
+        CelType::List(_) => list_of(alloc, CelType::Dyn),
         CelType::Dyn => Ok(Some(CelType::Dyn)),
         CelType::Bool | CelType::Null | CelType::Map(_, _) => Ok(None),
     }
@@ -184,63 +181,46 @@ pub(crate) fn bool_if(condition: bool) -> Option<CelType>
 }
 
 /// The type of what a macro goes over.
-pub(crate) fn item_type(of: &CelType) -> Result<Option<CelType>, AllocError>
-    ensures { IfOk result (λ o. option_map type_seen o ≡ item_type (type_seen of.now)) }
+pub(crate) fn item_type(of: CelType) -> Option<CelType>
+    ensures { option_map type_seen result ≡ item_type (type_seen of) }
 {
     match of {
-        CelType::List(item) => Ok(Some(copy(item)?)),
-        CelType::Map(key, _) => Ok(Some(copy(key)?)),
-        CelType::Dyn => Ok(Some(CelType::Dyn)),
-        CelType::Int | CelType::Uint | CelType::Bool | CelType::Text | CelType::Null => Ok(None),
+        CelType::List(item) => Some(Box::into_inner(item)),
+        CelType::Map(key, _) => Some(Box::into_inner(key)),
+        CelType::Dyn => Some(CelType::Dyn),
+        CelType::Int | CelType::Uint | CelType::Bool | CelType::Text | CelType::Null => None,
     }
 }
 
 /// `e[i]`
-pub(crate) fn index_type(of: &CelType, index: &CelType) -> Result<Option<CelType>, AllocError>
-    ensures { IfOk result (λ o. option_map type_seen o ≡ index_type (type_seen of.now) (type_seen index.now)) }
+pub(crate) fn index_type(of: CelType, index: &CelType) -> Option<CelType>
+    ensures { option_map type_seen result ≡ index_type (type_seen of) (type_seen index.now) }
 {
     match of {
-        CelType::List(item) => {
-            if fits_int(index) {
-                Ok(Some(copy(item)?))
-            } else {
-                Ok(None)
-            }
-        }
-        CelType::Map(_, value) => Ok(Some(copy(value)?)),
-        CelType::Dyn => Ok(Some(CelType::Dyn)),
-        CelType::Int | CelType::Uint | CelType::Bool | CelType::Text | CelType::Null => Ok(None),
+        CelType::List(item) => fits_int(index).then_some(Box::into_inner(item)),
+        CelType::Map(_, value) => Some(Box::into_inner(value)),
+        CelType::Dyn => Some(CelType::Dyn),
+        CelType::Int | CelType::Uint | CelType::Bool | CelType::Text | CelType::Null => None,
     }
 }
 
 /// `e.f`
-pub(crate) fn field_type(of: &CelType) -> Result<Option<CelType>, AllocError>
-    ensures { IfOk result (λ o. option_map type_seen o ≡ field_type (type_seen of.now)) }
+pub(crate) fn field_type(of: CelType) -> Option<CelType>
+    ensures { option_map type_seen result ≡ field_type (type_seen of) }
 {
     match of {
-        CelType::Map(key, value) => {
-            if fits_string(key) {
-                Ok(Some(copy(value)?))
-            } else {
-                Ok(None)
-            }
-        }
-        CelType::Dyn => Ok(Some(CelType::Dyn)),
-        CelType::Int | CelType::Uint | CelType::Bool | CelType::Text => Ok(None),
-        CelType::Null | CelType::List(_) => Ok(None),
+        CelType::Map(key, value) => fits_string(&key).then_some(Box::into_inner(value)),
+        CelType::Dyn => Some(CelType::Dyn),
+        CelType::Int | CelType::Uint | CelType::Bool | CelType::Text => None,
+        CelType::Null | CelType::List(_) => None,
     }
 }
 
 /// `has(e.f)`
-pub(crate) fn presence_type(of: &CelType) -> Option<CelType>
-    ensures { option_map type_seen result ≡ presence_type (type_seen of.now) }
+pub(crate) fn presence_type(of: CelType) -> Option<CelType>
+    ensures { option_map type_seen result ≡ presence_type (type_seen of) }
 {
-    match of {
-        CelType::Map(key, _) => bool_if(fits_string(key)),
-        CelType::Dyn => Some(CelType::Bool),
-        CelType::Int | CelType::Uint | CelType::Bool | CelType::Text => None,
-        CelType::Null | CelType::List(_) => None,
-    }
+    bool_if(field_type(of).is_some())
 }
 
 /// `!e` and `-e`
@@ -273,20 +253,5 @@ pub(crate) fn infix_type(
         Operator::Equal | Operator::NotEqual => Ok(Some(CelType::Bool)),
         Operator::In => Ok(bool_if(has_items(right))),
         Operator::And | Operator::Or => Ok(bool_if(fits_bool(left) && fits_bool(right))),
-    }
-}
-
-/// `c ? a : b`
-pub(crate) fn conditional_type(
-    test: &CelType,
-    first: &CelType,
-    second: &CelType,
-) -> Result<Option<CelType>, AllocError>
-    ensures { IfOk result (λ o. option_map type_seen o ≡ conditional_type (type_seen test.now) (type_seen first.now) (type_seen second.now)) }
-{
-    if fits_bool(test) {
-        Ok(Some(common(first, second)?))
-    } else {
-        Ok(None)
     }
 }

@@ -1,9 +1,9 @@
 //! Types.
 
-ghost use Rattle.std.specs.Prelude.{◌≡◌, IfOk};
+ghost use Rattle.std.specs.Prelude.{◌≡◌, Some, option_map, IfOk};
 ghost use Rattle.celtypes.specs.Computed.{same, common, all_are, element};
 ghost use Rattle.celtypes.specs.Seen.{type_seen, types_seen};
-ghost use Rattle.celtypes.specs.Types.{list, map};
+ghost use Rattle.celtypes.specs.Types.{list};
 
 use std::alloc::{AllocError, Global};
 use std::fmt::{self, Display, Formatter};
@@ -108,13 +108,13 @@ pub(crate) fn same(left: &CelType, right: &CelType) -> bool
 }
 
 /// The type that both are, or dyn.
-pub(crate) fn common(left: &CelType, right: &CelType) -> Result<CelType, AllocError>
-    ensures { IfOk result (λ t. type_seen t ≡ common (type_seen left.now) (type_seen right.now)) }
+pub(crate) fn common(left: CelType, right: &CelType) -> CelType
+    ensures { type_seen result ≡ common (type_seen left) (type_seen right.now) }
 {
-    if same(left, right) {
-        copy(left)
+    if same(&left, right) {
+        left
     } else {
-        Ok(CelType::Dyn)
+        CelType::Dyn
     }
 }
 
@@ -130,33 +130,25 @@ fn all_are(first: &CelType, rest: &[CelType]) -> bool
 }
 
 /// The type that all are, or dyn.
-pub(crate) fn element(types: &Vec<CelType>) -> Result<CelType, AllocError>
-    ensures { IfOk result (λ t. type_seen t ≡ element (types_seen types.now.items)) }
+pub(crate) fn element(alloc: Global, types: &Vec<CelType>) -> Result<Box<CelType>, AllocError>
+    ensures { IfOk result (λ t. type_seen t.value ≡ element (types_seen types.now.items)) }
 {
-    match types.as_slice().split_first() {
+    let all = match types.as_slice().split_first() {
         Some((first, rest)) => {
             if all_are(first, rest) {
-                copy(first)
+                copy(first)?
             } else {
-                Ok(CelType::Dyn)
+                CelType::Dyn
             }
         }
-        None => Ok(CelType::Dyn),
-    }
+        None => CelType::Dyn,
+    };
+    Ok(Box::new(alloc, all)?)
 }
 
 /// The type of lists with items of the type.
-pub(crate) fn list_of(alloc: Global, item: CelType) -> Result<CelType, AllocError>
-    ensures { IfOk result (λ t. type_seen t ≡ list (type_seen item)) }
+pub(crate) fn list_of(alloc: Global, item: CelType) -> Result<Option<CelType>, AllocError>
+    ensures { IfOk result (λ o. option_map type_seen o ≡ Some (list (type_seen item))) }
 {
-    Ok(CelType::List(Box::new(alloc, item)?))
-}
-
-/// The type of maps with keys and values of the types.
-pub(crate) fn map_of(alloc: Global, key: CelType, value: CelType) -> Result<CelType, AllocError>
-    ensures { IfOk result (λ t. type_seen t ≡ map (type_seen key) (type_seen value)) }
-{
-    let key = Box::new(alloc, key)?;
-    let value = Box::new(alloc, value)?;
-    Ok(CelType::Map(key, value))
+    Ok(Some(CelType::List(Box::new(alloc, item)?)))
 }
