@@ -64,8 +64,11 @@ pub(crate) fn conditional_of(
 ) -> Option<CelType>
     ensures { option_map type_seen result ≡ if is_test then option_and_then (λ t. option_map (common t) (option_map type_seen second)) (option_map type_seen first) else None }
 {
-    let both = common(first?, &second?);
-    is_test.then_some(both)
+    if is_test {
+        Some(common(first?, &second?))
+    } else {
+        None
+    }
 }
 
 /// `{k: v}`
