@@ -2,11 +2,10 @@ use Rattle.std.proofs.Common.{◌≡◌, ◌∙◌, ◌+◌, List, [], ◌∷◌
 use Rattle.std.specs.Result.{IfOk}
 use Rattle.std.specs.declared.alloc.AllocError.{AllocError}
 use Rattle.std.proofs.lemmas.List.{at_drop_more}
-use Rattle.celtree.specs.declared.tree.Tree.{Tree, fold-roll-Tree}
+use Rattle.celtree.specs.declared.tree.Tree.{Tree, roll-Tree, map-Tree, fold-roll-Tree}
 use Rattle.celtree.specs.declared.tree.Tree.TheOpen.{Tree-F}
 use Rattle.celtree.specs.declared.tree.Tree.TheVariants as tree
 use Rattle.celtree.specs.Tree.{Expr}
-use Rattle.celtree.specs.Tree as expr
 use Rattle.celtree.specs.View.{view, views, pair_views, view_step}
 use Rattle.celtypes.specs.Types as type
 use Rattle.celtypes.specs.Types.{ValueType}
@@ -14,7 +13,7 @@ use Rattle.celtypes.specs.Typing.{Scope}
 use Rattle.celtypes.specs.declared.types.CelType.{CelType, fold-roll-CelType}
 use Rattle.celtypes.specs.declared.types.CelType.TheOpen.{CelType-F}
 use Rattle.celtypes.specs.declared.types.CelType.TheVariants as cel
-use Rattle.celtypes.specs.Computed.{index_type, infix_type, method_type, type_of, types_of, key_types_of, value_types_of}
+use Rattle.celtypes.specs.Computed.{name_type, index_type, infix_type, method_type, type_of, types_of, key_types_of, value_types_of}
 use Rattle.celtypes.specs.Seen.{type_step, type_seen, types_seen, scope_seen}
 use Rattle.celtypes.proofs.checking.+typed.Goals as goal
 
@@ -138,86 +137,115 @@ typed_values-loop-value-preserved t c =
 abbrev Gives : Result (Option CelType) AllocError → Option ValueType → Type 0
 Gives r o = IfOk r (λ found. option_map type_seen found ≡ o)
 
-gives_as : (tree seen : Expr) (g : Scope) (r : Result (Option CelType) AllocError) → tree ≡ seen → Gives r (type_of seen g) → Gives r (type_of tree g)
-gives_as tree seen g r is gives = subst (λ e. Gives r (type_of e g)) (sym is) gives
+gives_as : (tree of : Tree) (layer : Tree-F Tree) (g : Scope) (r : Result (Option CelType) AllocError) → tree ≡ of → roll-Tree layer ≡ of
+    → Gives r (type_of (view_step (map-Tree Tree Expr view layer)) g) → Gives r (type_of (view tree) g)
+gives_as tree of layer g r is rolls gives =
+    subst (λ e. Gives r (type_of e g)) (sym (ap view (is ∙ sym rolls) ∙ fold-roll-Tree Expr view_step layer)) gives
 
-gives_by : (f : Option ValueType → Option ValueType) (a b : Option ValueType) (r : Result (Option CelType) AllocError) → a ≡ b → Gives r (f a) → Gives r (f b)
+gives_by : (f : Option ValueType → Option ValueType) (a b : Option ValueType) (r : Result (Option CelType) AllocError) → a ≡ b → Gives r (f a)
+    → Gives r (f b)
 gives_by f a b r is gives = subst (λ o. Gives r (f o)) is gives
 
-literal : (tree seen : Expr) (g : Scope) (found : CelType) (t : ValueType) → tree ≡ seen → type_seen found ≡ t → Some t ≡ type_of seen g
-    → Some (type_seen found) ≡ type_of tree g
-literal tree seen g found t is typed gives = ap Some typed ∙ gives ∙ ap (λ e. type_of e g) (sym is)
+-- a literal's type
+literal : (tree of : Tree) (layer : Tree-F Tree) (g : Scope) (found : CelType) (t : ValueType) → tree ≡ of → roll-Tree layer ≡ of → type_seen found ≡ t
+    → Some t ≡ type_of (view_step (map-Tree Tree Expr view layer)) g → Some (type_seen found) ≡ type_of (view tree) g
+literal tree of layer g found t is rolls seen gives =
+    ap Some seen ∙ gives ∙ ap (λ e. type_of e g) (sym (ap view (is ∙ sym rolls) ∙ fold-roll-Tree Expr view_step layer))
 
 pub typed_variant-returns-in-Null : goal.typed_variant-returns-in-Null
 typed_variant-returns-in-Null t c =
-    literal (view c.args.tree.now) expr.Null (scope_seen c.args.scope.now) cel.Null type.null
-    (ap view (c.in-Null.is ∙ sym tree.rolls-Null) ∙ fold-roll-Tree Expr view_step Tree-F.Null) (ap type_seen (sym cel.rolls-Null) ∙ fold-roll-CelType ValueType type_step CelType-F.Null) refl
+    literal c.args.tree.now _ Tree-F.Null (scope_seen c.args.scope.now) cel.Null type.null c.in-Null.is tree.rolls-Null
+    (ap type_seen (sym cel.rolls-Null) ∙ fold-roll-CelType ValueType type_step CelType-F.Null) refl
 
 pub typed_variant-returns-in-Bool : goal.typed_variant-returns-in-Bool
 typed_variant-returns-in-Bool t c =
-    literal (view c.args.tree.now) (expr.Truth c.in-Bool.field-0) (scope_seen c.args.scope.now) cel.Bool type.bool
-    (ap view (c.in-Bool.is ∙ sym (tree.rolls-Bool c.in-Bool.field-0)) ∙ fold-roll-Tree Expr view_step (Tree-F.Bool c.in-Bool.field-0)) (ap type_seen (sym cel.rolls-Bool) ∙ fold-roll-CelType ValueType type_step CelType-F.Bool) refl
+    literal c.args.tree.now _ (Tree-F.Bool c.in-Bool.field-0) (scope_seen c.args.scope.now) cel.Bool type.bool c.in-Bool.is (tree.rolls-Bool c.in-Bool.field-0)
+    (ap type_seen (sym cel.rolls-Bool) ∙ fold-roll-CelType ValueType type_step CelType-F.Bool) refl
 
 pub typed_variant-returns-in-Int : goal.typed_variant-returns-in-Int
 typed_variant-returns-in-Int t c =
-    literal (view c.args.tree.now) (expr.Int c.in-Int.field-0) (scope_seen c.args.scope.now) cel.Int type.int
-    (ap view (c.in-Int.is ∙ sym (tree.rolls-Int c.in-Int.field-0)) ∙ fold-roll-Tree Expr view_step (Tree-F.Int c.in-Int.field-0)) (ap type_seen (sym cel.rolls-Int) ∙ fold-roll-CelType ValueType type_step CelType-F.Int) refl
+    literal c.args.tree.now _ (Tree-F.Int c.in-Int.field-0) (scope_seen c.args.scope.now) cel.Int type.int c.in-Int.is (tree.rolls-Int c.in-Int.field-0)
+    (ap type_seen (sym cel.rolls-Int) ∙ fold-roll-CelType ValueType type_step CelType-F.Int) refl
 
 pub typed_variant-returns-in-Uint : goal.typed_variant-returns-in-Uint
 typed_variant-returns-in-Uint t c =
-    literal (view c.args.tree.now) (expr.Uint c.in-Uint.field-0) (scope_seen c.args.scope.now) cel.Uint type.uint
-    (ap view (c.in-Uint.is ∙ sym (tree.rolls-Uint c.in-Uint.field-0)) ∙ fold-roll-Tree Expr view_step (Tree-F.Uint c.in-Uint.field-0)) (ap type_seen (sym cel.rolls-Uint) ∙ fold-roll-CelType ValueType type_step CelType-F.Uint) refl
+    literal c.args.tree.now _ (Tree-F.Uint c.in-Uint.field-0) (scope_seen c.args.scope.now) cel.Uint type.uint c.in-Uint.is (tree.rolls-Uint c.in-Uint.field-0)
+    (ap type_seen (sym cel.rolls-Uint) ∙ fold-roll-CelType ValueType type_step CelType-F.Uint) refl
 
 pub typed_variant-returns-in-Text : goal.typed_variant-returns-in-Text
 typed_variant-returns-in-Text t c =
-    literal (view c.args.tree.now) (expr.Text (string_bytes c.in-Text.field-0)) (scope_seen c.args.scope.now) cel.Text type.string
-    (ap view (c.in-Text.is ∙ sym (tree.rolls-Text c.in-Text.field-0)) ∙ fold-roll-Tree Expr view_step (Tree-F.Text c.in-Text.field-0)) (ap type_seen (sym cel.rolls-Text) ∙ fold-roll-CelType ValueType type_step CelType-F.Text) refl
+    literal c.args.tree.now _ (Tree-F.Text c.in-Text.field-0) (scope_seen c.args.scope.now) cel.Text type.string c.in-Text.is (tree.rolls-Text c.in-Text.field-0)
+    (ap type_seen (sym cel.rolls-Text) ∙ fold-roll-CelType ValueType type_step CelType-F.Text) refl
+
+pub typed-returns-in-Unary : goal.typed-returns-in-Unary
+typed-returns-in-Unary t c =
+    gives_as c.args.tree.now _ (Tree-F.Unary c.in-Unary.prefix c.in-Unary.of) (scope_seen c.args.scope.now) c.typed_unary.result c.in-Unary.is (tree.rolls-Unary c.in-Unary.prefix c.in-Unary.of)
+    c.typed_unary.ensures
+
+pub typed-returns-in-Field : goal.typed-returns-in-Field
+typed-returns-in-Field t c =
+    gives_as c.args.tree.now _ (Tree-F.Field c.in-Field.of c.in-Field.name) (scope_seen c.args.scope.now) c.typed_field.result c.in-Field.is (tree.rolls-Field c.in-Field.of c.in-Field.name)
+    c.typed_field.ensures
+
+pub typed-returns-in_ok-left-in-Infix : goal.typed-returns-in_ok-left-in-Infix
+typed-returns-in_ok-left-in-Infix t c =
+    let g = scope_seen c.args.scope.now in
+    let first = c.in_ok-left-in-Infix.ensures ∙ ap (λ z. type_of (view z) g) c.deref.ensures in
+    gives_as c.args.tree.now _ (Tree-F.Infix c.in-Infix.operator c.in-Infix.left c.in-Infix.right) g c.typed_infix.result c.in-Infix.is (tree.rolls-Infix c.in-Infix.operator c.in-Infix.left c.in-Infix.right)
+    (gives_by (λ o. option_and_then (λ t. option_and_then (infix_type c.in-Infix.operator t) (type_of (view c.in-Infix.right.value) g)) o) _
+    (type_of (view c.in-Infix.left.value) g) c.typed_infix.result first c.typed_infix.ensures)
+
+pub typed_variant-returns-in-Name : goal.typed_variant-returns-in-Name
+typed_variant-returns-in-Name t c =
+    let g = scope_seen c.args.scope.now in
+    gives_as c.args.tree.now _ (Tree-F.Name c.in-Name.name) g c.name_type.result c.in-Name.is (tree.rolls-Name c.in-Name.name)
+    (subst (Gives c.name_type.result) (ap (λ x. name_type x g) c.deref.ensures) c.name_type.ensures)
 
 pub typed_variant-returns-in-Field : goal.typed_variant-returns-in-Field
 typed_variant-returns-in-Field t c =
-    gives_as (view c.args.tree.now) (expr.Field (view c.in-Field.of.value) (string_bytes c.in-Field.name)) (scope_seen c.args.scope.now) c.typed_field.result
-    (ap view (c.in-Field.is ∙ sym (tree.rolls-Field c.in-Field.of c.in-Field.name)) ∙ fold-roll-Tree Expr view_step (Tree-F.Field c.in-Field.of c.in-Field.name)) c.typed_field.ensures
+    gives_as c.args.tree.now _ (Tree-F.Field c.in-Field.of c.in-Field.name) (scope_seen c.args.scope.now) c.typed_field.result c.in-Field.is (tree.rolls-Field c.in-Field.of c.in-Field.name)
+    c.typed_field.ensures
 
 pub typed_variant-returns-in-List : goal.typed_variant-returns-in-List
 typed_variant-returns-in-List t c =
-    gives_as (view c.args.tree.now) (expr.Sequence (views c.in-List.items.items)) (scope_seen c.args.scope.now) c.typed_list.result
-    (ap view (c.in-List.is ∙ sym (tree.rolls-List c.in-List.items)) ∙ fold-roll-Tree Expr view_step (Tree-F.List c.in-List.items)) c.typed_list.ensures
+    gives_as c.args.tree.now _ (Tree-F.List c.in-List.items) (scope_seen c.args.scope.now) c.typed_list.result c.in-List.is (tree.rolls-List c.in-List.items)
+    c.typed_list.ensures
 
 pub typed_variant-returns-in-Map : goal.typed_variant-returns-in-Map
 typed_variant-returns-in-Map t c =
-    gives_as (view c.args.tree.now) (expr.Mapping (pair_views c.in-Map.entries.items)) (scope_seen c.args.scope.now) c.typed_map.result
-    (ap view (c.in-Map.is ∙ sym (tree.rolls-Map c.in-Map.entries)) ∙ fold-roll-Tree Expr view_step (Tree-F.Map c.in-Map.entries)) c.typed_map.ensures
+    gives_as c.args.tree.now _ (Tree-F.Map c.in-Map.entries) (scope_seen c.args.scope.now) c.typed_map.result c.in-Map.is (tree.rolls-Map c.in-Map.entries)
+    c.typed_map.ensures
 
 pub typed_variant-returns-in-Unary : goal.typed_variant-returns-in-Unary
 typed_variant-returns-in-Unary t c =
-    gives_as (view c.args.tree.now) (expr.Unary c.in-Unary.prefix (view c.in-Unary.of.value)) (scope_seen c.args.scope.now) c.typed_unary.result
-    (ap view (c.in-Unary.is ∙ sym (tree.rolls-Unary c.in-Unary.prefix c.in-Unary.of)) ∙ fold-roll-Tree Expr view_step (Tree-F.Unary c.in-Unary.prefix c.in-Unary.of)) c.typed_unary.ensures
+    gives_as c.args.tree.now _ (Tree-F.Unary c.in-Unary.prefix c.in-Unary.of) (scope_seen c.args.scope.now) c.typed_unary.result c.in-Unary.is (tree.rolls-Unary c.in-Unary.prefix c.in-Unary.of)
+    c.typed_unary.ensures
 
 pub typed_variant-returns-in-Call : goal.typed_variant-returns-in-Call
 typed_variant-returns-in-Call t c =
-    gives_as (view c.args.tree.now) (expr.Call (string_bytes c.in-Call.name) (views c.in-Call.arguments.items)) (scope_seen c.args.scope.now) c.typed_call.result
-    (ap view (c.in-Call.is ∙ sym (tree.rolls-Call c.in-Call.name c.in-Call.arguments)) ∙ fold-roll-Tree Expr view_step (Tree-F.Call c.in-Call.name c.in-Call.arguments)) c.typed_call.ensures
+    gives_as c.args.tree.now _ (Tree-F.Call c.in-Call.name c.in-Call.arguments) (scope_seen c.args.scope.now) c.typed_call.result c.in-Call.is (tree.rolls-Call c.in-Call.name c.in-Call.arguments)
+    c.typed_call.ensures
 
 pub typed_variant-returns-in_ok-of-in-Index : goal.typed_variant-returns-in_ok-of-in-Index
 typed_variant-returns-in_ok-of-in-Index t c =
     let g = scope_seen c.args.scope.now in
     let first = c.in_ok-of-in-Index.ensures ∙ ap (λ z. type_of (view z) g) c.deref-in-Index.ensures in
-    gives_as (view c.args.tree.now) (expr.Index (view c.in-Index.of.value) (view c.in-Index.index.value)) g c.typed_index.result
-    (ap view (c.in-Index.is ∙ sym (tree.rolls-Index c.in-Index.of c.in-Index.index)) ∙ fold-roll-Tree Expr view_step (Tree-F.Index c.in-Index.of c.in-Index.index))
-    (gives_by (λ o. option_and_then (λ t. option_and_then (index_type t) (type_of (view c.in-Index.index.value) g)) o) (option_map type_seen c.in_ok-of-in-Index.of) (type_of (view c.in-Index.of.value) g) c.typed_index.result first c.typed_index.ensures)
+    gives_as c.args.tree.now _ (Tree-F.Index c.in-Index.of c.in-Index.index) g c.typed_index.result c.in-Index.is (tree.rolls-Index c.in-Index.of c.in-Index.index)
+    (gives_by (λ o. option_and_then (λ t. option_and_then (index_type t) (type_of (view c.in-Index.index.value) g)) o) _
+    (type_of (view c.in-Index.of.value) g) c.typed_index.result first c.typed_index.ensures)
 
 pub typed_variant-returns-in_ok-left-in-Infix : goal.typed_variant-returns-in_ok-left-in-Infix
 typed_variant-returns-in_ok-left-in-Infix t c =
     let g = scope_seen c.args.scope.now in
     let first = c.in_ok-left-in-Infix.ensures ∙ ap (λ z. type_of (view z) g) c.deref-in-Infix.ensures in
-    gives_as (view c.args.tree.now) (expr.Infix c.in-Infix.operator (view c.in-Infix.left.value) (view c.in-Infix.right.value)) g c.typed_infix.result
-    (ap view (c.in-Infix.is ∙ sym (tree.rolls-Infix c.in-Infix.operator c.in-Infix.left c.in-Infix.right)) ∙ fold-roll-Tree Expr view_step (Tree-F.Infix c.in-Infix.operator c.in-Infix.left c.in-Infix.right))
-    (gives_by (λ o. option_and_then (λ t. option_and_then (infix_type c.in-Infix.operator t) (type_of (view c.in-Infix.right.value) g)) o) (option_map type_seen c.in_ok-left-in-Infix.left) (type_of (view c.in-Infix.left.value) g) c.typed_infix.result first c.typed_infix.ensures)
+    gives_as c.args.tree.now _ (Tree-F.Infix c.in-Infix.operator c.in-Infix.left c.in-Infix.right) g c.typed_infix.result c.in-Infix.is (tree.rolls-Infix c.in-Infix.operator c.in-Infix.left c.in-Infix.right)
+    (gives_by (λ o. option_and_then (λ t. option_and_then (infix_type c.in-Infix.operator t) (type_of (view c.in-Infix.right.value) g)) o) _
+    (type_of (view c.in-Infix.left.value) g) c.typed_infix.result first c.typed_infix.ensures)
 
 pub typed_variant-returns-in_ok-of-in-Method : goal.typed_variant-returns-in_ok-of-in-Method
 typed_variant-returns-in_ok-of-in-Method t c =
     let g = scope_seen c.args.scope.now in
     let first = c.in_ok-of-in-Method.ensures ∙ ap (λ z. type_of (view z) g) c.deref-in-Method.ensures in
-    gives_as (view c.args.tree.now) (expr.Method (view c.in-Method.of.value) (string_bytes c.in-Method.name) (views c.in-Method.arguments.items)) g c.typed_method.result
-    (ap view (c.in-Method.is ∙ sym (tree.rolls-Method c.in-Method.of c.in-Method.name c.in-Method.arguments)) ∙ fold-roll-Tree Expr view_step (Tree-F.Method c.in-Method.of c.in-Method.name c.in-Method.arguments))
-    (gives_by (λ o. option_and_then (λ t. option_and_then (method_type (string_bytes c.in-Method.name) t) (types_of (views c.in-Method.arguments.items) g)) o) (option_map type_seen c.in_ok-of-in-Method.of) (type_of (view c.in-Method.of.value) g) c.typed_method.result first c.typed_method.ensures)
+    gives_as c.args.tree.now _ (Tree-F.Method c.in-Method.of c.in-Method.name c.in-Method.arguments) g c.typed_method.result c.in-Method.is (tree.rolls-Method c.in-Method.of c.in-Method.name c.in-Method.arguments)
+    (gives_by (λ o. option_and_then (λ t. option_and_then (method_type (string_bytes c.in-Method.name) t) (types_of (views c.in-Method.arguments.items) g)) o) _
+    (type_of (view c.in-Method.of.value) g) c.typed_method.result first c.typed_method.ensures)
