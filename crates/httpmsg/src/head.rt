@@ -136,13 +136,6 @@ fn trim(bytes: &[u8]) -> &[u8]
     trim_end(trim_start(bytes))
 }
 
-// Whether the bytes are equal but for the case of ASCII letters.
-fn is_same_name(name: &[u8], other: &[u8]) -> bool
-    ensures { result ≡ str_eq_ignore_ascii_case name.now other.now }
-{
-    name.eq_ignore_ascii_case(other)
-}
-
 fn first_comma(bytes: &[u8]) -> Option<usize>
     ensures at { result ≡ position (λ b. b == 44) bytes.now }
     ensures fits { IfSome result (λ at. at + 1 < 2 ^ 64) }
@@ -153,7 +146,7 @@ fn first_comma(bytes: &[u8]) -> Option<usize>
 fn is_close(option: &[u8]) -> bool
     ensures { result ≡ is_close option.now }
 {
-    is_same_name(trim(option), b"close")
+    trim(option).eq_ignore_ascii_case(b"close")
 }
 
 // Whether the value of a `Connection` field has the option `close`.
@@ -175,7 +168,7 @@ fn is_named(bytes: &[u8], field: &HeaderSpan, name: &[u8]) -> bool
     requires { IsHeaderWithin (length bytes.now) field.now }
     ensures { result ≡ str_eq_ignore_ascii_case (header_bytes bytes.now field.now).0 name.now }
 {
-    is_same_name(field.name.of(bytes), name)
+    field.name.of(bytes).eq_ignore_ascii_case(name)
 }
 
 // How many fields have this name.

@@ -42,16 +42,6 @@ fn before_request(byte: u8) -> Option<Place>
     }
 }
 
-fn in_empty_line(byte: u8) -> Option<Place>
-    ensures { IfSome result (Steps Place.InEmptyLine byte) }
-{
-    if byte == b'\n' {
-        Some(Place::BeforeRequest)
-    } else {
-        None
-    }
-}
-
 fn in_method(byte: u8) -> Option<Place>
     ensures { IfSome result (Steps Place.InMethod byte) }
 {
@@ -113,16 +103,6 @@ fn after_version(byte: u8) -> Option<Place>
     }
 }
 
-fn after_return(byte: u8) -> Option<Place>
-    ensures { IfSome result (Steps Place.AfterReturn byte) }
-{
-    if byte == b'\n' {
-        Some(Place::BeforeLine)
-    } else {
-        None
-    }
-}
-
 fn before_line(byte: u8) -> Option<Place>
     ensures { IfSome result (Steps Place.BeforeLine byte) }
 {
@@ -165,13 +145,13 @@ impl Place {
     {
         match self {
             Place::BeforeRequest => before_request(byte),
-            Place::InEmptyLine => in_empty_line(byte),
+            Place::InEmptyLine => (byte == b'\n').then_some(Place::BeforeRequest),
             Place::InMethod => in_method(byte),
             Place::BeforeTarget => before_target(byte),
             Place::InTarget => in_target(byte),
             Place::InVersion(count) => in_version(count, byte),
             Place::AfterVersion => after_version(byte),
-            Place::AfterReturn => after_return(byte),
+            Place::AfterReturn => (byte == b'\n').then_some(Place::BeforeLine),
             Place::BeforeLine => before_line(byte),
             Place::InLastLine => None,
             Place::InName => in_name(byte),
