@@ -5,8 +5,8 @@ ghost use Rattle.celtokens.specs.Class.{StartsWith};
 ghost use Rattle.celtokens.specs.Sign.{one_char, two_chars, IsSignOfTwo, HasNoSignOfTwo, IsSignOfOne, HasNoSignOfOne, IsComment, IsNoComment};
 ghost use Rattle.celtokens.specs.Numeral.{FirstIs, FirstIsNot};
 ghost use Rattle.celtokens.specs.Text.{is_r, HasNoRawText, IsRawText};
-ghost use Rattle.celtokens.specs.Lexeme.{Longest, HasNoLexeme};
-ghost use Rattle.celtokens.specs.Seen.{part};
+ghost use Rattle.celtokens.specs.Lexeme.{Whole, Longest, HasNoLexeme};
+ghost use Rattle.celtokens.specs.Seen.{terminal, part};
 ghost use Rattle.celtokens.specs.declared.«class».Class.TheVariants as class_of;
 
 use crate::class::{Class, classify};
@@ -39,15 +39,15 @@ fn raw_text(alloc: Global, chars: &[char]) -> Result<Option<(Vec<char>, &[char])
 }
 
 // A raw string, or else a word.
-fn letter(alloc: Global, chars: &[char]) -> Result<Option<(Option<Token<'_>>, &[char])>, AllocError>
+fn letter(alloc: Global, chars: &[char]) -> Result<(Token<'_>, &[char]), AllocError>
     requires { StartsWith class_of.Letter chars.now }
-    ensures { IfOk result (λ o. MatchOption o (HasNoLexeme chars.now) (λ x. Longest chars.now (part x.0) x.1.now)) }
+    ensures { IfOk result (λ x. Longest chars.now (Whole (terminal x.0)) x.1.now) }
 {
     match raw_text(alloc, chars)? {
-        Some((characters, rest)) => Ok(Some((Some(Token::Text(characters)), rest))),
+        Some((characters, rest)) => Ok((Token::Text(characters), rest)),
         None => {
             let (name, rest) = split_run(chars, Kind::InWord);
-            Ok(Some((Some(word(name)), rest)))
+            Ok((word(name), rest))
         }
     }
 }
@@ -177,7 +177,10 @@ pub(crate) fn lexeme(
     };
     match classify(*first) {
         Class::Blank => Ok(Some((None, rest))),
-        Class::Letter => letter(alloc, chars),
+        Class::Letter => {
+            let (token, rest) = letter(alloc, chars)?;
+            Ok(Some((Some(token), rest)))
+        }
         Class::Digit => {
             let (token, rest) = number(chars);
             Ok(Some((Some(token), rest)))
