@@ -33,9 +33,6 @@ HasNoOperator h l = (w : Terminal) (r : List Terminal) (o : Operator) → l ≡ 
 abbrev pub HasNoPrefix : List Terminal → Type 0
 HasNoPrefix l = (after_prefix prefix_of.Not l ≡ None) × (after_prefix prefix_of.Negate l ≡ None)
 
-abbrev pub IsName : List Terminal → List ℕ → List Terminal → Type 0
-IsName l x r = l ≡ token.Ident x ∷ r
-
 abbrev pub HasNoName : List Terminal → Type 0
 HasNoName l = (x : List ℕ) (r : List Terminal) → l ≡ token.Ident x ∷ r → ⊥
 
