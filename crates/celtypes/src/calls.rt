@@ -1,6 +1,6 @@
 //! Calls, macros and literals of lists and maps.
 
-ghost use Rattle.std.specs.Prelude.{◌≡◌, Some, option_map, IfOk};
+ghost use Rattle.std.specs.Prelude.{◌≡◌, option_map, option_and_then, IfOk};
 ghost use Rattle.celtypes.specs.Computed.{given, function_type, call_type, element, is_text_test, size_method_type, text_test_type, method_type, macro_type, mapping_type};
 ghost use Rattle.celtypes.specs.Seen.{type_seen, types_seen};
 ghost use Rattle.celtypes.specs.Types.{int, uint, string, list};
@@ -24,10 +24,11 @@ fn function_type(name: &str, of: &CelType) -> Option<CelType>
     }
 }
 
-/// `f(e)`: no function takes any other number of arguments.
-pub(crate) fn call_type(name: &str, arguments: &Vec<CelType>) -> Option<CelType>
-    ensures { option_map type_seen result ≡ call_type name.now (types_seen arguments.now.items) }
+/// `f(e)`, if the arguments have types: no function takes any other number of them.
+pub(crate) fn call_type(name: &str, arguments: Option<Vec<CelType>>) -> Option<CelType>
+    ensures { option_map type_seen result ≡ option_and_then (call_type name.now) (option_map (λ v. types_seen v.items) arguments) }
 {
+    let arguments = arguments?;
     match arguments.as_slice() {
         [argument] => function_type(name, argument),
         _ => None,
@@ -85,14 +86,17 @@ pub(crate) fn macro_type(
     }
 }
 
-/// `[e]`
+/// `[e]`, if the items have types.
 pub(crate) fn sequence_type(
     alloc: Global,
-    items: &Vec<CelType>,
+    items: Option<Vec<CelType>>,
 ) -> Result<Option<CelType>, AllocError>
-    ensures { IfOk result (λ o. option_map type_seen o ≡ Some (list (element (types_seen items.now.items)))) }
+    ensures { IfOk result (λ o. option_map type_seen o ≡ option_map (λ ts. list (element ts)) (option_map (λ v. types_seen v.items) items)) }
 {
-    Ok(Some(CelType::List(element(alloc, items)?)))
+    match items {
+        Some(items) => Ok(Some(CelType::List(element(alloc, &items)?))),
+        None => Ok(None),
+    }
 }
 
 /// `{k: v}`

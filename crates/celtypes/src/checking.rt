@@ -16,7 +16,7 @@ use crate::operands::{
 use crate::rows::{field_type, prefix_type, presence_type};
 use crate::scope::{Env, Local, Scope, bind, name_type, variable_type};
 use crate::types::CelType;
-use celtree::{Macro, Operator, Prefix, Tree, is_variables};
+use celtree::{Macro, Operator, Tree, is_variables};
 use std::alloc::{AllocError, Global};
 
 // The type of the tree, or none. Apart from `typed_variant`, so that a long sum or a long chain of prefix operators or fields takes
@@ -26,7 +26,7 @@ fn typed(alloc: Global, tree: &Tree, scope: &Scope<'_>) -> Result<Option<CelType
     ensures { IfOk result (λ o. option_map type_seen o ≡ type_of (view tree.now) (scope_seen scope.now)) }
 {
     match tree {
-        Tree::Unary(prefix, of) => typed_unary(alloc, *prefix, of, scope),
+        Tree::Unary(prefix, of) => Ok(prefix_type(*prefix, typed(alloc, of, scope)?)),
         Tree::Field(of, name) => typed_field(alloc, of, name, scope),
         Tree::Infix(operator, left, right) => {
             let left = typed(alloc, left, scope)?;
@@ -52,14 +52,14 @@ fn typed_variant(
         Tree::Text(_) => Ok(Some(CelType::Text)),
         Tree::Name(name) => name_type(name, scope),
         Tree::Field(of, name) => typed_field(alloc, of, name, scope),
-        Tree::Has(of, _) => Ok(typed(alloc, of, scope)?.and_then(presence_type)),
+        Tree::Has(of, _) => Ok(presence_type(typed(alloc, of, scope)?)),
         Tree::Index(of, index) => {
             let of = typed(alloc, of, scope)?;
             typed_index(alloc, index, of, scope)
         }
-        Tree::List(items) => typed_list(alloc, items, scope),
+        Tree::List(items) => sequence_type(alloc, typed_items(alloc, items, scope)?),
         Tree::Map(entries) => typed_map(alloc, entries, scope),
-        Tree::Unary(prefix, of) => typed_unary(alloc, *prefix, of, scope),
+        Tree::Unary(prefix, of) => Ok(prefix_type(*prefix, typed(alloc, of, scope)?)),
         Tree::Infix(operator, left, right) => {
             let left = typed(alloc, left, scope)?;
             typed_infix(alloc, *operator, right, left, scope)
@@ -69,7 +69,9 @@ fn typed_variant(
             let first = typed(alloc, first, scope)?;
             typed_second(alloc, second, is_test, first, scope)
         }
-        Tree::Call(name, arguments) => typed_call(alloc, name, arguments, scope),
+        Tree::Call(name, arguments) => {
+            Ok(call_type(name, typed_items(alloc, arguments, scope)?))
+        }
         Tree::Method(of, name, arguments) => {
             let of = typed(alloc, of, scope)?;
             typed_method(alloc, arguments, name, of, scope)
@@ -94,21 +96,7 @@ fn typed_field(
     if is_variables(of) {
         variable_type(name, scope.variables)
     } else {
-        Ok(typed(alloc, of, scope)?.and_then(field_type))
-    }
-}
-
-#[cycle(typed)]
-fn typed_list(
-    alloc: Global,
-    items: &Vec<Tree>,
-    scope: &Scope<'_>,
-) -> Result<Option<CelType>, AllocError>
-    ensures { IfOk result (λ o. option_map type_seen o ≡ type_of (expr.Sequence (views items.now.items)) (scope_seen scope.now)) }
-{
-    match typed_items(alloc, items, scope)? {
-        Some(types) => sequence_type(alloc, &types),
-        None => Ok(None),
+        Ok(field_type(typed(alloc, of, scope)?))
     }
 }
 
@@ -123,21 +111,6 @@ fn typed_map(
     let keys = typed_keys(alloc, entries, scope)?;
     let values = typed_values(alloc, entries, scope)?;
     mapping_of(alloc, keys, values)
-}
-
-#[cycle(typed)]
-fn typed_unary(
-    alloc: Global,
-    prefix: Prefix,
-    of: &Box<Tree>,
-    scope: &Scope<'_>,
-) -> Result<Option<CelType>, AllocError>
-    ensures { IfOk result (λ o. option_map type_seen o ≡ type_of (expr.Unary prefix (view of.now.value)) (scope_seen scope.now)) }
-{
-    match typed(alloc, of, scope)? {
-        Some(of) => Ok(prefix_type(prefix, &of)),
-        None => Ok(None),
-    }
 }
 
 // The same for an operator, by the type of its left side.
@@ -182,21 +155,6 @@ fn typed_second(
 {
     let second = typed(alloc, second, scope)?;
     Ok(conditional_of(is_test, first, second))
-}
-
-#[cycle(typed)]
-fn typed_call(
-    alloc: Global,
-    name: &String,
-    arguments: &Vec<Tree>,
-    scope: &Scope<'_>,
-) -> Result<Option<CelType>, AllocError>
-    ensures { IfOk result (λ o. option_map type_seen o ≡ type_of (expr.Call (string_bytes name.now) (views arguments.now.items)) (scope_seen scope.now)) }
-{
-    match typed_items(alloc, arguments, scope)? {
-        Some(arguments) => Ok(call_type(name, &arguments)),
-        None => Ok(None),
-    }
 }
 
 // The type of a method's call, by the type of what it is called on.

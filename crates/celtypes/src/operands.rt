@@ -17,7 +17,7 @@ pub(crate) fn range_of(variable: &str, of: Option<CelType>) -> Option<CelType>
     if variable == "variables" {
         None
     } else {
-        of.and_then(item_type)
+        item_type(of)
     }
 }
 

@@ -1,6 +1,6 @@
 //! What operators and functions take and give.
 
-ghost use Rattle.std.specs.Prelude.{◌≡◌, option_map, IfOk};
+ghost use Rattle.std.specs.Prelude.{◌≡◌, option_map, option_and_then, IfOk};
 ghost use Rattle.celtypes.specs.Computed.{given, fits_bool, fits_int, fits_uint, fits_string, fits_number, fits_convertible, fits_key, are_keys, fits_sized, fits_ordered, list_sum, dyn_sum, sum_type, dyn_number, number_type, compares, has_items, item_type, index_type, field_type, presence_type, prefix_type, infix_type};
 ghost use Rattle.celtypes.specs.Seen.{type_seen, types_seen};
 ghost use Rattle.celtypes.specs.Types.{bool};
@@ -136,8 +136,7 @@ fn dyn_number(right: &CelType) -> Option<CelType>
         CelType::Int => Some(CelType::Int),
         CelType::Uint => Some(CelType::Uint),
         CelType::Dyn => Some(CelType::Dyn),
-        CelType::Bool | CelType::Text | CelType::Null => None,
-        CelType::List(_) | CelType::Map(_, _) => None,
+        _ => None,
     }
 }
 
@@ -149,8 +148,7 @@ fn number_type(left: &CelType, right: &CelType) -> Option<CelType>
         CelType::Int => fits_int(right).then_some(CelType::Int),
         CelType::Uint => fits_uint(right).then_some(CelType::Uint),
         CelType::Dyn => dyn_number(right),
-        CelType::Bool | CelType::Text | CelType::Null => None,
-        CelType::List(_) | CelType::Map(_, _) => None,
+        _ => None,
     }
 }
 
@@ -163,7 +161,7 @@ fn compares(left: &CelType, right: &CelType) -> bool
         CelType::Text => fits_string(right),
         CelType::Bool => fits_bool(right),
         CelType::Dyn => fits_ordered(right),
-        CelType::Null | CelType::List(_) | CelType::Map(_, _) => false,
+        _ => false,
     }
 }
 
@@ -180,15 +178,15 @@ pub(crate) fn bool_if(condition: bool) -> Option<CelType>
     condition.then_some(CelType::Bool)
 }
 
-/// The type of what a macro goes over.
-pub(crate) fn item_type(of: CelType) -> Option<CelType>
-    ensures { option_map type_seen result ≡ item_type (type_seen of) }
+/// The type of the items that a macro goes over, if it goes over what has a type.
+pub(crate) fn item_type(of: Option<CelType>) -> Option<CelType>
+    ensures { option_map type_seen result ≡ option_and_then item_type (option_map type_seen of) }
 {
     match of {
-        CelType::List(item) => Some(Box::into_inner(item)),
-        CelType::Map(key, _) => Some(Box::into_inner(key)),
-        CelType::Dyn => Some(CelType::Dyn),
-        CelType::Int | CelType::Uint | CelType::Bool | CelType::Text | CelType::Null => None,
+        Some(CelType::List(item)) => Some(Box::into_inner(item)),
+        Some(CelType::Map(key, _)) => Some(Box::into_inner(key)),
+        Some(CelType::Dyn) => Some(CelType::Dyn),
+        _ => None,
     }
 }
 
@@ -200,36 +198,36 @@ pub(crate) fn index_type(of: CelType, index: &CelType) -> Option<CelType>
         CelType::List(item) => fits_int(index).then_some(Box::into_inner(item)),
         CelType::Map(_, value) => Some(Box::into_inner(value)),
         CelType::Dyn => Some(CelType::Dyn),
-        CelType::Int | CelType::Uint | CelType::Bool | CelType::Text | CelType::Null => None,
+        _ => None,
     }
 }
 
-/// `e.f`
-pub(crate) fn field_type(of: CelType) -> Option<CelType>
-    ensures { option_map type_seen result ≡ field_type (type_seen of) }
+/// `e.f`, if `e` has a type.
+pub(crate) fn field_type(of: Option<CelType>) -> Option<CelType>
+    ensures { option_map type_seen result ≡ option_and_then field_type (option_map type_seen of) }
 {
     match of {
-        CelType::Map(key, value) => fits_string(&key).then_some(Box::into_inner(value)),
-        CelType::Dyn => Some(CelType::Dyn),
-        CelType::Int | CelType::Uint | CelType::Bool | CelType::Text => None,
-        CelType::Null | CelType::List(_) => None,
+        Some(CelType::Map(key, value)) => fits_string(&key).then_some(Box::into_inner(value)),
+        Some(CelType::Dyn) => Some(CelType::Dyn),
+        _ => None,
     }
 }
 
-/// `has(e.f)`
-pub(crate) fn presence_type(of: CelType) -> Option<CelType>
-    ensures { option_map type_seen result ≡ presence_type (type_seen of) }
+/// `has(e.f)`, if `e` has a type.
+pub(crate) fn presence_type(of: Option<CelType>) -> Option<CelType>
+    ensures { option_map type_seen result ≡ option_and_then presence_type (option_map type_seen of) }
 {
     bool_if(field_type(of).is_some())
 }
 
-/// `!e` and `-e`
-pub(crate) fn prefix_type(prefix: Prefix, of: &CelType) -> Option<CelType>
-    ensures { option_map type_seen result ≡ prefix_type prefix (type_seen of.now) }
+/// `!e` and `-e`, if `e` has a type.
+pub(crate) fn prefix_type(prefix: Prefix, of: Option<CelType>) -> Option<CelType>
+    ensures { option_map type_seen result ≡ option_and_then (prefix_type prefix) (option_map type_seen of) }
 {
+    let of = of?;
     match prefix {
-        Prefix::Not => bool_if(fits_bool(of)),
-        Prefix::Negate => fits_int(of).then_some(CelType::Int),
+        Prefix::Not => bool_if(fits_bool(&of)),
+        Prefix::Negate => fits_int(&of).then_some(CelType::Int),
     }
 }
 

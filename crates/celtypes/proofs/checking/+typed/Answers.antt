@@ -177,11 +177,6 @@ typed_variant-returns-in-Text t c =
     literal c.args.tree.now _ (Tree-F.Text c.in-Text.field-0) (scope_seen c.args.scope.now) cel.Text type.string c.in-Text.is (tree.rolls-Text c.in-Text.field-0)
     (ap type_seen (sym cel.rolls-Text) ∙ fold-roll-CelType ValueType type_step CelType-F.Text) refl
 
-pub typed-returns-in-Unary : goal.typed-returns-in-Unary
-typed-returns-in-Unary t c =
-    gives_as c.args.tree.now _ (Tree-F.Unary c.in-Unary.prefix c.in-Unary.of) (scope_seen c.args.scope.now) c.typed_unary.result c.in-Unary.is (tree.rolls-Unary c.in-Unary.prefix c.in-Unary.of)
-    c.typed_unary.ensures
-
 pub typed-returns-in-Field : goal.typed-returns-in-Field
 typed-returns-in-Field t c =
     gives_as c.args.tree.now _ (Tree-F.Field c.in-Field.of c.in-Field.name) (scope_seen c.args.scope.now) c.typed_field.result c.in-Field.is (tree.rolls-Field c.in-Field.of c.in-Field.name)
@@ -190,7 +185,7 @@ typed-returns-in-Field t c =
 pub typed-returns-in_ok-left-in-Infix : goal.typed-returns-in_ok-left-in-Infix
 typed-returns-in_ok-left-in-Infix t c =
     let g = scope_seen c.args.scope.now in
-    let first = c.in_ok-left-in-Infix.ensures ∙ ap (λ z. type_of (view z) g) c.deref.ensures in
+    let first = c.in_ok-left-in-Infix.ensures ∙ ap (λ z. type_of (view z) g) c.deref-in-Infix.ensures in
     gives_as c.args.tree.now _ (Tree-F.Infix c.in-Infix.operator c.in-Infix.left c.in-Infix.right) g c.typed_infix.result c.in-Infix.is (tree.rolls-Infix c.in-Infix.operator c.in-Infix.left c.in-Infix.right)
     (gives_by (λ o. option_and_then (λ t. option_and_then (infix_type c.in-Infix.operator t) (type_of (view c.in-Infix.right.value) g)) o) _
     (type_of (view c.in-Infix.left.value) g) c.typed_infix.result first c.typed_infix.ensures)
@@ -206,25 +201,10 @@ typed_variant-returns-in-Field t c =
     gives_as c.args.tree.now _ (Tree-F.Field c.in-Field.of c.in-Field.name) (scope_seen c.args.scope.now) c.typed_field.result c.in-Field.is (tree.rolls-Field c.in-Field.of c.in-Field.name)
     c.typed_field.ensures
 
-pub typed_variant-returns-in-List : goal.typed_variant-returns-in-List
-typed_variant-returns-in-List t c =
-    gives_as c.args.tree.now _ (Tree-F.List c.in-List.items) (scope_seen c.args.scope.now) c.typed_list.result c.in-List.is (tree.rolls-List c.in-List.items)
-    c.typed_list.ensures
-
 pub typed_variant-returns-in-Map : goal.typed_variant-returns-in-Map
 typed_variant-returns-in-Map t c =
     gives_as c.args.tree.now _ (Tree-F.Map c.in-Map.entries) (scope_seen c.args.scope.now) c.typed_map.result c.in-Map.is (tree.rolls-Map c.in-Map.entries)
     c.typed_map.ensures
-
-pub typed_variant-returns-in-Unary : goal.typed_variant-returns-in-Unary
-typed_variant-returns-in-Unary t c =
-    gives_as c.args.tree.now _ (Tree-F.Unary c.in-Unary.prefix c.in-Unary.of) (scope_seen c.args.scope.now) c.typed_unary.result c.in-Unary.is (tree.rolls-Unary c.in-Unary.prefix c.in-Unary.of)
-    c.typed_unary.ensures
-
-pub typed_variant-returns-in-Call : goal.typed_variant-returns-in-Call
-typed_variant-returns-in-Call t c =
-    gives_as c.args.tree.now _ (Tree-F.Call c.in-Call.name c.in-Call.arguments) (scope_seen c.args.scope.now) c.typed_call.result c.in-Call.is (tree.rolls-Call c.in-Call.name c.in-Call.arguments)
-    c.typed_call.ensures
 
 pub typed_variant-returns-in_ok-of-in-Index : goal.typed_variant-returns-in_ok-of-in-Index
 typed_variant-returns-in_ok-of-in-Index t c =
