@@ -72,12 +72,7 @@ fn leading(
     match operator {
         Operator::And => followed(code, Instruction::IfFalse(end)),
         Operator::Or => followed(code, Instruction::IfTrue(end)),
-        Operator::Multiply | Operator::Divide | Operator::Remainder => Ok(code),
-        Operator::Add | Operator::Subtract => Ok(code),
-        Operator::Less | Operator::LessEqual | Operator::Greater | Operator::GreaterEqual => {
-            Ok(code)
-        }
-        Operator::Equal | Operator::NotEqual | Operator::In => Ok(code),
+        _ => Ok(code),
     }
 }
 

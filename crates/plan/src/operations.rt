@@ -35,10 +35,7 @@ pub(crate) fn steps_between(operator: Operator) -> usize
 {
     match operator {
         Operator::And | Operator::Or => 1,
-        Operator::Multiply | Operator::Divide | Operator::Remainder => 0,
-        Operator::Add | Operator::Subtract => 0,
-        Operator::Less | Operator::LessEqual | Operator::Greater | Operator::GreaterEqual => 0,
-        Operator::Equal | Operator::NotEqual | Operator::In => 0,
+        _ => 0,
     }
 }
 
@@ -46,16 +43,12 @@ pub(crate) fn steps_between(operator: Operator) -> usize
 pub(crate) fn function_named(name: &str) -> Function
     ensures { result ≡ function_named name.now }
 {
-    if name == "size" {
-        Function::Size
-    } else if name == "int" {
-        Function::Int
-    } else if name == "uint" {
-        Function::Uint
-    } else if name == "string" {
-        Function::Text
-    } else {
-        Function::Dyn
+    match name {
+        "size" => Function::Size,
+        "int" => Function::Int,
+        "uint" => Function::Uint,
+        "string" => Function::Text,
+        _ => Function::Dyn,
     }
 }
 
@@ -63,13 +56,10 @@ pub(crate) fn function_named(name: &str) -> Function
 pub(crate) fn method_named(name: &str) -> Function
     ensures { result ≡ method_named name.now }
 {
-    if name == "size" {
-        Function::Size
-    } else if name == "contains" {
-        Function::Contains
-    } else if name == "startsWith" {
-        Function::StartsWith
-    } else {
-        Function::EndsWith
+    match name {
+        "size" => Function::Size,
+        "contains" => Function::Contains,
+        "startsWith" => Function::StartsWith,
+        _ => Function::EndsWith,
     }
 }

@@ -48,14 +48,11 @@ fn slot_inside(locals: &[&str]) -> Slot
 fn declared_name(name: &str) -> Name
     ensures { result ≡ declared_name name.now }
 {
-    if name == "object" {
-        Name::Object
-    } else if name == "oldObject" {
-        Name::OldObject
-    } else if name == "request" {
-        Name::Request
-    } else {
-        Name::Params
+    match name {
+        "object" => Name::Object,
+        "oldObject" => Name::OldObject,
+        "request" => Name::Request,
+        _ => Name::Params,
     }
 }
 
@@ -92,10 +89,7 @@ pub(crate) fn bind<'a>(
 ) -> Result<Vec<&'a str>, AllocError>
     ensures { IfOk result (λ v. map (λ s. s.now) v.items ≡ first.now ∷ map (λ s. s.now) locals.now) }
 {
-    let mut all = Vec::new(alloc);
-    all.push(first)?;
-    for local in locals {
-        all.push(*local)?;
-    }
+    let mut all = Vec::from_slice(alloc, locals)?;
+    all.insert(0, first)?;
     Ok(all)
 }
