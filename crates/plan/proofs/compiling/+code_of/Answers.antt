@@ -522,3 +522,113 @@ code_of_unary-returns-clause-code t c =
 pub code_of_call-returns-clause-code : goal.code_of_call-returns-clause-code
 code_of_call-returns-clause-code t c =
     followed_by c.followed.result c.in_ok-code.ensures.code (ap TakeCall (c.function_named.ensures ∙ ap function_named c.deref.ensures)) c.followed.ensures.code
+
+-- each call is of a smaller tree, whose instructions have room
+
+pub code_of_presence-code_of-requires : goal.code_of_presence-code_of-requires
+code_of_presence-code_of-requires t c =
+    let e = ap (λ (t : Tree). size (view t)) c.deref.ensures in
+    (omega (arith, e), (omega (arith, e), c.requires.few))
+
+pub code_of_unary-code_of-requires : goal.code_of_unary-code_of-requires
+code_of_unary-code_of-requires t c =
+    let e = ap (λ (t : Tree). size (view t)) c.deref.ensures in
+    (omega (arith, e), (omega (arith, e), c.requires.few))
+
+pub code_of_index-code_of-requires : goal.code_of_index-code_of-requires
+code_of_index-code_of-requires t c =
+    let e = ap (λ (t : Tree). size (view t)) c.deref.ensures in
+    (omega (arith, e), (omega (arith, e), c.requires.few))
+
+pub code_of_infix-code_of-requires : goal.code_of_infix-code_of-requires
+code_of_infix-code_of-requires t c =
+    let e = ap (λ (t : Tree). size (view t)) c.deref.ensures in
+    (omega (arith, e), (omega (arith, e), c.requires.few))
+
+pub code_of_conditional-code_of-requires : goal.code_of_conditional-code_of-requires
+code_of_conditional-code_of-requires t c =
+    let e = ap (λ (t : Tree). size (view t)) c.deref.ensures in
+    (omega (arith, e), (omega (arith, e), c.requires.few))
+
+pub code_of_method-code_of-requires : goal.code_of_method-code_of-requires
+code_of_method-code_of-requires t c =
+    let e = ap (λ (t : Tree). size (view t)) c.deref.ensures in
+    (omega (arith, e), (omega (arith, e), c.requires.few))
+
+pub code_of_macro-code_of-requires : goal.code_of_macro-code_of-requires
+code_of_macro-code_of-requires t c =
+    let e = ap (λ (t : Tree). size (view t)) c.deref.ensures in
+    (omega (arith, e), (omega (arith, e), c.requires.few))
+
+pub code_of_list-code_of_items-requires : goal.code_of_list-code_of_items-requires
+code_of_list-code_of_items-requires t c =
+    (omega arith, (omega arith, c.requires.few))
+
+pub code_of_map-code_of_pairs-requires : goal.code_of_map-code_of_pairs-requires
+code_of_map-code_of_pairs-requires t c =
+    (omega arith, (omega arith, c.requires.few))
+
+pub code_of_call-code_of_items-requires : goal.code_of_call-code_of_items-requires
+code_of_call-code_of_items-requires t c =
+    (omega arith, (omega arith, c.requires.few))
+
+pub code_of_pair-code_of-requires : goal.code_of_pair-code_of-requires
+code_of_pair-code_of-requires t c =
+    (omega arith, (omega arith, c.requires.few))
+
+pub code_of_pair-code_of-requires-2 : goal.code_of_pair-code_of-requires-2
+code_of_pair-code_of-requires-2 t c = (omega arith, (omega (arith, c.after_tree-value_at.ensures), c.requires.few))
+
+pub code_of_index-after-index_at-requires : goal.code_of_index-after-index_at-requires
+code_of_index-after-index_at-requires t c = record {
+  whole = c.in_ok-operand.ensures.as_long ∙ ap (λ (t : Tree). size (view t)) c.deref.ensures;
+  room = omega arith;
+}
+
+pub code_of_infix-after-requires : goal.code_of_infix-after-requires
+code_of_infix-after-requires t c = record {
+  whole = c.in_ok-first.ensures.as_long ∙ ap (λ (t : Tree). size (view t)) c.deref.ensures;
+  room = omega arith;
+}
+
+pub code_of_infix-after-end-requires : goal.code_of_infix-after-end-requires
+code_of_infix-after-end-requires t c = record {
+  whole = c.in_ok-second.ensures.as_long ∙ ap (λ (t : Tree). size (view t)) c.deref-2.ensures;
+  room = omega (arith, c.after.ensures, c.steps_between.ensures);
+}
+
+pub code_of_conditional-after-first_at-requires : goal.code_of_conditional-after-first_at-requires
+code_of_conditional-after-first_at-requires t c = record {
+  whole = c.in_ok-start.ensures.as_long ∙ ap (λ (t : Tree). size (view t)) c.deref.ensures;
+  room = omega arith;
+}
+
+pub code_of_conditional-after-second_at-requires : goal.code_of_conditional-after-second_at-requires
+code_of_conditional-after-second_at-requires t c = record {
+  whole = c.in_ok-middle.ensures.as_long ∙ ap (λ (t : Tree). size (view t)) c.deref-2.ensures;
+  room = omega (arith, c.after-first_at.ensures);
+}
+
+pub code_of_conditional-after-end-requires : goal.code_of_conditional-after-end-requires
+code_of_conditional-after-end-requires t c = record {
+  whole = c.in_ok-rest.ensures.as_long ∙ ap (λ (t : Tree). size (view t)) c.deref-3.ensures;
+  room = omega (arith, c.after-first_at.ensures, c.after-second_at.ensures);
+}
+
+pub code_of_method-after-arguments_at-requires : goal.code_of_method-after-arguments_at-requires
+code_of_method-after-arguments_at-requires t c = record {
+  whole = c.in_ok-operand.ensures.as_long ∙ ap (λ (t : Tree). size (view t)) c.deref.ensures;
+  room = omega arith;
+}
+
+pub code_of_macro-after-body_at-requires : goal.code_of_macro-after-body_at-requires
+code_of_macro-after-body_at-requires t c = record {
+  whole = c.in_ok-operand.ensures.as_long ∙ ap (λ (t : Tree). size (view t)) c.deref.ensures;
+  room = omega arith;
+}
+
+pub code_of_macro-after-end-requires : goal.code_of_macro-after-end-requires
+code_of_macro-after-end-requires t c = record { whole = c.in_ok-inside.ensures.as_long; room = omega (arith, c.after-body_at.ensures) }
+
+pub code_of_pair-after_tree-value_at-requires : goal.code_of_pair-after_tree-value_at-requires
+code_of_pair-after_tree-value_at-requires t c = record { whole = c.in_ok-key.ensures.as_long; room = omega arith }
