@@ -108,8 +108,7 @@ fn advance<'a>(
         Instruction::Call(function) => take_call(alloc, *function, stack),
         Instruction::And => take_connected(alloc, Connective::And, stack),
         Instruction::Or => take_connected(alloc, Connective::Or, stack),
-        Instruction::IfFalse(_) | Instruction::IfTrue(_) | Instruction::Jump(_) => unreachable!(),
-        Instruction::Branch(_, _) | Instruction::Macro(_, _) => unreachable!(),
+        _ => unreachable!(),
     }
 }
 
@@ -190,21 +189,7 @@ fn run_instruction<'a>(
         Instruction::Macro(kind, end) => {
             run_macro(alloc, machine, *kind, steps, at, stop, *end, stack)
         }
-        Instruction::Int(_) | Instruction::Uint(_) | Instruction::Text(_) => {
-            advance_from(alloc, machine, instruction, at, stop, stack)
-        }
-        Instruction::Bool(_) | Instruction::Null | Instruction::Name(_) | Instruction::Slot(_) => {
-            advance_from(alloc, machine, instruction, at, stop, stack)
-        }
-        Instruction::Variable(_) | Instruction::Field(_) | Instruction::Has(_) => {
-            advance_from(alloc, machine, instruction, at, stop, stack)
-        }
-        Instruction::Index | Instruction::List(_) | Instruction::Map(_) | Instruction::Call(_) => {
-            advance_from(alloc, machine, instruction, at, stop, stack)
-        }
-        Instruction::Unary(_) | Instruction::Binary(_) | Instruction::And | Instruction::Or => {
-            advance_from(alloc, machine, instruction, at, stop, stack)
-        }
+        _ => advance_from(alloc, machine, instruction, at, stop, stack),
     }
 }
 

@@ -68,55 +68,15 @@ run_instruction-returns-in-Branch-clause-step t c =
 pub run_instruction-returns-in-Macro-clause-step : goal.run_instruction-returns-in-Macro-clause-step
 run_instruction-returns-in-Macro-clause-step t c = rw c.in-Macro.is c.run_macro.ensures.step
 
-pub run_instruction-returns-in-Unary-clause-step : goal.run_instruction-returns-in-Unary-clause-step
-run_instruction-returns-in-Unary-clause-step t c =
+pub run_instruction-returns-in_default-clause-step : goal.run_instruction-returns-in_default-clause-step
+run_instruction-returns-in_default-clause-step t c =
     IfOk-weaker c.advance_from.result _ _ (λ to g. g (next_of c.args.machine.now c.args.steps)) c.advance_from.ensures.step
-
-pub run_instruction-returns-in-Index-clause-step : goal.run_instruction-returns-in-Index-clause-step
-run_instruction-returns-in-Index-clause-step t c =
-    IfOk-weaker c.advance_from-in-Index.result _ _ (λ to g. g (next_of c.args.machine.now c.args.steps)) c.advance_from-in-Index.ensures.step
-
-pub run_instruction-returns-in-Variable-clause-step : goal.run_instruction-returns-in-Variable-clause-step
-run_instruction-returns-in-Variable-clause-step t c =
-    IfOk-weaker c.advance_from-in-Variable.result _ _ (λ to g. g (next_of c.args.machine.now c.args.steps)) c.advance_from-in-Variable.ensures.step
-
-pub run_instruction-returns-in-Bool-clause-step : goal.run_instruction-returns-in-Bool-clause-step
-run_instruction-returns-in-Bool-clause-step t c =
-    IfOk-weaker c.advance_from-in-Bool.result _ _ (λ to g. g (next_of c.args.machine.now c.args.steps)) c.advance_from-in-Bool.ensures.step
-
-pub run_instruction-returns-in-Int-clause-step : goal.run_instruction-returns-in-Int-clause-step
-run_instruction-returns-in-Int-clause-step t c =
-    IfOk-weaker c.advance_from-in-Int.result _ _ (λ to g. g (next_of c.args.machine.now c.args.steps)) c.advance_from-in-Int.ensures.step
 
 pub run_instruction-advance_from-requires-clause-here : goal.run_instruction-advance_from-requires-clause-here
 run_instruction-advance_from-requires-clause-here t c = c.requires.here
 
-pub run_instruction-returns-in-Unary-clause-leads : goal.run_instruction-returns-in-Unary-clause-leads
-run_instruction-returns-in-Unary-clause-leads t c = c.advance_from.ensures.leads
-
-pub run_instruction-advance_from-requires-in-Index-clause-here : goal.run_instruction-advance_from-requires-in-Index-clause-here
-run_instruction-advance_from-requires-in-Index-clause-here t c = c.requires.here
-
-pub run_instruction-returns-in-Index-clause-leads : goal.run_instruction-returns-in-Index-clause-leads
-run_instruction-returns-in-Index-clause-leads t c = c.advance_from-in-Index.ensures.leads
-
-pub run_instruction-advance_from-requires-in-Variable-clause-here : goal.run_instruction-advance_from-requires-in-Variable-clause-here
-run_instruction-advance_from-requires-in-Variable-clause-here t c = c.requires.here
-
-pub run_instruction-returns-in-Variable-clause-leads : goal.run_instruction-returns-in-Variable-clause-leads
-run_instruction-returns-in-Variable-clause-leads t c = c.advance_from-in-Variable.ensures.leads
-
-pub run_instruction-advance_from-requires-in-Bool-clause-here : goal.run_instruction-advance_from-requires-in-Bool-clause-here
-run_instruction-advance_from-requires-in-Bool-clause-here t c = c.requires.here
-
-pub run_instruction-returns-in-Bool-clause-leads : goal.run_instruction-returns-in-Bool-clause-leads
-run_instruction-returns-in-Bool-clause-leads t c = c.advance_from-in-Bool.ensures.leads
-
-pub run_instruction-advance_from-requires-in-Int-clause-here : goal.run_instruction-advance_from-requires-in-Int-clause-here
-run_instruction-advance_from-requires-in-Int-clause-here t c = c.requires.here
-
-pub run_instruction-returns-in-Int-clause-leads : goal.run_instruction-returns-in-Int-clause-leads
-run_instruction-returns-in-Int-clause-leads t c = c.advance_from-in-Int.ensures.leads
+pub run_instruction-returns-in_default-clause-leads : goal.run_instruction-returns-in_default-clause-leads
+run_instruction-returns-in_default-clause-leads t c = c.advance_from.ensures.leads
 
 pub run_instruction-returns-in-Branch-clause-leads : goal.run_instruction-returns-in-Branch-clause-leads
 run_instruction-returns-in-Branch-clause-leads t c = rw c.in-Branch.is c.branch-at.ensures.leads
@@ -164,3 +124,18 @@ pub step_at-returns-clause-inside : goal.step_at-returns-clause-inside
 step_at-returns-clause-inside t c =
     let s = stands _ c.args.machine.now.code.now c.args.at c.args.stop _ _ c.index-machine-at.result c.requires.ready c.requires.at c.requires.inside in
     IfOk-weaker c.run_instruction.result _ _ (λ to g. (forward _ _ _ _ _ _ _ to _ s g).1) c.run_instruction.ensures.leads
+
+pub run_instruction-run_macro-requires : goal.run_instruction-run_macro-requires
+run_instruction-run_macro-requires t c = (omega arith, (rw c.in-Macro.is at c.requires.here, c.requires.enough))
+
+pub over_range-over_items-requires : goal.over_range-over_items-requires
+over_range-over_items-requires t c = (omega arith, (c.requires.body, c.requires.enough))
+
+pub over_items-run_bodies-requires : goal.over_items-run_bodies-requires
+over_items-run_bodies-requires t c = (omega arith, (c.requires.body, c.requires.enough))
+
+pub run_bodies-run_body-requires : goal.run_bodies-run_body-requires
+run_bodies-run_body-requires t c = (omega arith, (c.requires.body, (c.requires.enough, c.loop-item.invariant.empty)))
+
+pub execute-step_at-requires : goal.execute-step_at-requires
+execute-step_at-requires t c = (omega arith, (c.requires.ready, (c.steps.invariant.there, (omega arith, omega arith))))
