@@ -51,9 +51,9 @@ fn values_of_members(
 {
     let mut entries = Vec::new(alloc);
     for (name, member) in members.iter() {
-        let key = Value::Text(name.clone()?);
+        let key = name.clone()?;
         let value = value_of(alloc, member)?;
-        entries.push((key, value))?;
+        entries.push((Value::Text(key), value))?;
     }
     Ok(entries)
 }

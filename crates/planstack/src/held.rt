@@ -60,7 +60,11 @@ pub(crate) fn field<'a>(alloc: Global, name: &str, held: Held<'a>) -> Result<Hel
 {
     match held {
         Held::Document(document) => Ok(part(member(document, name))),
-        Held::Owned(outcome) => Ok(Held::Owned(member_of(alloc, name, &outcome)?)),
+        Held::Owned(outcome) => {
+            let member = member_of(alloc, name, &outcome);
+            drop(outcome);
+            Ok(Held::Owned(member?))
+        }
     }
 }
 
@@ -83,7 +87,9 @@ fn index_copy<'a>(
     ensures { IfOk result (λ h. held_seen h ≡ with_values indexed (Gives (json_value (view document.now))) (outcome_of index.now)) }
 {
     let of = Outcome::Gives(value_of(alloc, document)?);
-    Ok(Held::Owned(index_of(&of, index)?))
+    let part = index_of(&of, index);
+    drop(of);
+    Ok(Held::Owned(part?))
 }
 
 // `d[i]`, where a number or a text leads to a part of the document.
@@ -95,12 +101,9 @@ fn index_document<'a>(
     ensures { IfOk result (λ h. held_seen h ≡ with_values indexed (Gives (json_value (view document.now))) (outcome_of index.now)) }
 {
     match index {
-        Outcome::Gives(value) => match value {
-            Value::Int(place) => Ok(part(item(document, *place))),
-            Value::Text(name) => Ok(part(member(document, name))),
-            Value::Null | Value::Bool(_) | Value::Uint(_) => index_copy(alloc, document, index),
-            Value::List(_) | Value::Map(_) => index_copy(alloc, document, index),
-        },
+        Outcome::Gives(Value::Int(place)) => Ok(part(item(document, *place))),
+        Outcome::Gives(Value::Text(name)) => Ok(part(member(document, name))),
+        Outcome::Gives(_) => index_copy(alloc, document, index),
         Outcome::Error => Ok(Held::Owned(Outcome::Error)),
     }
 }
@@ -134,8 +137,7 @@ fn is_true_document(document: &Json) -> bool
 {
     match document {
         Json::Bool(truth) => *truth,
-        Json::Null | Json::Number(_) | Json::String(_) => false,
-        Json::Array(_) | Json::Object(_) => false,
+        _ => false,
     }
 }
 
@@ -144,8 +146,7 @@ fn is_false_document(document: &Json) -> bool
 {
     match document {
         Json::Bool(truth) => !*truth,
-        Json::Null | Json::Number(_) | Json::String(_) => false,
-        Json::Array(_) | Json::Object(_) => false,
+        _ => false,
     }
 }
 

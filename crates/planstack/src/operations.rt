@@ -91,7 +91,9 @@ pub fn take_map(alloc: Global, count: u16, stack: &mut Vec<Held<'_>>) -> Result<
 {
     let outcomes = take_topmost(alloc, count as usize + count as usize, stack)?;
     let pairs = pairs_of(alloc, outcomes)?;
-    put(stack, map_of(alloc, &pairs)?)
+    let map = map_of(alloc, &pairs);
+    drop(pairs);
+    put(stack, map?)
 }
 
 /// `!e` or `-e`

@@ -66,9 +66,8 @@ pub(crate) fn pop_outcomes(
     requires { 2 ≤ length stack.old.items }
     ensures { IfOk result (λ x. stack_seen stack.old.items ≡ outcome_of x.1 ∷ (outcome_of x.0 ∷ stack_seen stack.new.items)) }
 {
-    let (first, second) = pop_two(stack);
-    let first = into_outcome(alloc, first)?;
-    let second = into_outcome(alloc, second)?;
+    let second = into_outcome(alloc, pop(stack))?;
+    let first = into_outcome(alloc, pop(stack))?;
     Ok((first, second))
 }
 

@@ -29,9 +29,9 @@ values_of_items-loop-item-preserved t c =
 pub values_of_members-loop-name-preserved : goal.values_of_members-loop-name-preserved
 values_of_members-loop-name-preserved t c =
     let entries = c.loop-name.entries.items in
-    let name = c.in_ok-clone.field-0 in
+    let name = c.in_ok-key.key in
     let rest = member_values (members_view c.next.new.self) in
-    let key = value_of-Text name ∙ ap Text c.in_ok-clone.ensures.cases in
+    let key = value_of-Text name ∙ ap Text c.in_ok-key.ensures.cases in
     ap (λ es. entries_seen es ++ rest) c.in_ok-push.ensures.items
     ∙ map_more entry_seen entries (program.Text name, c.in_ok-value.value) (Text (string_bytes c.in-Some.name.now), json_value (view c.in-Some.member.now)) rest (λ i. (key i, c.in_ok-value.ensures i))
     ∙ sym (ap (λ ms. entries_seen entries ++ member_values (members_view ms)) c.in-Some.ensures.steps)
