@@ -12,18 +12,13 @@ use std::alloc::{AllocError, Global};
 fn macro_named(name: &str) -> Option<Macro>
     ensures { result ≡ macro_named name.now }
 {
-    if name == "all" {
-        Some(Macro::All)
-    } else if name == "exists" {
-        Some(Macro::Exists)
-    } else if name == "exists_one" {
-        Some(Macro::ExistsOne)
-    } else if name == "map" {
-        Some(Macro::Map)
-    } else if name == "filter" {
-        Some(Macro::Filter)
-    } else {
-        None
+    match name {
+        "all" => Some(Macro::All),
+        "exists" => Some(Macro::Exists),
+        "exists_one" => Some(Macro::ExistsOne),
+        "map" => Some(Macro::Map),
+        "filter" => Some(Macro::Filter),
+        _ => None,
     }
 }
 
@@ -33,12 +28,7 @@ fn selection(tree: Box<Tree>) -> Option<Tree>
 {
     match Box::into_inner(tree) {
         Tree::Field(of, name) => Some(Tree::Has(of, name)),
-        Tree::Null | Tree::Bool(_) | Tree::Int(_) | Tree::Uint(_) | Tree::Text(_) | Tree::Name(_) =>
-            None,
-        Tree::Has(_, _) | Tree::Index(_, _) | Tree::List(_) | Tree::Map(_) | Tree::Unary(_, _) =>
-            None,
-        Tree::Infix(_, _, _) | Tree::Conditional(_, _, _) | Tree::Call(_, _) => None,
-        Tree::Method(_, _, _) | Tree::Macro(_, _, _, _) => None,
+        _ => None,
     }
 }
 
@@ -48,16 +38,7 @@ fn variable(tree: Tree) -> Option<String>
 {
     match tree {
         Tree::Name(name) => Some(name),
-        Tree::Null
-        | Tree::Bool(_)
-        | Tree::Int(_)
-        | Tree::Uint(_)
-        | Tree::Text(_)
-        | Tree::Field(_, _) => None,
-        Tree::Has(_, _) | Tree::Index(_, _) | Tree::List(_) | Tree::Map(_) | Tree::Unary(_, _) =>
-            None,
-        Tree::Infix(_, _, _) | Tree::Conditional(_, _, _) | Tree::Call(_, _) => None,
-        Tree::Method(_, _, _) | Tree::Macro(_, _, _, _) => None,
+        _ => None,
     }
 }
 
@@ -180,7 +161,7 @@ fn macro_of_three(
 {
     match kind {
         Macro::Map => filtered_map(alloc, of, name, test, body),
-        Macro::All | Macro::Exists | Macro::ExistsOne | Macro::Filter => Ok(None),
+        _ => Ok(None),
     }
 }
 
@@ -213,10 +194,6 @@ fn over(
 fn has(alloc: Global, arguments: Vec<Tree>) -> Result<Option<Box<Tree>>, AllocError>
     ensures { IfOk result (λ o. option_map (λ t. view t.value) o ≡ has_of (views arguments.items)) }
 {
-    let count = arguments.len();
-    if count != 1 {
-        return Ok(None);
-    }
     match one(alloc, arguments)? {
         Some(argument) => match selection(argument) {
             Some(tree) => {

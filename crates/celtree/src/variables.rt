@@ -12,10 +12,6 @@ pub fn is_variables(tree: &Tree) -> bool
 {
     match tree {
         Tree::Name(name) => name.as_str() == "variables",
-        Tree::Null | Tree::Bool(_) | Tree::Int(_) | Tree::Uint(_) | Tree::Text(_) => false,
-        Tree::Field(_, _) | Tree::Has(_, _) | Tree::Index(_, _) => false,
-        Tree::List(_) | Tree::Map(_) | Tree::Unary(_, _) | Tree::Infix(_, _, _) => false,
-        Tree::Conditional(_, _, _) | Tree::Call(_, _) | Tree::Method(_, _, _) => false,
-        Tree::Macro(_, _, _, _) => false,
+        _ => false,
     }
 }

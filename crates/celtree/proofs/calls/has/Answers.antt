@@ -1,6 +1,5 @@
-use Rattle.std.proofs.Common.{arith}
 use Rattle.celtree.proofs.CallTrees.{has_of_other}
 use Rattle.celtree.proofs.calls.has.Goals as goal
 
-pub returns-then-count-ne1 : goal.returns-then-count-ne1
-returns-then-count-ne1 c = has_of_other c.args.arguments.items (λ e. c.if-count-ne1.true (omega (arith, c.args.arguments.ok.0)))
+pub returns-in-None : goal.returns-in-None
+returns-in-None c = has_of_other c.args.arguments.items (rw c.in-None.is at c.in_ok-argument.ensures)
