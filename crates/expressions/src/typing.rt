@@ -63,21 +63,13 @@ pub(crate) fn type_at(
 fn is_bool(found: &CelType) -> bool
     ensures { IsTrue result ↔ type_seen found.now ≡ bool }
 {
-    match found {
-        CelType::Bool => true,
-        CelType::Int | CelType::Uint | CelType::Text | CelType::Null => false,
-        CelType::Dyn | CelType::List(_) | CelType::Map(_, _) => false,
-    }
+    matches!(found, CelType::Bool)
 }
 
 fn is_text(found: &CelType) -> bool
     ensures { IsTrue result ↔ type_seen found.now ≡ string }
 {
-    match found {
-        CelType::Text => true,
-        CelType::Int | CelType::Uint | CelType::Bool | CelType::Null => false,
-        CelType::List(_) | CelType::Map(_, _) | CelType::Dyn => false,
-    }
+    matches!(found, CelType::Text)
 }
 
 fn suits(place: &Place<'_>, found: &CelType) -> bool
