@@ -1,7 +1,16 @@
 //! The core over a source, as objects are looked up in them.
 
-ghost use Rattle.std.specs.Prelude.{◌≡◌, map, IfOk};
-ghost use Rattle.expressions.specs.LookupSeen.{held_by, listed_seen};
+ghost use Rattle.std.specs.Prelude.{◌≡◌, List, map, Some, IfOk};
+ghost use Rattle.std.specs.List.{filter};
+ghost use Rattle.names.specs.Key.{Key as KeyData};
+ghost use Rattle.objects.specs.Objects.{is_of};
+ghost use Rattle.policy.specs.Spec.{wanted_seen};
+ghost use Rattle.requests.specs.declared.stored.Stored.{Stored as StoredData};
+ghost use Rattle.requests.specs.View.{View as Held};
+ghost use Rattle.holdings.specs.Holdings.{Shows};
+ghost use Rattle.expressions.specs.Listed.{wanted_of};
+ghost use Rattle.expressions.specs.LookupSeen.{held_by, listed_seen, shown_held};
+ghost use Rattle.recovery.specs.Beside.{Beside as BesideData};
 ghost use Rattle.recovery.specs.Sights.{held_of, entry_held};
 
 use crate::wanted::wanted_among;
@@ -65,10 +74,27 @@ impl<'a, 's, S: Source<Beside>> Lookup<'a> for Sight<'a, 's, S> {
         wanted: &Wanted,
     ) -> Result<Vec<Doc>, LookupFault> {
         let below = self.source.list(alloc, resource, Some(namespace))?;
-        let objects = self.core.list(alloc, resource, Some(namespace), &below)?;
-        let listed = all_lent(alloc, &objects)?;
-        Ok(wanted_among(alloc, wanted, &listed)?)
+        Ok(parameters_over(alloc, self.core, &below, resource, namespace, wanted)?)
     }
+}
+
+// The objects of a resource in a namespace that are wanted, as they are shown, where these of them lie below.
+fn parameters_over(
+    alloc: Global,
+    core: &Core,
+    below: &[(Key, Stored<Beside>)],
+    resource: Resource,
+    namespace: &str,
+    wanted: &Wanted,
+) -> Result<Vec<Doc>, AllocError>
+    ensures { (base : List (KeyData × StoredData BesideData)) (held : Held BesideData) → Shows core.now base held
+        → below.now ≡ filter (λ o. is_of resource (Some namespace.now) o.0) base
+        → IfOk result (λ v. v.items ≡ wanted_of (wanted_seen wanted.now)
+        (map shown_held (map entry_held (filter (λ o. is_of resource (Some namespace.now) o.0) held.objects)))) }
+{
+    let objects = core.list(alloc, resource, Some(namespace), below)?;
+    let listed = all_lent(alloc, &objects)?;
+    wanted_among(alloc, wanted, &listed)
 }
 
 // What is stored, lent.
