@@ -1,7 +1,7 @@
 -- How a step is decided: the first refusal, or the verdict of the policies.
 use Rattle.std.proofs.Common.{◌≡◌, ◌∙◌, sym, ap, refl, subst, ℕ, ◌+◌, List, [], ◌∷◌, ◌++◌, map, Bool, true, false, cond, not, option_map, Option, Some, None, is_some, Result, Ok, Err, IfOk}
 use Rattle.std.specs.Option.{option_map_or}
-use Rattle.serde_json.specs.Data.{Data}
+use Rattle.serde_json.specs.Data.{Data, null}
 use Rattle.celtree.specs.Tree.{Expr}
 use Rattle.objects.specs.declared.format.Rules.{Rules}
 use Rattle.names.specs.Key.{Key}
@@ -27,8 +27,8 @@ use Rattle.requests.specs.View as seen
 use Rattle.requests.specs.View.{exists, document_at, stored_at}
 use Rattle.holdings.specs.Holdings as holdings
 use Rattle.holdings.specs.Holdings.{State}
-use Rattle.holdings.specs.Prepared.{writes_of, AreNext, IsNextPut}
-use Rattle.holdings.specs.Writes.{Put}
+use Rattle.holdings.specs.Prepared.{writes_of, AreNext, IsNextPut, IsNextDeletion, HasRoomFor}
+use Rattle.holdings.specs.Writes.{Put, Deletion}
 use Rattle.objects.specs.declared.event.Change.TheVariants.{Added, Modified}
 use Rattle.plancode.specs.Plans.{Judged}
 use Rattle.policy.specs.declared.validation.Reason.{Reason}
@@ -37,6 +37,7 @@ use Rattle.expressions.specs.Specification as stands
 use Rattle.verdict.specs.Admission.{verdict}
 use Rattle.denials.specs.Verdict.{Verdict, admitted, denied}
 use Rattle.recovery.specs.Beside.{Beside, spelled}
+use Rattle.recovery.specs.Looked.{IsAsBefore}
 use Rattle.recovery.specs.Shown.{plans_held, Shows, IsOver}
 use Rattle.recovery.specs.Standing.{Write, View, write_with_plans}
 use Rattle.recovery.specs.Attempts.{objects_of, attempt_of, shown_at}
@@ -158,12 +159,35 @@ module _ (holds : List (Key × Stored Beside) → Type 0) (core : State Beside) 
         (is over.base held over.shows ∙ telling_shown core.rules held v c n over.plans ∙ watch_reply core.rules v c n) none;
   }
 
+  pub watch_prepared_in : (c : Collection) (n : ℕ) {E : Type 0} (result : Result Prepared E)
+      → ((base : List (Key × Stored Beside)) (held : seen.View Beside) → holdings.Shows core base held → IfOk result (λ p. p.reply ≡ telling core.rules held c n))
+      → IfOk result (λ p. p.write ≡ None) → IfOk result (IsPrepared holds core (watch c n))
+  watch_prepared_in c n (Ok p) is none = watch_prepared c n p is none
+  watch_prepared_in c n (Err e) is none = tt
+
   pub refused_prepared : (r : code_refusal.Refusal) (p : Prepared) → p.reply ≡ plain.status r → p.write ≡ None → IsPrepared holds core (refused r) p
   refused_prepared r p is none = record {
     specification = stands.bad_spec;
     read = tt;
     step = λ held v _. refused_step core.rules held v (at (refused r) stands.bad_spec) p (known r) refl (is, none);
   }
+
+  pub refused_prepared_in : (r : code_refusal.Refusal) {E : Type 0} (result : Result Prepared E) → IfOk result (IsRefused (known r)) → IfOk result (IsPrepared holds core (refused r))
+  refused_prepared_in r (Ok p) told = refused_prepared r p told.0 told.1
+  refused_prepared_in r (Err e) told = tt
+
+-- what writes nothing needs no room
+pub unwritten_ready : (core : State Beside) {E : Type 0} (result : Result Prepared E) → IfOk result (λ p. p.write ≡ None) → IfOk result (λ p. HasRoomFor core p.write)
+unwritten_ready core (Ok p) none = subst (λ w. HasRoomFor core w) (sym none) tt
+unwritten_ready core (Err e) none = tt
+
+pub refused_ready : (core : State Beside) (r : Refusal) {E : Type 0} (result : Result Prepared E) → IfOk result (IsRefused r) → IfOk result (λ p. HasRoomFor core p.write)
+refused_ready core r (Ok p) told = subst (λ w. HasRoomFor core w) (sym told.1) tt
+refused_ready core r (Err e) told = tt
+
+-- a core that nothing was done to
+pub as_it_was : (core : State Beside) → IsAsBefore core core
+as_it_was core = record { rules = refl; revision = refl; shows = λ base held shows. shows }
 
 pub if_ok : {T E : Type 0} (result : Result T E) (P Q : T → Type 0) → ((x : T) → P x → Q x) → IfOk result P → IfOk result Q
 if_ok (Ok x) P Q to holds = to x holds
@@ -206,6 +230,14 @@ next_put held p k d b n stands is same there =
     }
     in
     subst (IsNextPut held) (sym is) next
+
+-- a deletion that was prepared of what stands there is the next one
+pub next_deletion : (held : seen.View Beside) (d : Deletion) (k : Key) (document : Document) (s : Stored Beside) → d ≡ record { key = k; document = document } → stored_at held k ≡ Some s
+    → s.document ≡ document → IsNextDeletion held d
+next_deletion held d k document s is there same =
+    let next : IsNextDeletion held (record { key = k; document = document }) =
+    record { there = ap is_some there; document = sym (ap (λ (o : Option (Stored Beside)). option_map_or (λ s. s.document) o (record { json = null })) there ∙ same) } in
+    subst (IsNextDeletion held) (sym is) next
 
 -- the put of a core's plans is that of its trees, with plans
 pub put_planned : (k : Key) (d : Document) (plans : List Judged) (trees : List Expr) {E : Type 0} (result : Result Prepared E)

@@ -25,7 +25,7 @@ ghost use Rattle.recovery.specs.Conditions.{first_of, replace_limits, update_con
 use crate::conflicts::{deletion_conflicts, update_conflicts};
 use crate::judging::{judged_delete, judged_put};
 use crate::prepared::Prepared;
-use crate::reading::{get, list, refuse, watch};
+use crate::reading::{get, list, watch};
 use crate::refusing::{bad_expression, refused};
 use documents::shown_document;
 use expressions::Specification;
@@ -71,11 +71,11 @@ pub fn prepare<S: Source<Beside>>(
     match request {
         Request::Get(key) => get(core, alloc, source, key),
         Request::List(collection, selector) => list(core, alloc, source, collection, selector),
-        Request::Watch(collection, revision) => Ok(watch(core, alloc, collection, *revision)?),
+        Request::Watch(collection, revision) => watch(core, alloc, collection, *revision),
         Request::Create(manifest) => prepare_create(core, alloc, source, manifest),
         Request::Replace(manifest) => prepare_replace(core, alloc, source, manifest),
         Request::Delete(key, version) => prepare_delete(core, alloc, source, key, version),
-        Request::Refused(refusal) => Ok(refuse(alloc, *refusal)?),
+        Request::Refused(refusal) => refused(alloc, *refusal),
     }
 }
 

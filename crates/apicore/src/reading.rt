@@ -1,8 +1,9 @@
 //! The steps of requests that write nothing.
 
-ghost use Rattle.std.specs.Prelude.{◌≡◌, List, None, IfOk};
+ghost use Rattle.std.specs.Prelude.{◌≡◌, List, None, IfOk, OnErr, IsErrOf};
 ghost use Rattle.std.specs.Option.{option_map_or};
 ghost use Rattle.names.specs.Key.{Key as KeyData};
+ghost use Rattle.objects.specs.declared.fault.LookupFault.TheVariants as LookupFault;
 ghost use Rattle.requests.specs.Collection.{collection_of};
 ghost use Rattle.requests.specs.Refusal.{first_of};
 ghost use Rattle.requests.specs.Request.{get, list};
@@ -21,8 +22,8 @@ use holdings::Source;
 use names::Key;
 use objects::LookupFault;
 use recovery::{Beside, Core, listed, shown};
-use requests::{Collection, Refusal, Reply, Selector};
-use std::alloc::{AllocError, Global};
+use requests::{Collection, Selector};
+use std::alloc::Global;
 
 /// The step of a GET.
 pub(crate) fn get<S: Source<Beside>>(
@@ -60,18 +61,11 @@ pub(crate) fn watch(
     alloc: Global,
     collection: &Collection,
     revision: u64,
-) -> Result<Prepared, AllocError>
+) -> Result<Prepared, LookupFault>
     ensures reply { (base : List (KeyData × StoredData BesideData)) (held : Held BesideData) → Shows core.now base held
         → IfOk result (λ p. p.reply ≡ option_map_or status (first_of (watch_conditions core.now.rules held revision)) (watching held (collection_of collection.now) revision)) }
     ensures ready { IfOk result (λ p. p.write ≡ None) }
+    ensures memory { OnErr result (IsErrOf result LookupFault.Memory) }
 {
     Ok(Prepared::replying(core.told(alloc, collection, revision)?))
-}
-
-/// The step of a request that is refused for itself.
-pub(crate) fn refuse(alloc: Global, refusal: Refusal) -> Result<Prepared, AllocError>
-    ensures reply { IfOk result (λ p. p.reply ≡ status refusal) }
-    ensures ready { IfOk result (λ p. p.write ≡ None) }
-{
-    Ok(Prepared::replying(Reply::status(alloc, refusal)?))
 }

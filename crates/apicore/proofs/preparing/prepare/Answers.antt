@@ -1,28 +1,58 @@
-use Rattle.std.proofs.Common.{◌≡◌, None, IfOk, rules, subst, refl, sym, ap}
+use Rattle.std.proofs.Common.{IfOk, subst, refl, sym, ap}
 use Rattle.requests.specs.Request.{RequestHasForm}
 use Rattle.requests.specs.RequestOf.{request_of}
-use Rattle.holdings.specs.Prepared.{HasRoomFor}
 use Rattle.expressions.specs.Specification.{bad_spec}
 use Rattle.apicore.specs.Prepared.{IsPrepared}
-use Rattle.apicore.proofs.Deciding.{watch_prepared, read_as, if_ok}
+use Rattle.recovery.specs.Conditions.{known}
+use Rattle.recovery.proofs.Looking.{looked_not}
+use Rattle.apicore.proofs.Deciding.{watch_prepared_in, refused_prepared_in, unwritten_ready, refused_ready, read_as}
 use Rattle.apicore.proofs.preparing.prepare.Goals as goal
 
-pub returns-in_ok-watch-in-Watch-clause-step : goal.returns-in_ok-watch-in-Watch-clause-step
-returns-in_ok-watch-in-Watch-clause-step g c =
-    subst (λ r. IsPrepared (g.S.Source.holds c.args.source.now) c.args.core.now (request_of r) c.in_ok-watch-in-Watch.field-0) (sym c.in-Watch.is)
-    (watch_prepared (g.S.Source.holds c.args.source.now) c.args.core.now _ _ _ c.in_ok-watch-in-Watch.ensures.reply c.in_ok-watch-in-Watch.ensures.ready)
+pub returns-in-Watch : goal.returns-in-Watch
+returns-in-Watch g c =
+    let told = c.watch.ensures in
+    let core = c.args.core.now in
+    let source = c.args.source.now in
+    let looked = looked_not g.S.Source.holds g.S.Source.goes_to g.S.Source.failures core source c.watch.result (g.met.S.Source.stays source) told.memory in
+    record {
+      rules = refl;
+      revision = refl;
+      shows = λ base held shows. shows;
+      step =
+          subst (λ r. IfOk c.watch.result (IsPrepared (g.S.Source.holds source) core (request_of r)))
+          (sym c.in-Watch.is) (watch_prepared_in (g.S.Source.holds source) core _ _ c.watch.result told.reply told.ready);
+      ready = unwritten_ready core c.watch.result told.ready;
+      form = subst (λ r. RequestHasForm (request_of r)) (sym c.in-Watch.is) tt;
+      kept = looked.kept;
+      goes = looked.goes;
+      counts = looked.counts;
+      device = looked.device;
+      damaged = looked.damaged;
+      read = λ _. read_as _ _ (ap request_of c.in-Watch.is) (bad_spec, tt);
+    }
 
-pub returns-in_err-watch-in-Watch-clause-read : goal.returns-in_err-watch-in-Watch-clause-read
-returns-in_err-watch-in-Watch-clause-read g c = λ _. read_as _ _ (ap request_of c.in-Watch.is) (bad_spec, tt)
-
-pub returns-in_ok-watch-in-Watch-clause-read : goal.returns-in_ok-watch-in-Watch-clause-read
-returns-in_ok-watch-in-Watch-clause-read g c = λ _. read_as _ _ (ap request_of c.in-Watch.is) (bad_spec, tt)
-
-pub returns-in_err-refuse-in-Refused-clause-read : goal.returns-in_err-refuse-in-Refused-clause-read
-returns-in_err-refuse-in-Refused-clause-read g c = λ _. read_as _ _ (ap request_of c.in-Refused.is) (bad_spec, tt)
-
-pub returns-in_ok-refuse-in-Refused-clause-read : goal.returns-in_ok-refuse-in-Refused-clause-read
-returns-in_ok-refuse-in-Refused-clause-read g c = λ _. read_as _ _ (ap request_of c.in-Refused.is) (bad_spec, tt)
+pub returns-in-Refused : goal.returns-in-Refused
+returns-in-Refused g c =
+    let told = c.refused.ensures in
+    let core = c.args.core.now in
+    let source = c.args.source.now in
+    let looked = looked_not g.S.Source.holds g.S.Source.goes_to g.S.Source.failures core source c.refused.result (g.met.S.Source.stays source) told.memory in
+    record {
+      rules = refl;
+      revision = refl;
+      shows = λ base held shows. shows;
+      step =
+          subst (λ r. IfOk c.refused.result (IsPrepared (g.S.Source.holds source) core (request_of r)))
+          (sym c.in-Refused.is) (refused_prepared_in (g.S.Source.holds source) core _ c.refused.result told.step);
+      ready = refused_ready core (known c.in-Refused.refusal) c.refused.result told.step;
+      form = subst (λ r. RequestHasForm (request_of r)) (sym c.in-Refused.is) tt;
+      kept = looked.kept;
+      goes = looked.goes;
+      counts = looked.counts;
+      device = looked.device;
+      damaged = looked.damaged;
+      read = λ _. read_as _ _ (ap request_of c.in-Refused.is) (bad_spec, tt);
+    }
 
 pub returns-in-Get : goal.returns-in-Get
 returns-in-Get g c =
@@ -30,13 +60,11 @@ returns-in-Get g c =
     record {
       rules = refl;
       revision = refl;
-      shows = search rules;
+      shows = λ base held shows. shows;
       step =
           subst (λ r. IfOk c.get.result (IsPrepared (g.S.Source.holds c.args.source.now) c.args.core.now (request_of r)))
           (sym c.in-Get.is) told.step;
-      ready =
-          if_ok c.get.result (λ p. p.write ≡ None) (λ p. HasRoomFor c.args.core.now p.write)
-          (λ p none. subst (λ w. HasRoomFor c.args.core.now w) (sym none) tt) told.ready;
+      ready = unwritten_ready c.args.core.now c.get.result told.ready;
       form = subst (λ r. RequestHasForm (request_of r)) (sym c.in-Get.is) tt;
       kept = told.looked.kept;
       goes = told.looked.goes;
@@ -52,13 +80,11 @@ returns-in-List g c =
     record {
       rules = refl;
       revision = refl;
-      shows = search rules;
+      shows = λ base held shows. shows;
       step =
           subst (λ r. IfOk c.list.result (IsPrepared (g.S.Source.holds c.args.source.now) c.args.core.now (request_of r)))
           (sym c.in-List.is) told.step;
-      ready =
-          if_ok c.list.result (λ p. p.write ≡ None) (λ p. HasRoomFor c.args.core.now p.write)
-          (λ p none. subst (λ w. HasRoomFor c.args.core.now w) (sym none) tt) told.ready;
+      ready = unwritten_ready c.args.core.now c.list.result told.ready;
       form = subst (λ r. RequestHasForm (request_of r)) (sym c.in-List.is) tt;
       kept = told.looked.kept;
       goes = told.looked.goes;
