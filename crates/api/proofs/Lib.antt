@@ -4,3 +4,4 @@ pub mod Groups
 pub mod Streams
 pub mod Tellings
 pub mod Runs
+pub mod Causes

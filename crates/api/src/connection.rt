@@ -50,12 +50,20 @@ fn serve_pieces<I: Input, O: Output, D: Device>(
         match next_step(alloc, &mut connection, buffer, count, input, output, store) {
             Ok(Step::Feed(more)) => count = more,
             Ok(Step::Finish) => return connection.finish(output),
-            Ok(Step::End(end)) => return Ok(end),
-            Err(fault) => return Err(fault),
+            Ok(Step::End(end)) => {
+                drop(connection);
+                return Ok(end);
+            }
+            Err(fault) => {
+                drop(connection);
+                return Err(fault);
+            }
         }
     }
     // No connection gives that many pieces.
-    match write_no_more(output, &mut connection.sheet) {
+    let written = write_no_more(output, &mut connection.sheet);
+    drop(connection);
+    match written {
         Ok(()) => Err(ServeFault::Memory),
         Err(_) => Err(ServeFault::Write),
     }

@@ -98,8 +98,9 @@ impl Connection {
         let Connection {
             cutter,
             mut sheet,
-            routes: _,
+            routes,
         } = self;
+        drop(routes);
         match cutter.finish() {
             Ok(()) => Ok(End::Clean),
             Err(broken) => match write_fault(output, &mut sheet, broken) {

@@ -1,6 +1,7 @@
 use Rattle.std.proofs.Common.{arith, length, eqb-true, ◌≡◌, ◌∙◌, sym, ap, refl, ℕ, List, ◌++◌, take, drop}
 use Rattle.std.proofs.lemmas.List.{take-append-drop, nil_from_length}
 use Rattle.httpmsg.specs.Stream.{Message}
+use Rattle.api.proofs.Causes.{causes_none, causes_later}
 use Rattle.api.proofs.Folds.{before_none, before_more, before_all, before_stops}
 use Rattle.api.proofs.answer.answer_all.Goals as goal
 
@@ -47,3 +48,10 @@ pub returns-clause-outcome : goal.returns-clause-outcome
 returns-clause-outcome g c rules v shows =
     before_all rules g.O.Output.took g.met.O.Output.took_then c.args.output.now c.loop-rest.output c.args.store.now c.loop-rest.store v c.args.messages.now c.loop-rest.rest.now
     (c.loop-rest.invariant.before rules v shows) (nil_from_length c.loop-rest.rest.now (eqb-true (length c.loop-rest.rest.now) 0 (sym c.is_empty.ensures ∙ c.loop-rest-test.false)))
+
+pub returns-in-Err-clause-causes : goal.returns-in-Err-clause-causes
+returns-in-Err-clause-causes g c =
+    causes_later _ _ _ _ _ _ _ _ _ c.in-Err.fault c.loop-rest.invariant.output_later c.loop-rest.invariant.device_later c.loop-rest.invariant.goes_on c.in-Err.ensures.causes
+
+pub returns-clause-causes : goal.returns-clause-causes
+returns-clause-causes g c = causes_none _ _ _ _ _ _ _ c.loop-rest.invariant.output_later c.loop-rest.invariant.device_later c.loop-rest.invariant.goes_on

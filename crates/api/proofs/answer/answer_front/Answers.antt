@@ -1,4 +1,4 @@
-use Rattle.std.proofs.Common.{arith, ◌≤◌, ◌∙◌, ap, sym, subst, ℕ, List, length, map, take, Option, Bor, Err, false}
+use Rattle.std.proofs.Common.{arith, ◌≤◌, ◌∙◌, ap, refl, sym, subst, ℕ, List, length, map, take, Option, Bor, Err, false}
 use Rattle.requests.specs.Request.{Request}
 use Rattle.requests.specs.RequestOf.{request_of}
 use Rattle.requests.specs.Reply.{Reply}
@@ -11,6 +11,7 @@ use Rattle.httpmsg.specs.Stream.{Message}
 use Rattle.routes.specs.Asked.{asked}
 use Rattle.routes.specs.ReplyBytes.{closing_bytes}
 use Rattle.routes.specs.AnswerBytes.{answers_bytes, CanAnswerAll}
+use Rattle.api.proofs.Causes.{causes_none, causes_write, causes_stored}
 use Rattle.api.proofs.Folds.{took_some_of, took_whole}
 use Rattle.api.proofs.Groups.{front_can_answer, front_answers, front_writes_some, front_stops}
 use Rattle.api.proofs.answer.answer_front.Given.{Over}
@@ -77,3 +78,16 @@ returns-clause-outcome g c rules v shows =
     (ap (map request_of) c.deref.ensures.value ∙ c.route_front-front.ensures.requests) c.requires.some c.requires.few shows
     (λ is. c.in-Err.ensures.stopped (ap Err is)) (λ is. c.in-Err.ensures.stops (ap Err is))
     (λ damage is. c.in-Err.ensures.damaged damage (ap Err is) rules v (shows (c.in-Err.ensures.damaged_stops damage (ap Err is)).0)) (λ is. c.in-Err.ensures.failed (ap Err is)) c.in-Err.ensures.refusal
+
+pub returns-in-Ok-write_answers-clause-causes : goal.returns-in-Ok-write_answers-clause-causes
+returns-in-Ok-write_answers-clause-causes g c =
+    causes_none _ _ _ _ _ _ c.answered_count-count.result c.write_answers.ensures.cause.later c.replies_to.ensures.count c.in-Ok.ensures.goes_on
+
+pub returns-in-Ok-clause-causes : goal.returns-in-Ok-clause-causes
+returns-in-Ok-clause-causes g c =
+    causes_write _ _ _ _ _ _ c.write_answers.ensures.cause.later c.replies_to.ensures.count (c.in-Err-write_answers.ensures.cause.failed refl)
+
+pub returns-clause-causes : goal.returns-clause-causes
+returns-clause-causes g c =
+    causes_stored _ _ _ _ _ _ c.in-Err.fault c.in-Err.ensures.refusal c.write_storage_failed.ensures.cause.later c.replies_to.ensures.count
+    (λ is. c.in-Err.ensures.cause (ap Err is)) (λ damage is. c.in-Err.ensures.damaged_stops damage (ap Err is)) (λ is. (c.in-Err.ensures.failed (ap Err is)).0)

@@ -1,5 +1,6 @@
-use Rattle.std.proofs.Common.{inr, ⊎_elim}
+use Rattle.std.proofs.Common.{refl, inl, inr, ⊎_elim}
 use Rattle.api.specs.declared.fault.ServeFault.TheVariants.{Read, Write, Device, Memory, Damaged, Failed}
+use Rattle.api.proofs.Causes.{apart}
 use Rattle.api.proofs.Runs.{at_ok, at_error}
 use Rattle.api.proofs.connection.serve.Goals as goal
 
@@ -23,3 +24,33 @@ returns-clause-memory g c rules v shows is = inr (at_error c.serve_pieces.result
 pub returns-clause-never_damaged : goal.returns-clause-never_damaged
 returns-clause-never_damaged g c rules v shows damage is =
     (at_error c.serve_pieces.result _ _ (Damaged damage) (c.serve_pieces.ensures.outcome rules v shows) is).holds
+
+pub returns-clause-damaged : goal.returns-clause-damaged
+returns-clause-damaged g c = c.serve_pieces.ensures.causes.damaged
+
+pub returns-clause-failed : goal.returns-clause-failed
+returns-clause-failed g c = c.serve_pieces.ensures.causes.failed
+
+pub returns-clause-read_cause : goal.returns-clause-read_cause
+returns-clause-read_cause g c = c.serve_pieces.ensures.causes.read
+
+pub returns-clause-write_cause : goal.returns-clause-write_cause
+returns-clause-write_cause g c = c.serve_pieces.ensures.causes.write
+
+pub returns-clause-device_cause : goal.returns-clause-device_cause
+returns-clause-device_cause g c = c.serve_pieces.ensures.causes.device
+
+pub returns-in-Err : goal.returns-in-Err
+returns-in-Err g c = record {
+  ended = λ rules v shows. tt;
+  read = λ rules v shows is. apart Memory Read (λ is. cc) is;
+  write = λ rules v shows is. apart Memory Write (λ is. cc) is;
+  device = λ rules v shows either. ⊎_elim (λ is. apart Memory Device (λ is. cc) is) (λ is. apart Memory Failed (λ is. cc) is) either;
+  memory = λ rules v shows is. inl (refl, refl, refl);
+  never_damaged = λ rules v shows damage is. apart Memory (Damaged damage) (λ is. cc) is;
+  damaged = λ damage is. apart Memory (Damaged damage) (λ is. cc) is;
+  failed = λ is. apart Memory Failed (λ is. cc) is;
+  read_cause = λ is. apart Memory Read (λ is. cc) is;
+  write_cause = λ is. apart Memory Write (λ is. cc) is;
+  device_cause = λ is. apart Memory Device (λ is. cc) is;
+}

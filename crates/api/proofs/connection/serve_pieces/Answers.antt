@@ -1,8 +1,10 @@
-use Rattle.std.proofs.Common.{[], Ok, ap, arith, refl, sym, ◌∙◌, subst, take}
+use Rattle.std.proofs.Common.{[], Ok, Err, ap, arith, refl, sym, inl, ◌≤◌, ◌∙◌, subst, take}
 use Rattle.httpmsg.specs.Stream.{Progress}
 use Rattle.api.specs.declared.piece.Step.{Step}
 use Rattle.api.specs.Piece.{Steps}
-use Rattle.api.proofs.Folds.{seen}
+use Rattle.api.specs.declared.fault.ServeFault.TheVariants.{Memory, Write}
+use Rattle.api.proofs.Causes.{all_none, all_end, apart, write_alone}
+use Rattle.api.proofs.Folds.{seen, grown_after}
 use Rattle.api.proofs.Runs.{SoFar, so_far_none, so_far_told, so_far_read, no_more, no_more_in_part, ended_at, wrong_at, finished_at, causes_err}
 use Rattle.api.proofs.connection.serve_pieces.Goals as goal
 
@@ -99,11 +101,30 @@ loop-preserved g c = (
 pub returns-in-Ok-clause-outcome : goal.returns-in-Ok-clause-outcome
 returns-in-Ok-clause-outcome g c rules v shows =
     no_more rules g.I.Input.gave g.O.Output.took g.O.Output.failures g.met.O.Output.took_then c.args.input.now c.loop.input c.args.output.now c.loop.output
-    c.write_no_more.new.output c.args.store.now c.loop.store v c.loop.connection.cutter (take c.loop.count c.loop.buffer) (c.loop.invariant.0 rules v shows)
+    c.write_no_more-written.new.output c.args.store.now c.loop.store v c.loop.connection.cutter (take c.loop.count c.loop.buffer) (c.loop.invariant.0 rules v shows)
     c.in-Ok.ensures.writes
 
-pub returns-clause-outcome : goal.returns-clause-outcome
-returns-clause-outcome g c rules v shows =
+pub returns-in-Ok-clause-causes : goal.returns-in-Ok-clause-causes
+returns-in-Ok-clause-causes g c =
+    all_end _ _ _ _ _ _ _ _ (Err Memory) c.loop.invariant.3 (omega (arith, c.loop.invariant.4, c.write_no_more-written.ensures.cause.later)) c.loop.invariant.5 c.loop.invariant.6
+    (λ is. apart Memory Write (λ is. cc) is) (inl refl)
+
+pub returns-in-Err-written-clause-outcome : goal.returns-in-Err-written-clause-outcome
+returns-in-Err-written-clause-outcome g c rules v shows =
     no_more_in_part rules g.I.Input.gave g.O.Output.took g.O.Output.failures g.met.O.Output.took_then c.args.input.now c.loop.input c.args.output.now c.loop.output
-    c.write_no_more.new.output c.args.store.now c.loop.store v c.loop.connection.cutter (take c.loop.count c.loop.buffer) (c.loop.invariant.0 rules v shows)
-    c.in-Err-write_no_more.ensures.writes
+    c.write_no_more-written.new.output c.args.store.now c.loop.store v c.loop.connection.cutter (take c.loop.count c.loop.buffer) (c.loop.invariant.0 rules v shows)
+    c.in-Err-written.ensures.writes
+
+pub returns-in-Ok-Finish-clause-causes : goal.returns-in-Ok-Finish-clause-causes
+returns-in-Ok-Finish-clause-causes g c =
+    let causes = c.in-Ok-Finish.ensures.causes in
+    let before : g.O.Output.failures c.args.output.now ≤ g.O.Output.failures c.next_step.new.output = omega (arith, c.loop.invariant.4, causes.output_later) in
+    all_end _ _ _ _ _ _ _ _ c.finish.result (omega (arith, c.loop.invariant.3, causes.input_later)) (omega (arith, before, c.finish.ensures.later))
+    (omega (arith, c.loop.invariant.5, causes.device_later)) (causes.goes_on ∙ c.loop.invariant.6)
+    (λ is. grown_after _ _ _ before (c.finish.ensures.cause is)) (write_alone c.finish.result c.finish.ensures.only)
+
+pub returns-in-Ok-End-clause-causes : goal.returns-in-Ok-End-clause-causes
+returns-in-Ok-End-clause-causes g c =
+    let causes = c.in-Ok-End.ensures.causes in
+    all_none _ _ _ _ _ _ _ _ c.in-Ok-End.end (omega (arith, c.loop.invariant.3, causes.input_later)) (omega (arith, c.loop.invariant.4, causes.output_later))
+    (omega (arith, c.loop.invariant.5, causes.device_later)) (causes.goes_on ∙ c.loop.invariant.6)

@@ -1,6 +1,7 @@
 use Rattle.std.proofs.Common.{arith, subst, inl, inr, take, refl, ℕ}
 use Rattle.api.specs.declared.piece.Told.{Told}
 use Rattle.api.specs.Piece.{Tells}
+use Rattle.api.proofs.Causes.{all_none, all_read, all_of}
 use Rattle.api.proofs.piece.next_step.Goals as goal
 
 pub returns-in-Ok-Messages-clause-outcome : goal.returns-in-Ok-Messages-clause-outcome
@@ -58,3 +59,32 @@ returns-in-Err-read-clause-outcome g c rules v read ms shows cut =
     in
     let told = subst Told_by c.in-Ok-Nothing.field-0-is (c.in-Ok-Nothing.ensures.outcome rules v read ms shows cut) in
     (inr (refl, told.0, told.1), c.in-Err-read.ensures.nothing)
+
+pub returns-in-Ok-Messages-clause-causes : goal.returns-in-Ok-Messages-clause-causes
+returns-in-Ok-Messages-clause-causes g c =
+    let causes = c.in-Ok-Messages.ensures.causes in
+    all_none _ _ _ _ _ _ _ _ _ (omega arith) causes.output_later causes.device_later causes.goes_on
+
+pub returns-in-Ok-Ends-clause-causes : goal.returns-in-Ok-Ends-clause-causes
+returns-in-Ok-Ends-clause-causes g c =
+    let causes = c.in-Ok-Ends.ensures.causes in
+    all_none _ _ _ _ _ _ _ _ _ (omega arith) causes.output_later causes.device_later causes.goes_on
+
+pub returns-in-Err-clause-causes : goal.returns-in-Err-clause-causes
+returns-in-Err-clause-causes g c = all_of _ _ _ _ _ _ _ c.in-Err.fault c.in-Err.ensures.causes
+
+pub returns-in-Ok-eq0-clause-causes : goal.returns-in-Ok-eq0-clause-causes
+returns-in-Ok-eq0-clause-causes g c =
+    let causes = c.in-Ok-Nothing.ensures.causes in
+    all_none _ _ _ _ _ _ _ _ _ c.in-Ok-eq0.ensures.cause.later causes.output_later causes.device_later causes.goes_on
+
+pub returns-in-Ok-clause-causes : goal.returns-in-Ok-clause-causes
+returns-in-Ok-clause-causes g c =
+    let causes = c.in-Ok-Nothing.ensures.causes in
+    all_none _ _ _ _ _ _ _ _ _ c.in-Ok.ensures.cause.later causes.output_later causes.device_later causes.goes_on
+
+pub returns-in-Err-read-clause-causes : goal.returns-in-Err-read-clause-causes
+returns-in-Err-read-clause-causes g c =
+    let causes = c.in-Ok-Nothing.ensures.causes in
+    let read = c.in-Err-read.ensures.cause in
+    all_read _ _ _ _ _ _ _ _ read.later causes.output_later causes.device_later (read.failed refl)

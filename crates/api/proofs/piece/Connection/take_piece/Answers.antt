@@ -1,6 +1,7 @@
 use Rattle.std.proofs.Common.{[], ◌∙◌, ap, sym, subst, List, Err}
 use Rattle.httpmsg.specs.Stream.{Message}
 use Rattle.api.specs.Answers.{Answers, Stops}
+use Rattle.api.proofs.Causes.{causes_none, causes_retyped, causes_output}
 use Rattle.api.proofs.Tellings.{tells_by, breaks_by, unfed}
 use Rattle.api.proofs.piece.Connection.take_piece.Goals as goal
 
@@ -38,3 +39,14 @@ returns-clause-outcome g c rules v read ms shows cut =
     (λ b is. c.in-Err.ensures.broken read ms cut b (ap Err is)) (λ is. c.in-Err.ensures.memory (ap Err is))
     c.answer_fault.ensures.broken c.answer_fault.ensures.memory
     (λ keeps content since. g.met.D.Device.only_now _ content keeps since) shows
+
+pub returns-in-Ok-answer_all-clause-causes : goal.returns-in-Ok-answer_all-clause-causes
+returns-in-Ok-answer_all-clause-causes g c =
+    let causes = c.in-Ok-answer_all.ensures.causes in
+    causes_none _ _ _ _ _ _ c.told_by.result causes.output_later causes.device_later causes.goes_on
+
+pub returns-in-Ok-clause-causes : goal.returns-in-Ok-clause-causes
+returns-in-Ok-clause-causes g c = causes_retyped _ _ _ _ _ _ c.in-Err-answer_all.fault c.in-Err-answer_all.ensures.causes
+
+pub returns-clause-causes : goal.returns-clause-causes
+returns-clause-causes g c = causes_output _ _ _ _ c.answer_fault.result c.answer_fault.ensures.later c.answer_fault.ensures.cause c.answer_fault.ensures.only
