@@ -1,11 +1,18 @@
 -- What a reader was told of entries with a prefix.
-use Rattle.std.proofs.Common.{arith, ◌≡◌, sym, ap, subst, ◌∙◌, ◌+◌, ◌-◌, ◌<◌, ◌≤◌, ℕ, true, false, cond, List, [], ◌∷◌, ◌++◌, length, get_or, take, drop}
+use Rattle.std.proofs.Common.{arith, ◌≡◌, refl, sym, ap, subst, ◌∙◌, ◌+◌, ◌-◌, ◌<◌, ◌≤◌, ◌⊎◌, inl, inr, ℕ, true, false, cond, Result, Ok, Err, OnErr, IsErrOf, List, [], ◌∷◌, ◌++◌, length, get_or, take, drop}
+use Rattle.std.specs.Result.{IsErrAnd}
 use Rattle.std.proofs.lemmas.List.{take_more, take_all, take-append-drop}
 use Rattle.device.specs.Disk.{Disk}
 use Rattle.pages.specs.Page.{Entry}
 use Rattle.checkpoint.specs.Pages.{joined}
 use Rattle.checkpoint.specs.Reader.{IsRefused}
+use Rattle.checkpoint.specs.declared.reader.ReadFault as reader
+use Rattle.checkpoint.specs.declared.reader.ReadFault.TheVariants as ReadFault
+use Rattle.checkpoint.proofs.Faults.{no_fault}
 use Rattle.checkpoint.proofs.Hearing.{refused_more, refused_then}
+use Rattle.shelf.specs.Faults.{of_read_fault}
+use Rattle.shelf.specs.declared.fault.ShelfFault.{ShelfFault as Fault}
+use Rattle.shelf.specs.declared.fault.ShelfFault.TheVariants as ShelfFault
 use Rattle.shelf.specs.declared.shelf.Shelf.{Shelf}
 use Rattle.shelf.specs.Places.{is_at_or_below, may_begin, IsSplit}
 use Rattle.shelf.specs.Prefix.{begins, beginning}
@@ -13,6 +20,37 @@ use Rattle.shelf.specs.Shelf.{root_of, firsts_of, pages_of, Shelves}
 use Rattle.shelf.proofs.Holding.{length-pages_of}
 use Rattle.shelf.proofs.Places.{range_of}
 use Rattle.shelf.proofs.Ranging.{beginning-append, pages_from, range_more, range_front}
+
+-- ---- faults of a reader
+
+err_same : {T E : Type 0} {a b : E} → ◌≡◌ {A = Result T E} (Err a) (Err b) → a ≡ b
+err_same told = cc
+
+pub an_entry : (f : reader.ReadFault) → ShelfFault.Entry ≡ of_read_fault f → ReadFault.Entry ≡ f
+an_entry ReadFault.Entry is = refl
+an_entry ReadFault.Memory is = cc
+
+pub told_by : {T : Type 0} (r : Result T Fault) (f : reader.ReadFault) → IsErrAnd r (λ e. e ≡ of_read_fault f) → OnErr r (IsErrOf r ShelfFault.Entry ⊎ IsErrOf r ShelfFault.Memory)
+told_by (Ok x) f passed = tt
+told_by (Err e) ReadFault.Entry passed = inl (ap (λ x. Err x) passed)
+told_by (Err e) ReadFault.Memory passed = inr (ap (λ x. Err x) passed)
+
+-- where memory was wanting no other fault is told
+pub no_want : {T : Type 0} (r : Result T Fault) (fault : Fault) → (fault ≡ ShelfFault.Memory → ⊥) → IsErrAnd r (λ e. e ≡ ShelfFault.Memory) → IsErrOf r fault → ⊥
+no_want (Ok x) fault other passed is = passed
+no_want (Err e) fault other passed is = other (sym (err_same is) ∙ passed)
+
+pub never_page : {T : Type 0} (r : Result T Fault) → OnErr r (IsErrOf r ShelfFault.Entry ⊎ IsErrOf r ShelfFault.Memory) → IsErrOf r ShelfFault.Page → ⊥
+never_page (Ok x) only is = no_fault is
+never_page (Err e) (inl entry) is = let never : ShelfFault.Entry ≡ ShelfFault.Page = sym (err_same entry) ∙ err_same is in cc
+never_page (Err e) (inr memory) is = let never : ShelfFault.Memory ≡ ShelfFault.Page = sym (err_same memory) ∙ err_same is in cc
+
+pub never_device : {T : Type 0} (r : Result T Fault) → OnErr r (IsErrOf r ShelfFault.Entry ⊎ IsErrOf r ShelfFault.Memory) → IsErrOf r ShelfFault.Device → ⊥
+never_device (Ok x) only is = no_fault is
+never_device (Err e) (inl entry) is = let never : ShelfFault.Entry ≡ ShelfFault.Device = sym (err_same entry) ∙ err_same is in cc
+never_device (Err e) (inr memory) is = let never : ShelfFault.Memory ≡ ShelfFault.Device = sym (err_same memory) ∙ err_same is in cc
+
+-- ---- entries
 
 -- one entry, which begins so, or does not
 pub one_beginning : (prefix : List ℕ) (entry : Entry) → begins prefix entry.0 ≡ true → beginning prefix (entry ∷ []) ≡ entry ∷ []

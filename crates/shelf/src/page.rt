@@ -1,6 +1,6 @@
 //! One page: read, and told.
 
-ghost use Rattle.std.specs.Prelude.{◌≡◌, ◌≤◌, ◌+◌, ◌*◌, [], ◌∷◌, length, IfOk, OnOk, IsErrOf};
+ghost use Rattle.std.specs.Prelude.{◌≡◌, ◌⊎◌, ◌≤◌, ◌+◌, ◌*◌, [], ◌∷◌, length, IfOk, OnOk, OnErr, IsErrOf};
 ghost use Rattle.device.specs.Disk.{HasFailed};
 ghost use Rattle.device.specs.Step.{Same};
 ghost use Rattle.device.specs.Run.{Ran};
@@ -72,9 +72,10 @@ pub(crate) fn tell_page<R: Reader>(
     page: &Page<'_>,
     prefix: &[u8],
     reader: &mut R,
-) -> Result<(), ReadFault>
+) -> Result<(), ShelfFault>
     ensures told { OnOk result (R.told reader.old reader.new (beginning prefix.now page.now)) }
-    ensures refused { IsErrOf result ReadFault.Entry → IsRefused R.told R.refuses reader.old (beginning prefix.now page.now) }
+    ensures refused { IsErrOf result ShelfFault.Entry → IsRefused R.told R.refuses reader.old (beginning prefix.now page.now) }
+    ensures refusal { OnErr result (IsErrOf result ShelfFault.Entry ⊎ IsErrOf result ShelfFault.Memory) }
 {
     for i in 0..page.len() {
         tell_entry(alloc, page.key(i), page.cell(i), prefix, reader)?;

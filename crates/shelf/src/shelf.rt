@@ -273,14 +273,14 @@ impl Shelf {
         match reading {
             Reading::Kept => {
                 self.fetch(alloc, device, page)?;
-                Ok(tell_page(alloc, &self.page(device, page), prefix, reader)?)
+                tell_page(alloc, &self.page(device, page), prefix, reader)
             }
             Reading::Passing if self.cache.contains(&page) => {
-                Ok(tell_page(alloc, &self.page(device, page), prefix, reader)?)
+                tell_page(alloc, &self.page(device, page), prefix, reader)
             }
             Reading::Passing => {
                 let owned = self.read(alloc, device, page)?;
-                Ok(tell_page(alloc, &owned.page(), prefix, reader)?)
+                tell_page(alloc, &owned.page(), prefix, reader)
             }
         }
     }

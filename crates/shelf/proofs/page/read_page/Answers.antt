@@ -1,8 +1,11 @@
 use Rattle.std.proofs.Common.{arith, refl, ◌≡◌, ◌∙◌, sym, ap, subst, List, ℕ, length}
+use Rattle.std.proofs.lemmas.Result.{IfOk-from_err}
+use Rattle.device.specs.Step.{Same}
+use Rattle.device.proofs.Runs.{not_yet}
 use Rattle.pages.specs.Page.{entries_in, IsSound}
 use Rattle.checkpoint.proofs.Taking.{unsound}
 use Rattle.shelf.specs.declared.fault.ShelfFault.TheVariants as ShelfFault
-use Rattle.checkpoint.proofs.Faults.{err_is}
+use Rattle.checkpoint.proofs.Faults.{err_is, no_fault}
 use Rattle.shelf.proofs.Cached.{page_read}
 use Rattle.shelf.proofs.page.read_page.Goals as goal
 
@@ -74,3 +77,36 @@ returns-in_err-check-clause-cause g c told =
     err_is c.from_residual-in_err-check.result _ ShelfFault.Device c.from_residual-in_err-check.ensures.1 told
     in
     cc
+
+pub returns-in_err-bytes-clause-page : goal.returns-in_err-bytes-clause-page
+returns-in_err-bytes-clause-page g c keeps = IfOk-from_err c.from_residual.result _ c.from_residual.ensures.0
+
+pub returns-in_err-read-clause-page : goal.returns-in_err-read-clause-page
+returns-in_err-read-clause-page g c keeps = IfOk-from_err c.from_residual-in_err-read.result _ c.from_residual-in_err-read.ensures.0
+
+pub returns-in_err-check-clause-page : goal.returns-in_err-check-clause-page
+returns-in_err-check-clause-page g c keeps = IfOk-from_err c.from_residual-in_err-check.result _ c.from_residual-in_err-check.ensures.0
+
+pub returns-in_err-bytes-clause-ran : goal.returns-in_err-bytes-clause-ran
+returns-in_err-bytes-clause-ran g c = not_yet g.D.Device.disk c.args.device.now Same (λ c. refl) (λ keeps content since. g.met.D.Device.only_now c.args.device.now content keeps since)
+
+pub returns-in_err-read-clause-ran : goal.returns-in_err-read-clause-ran
+returns-in_err-read-clause-ran g c = c.read.ensures.ran
+
+pub returns-in_err-read-clause-cause : goal.returns-in_err-read-clause-cause
+returns-in_err-read-clause-cause g c told = c.in_err-read.ensures.cause.failed refl
+
+pub returns-in_err-check-clause-ran : goal.returns-in_err-check-clause-ran
+returns-in_err-check-clause-ran g c = c.read.ensures.ran
+
+pub returns-clause-damaged : goal.returns-clause-damaged
+returns-clause-damaged g c keeps told = absurd (no_fault told)
+
+pub returns-clause-refusal : goal.returns-clause-refusal
+returns-clause-refusal g c told = no_fault told
+
+pub returns-clause-ran : goal.returns-clause-ran
+returns-clause-ran g c = c.read.ensures.ran
+
+pub returns-clause-cause : goal.returns-clause-cause
+returns-clause-cause g c told = absurd (no_fault told)

@@ -1,15 +1,20 @@
 use Rattle.std.proofs.Common.{rules, arith, refl, ◌≡◌, ◌∙◌, sym, ap, subst, ◌+◌, ◌*◌, List, ℕ, [], length, get_or, nat_eq}
 use Rattle.std.proofs.lemmas.Cmp.{nat_eq_equiv}
 use Rattle.std.specs.Prelude.{IsErrOf}
+use Rattle.std.proofs.lemmas.Result.{IfOk-from_err}
+use Rattle.device.specs.Step.{Same}
+use Rattle.device.proofs.Runs.{not_yet}
 use Rattle.lru.specs.LruCache.{LruCache}
 use Rattle.lru.proofs.CallerLemmas.{lookup-put_entries}
 use Rattle.gatelog.specs.Record.{part}
 use Rattle.pages.specs.Page.{Entry, entries_in, IsSound}
+use Rattle.checkpoint.proofs.Faults.{err_is, was_err, no_fault}
 use Rattle.checkpoint.proofs.Joining.{sound_at}
 use Rattle.shelf.specs.Shelf.{pages_of}
 use Rattle.shelf.specs.declared.fault.ShelfFault.TheVariants as ShelfFault
 use Rattle.shelf.proofs.Cached.{AreCached, promoted_some, cached_promoted, cached_put}
 use Rattle.shelf.proofs.Holding.{get-pages_at, page_inside, shelves_still, ran_same}
+use Rattle.shelf.proofs.Telling.{no_want}
 use Rattle.shelf.proofs.shelf.Shelf.fetch.Goals as goal
 
 pub returns-then-promote-clause-there : goal.returns-then-promote-clause-there
@@ -76,3 +81,78 @@ returns-clause-kept g c entries shelves =
       cached_put _ c.args.page c.in_ok-owned.owned c.promote.new.self c.put.new.self c.in_ok-put.ensures.entries read
           (cached_promoted _ c.args.page c.args.self.now.cache c.promote.new.self c.promote.ensures.entries held.cached),
     )) shelves
+
+pub returns-then-promote-clause-root : goal.returns-then-promote-clause-root
+returns-then-promote-clause-root g c = refl
+
+pub returns-then-promote-clause-firsts : goal.returns-then-promote-clause-firsts
+returns-then-promote-clause-firsts g c = refl
+
+pub returns-in_err-owned-clause-root : goal.returns-in_err-owned-clause-root
+returns-in_err-owned-clause-root g c = refl
+
+pub returns-in_err-owned-clause-firsts : goal.returns-in_err-owned-clause-firsts
+returns-in_err-owned-clause-firsts g c = refl
+
+pub returns-in_err-put-clause-root : goal.returns-in_err-put-clause-root
+returns-in_err-put-clause-root g c = refl
+
+pub returns-in_err-put-clause-firsts : goal.returns-in_err-put-clause-firsts
+returns-in_err-put-clause-firsts g c = refl
+
+pub returns-clause-root : goal.returns-clause-root
+returns-clause-root g c = refl
+
+pub returns-clause-firsts : goal.returns-clause-firsts
+returns-clause-firsts g c = refl
+
+pub returns-then-promote-clause-damaged : goal.returns-then-promote-clause-damaged
+returns-then-promote-clause-damaged g c entries shelves is = no_fault is
+
+pub returns-then-promote-clause-refusal : goal.returns-then-promote-clause-refusal
+returns-then-promote-clause-refusal g c is = no_fault is
+
+pub returns-then-promote-clause-ran : goal.returns-then-promote-clause-ran
+returns-then-promote-clause-ran g c = not_yet g.D.Device.disk c.args.device.now Same (λ c. refl) (λ keeps content since. g.met.D.Device.only_now c.args.device.now content keeps since)
+
+pub returns-then-promote-clause-cause : goal.returns-then-promote-clause-cause
+returns-then-promote-clause-cause g c is = absurd (no_fault is)
+
+pub returns-in_err-owned-clause-there : goal.returns-in_err-owned-clause-there
+returns-in_err-owned-clause-there g c = IfOk-from_err c.from_residual.result _ c.from_residual.ensures.0
+
+pub returns-in_err-owned-clause-refusal : goal.returns-in_err-owned-clause-refusal
+returns-in_err-owned-clause-refusal g c is = c.read_page.ensures.refusal (was_err c.in_err-owned.was (err_is c.from_residual.result _ ShelfFault.Entry c.from_residual.ensures.1 is))
+
+pub returns-in_err-owned-clause-ran : goal.returns-in_err-owned-clause-ran
+returns-in_err-owned-clause-ran g c = c.read_page.ensures.ran
+
+pub returns-in_err-owned-clause-cause : goal.returns-in_err-owned-clause-cause
+returns-in_err-owned-clause-cause g c is = c.read_page.ensures.cause (was_err c.in_err-owned.was (err_is c.from_residual.result _ ShelfFault.Device c.from_residual.ensures.1 is))
+
+pub returns-in_err-put-clause-there : goal.returns-in_err-put-clause-there
+returns-in_err-put-clause-there g c = IfOk-from_err c.from_residual-in_err-put.result _ c.from_residual-in_err-put.ensures.0
+
+pub returns-in_err-put-clause-damaged : goal.returns-in_err-put-clause-damaged
+returns-in_err-put-clause-damaged g c entries shelves is = no_want c.from_residual-in_err-put.result ShelfFault.Page (λ is. cc) c.from_residual-in_err-put.ensures.1 is
+
+pub returns-in_err-put-clause-refusal : goal.returns-in_err-put-clause-refusal
+returns-in_err-put-clause-refusal g c is = no_want c.from_residual-in_err-put.result ShelfFault.Entry (λ is. cc) c.from_residual-in_err-put.ensures.1 is
+
+pub returns-in_err-put-clause-cause : goal.returns-in_err-put-clause-cause
+returns-in_err-put-clause-cause g c is = absurd (no_want c.from_residual-in_err-put.result ShelfFault.Device (λ is. cc) c.from_residual-in_err-put.ensures.1 is)
+
+pub returns-in_err-put-clause-ran : goal.returns-in_err-put-clause-ran
+returns-in_err-put-clause-ran g c = c.read_page.ensures.ran
+
+pub returns-clause-damaged : goal.returns-clause-damaged
+returns-clause-damaged g c entries shelves is = no_fault is
+
+pub returns-clause-refusal : goal.returns-clause-refusal
+returns-clause-refusal g c is = no_fault is
+
+pub returns-clause-ran : goal.returns-clause-ran
+returns-clause-ran g c = c.read_page.ensures.ran
+
+pub returns-clause-cause : goal.returns-clause-cause
+returns-clause-cause g c is = absurd (no_fault is)

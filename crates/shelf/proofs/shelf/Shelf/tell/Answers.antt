@@ -1,5 +1,7 @@
 use Rattle.std.proofs.Common.{rules, arith, ◌≡◌, ◌∙◌, ap, subst, ◌-◌, List}
 use Rattle.std.specs.Prelude.{IsErrOf}
+use Rattle.std.proofs.lemmas.Result.{IfOk-from_err}
+use Rattle.checkpoint.proofs.Faults.{err_is, was_err, no_fault}
 use Rattle.gatelog.proofs.Walking.{same_then}
 use Rattle.pages.specs.Page.{Entry}
 use Rattle.checkpoint.specs.Reader.{IsRefused}
@@ -70,3 +72,33 @@ returns-clause-told g c entries shelves =
     shelves (c.count_up_to.ensures.split _ shelves.index) (c.count_with.ensures.split _ shelves.index) c.count_up_to.ensures.bound c.count_with.ensures.bound
     c.saturating_sub-start.ensures count)
     (c.loop-i.invariant.told entries shelves)
+
+pub returns-in_err-tell_one-clause-told : goal.returns-in_err-tell_one-clause-told
+returns-in_err-tell_one-clause-told g c entries shelves = IfOk-from_err c.from_residual.result _ c.from_residual.ensures.0
+
+pub returns-in_err-tell_one-clause-root : goal.returns-in_err-tell_one-clause-root
+returns-in_err-tell_one-clause-root g c = c.tell_one.ensures.root ∙ c.loop-i.invariant.root
+
+pub returns-in_err-tell_one-clause-damaged : goal.returns-in_err-tell_one-clause-damaged
+returns-in_err-tell_one-clause-damaged g c entries shelves is = c.tell_one.ensures.damaged entries (c.loop-i.invariant.kept entries shelves) (was_err c.in_err-tell_one.was (err_is c.from_residual.result _ ShelfFault.Page c.from_residual.ensures.1 is))
+
+pub returns-in_err-tell_one-clause-ran : goal.returns-in_err-tell_one-clause-ran
+returns-in_err-tell_one-clause-ran g c = same_then _ _ _ _ c.loop-i.invariant.ran c.tell_one.ensures.ran
+
+pub returns-clause-refused : goal.returns-clause-refused
+returns-clause-refused g c entries shelves is = absurd (no_fault is)
+
+pub returns-clause-kept : goal.returns-clause-kept
+returns-clause-kept g c = c.loop-i.invariant.kept
+
+pub returns-clause-root : goal.returns-clause-root
+returns-clause-root g c = c.loop-i.invariant.root
+
+pub returns-clause-damaged : goal.returns-clause-damaged
+returns-clause-damaged g c entries shelves is = no_fault is
+
+pub returns-clause-ran : goal.returns-clause-ran
+returns-clause-ran g c = c.loop-i.invariant.ran
+
+pub returns-clause-cause : goal.returns-clause-cause
+returns-clause-cause g c is = absurd (no_fault is)
