@@ -1,8 +1,15 @@
 -- What lies in pages goes where the objects there go.
-use Rattle.std.specs.Prelude.{◌≡◌, false, List}
+use Rattle.std.specs.Prelude.{◌≡◌, false, List, Result, IsErrOf}
+use Rattle.std.specs.Result.{IsErrAnd}
 use Rattle.std.proofs.Common.{sym, subst}
 use Rattle.device.specs.declared.device.Device.{Ghosts}
-use Rattle.device.specs.Disk.{Disk}
+use Rattle.device.specs.Disk.{Disk, HasFailed}
+use Rattle.device.specs.Run.{Ran}
+use Rattle.device.specs.Step.{Same}
+use Rattle.objects.specs.Failing.{HasGrown}
+use Rattle.objects.specs.declared.fault.LookupFault.{LookupFault}
+use Rattle.objects.specs.declared.fault.LookupFault.TheVariants.{Memory}
+use Rattle.checkpoint.proofs.Faults.{err_is}
 use Rattle.names.specs.Key.{Key}
 use Rattle.requests.specs.declared.stored.Stored.{Stored}
 use Rattle.snapshots.specs.declared.base.Base.{Base}
@@ -37,3 +44,20 @@ module _ {D : Type 0} {g : Ghosts D} (start : Base D Bare g) (device : D) (stock
       let Of : Stock → Type 0 = λ s. Stocks g.disk device s objects in
       let At : D → Type 0 = λ d. Stocks g.disk d end.stock.now objects in
       subst At (sym is) (goes.stocks objects (subst On (sym on) (subst Of (sym of) held)))) below
+
+-- What a base did to its device is what was done to the device, from before the base was made.
+module _ {D : Type 0} {g : Ghosts D} (start end : Base D Bare g) (old now : D) (from : start.device.now ≡ old) (to : end.device.now ≡ now) where
+  pub ran_by : Ran g.disk old old Same → GoesTo start end → Ran g.disk old now Same
+  ran_by idle goes =
+      let To : D → Type 0 = λ d. Ran g.disk old d Same in
+      subst To to (goes.ran old (subst To (sym from) idle))
+
+  pub failed_by : HasGrown (g.disk.failures start.device.now) (g.disk.failures end.device.now) → HasFailed g.disk old now
+  failed_by grown =
+      let From : D → Type 0 = λ d. HasFailed g.disk d now in
+      let To : D → Type 0 = λ d. HasFailed g.disk start.device.now d in
+      subst From from (subst To to grown)
+
+-- where memory was wanting no other fault is told
+pub no_want : {A P : Type 0} (r : Result A LookupFault) → IsErrAnd r (λ e. e ≡ Memory) → (fault : LookupFault) → (fault ≡ Memory → ⊥) → IsErrOf r fault → P
+no_want r want fault other told = absurd (other (err_is r (λ e. e ≡ Memory) fault want told))

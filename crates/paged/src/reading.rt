@@ -135,7 +135,10 @@ impl Paged {
         let chosen = Chosen::of(alloc, keys)?;
         let mut sieve = Sieve::new(alloc, &chosen);
         let first_keys = scan(alloc, device, root, &mut sieve)?;
-        let core = core_of(alloc, rules, sieve.kept(), sieve.objects(), root.revision)?;
+        let core = core_of(alloc, rules, sieve.kept(), sieve.objects(), root.revision);
+        drop(sieve);
+        drop(chosen);
+        let core = core?;
         let stock = stock_of(alloc, device, root, first_keys)?;
         Ok(Paged { core, stock })
     }

@@ -1,20 +1,29 @@
-use Rattle.std.proofs.Common.{rules}
+use Rattle.std.proofs.Common.{rules, refl, ap, ◌∙◌}
+use Rattle.device.specs.Step.{Same}
+use Rattle.device.proofs.Runs.{not_yet}
 use Rattle.snapshots.specs.Base.{holds_nothing}
+use Rattle.snapshots.specs.declared.stock.Stock.{Stock}
+use Rattle.snapshots.specs.Stock as stock
 use Rattle.paged.specs.Lying.{made_bare, held_bare}
-use Rattle.paged.proofs.Going.{holds_below, below_goes}
+use Rattle.paged.proofs.Going.{holds_below, below_goes, ran_by, failed_by}
 use Rattle.paged.proofs.state.Paged.all_below.Goals as goal
 
-pub returns-clause-all : goal.returns-clause-all
-returns-clause-all g c base below =
-    c.all.ensures.listed base
-    (holds_below c.new-base.result c.args.device.now c.args.self.now.stock c.new-base.ensures.device c.new-base.ensures.stock base c.new-base.ensures.whole below)
-
-pub returns-clause-damaged : goal.returns-clause-damaged
-returns-clause-damaged g c part told base below =
-    let holds = holds_below c.new-base.result c.args.device.now c.args.self.now.stock c.new-base.ensures.device c.new-base.ensures.stock base c.new-base.ensures.whole below in
-    holds_nothing made_bare held_bare c.all.new.self base (c.all.ensures.kept base holds) (c.all.ensures.damaged part told)
-
-pub returns-clause-below : goal.returns-clause-below
-returns-clause-below g c base below =
-    below_goes c.new-base.result c.args.device.now c.args.self.now.stock c.new-base.ensures.device c.new-base.ensures.stock base c.all.new.self _ (search rules)
-    c.all.ensures.goes below
+pub returns : goal.returns
+returns g c =
+    let before = c.new-base.ensures in
+    let listing = c.all.ensures in
+    let device = c.args.device.now in
+    let start = c.new-base.result in
+    let end = c.all.new.self in
+    record {
+      all = λ base below. listing.listed base (holds_below start device c.args.self.now.stock before.device before.stock base before.whole below);
+      damaged = λ part told base below.
+          let holds = holds_below start device c.args.self.now.stock before.device before.stock base before.whole below in
+          holds_nothing made_bare held_bare end base (listing.kept base holds) (listing.damaged part told);
+      core = refl;
+      root = listing.goes.root ∙ ap (λ (s : Stock). stock.root_of s) before.stock;
+      below = λ base below. below_goes start device c.args.self.now.stock before.device before.stock base end _ (search rules) listing.goes below;
+      ran = ran_by start end device _ before.device (search rules)
+          (not_yet g.D.Device.disk device Same (λ c. refl) (λ keeps content since. g.met.D.Device.only_now device content keeps since)) listing.goes;
+      device = λ is. failed_by start end device _ before.device (search rules) (listing.device is);
+    }

@@ -1,9 +1,99 @@
-use Rattle.std.proofs.Common.{rules}
-use Rattle.std.specs.Prelude.{IsErrOf}
+use Rattle.std.proofs.Common.{◌≡◌, ◌∙◌, sym, ap, subst, List}
+use Rattle.names.specs.Key.{Key}
+use Rattle.requests.specs.declared.stored.Stored.{Stored}
+use Rattle.requests.specs.View as seen
+use Rattle.holdings.specs.Holdings.{State, Shows}
+use Rattle.snapshots.specs.Keeping.{IsHeld}
+use Rattle.recovery.specs.Beside.{Beside}
+use Rattle.std.proofs.lemmas.Result.{IfOk-from_err}
 use Rattle.objects.specs.declared.fault.LookupFault.TheVariants as LookupFault
+use Rattle.checkpoint.proofs.Faults.{no_fault}
+use Rattle.apicore.proofs.Faults.{same_fault}
+use Rattle.paged.proofs.Going.{no_want}
 use Rattle.paged.proofs.state.Paged.next.Goals as goal
 
-pub returns-in_err-below-clause-damaged : goal.returns-in_err-below-clause-damaged
-returns-in_err-below-clause-damaged g c part told held holds is =
-    let damaged : IsErrOf c.all_below.result (LookupFault.Damaged part) = search rules in
-    c.all_below.ensures.damaged part damaged holds.base holds.below
+pub returns-in_err-below : goal.returns-in_err-below
+returns-in_err-below g c =
+    let handed = c.from_residual in
+    let all = c.all_below.ensures in
+    record {
+      entries = λ held holds. IfOk-from_err handed.result _ handed.ensures.0;
+      rules = IfOk-from_err handed.result _ handed.ensures.0;
+      held = λ held holds is. IfOk-from_err handed.result _ handed.ensures.0;
+      damaged = λ part told held holds is. all.damaged part (same_fault handed.ensures.1 c.in_err-below.was told) holds.base holds.below;
+      core = all.core;
+      root = all.root;
+      below = all.below;
+      ran = all.ran;
+      device = λ told. all.device (same_fault handed.ensures.1 c.in_err-below.was told);
+    }
+
+pub returns-in_err-entries : goal.returns-in_err-entries
+returns-in_err-entries g c =
+    let handed = c.from_residual-in_err-entries in
+    let all = c.all_below.ensures in
+    record {
+      entries = λ held holds. IfOk-from_err handed.result _ handed.ensures.0;
+      rules = IfOk-from_err handed.result _ handed.ensures.0;
+      held = λ held holds is. IfOk-from_err handed.result _ handed.ensures.0;
+      damaged = λ part told held holds is. no_want handed.result handed.ensures.1 (LookupFault.Damaged part) (λ is. cc) told;
+      core = all.core;
+      root = all.root;
+      below = all.below;
+      ran = all.ran;
+      device = λ told. no_want handed.result handed.ensures.1 LookupFault.Device (λ is. cc) told;
+    }
+
+-- what a core shows over what lies below, as it is shown over the same
+shows_still : (old new : State Beside) (base below : List (Key × Stored Beside)) (held : seen.View Beside) → new ≡ old → below ≡ base → Shows old base held → Shows new below held
+shows_still old new base below held same lies shows =
+    let Over : List (Key × Stored Beside) → Type 0 = λ b. Shows old b held in
+    let By : State Beside → Type 0 = λ core. Shows core below held in
+    subst By (sym same) (subst Over (sym lies) shows)
+
+held_still : (old new : State Beside) (held : seen.View Beside) → new ≡ old → IsHeld old.rules held → IsHeld new.rules held
+held_still old new held same is = let By : State Beside → Type 0 = λ core. IsHeld core.rules held in subst By (sym same) is
+
+pub returns-in_err-core : goal.returns-in_err-core
+returns-in_err-core g c =
+    let handed = c.from_residual-in_err-core in
+    let was = c.in_err-core.was in
+    let all = c.all_below.ensures in
+    let old = c.args.self.now.core in
+    let new = c.all_below.new.self.core in
+    record {
+      entries = λ held holds. IfOk-from_err handed.result _ handed.ensures.0;
+      rules = IfOk-from_err handed.result _ handed.ensures.0;
+      held = λ held holds is. IfOk-from_err handed.result _ handed.ensures.0;
+      damaged = λ part told held holds is.
+          c.renewed_core.ensures.damaged part (same_fault handed.ensures.1 was told) held
+          (shows_still old new holds.base c.deref-2.result.now held all.core (c.deref-2.ensures.value ∙ c.in_ok-below.ensures.all holds.base holds.below) holds.shows)
+          (held_still old new held all.core is);
+      core = all.core;
+      root = all.root;
+      below = all.below;
+      ran = all.ran;
+      device = λ told. absurd (c.renewed_core.ensures.device (same_fault handed.ensures.1 was told));
+    }
+
+pub returns : goal.returns
+returns g c =
+    let all = c.all_below.ensures in
+    let old = c.args.self.now.core in
+    let new = c.all_below.new.self.core in
+    record {
+      entries = λ held holds.
+          c.in_ok-entries.ensures.held held
+          (shows_still old new holds.base c.deref.result.now held all.core (c.deref.ensures.value ∙ c.in_ok-below.ensures.all holds.base holds.below) holds.shows);
+      rules = c.in_ok-core.ensures.rules ∙ ap (λ (core : State Beside). core.rules) all.core;
+      held = λ held holds is.
+          c.in_ok-core.ensures.held held
+          (shows_still old new holds.base c.deref-2.result.now held all.core (c.deref-2.ensures.value ∙ c.in_ok-below.ensures.all holds.base holds.below) holds.shows)
+          (held_still old new held all.core is);
+      damaged = λ part told. absurd (no_fault told);
+      core = all.core;
+      root = all.root;
+      below = all.below;
+      ran = all.ran;
+      device = λ told. absurd (no_fault told);
+    }

@@ -1,30 +1,45 @@
-use Rattle.std.proofs.Common.{rules, refl}
+use Rattle.std.proofs.Common.{rules, refl, ap, ◌∙◌}
+use Rattle.device.specs.Step.{Same}
+use Rattle.device.proofs.Runs.{not_yet}
+use Rattle.snapshots.specs.declared.stock.Stock.{Stock}
+use Rattle.snapshots.specs.Stock as stock
 use Rattle.paged.specs.Paged.{Below}
+use Rattle.paged.proofs.Going.{ran_by, failed_by}
 use Rattle.paged.proofs.Stepping.{HoldsBare, base_holds, base_lies, prepared_over}
 use Rattle.paged.proofs.state.Paged.prepare.Goals as goal
 
-pub returns-clause-below : goal.returns-clause-below
-returns-clause-below g c objects below =
+pub returns : goal.returns
+returns g c =
     let before = c.new-base.ensures in
-    base_lies c.prepare.new.source _ _ (search rules) refl objects
-    (c.prepare.ensures.kept objects (base_holds c.new-base.result c.args.device.now c.args.self.now.stock before.device before.stock objects before.whole below))
-
-pub returns-clause-step : goal.returns-clause-step
-returns-clause-step g c =
-    let before = c.new-base.ensures in
-    prepared_over (HoldsBare c.new-base.result) (Below g.D.Device.disk c.args.device.now c.args.self.now) c.args.self.now.core _ c.prepare.result
-    (λ objects below. base_holds c.new-base.result c.args.device.now c.args.self.now.stock before.device before.stock objects before.whole below)
-    c.prepare.ensures.step
-
-pub returns-clause-damaged : goal.returns-clause-damaged
-returns-clause-damaged g c part damaged v shown is_view =
-    let before = c.new-base.ensures in
-    c.prepare.ensures.damaged part damaged shown.shows.held v
-    (record {
-      base = shown.base;
-      below = base_holds c.new-base.result c.args.device.now c.args.self.now.stock before.device before.stock shown.base before.whole shown.below;
-      shows = shown.shows.shows;
-      plans = shown.shows.plans;
-      free = shown.shows.free;
-      seen = is_view;
-    })
+    let step = c.prepare.ensures in
+    let device = c.args.device.now in
+    let base = c.new-base.result in
+    let end = c.prepare.new.source in
+    record {
+      rules = step.rules;
+      revision = step.revision;
+      root = step.goes.root ∙ ap (λ (s : Stock). stock.root_of s) before.stock;
+      shows = step.shows;
+      below = λ objects below.
+          base_lies end _ _ (search rules) refl objects
+          (step.kept objects (base_holds base device c.args.self.now.stock before.device before.stock objects before.whole below));
+      step = prepared_over (HoldsBare base) (Below g.D.Device.disk device c.args.self.now) c.args.self.now.core _ c.prepare.result
+          (λ objects below. base_holds base device c.args.self.now.stock before.device before.stock objects before.whole below)
+          step.step;
+      ready = step.ready;
+      form = step.form;
+      ran = ran_by base end device _ before.device (search rules)
+          (not_yet g.D.Device.disk device Same (λ c. refl) (λ keeps content since. g.met.D.Device.only_now device content keeps since)) step.goes;
+      device = λ is. failed_by base end device _ before.device (search rules) (step.device is);
+      read = step.read;
+      damaged = λ part damaged v shown is_view.
+          step.damaged part damaged shown.shows.held v
+          (record {
+            base = shown.base;
+            below = base_holds base device c.args.self.now.stock before.device before.stock shown.base before.whole shown.below;
+            shows = shown.shows.shows;
+            plans = shown.shows.plans;
+            free = shown.shows.free;
+            seen = is_view;
+          });
+    }

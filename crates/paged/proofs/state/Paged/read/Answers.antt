@@ -1,5 +1,9 @@
-use Rattle.std.proofs.Common.{rules, arith, ◌∙◌, sym, ap, subst, ⊎_elim, inl, inr, List, [], ℕ, Err}
+use Rattle.std.proofs.Common.{rules, arith, refl, ◌∙◌, sym, ap, subst, ⊎_elim, inl, inr, List, [], ℕ, Err}
 use Rattle.std.proofs.lemmas.List.{length-map}
+use Rattle.std.proofs.lemmas.Result.{IfOk-from_err}
+use Rattle.device.specs.Step.{Same}
+use Rattle.device.proofs.Runs.{not_yet}
+use Rattle.checkpoint.proofs.Faults.{no_fault}
 use Rattle.snapshots.specs.declared.sieve.Sieve.{Sieve}
 use Rattle.checkpoint.specs.Pages.{pages_of_root, HoldsEntries, IsIndex}
 use Rattle.checkpoint.specs.Index.{keys_of}
@@ -32,8 +36,8 @@ returns-in_err-core-clause-damaged g c keeps told held is holds revision =
     let objects = c.objects.ensures ∙ read.1 in
     let all = chooses_rules chosen in
     ⊎_elim
-    (λ bad. c.core_of.ensures.damaged (inl (c.in_err-core.was ∙ ap Err bad)) held (is_chosen chosen) is all kept objects (sym revision))
-    (λ bad. c.core_of.ensures.damaged (inr (c.in_err-core.was ∙ ap Err bad)) held (is_chosen chosen) is all kept objects (sym revision))
+    (λ bad. c.core_of-core.ensures.damaged (inl (c.in_err-core.was ∙ ap Err bad)) held (is_chosen chosen) is all kept objects (sym revision))
+    (λ bad. c.core_of-core.ensures.damaged (inr (c.in_err-core.was ∙ ap Err bad)) held (is_chosen chosen) is all kept objects (sym revision))
     (snapshot_bad c.from_residual-in_err-core.result c.in_err-core.field-0.0 c.from_residual-in_err-core.ensures.1 told)
 
 pub returns-in_err-stock-clause-damaged : goal.returns-in_err-stock-clause-damaged
@@ -88,3 +92,78 @@ returns-clause-no_pages g c none =
       c.in_ok-core.ensures.none (c.kept.ensures ∙ ap (λ (s : Sieve Chosen). s.kept.items) untold.2 ∙ made.kept)
           (c.objects.ensures ∙ ap (λ (s : Sieve Chosen). s.objects) untold.2 ∙ made.objects),
     )
+
+pub returns-in_err-chosen-clause-rules : goal.returns-in_err-chosen-clause-rules
+returns-in_err-chosen-clause-rules g c = IfOk-from_err c.from_residual.result _ c.from_residual.ensures.0
+
+pub returns-in_err-chosen-clause-root : goal.returns-in_err-chosen-clause-root
+returns-in_err-chosen-clause-root g c = IfOk-from_err c.from_residual.result _ c.from_residual.ensures.0
+
+pub returns-in_err-chosen-clause-held : goal.returns-in_err-chosen-clause-held
+returns-in_err-chosen-clause-held g c keeps held is holds revision = IfOk-from_err c.from_residual.result _ c.from_residual.ensures.0
+
+pub returns-in_err-chosen-clause-no_pages : goal.returns-in_err-chosen-clause-no_pages
+returns-in_err-chosen-clause-no_pages g c none = IfOk-from_err c.from_residual.result _ c.from_residual.ensures.0
+
+pub returns-in_err-chosen-clause-ran : goal.returns-in_err-chosen-clause-ran
+returns-in_err-chosen-clause-ran g c = not_yet g.D.Device.disk c.args.device.now Same (λ c. refl) (λ keeps content since. g.met.D.Device.only_now c.args.device.now content keeps since)
+
+pub returns-in_err-first_keys-clause-rules : goal.returns-in_err-first_keys-clause-rules
+returns-in_err-first_keys-clause-rules g c = IfOk-from_err c.from_residual-in_err-first_keys.result _ c.from_residual-in_err-first_keys.ensures.0
+
+pub returns-in_err-first_keys-clause-root : goal.returns-in_err-first_keys-clause-root
+returns-in_err-first_keys-clause-root g c = IfOk-from_err c.from_residual-in_err-first_keys.result _ c.from_residual-in_err-first_keys.ensures.0
+
+pub returns-in_err-first_keys-clause-held : goal.returns-in_err-first_keys-clause-held
+returns-in_err-first_keys-clause-held g c keeps held is holds revision = IfOk-from_err c.from_residual-in_err-first_keys.result _ c.from_residual-in_err-first_keys.ensures.0
+
+pub returns-in_err-first_keys-clause-no_pages : goal.returns-in_err-first_keys-clause-no_pages
+returns-in_err-first_keys-clause-no_pages g c none = IfOk-from_err c.from_residual-in_err-first_keys.result _ c.from_residual-in_err-first_keys.ensures.0
+
+pub returns-in_err-first_keys-clause-ran : goal.returns-in_err-first_keys-clause-ran
+returns-in_err-first_keys-clause-ran g c = c.scan.ensures.ran
+
+pub returns-in_err-core-clause-rules : goal.returns-in_err-core-clause-rules
+returns-in_err-core-clause-rules g c = IfOk-from_err c.from_residual-in_err-core.result _ c.from_residual-in_err-core.ensures.0
+
+pub returns-in_err-core-clause-root : goal.returns-in_err-core-clause-root
+returns-in_err-core-clause-root g c = IfOk-from_err c.from_residual-in_err-core.result _ c.from_residual-in_err-core.ensures.0
+
+pub returns-in_err-core-clause-held : goal.returns-in_err-core-clause-held
+returns-in_err-core-clause-held g c keeps held is holds revision = IfOk-from_err c.from_residual-in_err-core.result _ c.from_residual-in_err-core.ensures.0
+
+pub returns-in_err-core-clause-no_pages : goal.returns-in_err-core-clause-no_pages
+returns-in_err-core-clause-no_pages g c none = IfOk-from_err c.from_residual-in_err-core.result _ c.from_residual-in_err-core.ensures.0
+
+pub returns-in_err-core-clause-ran : goal.returns-in_err-core-clause-ran
+returns-in_err-core-clause-ran g c = c.scan.ensures.ran
+
+pub returns-in_err-stock-clause-rules : goal.returns-in_err-stock-clause-rules
+returns-in_err-stock-clause-rules g c = IfOk-from_err c.from_residual-in_err-stock.result _ c.from_residual-in_err-stock.ensures.0
+
+pub returns-in_err-stock-clause-root : goal.returns-in_err-stock-clause-root
+returns-in_err-stock-clause-root g c = IfOk-from_err c.from_residual-in_err-stock.result _ c.from_residual-in_err-stock.ensures.0
+
+pub returns-in_err-stock-clause-held : goal.returns-in_err-stock-clause-held
+returns-in_err-stock-clause-held g c keeps held is holds revision = IfOk-from_err c.from_residual-in_err-stock.result _ c.from_residual-in_err-stock.ensures.0
+
+pub returns-in_err-stock-clause-no_pages : goal.returns-in_err-stock-clause-no_pages
+returns-in_err-stock-clause-no_pages g c none = IfOk-from_err c.from_residual-in_err-stock.result _ c.from_residual-in_err-stock.ensures.0
+
+pub returns-in_err-stock-clause-ran : goal.returns-in_err-stock-clause-ran
+returns-in_err-stock-clause-ran g c = c.scan.ensures.ran
+
+pub returns-clause-rules : goal.returns-clause-rules
+returns-clause-rules g c = c.in_ok-core.ensures.rules
+
+pub returns-clause-root : goal.returns-clause-root
+returns-clause-root g c = c.in_ok-stock.ensures.root
+
+pub returns-clause-damaged : goal.returns-clause-damaged
+returns-clause-damaged g c keeps told held is holds revision = ⊎_elim no_fault (λ other. ⊎_elim no_fault no_fault other) told
+
+pub returns-clause-ran : goal.returns-clause-ran
+returns-clause-ran g c = c.scan.ensures.ran
+
+pub returns-clause-cause : goal.returns-clause-cause
+returns-clause-cause g c told = absurd (no_fault told)
