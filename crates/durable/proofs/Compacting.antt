@@ -1,5 +1,5 @@
 -- What the writing of the next generation leaves of a history.
-use Rattle.std.proofs.Common.{arith, ◌≡◌, ◌∙◌, refl, sym, ap, subst, ◌+◌, ◌*◌, ◌⊎◌, inl, inr, ⊎_elim, ℕ, List, [], false, map, take, IsTrue}
+use Rattle.std.proofs.Common.{arith, ◌≡◌, ◌∙◌, refl, sym, ap, subst, ◌+◌, ◌*◌, ◌⊎◌, inl, inr, ⊎_elim, ℕ, List, [], Bool, true, false, map, take, IsTrue}
 use Rattle.std.specs.FinMap.{is_sorted}
 use Rattle.std.proofs.Math.Logic.{∥∥₁_elim, ∥∥₁_prop}
 use Rattle.std.proofs.lemmas.Grind.{merely}
@@ -211,6 +211,13 @@ written_counts next entries c written = (written.holds, (refl, written.closed))
 
 -- ---- faults
 
+pub only_device : (f : WriteFault) → of_write_fault f ≡ fault.Device → f ≡ write_fault.Device
+only_device write_fault.Device is = refl
+only_device write_fault.Damaged is = cc
+only_device write_fault.TooLong is = cc
+only_device write_fault.Memory is = cc
+only_device write_fault.Exhausted is = cc
+
 pub only_memory : (f : WriteFault) → of_write_fault f ≡ fault.Memory → f ≡ write_fault.Memory
 only_memory write_fault.Device is = cc
 only_memory write_fault.Damaged is = cc
@@ -231,3 +238,24 @@ damaged_or_long write_fault.Damaged damage is = inl refl
 damaged_or_long write_fault.TooLong damage is = inr refl
 damaged_or_long write_fault.Memory damage is = cc
 damaged_or_long write_fault.Exhausted damage is = cc
+
+pub never_told_failed : (f : WriteFault) → of_write_fault f ≡ fault.Failed → ⊥
+never_told_failed write_fault.Device is = cc
+never_told_failed write_fault.Damaged is = cc
+never_told_failed write_fault.TooLong is = cc
+never_told_failed write_fault.Memory is = cc
+never_told_failed write_fault.Exhausted is = cc
+
+memory_apart : fault.Memory ≡ fault.Device → ⊥
+memory_apart is = cc
+
+exhausted_apart : fault.Exhausted ≡ fault.Device → ⊥
+exhausted_apart is = cc
+
+-- a store whose device failed serves no more
+pub stops_by : (f : WriteFault) (served : Bool) → (served ≡ true → (f ≡ write_fault.Memory) ⊎ (f ≡ write_fault.Exhausted)) → of_write_fault f ≡ fault.Device → served ≡ false
+stops_by f false only is = refl
+stops_by f true only is =
+    absurd (⊎_elim (λ memory. let never : fault.Memory ≡ fault.Device = sym (ap of_write_fault memory) ∙ is in memory_apart never)
+    (λ exhausted. let never : fault.Exhausted ≡ fault.Device = sym (ap of_write_fault exhausted) ∙ is in exhausted_apart never)
+    (only refl))

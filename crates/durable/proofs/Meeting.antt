@@ -29,6 +29,22 @@ met_is : {T : Type 0} (r : Result T Fault) → IfErr r MayBeMet → IfSome (resu
 met_is (Ok x) met = tt
 met_is (Err e) met = met
 
+-- a fault is told, and none other
+pub told_none : {P : Type 0} (fault : Fault) → Some fault ≡ None → P
+told_none fault is = cc
+
+pub none_told : {P : Type 0} (fault : Fault) → ◌≡◌ {A = Option Fault} None (Some fault) → P
+none_told fault is = cc
+
+pub told_other : {P : Type 0} (fault other : Fault) → (other ≡ fault → ⊥) → Some fault ≡ Some other → P
+told_other fault other apart is = let same : other ≡ fault = cc in absurd (apart same)
+
+pub device_memory : Faults.Device ≡ Faults.Memory → ⊥
+device_memory is = cc
+
+pub damage_memory : (damage : Damage) → Faults.Damaged damage ≡ Faults.Memory → ⊥
+damage_memory damage is = cc
+
 -- memory was refused before the first request
 pub met_memory : {D : Type 0} {g : Ghosts D} (store : Store D g) (asked : ℕ) (replies : Vec Reply Global) → serves store ≡ true
     → HasMet store store asked replies replies (Some Faults.Memory)

@@ -70,7 +70,8 @@ impl<D: Device> Store<D> {
     ghost use Rattle.paged.specs.Lying.{base_of};
     ghost use Rattle.durable.specs.declared.fault.Damage.{Damage};
     ghost use Rattle.durable.specs.declared.fault.Fault.TheVariants as Fault;
-    ghost use Rattle.durable.specs.Faults.{MayBeMet};
+    ghost use Rattle.durable.specs.Called.{ServesOn};
+    ghost use Rattle.durable.specs.Faults.{MayBeMet, of_lookup_fault, goes_on_after};
     ghost use Rattle.durable.specs.Compacted.{IsToldOf, IsCheckOf};
     ghost use Rattle.durable.specs.Recorded.{payload, IsGroup};
     ghost use Rattle.durable.specs.Gathered.{in_record, CanBeAppended, HasStepped, StaysAs, HasGatheredMore, HasServedMore, HasStoppedIn, HasAnswered, HasMet};
@@ -116,7 +117,14 @@ impl<D: Device> Store<D> {
     pub fn into_device(self) -> D
         ensures { result ≡ device_of self }
     {
-        let Store { device, .. } = self;
+        let Store {
+            device,
+            paged,
+            log,
+            ..
+        } = self;
+        drop(paged);
+        drop(log);
         device
     }
 
@@ -169,21 +177,11 @@ impl<D: Device> Store<D> {
         ensures device { Ran D.disk (device_of self.old) (device_of self.new) Same }
         ensures read { IsErrOf result Fault.Device → (s : Specification Expr) × IsReadOf (request_of request.now) s }
         ensures damaged { (damage : Damage) → IsErrOf result (Fault.Damaged damage) → (v : View) → IsShown self.old v → IsView v → ⊥ }
-        ensures goes_on { OnOk result (serves self.new ≡ serves self.old) }
-        ensures memory_goes_on { IsErrOf result Fault.Memory → serves self.new ≡ serves self.old }
-        ensures stops { IsErrOf result Fault.Device → serves self.new ≡ false }
-        ensures damaged_stops { (damage : Damage) → IsErrOf result (Fault.Damaged damage) → serves self.new ≡ false }
-        ensures refusal { IfErr result MayBeMet }
-        ensures cause { IsErrOf result Fault.Device → HasFailed D.disk (device_of self.old) (device_of self.new) }
+        ensures leaves { ServesOn self.old self.new result }
     {
         match self.paged.prepare(alloc, &mut self.device, request) {
             Ok(prepared) => Ok(prepared),
-            Err(LookupFault::Memory) => Err(Fault::Memory),
-            Err(LookupFault::Device) => Err(self.stop_for(Fault::Device)),
-            Err(LookupFault::Damaged(part)) => {
-                let damage = Damage::from(part);
-                Err(self.stop_for(Fault::Damaged(damage)))
-            }
+            Err(fault) => Err(self.met(fault)),
         }
     }
 
@@ -196,12 +194,7 @@ impl<D: Device> Store<D> {
         ensures device { Ran D.disk (device_of self.old) (device_of self.new) Same }
         ensures read { IsErrOf result Fault.Device → (s : Specification Expr) × IsReadOf (request_of request.now) s }
         ensures damaged { (damage : Damage) → IsErrOf result (Fault.Damaged damage) → (rules : Rules) (v : View) → ServesAt rules self.old v → ⊥ }
-        ensures goes_on { OnOk result (serves self.new ≡ serves self.old) }
-        ensures memory_goes_on { IsErrOf result Fault.Memory → serves self.new ≡ serves self.old }
-        ensures stops { IsErrOf result Fault.Device → serves self.new ≡ false }
-        ensures damaged_stops { (damage : Damage) → IsErrOf result (Fault.Damaged damage) → serves self.new ≡ false }
-        ensures refusal { IfErr result MayBeMet }
-        ensures cause { IsErrOf result Fault.Device → HasFailed D.disk (device_of self.old) (device_of self.new) }
+        ensures leaves { ServesOn self.old self.new result }
         ensures count { count_of group.new ≤ count_of group.old + 1 }
     {
         let prepared = self.prepare(alloc, request)?;
@@ -274,12 +267,7 @@ impl<D: Device> Store<D> {
         ensures all { OnOk result (length replies.new.items ≡ length replies.old.items + length requests.now) }
         ensures room { vec_capacity replies.new ≡ vec_capacity replies.old }
         ensures device { Ran D.disk (device_of self.old) (device_of self.new) Same }
-        ensures goes_on { OnOk result (serves self.new ≡ true) }
-        ensures memory_goes_on { IsErrOf result Fault.Memory → serves self.new ≡ true }
-        ensures stops { IsErrOf result Fault.Device → serves self.new ≡ false }
-        ensures damaged_stops { (damage : Damage) → IsErrOf result (Fault.Damaged damage) → serves self.new ≡ false }
-        ensures refusal { IfErr result MayBeMet }
-        ensures cause { IsErrOf result Fault.Device → HasFailed D.disk (device_of self.old) (device_of self.new) }
+        ensures leaves { ServesOn self.old self.new result }
     {
         for request in requests {
             match self.step(alloc, request, group) {
@@ -444,6 +432,21 @@ impl<D: Device> Store<D> {
         fault
     }
 
+    // The fault of a look. Unless memory was wanting the store serves no more.
+    fn met(&mut self, fault: LookupFault) -> Fault
+        requires serves { serves self.old ≡ true }
+        ensures fault { result ≡ of_lookup_fault fault }
+        ensures paged { self.new.paged ≡ self.old.paged }
+        ensures device { device_of self.new ≡ device_of self.old }
+        ensures serves { serves self.new ≡ goes_on_after fault }
+    {
+        match fault {
+            LookupFault::Memory => Fault::Memory,
+            LookupFault::Device => self.stop_for(Fault::Device),
+            LookupFault::Damaged(part) => self.stop_for(Fault::Damaged(Damage::from(part))),
+        }
+    }
+
     // What the next generation has. Where the device fails, or what is read of it is damaged, the store serves no more.
     fn next(&mut self, alloc: Global) -> Result<Next, Fault>
         requires serves { serves self.old ≡ true }
@@ -457,25 +460,17 @@ impl<D: Device> Store<D> {
         ensures root { root_of self.new ≡ root_of self.old }
         ensures lies { LiesStill self.old self.new }
         ensures device { Ran D.disk (device_of self.old) (device_of self.new) Same }
-        ensures goes_on { OnOk result (serves self.new ≡ true) }
-        ensures memory_goes_on { IsErrOf result Fault.Memory → serves self.new ≡ true }
-        ensures stops { IsErrOf result Fault.Device → serves self.new ≡ false }
-        ensures damaged_stops { (damage : Damage) → IsErrOf result (Fault.Damaged damage) → serves self.new ≡ false }
-        ensures refusal { IfErr result MayBeMet }
-        ensures cause { IsErrOf result Fault.Device → HasFailed D.disk (device_of self.old) (device_of self.new) }
+        ensures leaves { ServesOn self.old self.new result }
     {
         let next = match self.paged.next(alloc, &mut self.device) {
             Ok(next) => next,
-            Err(LookupFault::Memory) => return Err(Fault::Memory),
-            Err(LookupFault::Device) => return Err(self.stop_for(Fault::Device)),
-            Err(LookupFault::Damaged(part)) => {
-                return Err(self.stop_for(Fault::Damaged(Damage::from(part))));
-            }
+            Err(fault) => return Err(self.met(fault)),
         };
-        if !next.entries.ascends() {
-            return Err(self.stop_for(Fault::Damaged(Damage::Entry)));
+        if next.entries.ascends() {
+            return Ok(next);
         }
-        Ok(next)
+        drop(next);
+        Err(self.stop_for(Fault::Damaged(Damage::Entry)))
     }
 
     // Writes the next generation, whose entries ascend. After a failure the store serves no more.
@@ -521,6 +516,7 @@ impl<D: Device> Store<D> {
         ) {
             Ok(written) => Ok(self.start_over(alloc, written, core)),
             Err(fault) => {
+                drop(core);
                 self.serves = changed_nothing(fault);
                 Err(Fault::from(fault))
             }
@@ -586,7 +582,7 @@ impl<D: Device> Store<D> {
         if !self.serves {
             return Err(Fault::Failed);
         }
-        self.next(alloc)?;
+        drop(self.next(alloc)?);
         if !has_own_plans(alloc, self.paged.core())? {
             return Err(self.stop_for(Fault::Damaged(Damage::Plan)));
         }

@@ -1,34 +1,135 @@
-use Rattle.std.proofs.Common.{◌∙◌, sym, ap, subst}
+use Rattle.std.proofs.Common.{rules, ◌∙◌, refl, sym, ap, subst, true≢false}
+use Rattle.std.proofs.lemmas.Result.{IfOk-from_err}
+use Rattle.checkpoint.proofs.Faults.{no_fault}
 use Rattle.roots.specs.declared.root.Root.{Root}
+use Rattle.objects.specs.declared.format.Rules.{Rules}
 use Rattle.holdings.specs.Holdings.{State, Shows}
+use Rattle.snapshots.specs.Keeping.{IsKeepable}
 use Rattle.recovery.specs.Beside.{Beside}
 use Rattle.recovery.specs.Shown.{ShowsOver}
 use Rattle.paged.proofs.Owning.{below_own}
+use Rattle.durable.specs.declared.fault.Fault.TheVariants as Faults
 use Rattle.durable.specs.Settled.{root_of}
+use Rattle.durable.proofs.Called.{serves_passed, serves_refused, serves_spoiled, passed_on, failed_alone, no_device, no_memory, no_damage, ran_met}
 use Rattle.durable.proofs.Keeping.{root_is}
-use Rattle.durable.proofs.Renewing.{settled_between}
+use Rattle.durable.proofs.Renewing.{serves_between, settled_between}
+use Rattle.durable.proofs.Unwritten.{idle}
 use Rattle.durable.proofs.store.Store.check.Goals as goal
 
-pub returns-then-not-branch-clause-damaged : goal.returns-then-not-branch-clause-damaged
-returns-then-not-branch-clause-damaged g c damage told rules v serving keepable =
-    let shown = serving.shows in
-    let Over : State Beside → Type 0 = λ core. ShowsOver core shown.base v in
-    c.in_ok-has_own_plans.ensures.no shown.base v (subst Over (sym (c.core.ensures ∙ c.next.ensures.core)) shown.shows) serving.seen c.if-not-branch.true
+pub returns-then-not-self : goal.returns-then-not-self
+returns-then-not-self g c = record {
+  told = λ held holds. tt;
+  counted = λ rules h settled. tt;
+  plans = λ held holds. tt;
+  serving = λ rules v serving. tt;
+  memory = λ rules v serving is. failed_alone Faults.Memory no_memory is;
+  settled = λ rules h settled. tt;
+  device = idle g.D.Device.disk c.args.self.now.device (g.met.D.Device.only_now c.args.self.now.device);
+  damaged = λ damage is. failed_alone (Faults.Damaged damage) (no_damage damage) is;
+  refusal = λ serves. absurd (true≢false (sym serves ∙ c.if-not-self.true));
+  stops = λ is. c.if-not-self.true;
+  damaged_stops = λ damage is. c.if-not-self.true;
+  cause = λ is. failed_alone Faults.Device no_device is;
+  failed = λ stopped. (refl, refl);
+}
 
-pub returns-clause-counted : goal.returns-clause-counted
-returns-clause-counted g c rules h settled =
+pub returns-in_err-next : goal.returns-in_err-next
+returns-in_err-next g c =
     let store = c.args.self.now in
-    ap (λ (r : Root). r.generation)
-    (c.root.ensures ∙ c.next.ensures.root
-    ∙ root_is g.D.Device.disk store.device (root_of store) store.log (store.ready settled.working settled.keeps) settled.read.root settled.read.counts)
+    let mid = c.next.new.self in
+    let told = c.from_residual.result in
+    let passed = c.from_residual.ensures in
+    let leaves = serves_passed told passed.1 c.in_err-next.was c.next.ensures.leaves in
+    record {
+      told = λ held holds. IfOk-from_err told _ passed.0;
+      counted = λ rules h settled. IfOk-from_err told _ passed.0;
+      plans = λ held holds. IfOk-from_err told _ passed.0;
+      serving = λ rules v serving. IfOk-from_err told _ passed.0;
+      memory = λ rules v serving is. serves_between store mid mid c.next.ensures.device c.next.ensures.core c.next.ensures.lies (leaves.memory_goes_on is) rules v serving;
+      settled = λ rules h settled. IfOk-from_err told _ passed.0;
+      device = c.next.ensures.device;
+      damaged = λ damage is rules v serving keepable.
+          let Keeps : Rules → Type 0 = λ r. IsKeepable r v in
+          c.next.ensures.damaged damage (passed_on told (Faults.Damaged damage) passed.1 c.in_err-next.was is) v serving.shows (subst Keeps (sym serving.rules_are) keepable);
+      refusal = λ serves. leaves.refusal;
+      stops = leaves.stops;
+      damaged_stops = leaves.damaged_stops;
+      cause = leaves.cause;
+      failed = λ stopped. absurd (true≢false (sym c.if-not-self.false ∙ stopped));
+    }
 
-pub returns-clause-plans : goal.returns-clause-plans
-returns-clause-plans g c held holds =
+pub returns-in_err-has_own_plans : goal.returns-in_err-has_own_plans
+returns-in_err-has_own_plans g c =
     let store = c.args.self.now in
-    let Held : State Beside → Type 0 = λ core. Shows core holds.base held in
-    c.in_ok-has_own_plans.ensures.yes holds.base held (subst Held (sym (c.core.ensures ∙ c.next.ensures.core)) holds.shows)
-    (below_own g.D.Device.disk store.device store.paged holds.base holds.below) c.if-not-branch.false
+    let mid = c.next.new.self in
+    let told = c.from_residual-in_err-has_own_plans.result in
+    let passed = c.from_residual-in_err-has_own_plans.ensures in
+    let working = c.in_ok-next.ensures.leaves.goes_on in
+    let leaves = serves_refused store mid told passed.1 refl working in
+    record {
+      told = λ held holds. IfOk-from_err told _ passed.0;
+      counted = λ rules h settled. IfOk-from_err told _ passed.0;
+      plans = λ held holds. IfOk-from_err told _ passed.0;
+      serving = λ rules v serving. IfOk-from_err told _ passed.0;
+      memory = λ rules v serving is. serves_between store mid mid c.next.ensures.device c.next.ensures.core c.next.ensures.lies working rules v serving;
+      settled = λ rules h settled. IfOk-from_err told _ passed.0;
+      device = c.next.ensures.device;
+      damaged = λ damage is. absurd (true≢false (sym working ∙ leaves.damaged_stops damage is));
+      refusal = λ serves. leaves.refusal;
+      stops = leaves.stops;
+      damaged_stops = leaves.damaged_stops;
+      cause = leaves.cause;
+      failed = λ stopped. absurd (true≢false (sym c.if-not-self.false ∙ stopped));
+    }
 
-pub returns-clause-settled : goal.returns-clause-settled
-returns-clause-settled g c rules h settled =
-    settled_between c.args.self.now c.next.new.self c.next.new.self c.next.ensures.device c.next.ensures.core c.next.ensures.lies c.in_ok-next.ensures.goes_on rules h settled
+pub returns-then-not-branch : goal.returns-then-not-branch
+returns-then-not-branch g c =
+    let store = c.args.self.now in
+    let mid = c.next.new.self in
+    let new = c.stop_for.new.self in
+    let leaves = serves_spoiled store new _ c.stop_for.ensures.fault c.stop_for.ensures.stops in
+    record {
+      told = λ held holds. tt;
+      counted = λ rules h settled. tt;
+      plans = λ held holds. tt;
+      serving = λ rules v serving. tt;
+      memory = λ rules v serving is. absurd (true≢false (sym (leaves.memory_goes_on is) ∙ c.stop_for.ensures.stops));
+      settled = λ rules h settled. tt;
+      device = ran_met new mid.device mid.paged c.stop_for.ensures.device c.stop_for.ensures.paged store.device c.next.ensures.device;
+      damaged = λ damage is rules v serving keepable.
+          let shown = serving.shows in
+          let Over : State Beside → Type 0 = λ core. ShowsOver core shown.base v in
+          c.in_ok-has_own_plans.ensures.no shown.base v (subst Over (sym (c.core.ensures ∙ c.next.ensures.core)) shown.shows) serving.seen c.if-not-branch.true;
+      refusal = λ serves. leaves.refusal;
+      stops = leaves.stops;
+      damaged_stops = leaves.damaged_stops;
+      cause = leaves.cause;
+      failed = λ stopped. absurd (true≢false (sym c.if-not-self.false ∙ stopped));
+    }
+
+pub returns : goal.returns
+returns g c =
+    let store = c.args.self.now in
+    let mid = c.next.new.self in
+    let working = c.in_ok-next.ensures.leaves.goes_on in
+    let root = c.root.ensures ∙ c.next.ensures.root in
+    record {
+      told = λ held holds. search rules;
+      counted = λ rules h settled.
+          ap (λ (r : Root). r.generation)
+          (root ∙ root_is g.D.Device.disk store.device (root_of store) store.log (store.ready settled.working settled.keeps) settled.read.root settled.read.counts);
+      plans = λ held holds.
+          let Held : State Beside → Type 0 = λ core. Shows core holds.base held in
+          c.in_ok-has_own_plans.ensures.yes holds.base held (subst Held (sym (c.core.ensures ∙ c.next.ensures.core)) holds.shows)
+          (below_own g.D.Device.disk store.device store.paged holds.base holds.below) c.if-not-branch.false;
+      serving = λ rules v serving. serves_between store mid mid c.next.ensures.device c.next.ensures.core c.next.ensures.lies working rules v serving;
+      memory = λ rules v serving is. absurd (no_fault is);
+      settled = λ rules h settled. settled_between store mid mid c.next.ensures.device c.next.ensures.core c.next.ensures.lies working rules h settled;
+      device = c.next.ensures.device;
+      damaged = λ damage is. absurd (no_fault is);
+      refusal = λ serves. tt;
+      stops = λ is. absurd (no_fault is);
+      damaged_stops = λ damage is. absurd (no_fault is);
+      cause = λ is. absurd (no_fault is);
+      failed = λ stopped. absurd (true≢false (sym c.if-not-self.false ∙ stopped));
+    }

@@ -1,4 +1,5 @@
-use Rattle.std.proofs.Common.{◌+◌, ◌≡◌, ◌∙◌, sym, ap, subst, ⊎_elim, [], Err}
+use Rattle.std.proofs.Common.{arith, ◌+◌, ◌≡◌, ◌∙◌, refl, sym, ap, subst, ⊎_elim, [], true≢false}
+use Rattle.std.proofs.lemmas.Result.{IfOk-from_err}
 use Rattle.roots.specs.declared.root.Root.{Root}
 use Rattle.checkpoint.specs.EntryList.{entries_of as in_list}
 use Rattle.objects.specs.declared.format.Rules.{Rules}
@@ -8,157 +9,143 @@ use Rattle.recovery.proofs.Histories.{on_ok_to}
 use Rattle.durable.specs.declared.fault.Fault.TheVariants as Fault
 use Rattle.durable.specs.Settled.{root_of, revision_of}
 use Rattle.durable.proofs.Answering.{held}
+use Rattle.durable.proofs.Called.{serves_passed, passed_on, failed_alone, no_device, no_damage, no_exhausted, not_failed, not_exhausted}
 use Rattle.durable.proofs.Keeping.{root_is}
 use Rattle.durable.proofs.Numbers.{history_kept}
-use Rattle.checkpoint.proofs.Faults.{err_is}
-use Rattle.durable.proofs.Renewing.{on_ok_three, at_either, never_exhausted, settled_between, revision_between, serves_unchanged, settled_unchanged, keepable_here, moments_renewed, settled_renewed, serves_renewed, left_renewed}
+use Rattle.durable.proofs.Renewing.{on_ok_three, at_either, failed_then, serves_between, settled_between, revision_between, serves_unchanged, settled_unchanged, keepable_here, moments_renewed, settled_renewed, serves_renewed, left_renewed}
 use Rattle.durable.proofs.Unwritten.{held_after, left_read, moments_read}
 use Rattle.durable.proofs.store.Store.compact.Goals as goal
 
-pub returns-in_err-next-clause-any_moment : goal.returns-in_err-next-clause-any_moment
-returns-in_err-next-clause-any_moment g c rules h settled = moments_read rules c.args.self.now c.next.new.self h [] c.next.ensures.device settled
+pub returns-then-not-self : goal.returns-then-not-self
+returns-then-not-self g c =
+    let stopped = c.if-not-self.true in
+    record {
+      settled = λ rules h settled. tt;
+      serving = λ rules v serving keepable keeps. tt;
+      counts = λ rules h settled. tt;
+      next = tt;
+      counted = λ rules h settled. tt;
+      empty = tt;
+      told = tt;
+      any_moment = λ rules h settled. absurd (true≢false (sym settled.working ∙ stopped));
+      device = λ rules h settled is. absurd (true≢false (sym settled.working ∙ stopped));
+      memory_serving = λ rules v serving told. absurd (true≢false (sym serving.working ∙ stopped));
+      memory = λ rules h settled told. absurd (true≢false (sym settled.working ∙ stopped));
+      greatest = λ is. failed_alone Fault.Exhausted no_exhausted is;
+      damaged = λ damage is. failed_alone (Fault.Damaged damage) (no_damage damage) is;
+      failed = λ was. (refl, refl);
+      failed_only = λ is. stopped;
+      goes_on = tt;
+      stops = λ is. stopped;
+      cause = λ is. failed_alone Fault.Device no_device is;
+      count = omega arith;
+    }
 
-pub returns-in_err-next-clause-device : goal.returns-in_err-next-clause-device
-returns-in_err-next-clause-device g c rules h settled told =
-    let fault = err_is c.from_residual.result _ Fault.Device c.from_residual.ensures.1 told in
-    left_read rules c.args.self.now c.next.new.self h [] c.next.ensures.device settled (c.next.ensures.stops (c.in_err-next.was ∙ ap Err (sym fault)))
-
-pub returns-in_err-next-clause-memory : goal.returns-in_err-next-clause-memory
-returns-in_err-next-clause-memory g c rules h settled told =
+pub returns-in_err-next : goal.returns-in_err-next
+returns-in_err-next g c =
     let store = c.args.self.now in
     let mid = c.next.new.self in
     let run = c.next.ensures.device in
     let core = c.next.ensures.core in
     let still = c.next.ensures.lies in
-    let failed = c.in_err-next.field-0.0 in
-    ⊎_elim
-    (λ memory.
-    let fault = err_is c.from_residual.result _ Fault.Memory c.from_residual.ensures.1 memory in
-    let working = c.next.ensures.memory_goes_on (c.in_err-next.was ∙ ap Err (sym fault)) in
-    (settled_between store mid mid run core still working rules h settled, run.seen settled.keeps))
-    (λ exhausted.
-    let fault = err_is c.from_residual.result _ Fault.Exhausted c.from_residual.ensures.1 exhausted in
-    absurd (never_exhausted failed c.in_err-next.ensures.refusal (sym fault)))
-    told
+    let told = c.from_residual.result in
+    let passed = c.from_residual.ensures in
+    let leaves = serves_passed told passed.1 c.in_err-next.was c.next.ensures.leaves in
+    let exhausted = not_exhausted told leaves.refusal in
+    record {
+      settled = λ rules h settled. IfOk-from_err told _ passed.0;
+      serving = λ rules v serving keepable keeps. IfOk-from_err told _ passed.0;
+      counts = λ rules h settled. IfOk-from_err told _ passed.0;
+      next = IfOk-from_err told _ passed.0;
+      counted = λ rules h settled. IfOk-from_err told _ passed.0;
+      empty = IfOk-from_err told _ passed.0;
+      told = IfOk-from_err told _ passed.0;
+      any_moment = λ rules h settled. moments_read rules store mid h [] run settled;
+      device = λ rules h settled is. left_read rules store mid h [] run settled (leaves.stops is);
+      memory_serving = λ rules v serving is.
+          serves_between store mid mid run core still (⊎_elim leaves.memory_goes_on (λ other. absurd (exhausted other)) is) rules v serving;
+      memory = λ rules h settled is.
+          (settled_between store mid mid run core still (⊎_elim leaves.memory_goes_on (λ other. absurd (exhausted other)) is) rules h settled, run.seen settled.keeps);
+      greatest = λ is. absurd (exhausted is);
+      damaged = λ damage is rules h settled.
+          c.next.ensures.damaged damage (passed_on told (Fault.Damaged damage) passed.1 c.in_err-next.was is) (view rules h) settled.shows
+          (keepable_here store mid mid run core still rules h settled);
+      failed = λ stopped. absurd (true≢false (sym c.if-not-self.false ∙ stopped));
+      failed_only = λ is. absurd (not_failed told leaves.refusal is);
+      goes_on = IfOk-from_err told _ passed.0;
+      stops = leaves.stops;
+      cause = leaves.cause;
+      count = run.count;
+    }
 
-pub returns-in_err-next-clause-damaged : goal.returns-in_err-next-clause-damaged
-returns-in_err-next-clause-damaged g c damage told rules h settled =
-    let store = c.args.self.now in
-    let mid = c.next.new.self in
-    let run = c.next.ensures.device in
-    let core = c.next.ensures.core in
-    let still = c.next.ensures.lies in
-    let fault = err_is c.from_residual.result _ (Fault.Damaged damage) c.from_residual.ensures.1 told in
-    c.next.ensures.damaged damage (c.in_err-next.was ∙ ap Err (sym fault)) (view rules h) settled.shows (keepable_here store mid mid run core still rules h settled)
-
-pub returns-clause-settled : goal.returns-clause-settled
-returns-clause-settled g c rules h settled =
-    let store = c.args.self.now in
-    let mid = c.next.new.self in
-    let run = c.next.ensures.device in
-    let core = c.next.ensures.core in
-    let still = c.next.ensures.lies in
-    let new = c.write_next.new.self in
-    let shown : in_list c.in_ok-next.next.entries ≡ entries_of (view rules h) = c.in_ok-next.ensures.entries (view rules h) settled.shows in
-    let revision : revision_of mid ≡ (view rules h).revision = revision_between store mid mid run core still (view rules h) settled.shows in
-    let holds = held_after g.D.Device.disk rules h store.device mid.device run (held rules store h settled) in
-    on_ok_three _ _ _ _ c.write_next.result
-    (λ lies is serves.
-    settled_renewed store mid new run core still rules h settled c.in_ok-next.next.core c.in_ok-next.ensures.rules
-    (c.in_ok-next.ensures.held (view rules h) settled.shows (keepable_here store mid mid run core still rules h settled))
-    (c.write_next.ensures.stands rules h holds revision shown) lies is serves)
-    (c.write_next.ensures.lies rules (view rules h) (history_kept rules h settled.read.numbers settled.read.history) holds.keeps shown) c.write_next.ensures.core
-    c.write_next.ensures.serves
-
-pub returns-clause-counts : goal.returns-clause-counts
-returns-clause-counts g c rules h settled =
-    let store = c.args.self.now in
-    let mid = c.next.new.self in
-    let run = c.next.ensures.device in
-    let core = c.next.ensures.core in
-    let still = c.next.ensures.lies in
-    let shown : in_list c.in_ok-next.next.entries ≡ entries_of (view rules h) = c.in_ok-next.ensures.entries (view rules h) settled.shows in
-    let revision : revision_of mid ≡ (view rules h).revision = revision_between store mid mid run core still (view rules h) settled.shows in
-    let holds = held_after g.D.Device.disk rules h store.device mid.device run (held rules store h settled) in
-    c.write_next.ensures.counts rules h holds revision shown
-
-pub returns-clause-counted : goal.returns-clause-counted
-returns-clause-counted g c rules h settled =
-    let store = c.args.self.now in
-    let same = c.next.ensures.root ∙ root_is g.D.Device.disk store.device (root_of store) store.log (store.ready settled.working settled.keeps) settled.read.root settled.read.counts in
-    on_ok_to c.write_next.result _ _ (λ next. next ∙ ap (λ (r : Root). r.generation + 1) same) c.write_next.ensures.next
-
-pub returns-clause-any_moment : goal.returns-clause-any_moment
-returns-clause-any_moment g c rules h settled =
+pub returns : goal.returns
+returns g c =
     let store = c.args.self.now in
     let mid = c.next.new.self in
     let run = c.next.ensures.device in
     let core = c.next.ensures.core in
     let still = c.next.ensures.lies in
     let new = c.write_next.new.self in
-    let shown : in_list c.in_ok-next.next.entries ≡ entries_of (view rules h) = c.in_ok-next.ensures.entries (view rules h) settled.shows in
-    let revision : revision_of mid ≡ (view rules h).revision = revision_between store mid mid run core still (view rules h) settled.shows in
-    let holds = held_after g.D.Device.disk rules h store.device mid.device run (held rules store h settled) in
-    moments_renewed store mid new run core still rules h settled (c.write_next.ensures.stands rules h holds revision shown)
-
-pub returns-clause-device : goal.returns-clause-device
-returns-clause-device g c rules h settled told =
-    let store = c.args.self.now in
-    let mid = c.next.new.self in
-    let run = c.next.ensures.device in
-    let core = c.next.ensures.core in
-    let still = c.next.ensures.lies in
-    let new = c.write_next.new.self in
-    let shown : in_list c.in_ok-next.next.entries ≡ entries_of (view rules h) = c.in_ok-next.ensures.entries (view rules h) settled.shows in
-    let revision : revision_of mid ≡ (view rules h).revision = revision_between store mid mid run core still (view rules h) settled.shows in
-    let holds = held_after g.D.Device.disk rules h store.device mid.device run (held rules store h settled) in
-    left_renewed store mid new run core still rules h settled (c.write_next.ensures.stands rules h holds revision shown) (c.write_next.ensures.stops told)
-
-pub returns-clause-memory_serving : goal.returns-clause-memory_serving
-returns-clause-memory_serving g c rules v serving told =
-    let store = c.args.self.now in
-    let mid = c.next.new.self in
-    let run = c.next.ensures.device in
-    let core = c.next.ensures.core in
-    let still = c.next.ensures.lies in
-    let unchanged = c.write_next.ensures.unchanged told in
-    let same = at_either _ c.write_next.result Fault.Memory Fault.Exhausted told c.write_next.ensures.paged in
-    serves_unchanged store mid c.write_next.new.self run core still c.in_ok-next.ensures.goes_on same unchanged.0 unchanged.1 rules v serving
-
-pub returns-clause-memory : goal.returns-clause-memory
-returns-clause-memory g c rules h settled told =
-    let store = c.args.self.now in
-    let mid = c.next.new.self in
-    let run = c.next.ensures.device in
-    let core = c.next.ensures.core in
-    let still = c.next.ensures.lies in
-    let unchanged = c.write_next.ensures.unchanged told in
-    let same = at_either _ c.write_next.result Fault.Memory Fault.Exhausted told c.write_next.ensures.paged in (
-      settled_unchanged store mid c.write_next.new.self run core still c.in_ok-next.ensures.goes_on same unchanged.0 unchanged.1 rules h settled,
-      unchanged.0.seen (run.kept settled.keeps) ∙ run.seen settled.keeps,
-    )
-
-pub returns-clause-damaged : goal.returns-clause-damaged
-returns-clause-damaged g c damage told rules h settled =
-    let store = c.args.self.now in
-    let mid = c.next.new.self in
-    let run = c.next.ensures.device in
-    let core = c.next.ensures.core in
-    let still = c.next.ensures.lies in
-    let shown : in_list c.in_ok-next.next.entries ≡ entries_of (view rules h) = c.in_ok-next.ensures.entries (view rules h) settled.shows in
-    let revision : revision_of mid ≡ (view rules h).revision = revision_between store mid mid run core still (view rules h) settled.shows in
-    let holds = held_after g.D.Device.disk rules h store.device mid.device run (held rules store h settled) in
-    c.write_next.ensures.damaged rules h damage holds revision shown told
-
-pub returns-clause-serving : goal.returns-clause-serving
-returns-clause-serving g c rules v serving keepable keeps =
-    let store = c.args.self.now in
-    let mid = c.next.new.self in
-    let new = c.write_next.new.self in
-    let run = c.next.ensures.device in
-    let Keeps : Rules → Type 0 = λ r. IsKeepable r v in
-    on_ok_three _ _ _ _ c.write_next.result
-    (λ lies is working.
-    serves_renewed store mid new run c.next.ensures.core c.next.ensures.lies rules v serving c.in_ok-next.next.core c.in_ok-next.ensures.rules
-    (c.in_ok-next.ensures.held v serving.shows (subst Keeps (sym serving.rules_are) keepable)) lies is working)
-    (c.write_next.ensures.lies rules v keepable (run.kept keeps) (c.in_ok-next.ensures.entries v serving.shows)) c.write_next.ensures.core c.write_next.ensures.serves
+    record {
+      settled = λ rules h settled.
+          let shown : in_list c.in_ok-next.next.entries ≡ entries_of (view rules h) = c.in_ok-next.ensures.entries (view rules h) settled.shows in
+          let revision : revision_of mid ≡ (view rules h).revision = revision_between store mid mid run core still (view rules h) settled.shows in
+          let holds = held_after g.D.Device.disk rules h store.device mid.device run (held rules store h settled) in
+          on_ok_three _ _ _ _ c.write_next.result
+          (λ lies is serves.
+          settled_renewed store mid new run core still rules h settled c.in_ok-next.next.core c.in_ok-next.ensures.rules
+          (c.in_ok-next.ensures.held (view rules h) settled.shows (keepable_here store mid mid run core still rules h settled))
+          (c.write_next.ensures.stands rules h holds revision shown) lies is serves)
+          (c.write_next.ensures.lies rules (view rules h) (history_kept rules h settled.read.numbers settled.read.history) holds.keeps shown) c.write_next.ensures.core
+          c.write_next.ensures.serves;
+      counts = λ rules h settled.
+          let shown : in_list c.in_ok-next.next.entries ≡ entries_of (view rules h) = c.in_ok-next.ensures.entries (view rules h) settled.shows in
+          let revision : revision_of mid ≡ (view rules h).revision = revision_between store mid mid run core still (view rules h) settled.shows in
+          let holds = held_after g.D.Device.disk rules h store.device mid.device run (held rules store h settled) in
+          c.write_next.ensures.counts rules h holds revision shown;
+      counted = λ rules h settled.
+          let same = c.next.ensures.root ∙ root_is g.D.Device.disk store.device (root_of store) store.log (store.ready settled.working settled.keeps) settled.read.root settled.read.counts in
+          on_ok_to c.write_next.result _ _ (λ next. next ∙ ap (λ (r : Root). r.generation + 1) same) c.write_next.ensures.next;
+      any_moment = λ rules h settled.
+          let shown : in_list c.in_ok-next.next.entries ≡ entries_of (view rules h) = c.in_ok-next.ensures.entries (view rules h) settled.shows in
+          let revision : revision_of mid ≡ (view rules h).revision = revision_between store mid mid run core still (view rules h) settled.shows in
+          let holds = held_after g.D.Device.disk rules h store.device mid.device run (held rules store h settled) in
+          moments_renewed store mid new run core still rules h settled (c.write_next.ensures.stands rules h holds revision shown);
+      device = λ rules h settled told.
+          let shown : in_list c.in_ok-next.next.entries ≡ entries_of (view rules h) = c.in_ok-next.ensures.entries (view rules h) settled.shows in
+          let revision : revision_of mid ≡ (view rules h).revision = revision_between store mid mid run core still (view rules h) settled.shows in
+          let holds = held_after g.D.Device.disk rules h store.device mid.device run (held rules store h settled) in
+          left_renewed store mid new run core still rules h settled (c.write_next.ensures.stands rules h holds revision shown) (c.write_next.ensures.stops told);
+      memory_serving = λ rules v serving told.
+          let unchanged = c.write_next.ensures.unchanged told in
+          let same = at_either _ c.write_next.result Fault.Memory Fault.Exhausted told c.write_next.ensures.paged in
+          serves_unchanged store mid c.write_next.new.self run core still c.in_ok-next.ensures.leaves.goes_on same unchanged.0 unchanged.1 rules v serving;
+      memory = λ rules h settled told.
+          let unchanged = c.write_next.ensures.unchanged told in
+          let same = at_either _ c.write_next.result Fault.Memory Fault.Exhausted told c.write_next.ensures.paged in (
+            settled_unchanged store mid c.write_next.new.self run core still c.in_ok-next.ensures.leaves.goes_on same unchanged.0 unchanged.1 rules h settled,
+            unchanged.0.seen (run.kept settled.keeps) ∙ run.seen settled.keeps,
+          );
+      damaged = λ damage told rules h settled.
+          let shown : in_list c.in_ok-next.next.entries ≡ entries_of (view rules h) = c.in_ok-next.ensures.entries (view rules h) settled.shows in
+          let revision : revision_of mid ≡ (view rules h).revision = revision_between store mid mid run core still (view rules h) settled.shows in
+          let holds = held_after g.D.Device.disk rules h store.device mid.device run (held rules store h settled) in
+          c.write_next.ensures.damaged rules h damage holds revision shown told;
+      serving = λ rules v serving keepable keeps.
+          let Keeps : Rules → Type 0 = λ r. IsKeepable r v in
+          on_ok_three _ _ _ _ c.write_next.result
+          (λ lies is working.
+          serves_renewed store mid new run core still rules v serving c.in_ok-next.next.core c.in_ok-next.ensures.rules
+          (c.in_ok-next.ensures.held v serving.shows (subst Keeps (sym serving.rules_are) keepable)) lies is working)
+          (c.write_next.ensures.lies rules v keepable (run.kept keeps) (c.in_ok-next.ensures.entries v serving.shows)) c.write_next.ensures.core c.write_next.ensures.serves;
+      next = on_ok_to c.write_next.result _ _ (λ next. next ∙ ap (λ (r : Root). r.generation + 1) c.next.ensures.root) c.write_next.ensures.next;
+      empty = c.write_next.ensures.empty;
+      told = c.write_next.ensures.told;
+      greatest = λ is. sym (ap (λ (r : Root). r.generation) c.next.ensures.root) ∙ c.write_next.ensures.greatest is;
+      failed = λ stopped. absurd (true≢false (sym c.if-not-self.false ∙ stopped));
+      failed_only = λ is. absurd (c.write_next.ensures.refusal is);
+      goes_on = c.write_next.ensures.serves;
+      stops = c.write_next.ensures.stops;
+      cause = λ is. failed_then g.D.Device.disk store.device mid.device new.device run (c.write_next.ensures.cause is);
+      count = omega (arith, run.count, c.write_next.ensures.count);
+    }

@@ -1,6 +1,6 @@
-use Rattle.std.proofs.Common.{rules, ◌≡◌, ◌∙◌, sym, ap, subst, List, true, false, Bool, IsErrOf}
+use Rattle.std.proofs.Common.{◌≡◌, ◌∙◌, sym, ap, subst, List, true, true≢false, Err}
 use Rattle.std.specs.FinMap.{is_sorted}
-use Rattle.objects.specs.declared.fault.LookupFault.TheVariants as LookupFault
+use Rattle.checkpoint.proofs.Faults.{no_fault}
 use Rattle.pages.specs.Page.{Entry, bytes_cmp}
 use Rattle.holdings.specs.Holdings.{State}
 use Rattle.checkpoint.specs.EntryList.{entries_of as in_list}
@@ -10,8 +10,11 @@ use Rattle.snapshots.proofs.Kept.{entries_ascend}
 use Rattle.snapshots.proofs.Shown.{held_as_it_is, entries_shown}
 use Rattle.recovery.specs.Beside.{Beside}
 use Rattle.recovery.specs.Standing.{with_plans}
+use Rattle.paged.specs.declared.state.Paged.{Paged}
+use Rattle.paged.specs.Paged as paged
 use Rattle.durable.specs.Settled.{root_of, kept_rules}
 use Rattle.durable.proofs.Answering.{Small, holds_shown}
+use Rattle.durable.proofs.Called.{err_same, serves_value, serves_met, serves_spoiled, look_damaged, lies_met, ran_met, failed_met}
 use Rattle.durable.proofs.Compacting.{still_ready}
 use Rattle.durable.proofs.Keeping.{pages_inside}
 use Rattle.durable.proofs.store.Store.next.Goals as goal
@@ -31,27 +34,62 @@ invariant_of-self g c =
       ready = λ serves. still_ready g.D.Device.disk store.device c.next.new.device (root_of store) _ store.log c.next.ensures.root c.next.ensures.ran (store.ready serves);
     }
 
-pub returns-in-Err-Damaged-clause-damaged : goal.returns-in-Err-Damaged-clause-damaged
-returns-in-Err-Damaged-clause-damaged g c damage told v shown keepable =
+pub returns-in-Err : goal.returns-in-Err
+returns-in-Err g c =
     let store = c.args.self.now in
-    let damaged : IsErrOf c.next.result (LookupFault.Damaged c.in-Err-Damaged.part) = search rules in
-    c.next.ensures.damaged c.in-Err-Damaged.part damaged (with_plans v) (holds_shown store v shown) (kept_held (kept_rules store) v keepable)
+    let new = c.met.new.self in
+    let device = c.next.new.device in
+    record {
+      entries = λ v shown. tt;
+      ascending = tt;
+      rules = tt;
+      held = λ v shown keepable. tt;
+      damaged = λ damage is v shown keepable.
+          let found = look_damaged c.in-Err.fault damage (sym (err_same is) ∙ c.met.ensures.fault) in
+          c.in-Err.ensures.damaged found.0 (ap Err found.1) (with_plans v) (holds_shown store v shown) (kept_held (kept_rules store) v keepable);
+      core = ap (λ (p : Paged). p.core) c.met.ensures.paged ∙ c.next.ensures.core;
+      root = ap (λ (p : Paged). paged.root_of p) c.met.ensures.paged ∙ c.next.ensures.root;
+      lies = λ base below. lies_met new device _ c.met.ensures.device c.met.ensures.paged base (c.next.ensures.below base below);
+      device = ran_met new device _ c.met.ensures.device c.met.ensures.paged store.device c.next.ensures.ran;
+      leaves = serves_met store new c.in-Err.fault c.met.ensures.fault c.met.ensures.serves
+          (λ is. failed_met new device _ c.met.ensures.device c.met.ensures.paged store.device (c.in-Err.ensures.device (ap Err is)));
+    }
 
-pub returns-then-not-ascends-clause-damaged : goal.returns-then-not-ascends-clause-damaged
-returns-then-not-ascends-clause-damaged g c damage told v shown keepable =
+pub returns-then-ascends : goal.returns-then-ascends
+returns-then-ascends g c =
     let store = c.args.self.now in
-    let Sorted : List Entry → Type 0 = λ es. is_sorted bytes_cmp es ≡ true in
-    let entries : in_list c.in-Ok.next.entries ≡ entries_of v =
-    c.in-Ok.ensures.entries (with_plans v) (holds_shown store v shown) ∙ entries_shown (with_plans v) v (held_as_it_is (with_plans v)) in
-    let ascends = c.ascends.ensures.1 (subst Sorted (sym entries) (entries_ascend (kept_rules store) v keepable)) in
-    let never : ◌≡◌ {A = Bool} true false = sym ascends ∙ c.if-not-ascends.true in
-    cc
+    record {
+      entries = λ v shown. c.in-Ok.ensures.entries (with_plans v) (holds_shown store v shown) ∙ entries_shown (with_plans v) v (held_as_it_is (with_plans v));
+      ascending = c.ascends.ensures.0 c.if-ascends.true;
+      rules = c.in-Ok.ensures.rules;
+      held = λ v shown keepable. c.in-Ok.ensures.held (with_plans v) (holds_shown store v shown) (kept_held (kept_rules store) v keepable);
+      damaged = λ damage is. absurd (no_fault is);
+      core = c.next.ensures.core;
+      root = c.next.ensures.root;
+      lies = c.next.ensures.below;
+      device = c.next.ensures.ran;
+      leaves = serves_value store _ c.in-Ok.next c.requires.serves;
+    }
 
-pub returns-clause-entries : goal.returns-clause-entries
-returns-clause-entries g c v shown =
-    c.in-Ok.ensures.entries (with_plans v) (holds_shown c.args.self.now v shown) ∙ entries_shown (with_plans v) v (held_as_it_is (with_plans v))
-
-pub returns-clause-held : goal.returns-clause-held
-returns-clause-held g c v shown keepable =
+pub returns : goal.returns
+returns g c =
     let store = c.args.self.now in
-    c.in-Ok.ensures.held (with_plans v) (holds_shown store v shown) (kept_held (kept_rules store) v keepable)
+    let new = c.stop_for.new.self in
+    let device = c.next.new.device in
+    record {
+      entries = λ v shown. tt;
+      ascending = tt;
+      rules = tt;
+      held = λ v shown keepable. tt;
+      damaged = λ damage is v shown keepable.
+          let Sorted : List Entry → Type 0 = λ es. is_sorted bytes_cmp es ≡ true in
+          let entries : in_list c.in-Ok.next.entries ≡ entries_of v =
+          c.in-Ok.ensures.entries (with_plans v) (holds_shown store v shown) ∙ entries_shown (with_plans v) v (held_as_it_is (with_plans v)) in
+          let ascends = c.ascends.ensures.1 (subst Sorted (sym entries) (entries_ascend (kept_rules store) v keepable)) in
+          true≢false (sym ascends ∙ c.if-ascends.false);
+      core = ap (λ (p : Paged). p.core) c.stop_for.ensures.paged ∙ c.next.ensures.core;
+      root = ap (λ (p : Paged). paged.root_of p) c.stop_for.ensures.paged ∙ c.next.ensures.root;
+      lies = λ base below. lies_met new device _ c.stop_for.ensures.device c.stop_for.ensures.paged base (c.next.ensures.below base below);
+      device = ran_met new device _ c.stop_for.ensures.device c.stop_for.ensures.paged store.device c.next.ensures.ran;
+      leaves = serves_spoiled store new _ c.stop_for.ensures.fault c.stop_for.ensures.stops;
+    }

@@ -1,7 +1,10 @@
-use Rattle.std.proofs.Common.{rules, sym, subst, IsErrOf}
-use Rattle.objects.specs.declared.fault.LookupFault.TheVariants as LookupFault
+use Rattle.std.proofs.Common.{sym, ap, subst, ◌∙◌, inl, Err}
+use Rattle.checkpoint.proofs.Faults.{no_fault}
+use Rattle.holdings.specs.Holdings.{ShowsSame}
+use Rattle.paged.specs.declared.state.Paged.{Paged}
 use Rattle.durable.specs.Settled.{root_of}
 use Rattle.durable.proofs.Answering.{Small}
+use Rattle.durable.proofs.Called.{err_same, serves_value, serves_met, look_device, look_damaged, lies_met, ran_met, failed_met}
 use Rattle.durable.proofs.Compacting.{still_ready}
 use Rattle.durable.proofs.Keeping.{pages_inside}
 use Rattle.durable.proofs.store.Store.prepare.Goals as goal
@@ -21,7 +24,38 @@ invariant_of-self g c =
       ready = λ serves. still_ready g.D.Device.disk store.device c.prepare.new.device (root_of store) _ store.log c.prepare.ensures.root c.prepare.ensures.ran (store.ready serves);
     }
 
-pub returns-in-Err-Damaged-clause-damaged : goal.returns-in-Err-Damaged-clause-damaged
-returns-in-Err-Damaged-clause-damaged g c damage told v shown is_view =
-    let damaged : IsErrOf c.prepare.result (LookupFault.Damaged c.in-Err-Damaged.part) = search rules in
-    c.prepare.ensures.damaged c.in-Err-Damaged.part damaged v shown is_view
+pub returns-in-Ok : goal.returns-in-Ok
+returns-in-Ok g c = record {
+  rules = c.prepare.ensures.rules;
+  shows = c.prepare.ensures.shows;
+  lies = c.prepare.ensures.below;
+  step = c.in-Ok.ensures.step;
+  ready = c.in-Ok.ensures.ready;
+  form = c.prepare.ensures.form;
+  device = c.prepare.ensures.ran;
+  read = λ is. absurd (no_fault is);
+  damaged = λ damage is. absurd (no_fault is);
+  leaves = serves_value c.args.self.now _ c.in-Ok.prepared c.requires.serves;
+}
+
+pub returns-in-Err : goal.returns-in-Err
+returns-in-Err g c =
+    let store = c.args.self.now in
+    let new = c.met.new.self in
+    let device = c.prepare.new.device in
+    let Shown : Paged → Type 0 = λ p. ShowsSame store.paged.core p.core in
+    record {
+      rules = ap (λ (p : Paged). p.core.rules) c.met.ensures.paged ∙ c.prepare.ensures.rules;
+      shows = subst Shown (sym c.met.ensures.paged) c.prepare.ensures.shows;
+      lies = λ base below. lies_met new device _ c.met.ensures.device c.met.ensures.paged base (c.prepare.ensures.below base below);
+      step = tt;
+      ready = tt;
+      form = c.prepare.ensures.form;
+      device = ran_met new device _ c.met.ensures.device c.met.ensures.paged store.device c.prepare.ensures.ran;
+      read = λ is. c.in-Err.ensures.read (inl (ap Err (look_device c.in-Err.fault (sym (err_same is) ∙ c.met.ensures.fault))));
+      damaged = λ damage is v shown is_view.
+          let found = look_damaged c.in-Err.fault damage (sym (err_same is) ∙ c.met.ensures.fault) in
+          c.in-Err.ensures.damaged found.0 (ap Err found.1) v shown is_view;
+      leaves = serves_met store new c.in-Err.fault c.met.ensures.fault c.met.ensures.serves
+          (λ is. failed_met new device _ c.met.ensures.device c.met.ensures.paged store.device (c.in-Err.ensures.device (ap Err is)));
+    }
