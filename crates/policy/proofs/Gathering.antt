@@ -1,13 +1,14 @@
 -- What was read of a list, item by item.
-use Rattle.std.proofs.Common.{◌≡◌, ◌<◌, ◌+◌, ℕ, suc, List, [], ◌∷◌, ◌++◌, Option, Some, None, option_map, map, length, get_or, drop, drop-cons, add-one, refl, sym, ap, ◌∙◌, rules}
+use Rattle.std.proofs.Common.{◌≡◌, ◌<◌, ◌+◌, ℕ, suc, Bool, true, false, cond, Bor, List, [], ◌∷◌, ◌++◌, Option, Some, None, option_map, map, length, get_or, drop, drop-cons, add-one, refl, sym, ap, ◌∙◌, rules}
 use Rattle.std.proofs.lemmas.Grind.{common_steps}
 use Rattle.std.proofs.lemmas.List.{append-nil, length-map, map_push}
+use Rattle.std.specs.Str.{bytes_eq}
 use Rattle.serde_json.specs.Data.{Data, Members, member}
 use Rattle.serde_json.specs.View.{view, items_view}
 use Rattle.serde_json.specs.declared.value.Value.{Value}
 use Rattle.documents.specs.Requirement.{Requirement, requirement_seen}
 use Rattle.documents.specs.declared.requirement.Requirement as code
-use Rattle.policy.specs.Forms.{Text, after, each, given}
+use Rattle.policy.specs.Forms.{Text, after, each, given, row_of}
 use Rattle.policy.specs.MatchRules.{label_of, labels_of}
 
 pub after_more : {A : Type 0} (xs : List A) (x : A) (o : Option (List A)) → after xs (option_map (λ ys. x ∷ ys) o) ≡ after (xs ++ x ∷ []) o
@@ -63,3 +64,25 @@ each_refused {A} f ys whole xs i x inside is refused before =
 pub each_whole : {S A : Type 0} (f : Data → Option A) (seen : S → A) (whole : Option (List A)) (read : List S)
     → whole ≡ after (map seen read) (each f (items_view [])) → whole ≡ Some (map seen read)
 each_whole f seen whole read before = before ∙ ap Some (append-nil (map seen read))
+
+-- what is left of a table begins with its next row
+row_next : {A : Type 0} (rows : List (Bor Text × A)) (i : ℕ) (row : Bor Text × A) (text : Text) → i < length rows → row ≡ get_or rows i row
+    → row_of (map (λ r. (r.0.now, r.1)) (drop i rows)) text ≡ cond (bytes_eq text row.0.now) (Some row.1) (row_of (map (λ r. (r.0.now, r.1)) (drop (i + 1) rows)) text)
+row_next {A} rows i row text inside is =
+    let next : drop i rows ≡ row ∷ drop (i + 1) rows = rw add-one (drop-cons rows i row inside ∙ ap (λ (y : Bor Text × A). y ∷ drop (suc i) rows) (sym is)) in
+    ap (λ (rest : List (Bor Text × A)). row_of (map (λ r. (r.0.now, r.1)) rest) text) next
+
+-- where the next row is of another text
+pub row_passed : {A : Type 0} (rows : List (Bor Text × A)) (i : ℕ) (row : Bor Text × A) (text : Text) (whole : Option A) → i < length rows → row ≡ get_or rows i row
+    → bytes_eq text row.0.now ≡ false → row_of (map (λ r. (r.0.now, r.1)) (drop i rows)) text ≡ whole
+    → row_of (map (λ r. (r.0.now, r.1)) (drop (i + 1) rows)) text ≡ whole
+row_passed {A} rows i row text whole inside is other before =
+    let rest : Option A = row_of (map (λ r. (r.0.now, r.1)) (drop (i + 1) rows)) text in
+    sym (row_next rows i row text inside is ∙ ap (λ (b : Bool). cond b (Some row.1) rest) other) ∙ before
+
+-- where it is the text's
+pub row_found : {A : Type 0} (rows : List (Bor Text × A)) (i : ℕ) (row : Bor Text × A) (text : Text) (whole : Option A) → i < length rows → row ≡ get_or rows i row
+    → bytes_eq text row.0.now ≡ true → row_of (map (λ r. (r.0.now, r.1)) (drop i rows)) text ≡ whole → whole ≡ Some row.1
+row_found {A} rows i row text whole inside is same before =
+    let rest : Option A = row_of (map (λ r. (r.0.now, r.1)) (drop (i + 1) rows)) text in
+    sym before ∙ row_next rows i row text inside is ∙ ap (λ (b : Bool). cond b (Some row.1) rest) same

@@ -1,5 +1,5 @@
 -- Parts of texts and lists.
-use Rattle.std.proofs.Common.{◌≡◌, ℕ, zero, suc, ◌≤◌, List, [], ◌∷◌, ◌++◌, length, take, map, refl, ap, ◌∙◌, append_assoc}
+use Rattle.std.proofs.Common.{◌≡◌, ℕ, zero, suc, ◌≤◌, List, [], ◌∷◌, ◌++◌, length, take, map, refl, ap, append_assoc}
 use Rattle.std.proofs.lemmas.List.{take_all}
 use Rattle.std.specs.List.{flat_map}
 
@@ -14,8 +14,6 @@ map-take f (suc n) (x ∷ xs) = ap (λ ys. f x ∷ ys) (map-take f n xs)
 pub taken_first : {A B C : Type 0} (g : B → List C) (f : A → B) (n : ℕ) (xs : List A) → flat_map g (map f (take n xs)) ≡ flat_map g (take n (map f xs))
 taken_first g f n xs = ap (λ ys. flat_map g ys) (map-take f n xs)
 
-pub joined : (front a policy b binding c t1 t2 t3 t4 t5 : List ℕ)
-    → t1 ≡ front ++ a → t2 ≡ t1 ++ policy → t3 ≡ t2 ++ b → t4 ≡ t3 ++ binding → t5 ≡ t4 ++ c → t5 ≡ front ++ (a ++ (policy ++ (b ++ (binding ++ c))))
-joined front a policy b binding c t1 t2 t3 t4 t5 e1 e2 e3 e4 e5 =
-    let all : ((((front ++ a) ++ policy) ++ b) ++ binding) ++ c ≡ front ++ (a ++ (policy ++ (b ++ (binding ++ c)))) = simp append_assoc in
-    e5 ∙ ap (λ t. t ++ c) (e4 ∙ ap (λ t. t ++ binding) (e3 ∙ ap (λ t. t ++ b) (e2 ∙ ap (λ t. t ++ policy) e1))) ∙ all
+-- a text that names a policy and a binding, and what stands after it
+pub named_parts : (a policy b binding c rest : List ℕ) → a ++ (policy ++ (b ++ (binding ++ (c ++ rest)))) ≡ (a ++ (policy ++ (b ++ (binding ++ c)))) ++ rest
+named_parts a policy b binding c rest = simp append_assoc

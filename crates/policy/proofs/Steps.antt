@@ -13,6 +13,20 @@ on o x f r is rest = ap (λ p. given p f) is ∙ rest
 pub off : {A B : Type 0} (o : Option A) (f : A → Option B) → o ≡ None → given o f ≡ None
 off o f is = ap (λ p. given p f) is
 
+-- a member is read in two steps
+in_two : {A B C : Type 0} (o : Option A) (f : A → Option B) (g : B → Option C) → given o (λ x. given (f x) g) ≡ given (given o f) g
+in_two None f g = refl
+in_two (Some x) f g = refl
+
+-- a member that was read in two steps, and those after it
+pub on_both : {A B C : Type 0} (o : Option A) (f : A → Option B) (y : B) (g : B → Option C) (r : Option C) → given o f ≡ Some y → g y ≡ r
+    → given o (λ x. given (f x) g) ≡ r
+on_both o f y g r is rest = in_two o f g ∙ on (given o f) y g r is rest
+
+-- a member that has not the form at the first step or the second
+pub off_both : {A B C : Type 0} (o : Option A) (f : A → Option B) (g : B → Option C) → given o f ≡ None → given o (λ x. given (f x) g) ≡ None
+off_both o f g is = in_two o f g ∙ off (given o f) g is
+
 -- a test that was passed, and what is after it
 pub passed : {A : Type 0} (b : Bool) (o r : Option A) → b ≡ true → o ≡ r → provided b o ≡ r
 passed b o r is rest = ap (λ c. provided c o) is ∙ rest

@@ -10,7 +10,7 @@ ghost use Rattle.policy.specs.Spec.{binding_seen};
 ghost use Rattle.policy.specs.declared.form.FormFault.TheVariants as FormFault;
 
 use crate::form::{
-    Form, FormFault, has_only, optional, optional_or, required, required_list, spec_of,
+    Form, FormFault, choice, has_only, optional, optional_or, required, required_list, spec_of,
 };
 use crate::match_rules::MatchRules;
 use crate::params::ParamRef;
@@ -76,11 +76,7 @@ impl Form for Action {
     ghost seen = { λ action. action };
 
     fn read(_alloc: Global, part: &Json) -> Result<Action, FormFault> {
-        match part.as_str() {
-            Some("Deny") => Ok(Action::Deny),
-            Some("Warn") => Ok(Action::Warn),
-            _ => Err(FormFault::BadForm),
-        }
+        choice(part, &[("Deny", Action::Deny), ("Warn", Action::Warn)])
     }
 }
 

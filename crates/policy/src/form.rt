@@ -5,7 +5,7 @@ ghost use Rattle.serde_json.specs.Data.{Data};
 ghost use Rattle.serde_json.specs.Find.{as_str};
 ghost use Rattle.serde_json.specs.View.{view, items_view, members_view};
 ghost use Rattle.documents.specs.Selecting.{is_among};
-ghost use Rattle.policy.specs.Forms.{has_only, all_among, field, perhaps, optional, list_of, filled_list_of, each, spec_of};
+ghost use Rattle.policy.specs.Forms.{has_only, all_among, field, perhaps, optional, list_of, filled_list_of, each, choice, spec_of};
 ghost use Rattle.policy.specs.declared.form.FormFault.TheVariants as FormFault;
 
 use serde_json::{Map, Value as Json};
@@ -72,6 +72,22 @@ impl Form for String {
             None => Err(FormFault::BadForm),
         }
     }
+}
+
+/// Reads one of these texts, for what stands beside it.
+pub fn choice<T: Copy>(part: &Json, rows: &[(&str, T)]) -> Result<T, FormFault>
+    ensures read { IfOk result (λ x. choice (map (λ row. (row.0.now, row.1)) rows.now) (view part.now) ≡ Some x) }
+    ensures refused { IsErrOf result FormFault.BadForm → choice (map (λ row. (row.0.now, row.1)) rows.now) (view part.now) ≡ None }
+{
+    let Some(text) = part.as_str() else {
+        return Err(FormFault::BadForm);
+    };
+    for row in rows {
+        if text == row.0 {
+            return Ok(row.1);
+        }
+    }
+    Err(FormFault::BadForm)
 }
 
 /// Reads a member that must be there.

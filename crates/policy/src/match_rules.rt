@@ -74,7 +74,7 @@ pub struct MatchRules {
 }
 
 impl MatchRules {
-    // For all writes, as a binding's resources.
+    /// For all writes, as a binding's resources.
     pub(crate) fn everything(alloc: Global) -> MatchRules
         ensures { match_rules_seen result ≡ no_rules }
     {

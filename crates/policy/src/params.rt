@@ -6,7 +6,7 @@ ghost use Rattle.policy.specs.Bindings.{wanted_of};
 ghost use Rattle.policy.specs.Spec.{wanted_seen};
 ghost use Rattle.policy.specs.declared.form.FormFault.TheVariants as FormFault;
 
-use crate::form::{Form, FormFault, has_only, optional, required};
+use crate::form::{Form, FormFault, choice, has_only, optional, required};
 use crate::selector::Selector;
 use documents::Requirement;
 use serde_json::Value as Json;
@@ -50,11 +50,10 @@ impl Form for NotFound {
     ghost seen = { λ action. action };
 
     fn read(_alloc: Global, part: &Json) -> Result<NotFound, FormFault> {
-        match part.as_str() {
-            Some("Allow") => Ok(NotFound::Allow),
-            Some("Deny") => Ok(NotFound::Deny),
-            _ => Err(FormFault::BadForm),
-        }
+        choice(
+            part,
+            &[("Allow", NotFound::Allow), ("Deny", NotFound::Deny)],
+        )
     }
 }
 

@@ -11,7 +11,7 @@ ghost use Rattle.policy.specs.declared.form.FormFault.TheVariants as FormFault;
 
 use crate::attempt::is_guarded;
 use crate::form::{
-    Form, FormFault, has_only, optional, optional_list, optional_or, required,
+    Form, FormFault, choice, has_only, optional, optional_list, optional_or, required,
     required_filled_list, spec_of,
 };
 use crate::match_rules::MatchRules;
@@ -85,11 +85,13 @@ impl Form for FailurePolicy {
     ghost seen = { λ failure_policy. failure_policy };
 
     fn read(_alloc: Global, part: &Json) -> Result<FailurePolicy, FormFault> {
-        match part.as_str() {
-            Some("Fail") => Ok(FailurePolicy::Fail),
-            Some("Ignore") => Ok(FailurePolicy::Ignore),
-            _ => Err(FormFault::BadForm),
-        }
+        choice(
+            part,
+            &[
+                ("Fail", FailurePolicy::Fail),
+                ("Ignore", FailurePolicy::Ignore),
+            ],
+        )
     }
 }
 

@@ -1,10 +1,12 @@
 //! The document `request`.
 
-ghost use Rattle.std.specs.Prelude.{◌≡◌, IfOk, OnOk};
+ghost use Rattle.std.specs.Prelude.{◌≡◌, ◌∷◌, [], codes, IfOk, OnOk};
 ghost use Rattle.serde_json.specs.Data.{put, string, object, no_members};
 ghost use Rattle.serde_json.specs.View.{view, members_view};
 ghost use Rattle.policy.specs.Rules.{attempt_seen};
-ghost use Rattle.policy.specs.Request.{operation_name, kind_of, resource_of, request_of};
+ghost use Rattle.names.specs.Resource.{row};
+ghost use Rattle.documents.specs.Document.{object_of};
+ghost use Rattle.policy.specs.Request.{operation_name, request_of};
 
 use crate::attempt::Attempt;
 use crate::match_rules::Operation;
@@ -47,24 +49,22 @@ fn put_text(
     put(alloc, members, name, Json::String(text))
 }
 
-fn kind_of(alloc: Global, resource: Resource) -> Result<Json, AllocError>
-    ensures { IfOk result (λ d. view d ≡ kind_of resource) }
+// Puts the names of a resource: its group, its version, and this one.
+fn put_names(
+    alloc: Global,
+    members: &mut Map<String, Json>,
+    resource: Resource,
+    name: &str,
+    text: &str,
+) -> Result<(), AllocError>
+    ensures { let names = object_of ((codes "group", string (row resource).group) ∷ (codes "version", string (row resource).version) ∷ (name.now, string text.now) ∷ []) in
+        OnOk result (members_view members.new.entries ≡ put name.now names (members_view members.old.entries)) }
 {
-    let mut members = Map::new(alloc);
-    put_text(alloc, &mut members, "kind", resource.kind())?;
-    put_text(alloc, &mut members, "version", resource.version())?;
-    put_text(alloc, &mut members, "group", resource.group())?;
-    Ok(Json::Object(members))
-}
-
-fn resource_of(alloc: Global, resource: Resource) -> Result<Json, AllocError>
-    ensures { IfOk result (λ d. view d ≡ resource_of resource) }
-{
-    let mut members = Map::new(alloc);
-    put_text(alloc, &mut members, "resource", resource.plural())?;
-    put_text(alloc, &mut members, "version", resource.version())?;
-    put_text(alloc, &mut members, "group", resource.group())?;
-    Ok(Json::Object(members))
+    let mut names = Map::new(alloc);
+    put_text(alloc, &mut names, name, text)?;
+    put_text(alloc, &mut names, "version", resource.version())?;
+    put_text(alloc, &mut names, "group", resource.group())?;
+    put(alloc, members, name, Json::Object(names))
 }
 
 // Puts what the attempt does, and to which object.
@@ -77,8 +77,8 @@ fn put_members(
     ensures { OnOk result (object (members_view members.new.entries) ≡ request_of (attempt_seen attempt.now)) }
 {
     let resource = attempt.key.resource();
-    put(alloc, members, "resource", resource_of(alloc, resource)?)?;
-    put(alloc, members, "kind", kind_of(alloc, resource)?)?;
+    put_names(alloc, members, resource, "resource", resource.plural())?;
+    put_names(alloc, members, resource, "kind", resource.kind())?;
     put_text(alloc, members, "namespace", attempt.key.namespace())?;
     put_text(alloc, members, "name", attempt.key.name())?;
     let operation = operation_name(attempt.operation);

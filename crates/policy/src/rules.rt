@@ -8,7 +8,7 @@ ghost use Rattle.policy.specs.MatchRules.{is_plain, is_entry, resource_names_of}
 ghost use Rattle.policy.specs.declared.form.FormFault.TheVariants as FormFault;
 
 use crate::form::{
-    Form, FormFault, has_only, list, optional_list, optional_or, required_filled_list,
+    Form, FormFault, choice, has_only, list, optional_list, optional_or, required_filled_list,
 };
 use crate::match_rules::{Entry, MatchRules, Operation, OperationEntry, Rule, RuleScope};
 use crate::selector::Selector;
@@ -60,13 +60,15 @@ impl Form for OperationEntry {
     ghost seen = { λ operation. operation };
 
     fn read(_alloc: Global, part: &Json) -> Result<OperationEntry, FormFault> {
-        match part.as_str() {
-            Some("*") => Ok(OperationEntry::Any),
-            Some("CREATE") => Ok(OperationEntry::Exactly(Operation::Create)),
-            Some("UPDATE") => Ok(OperationEntry::Exactly(Operation::Update)),
-            Some("DELETE") => Ok(OperationEntry::Exactly(Operation::Delete)),
-            _ => Err(FormFault::BadForm),
-        }
+        choice(
+            part,
+            &[
+                ("*", OperationEntry::Any),
+                ("CREATE", OperationEntry::Exactly(Operation::Create)),
+                ("UPDATE", OperationEntry::Exactly(Operation::Update)),
+                ("DELETE", OperationEntry::Exactly(Operation::Delete)),
+            ],
+        )
     }
 }
 
@@ -81,12 +83,14 @@ impl Form for RuleScope {
     ghost seen = { λ scope. scope };
 
     fn read(_alloc: Global, part: &Json) -> Result<RuleScope, FormFault> {
-        match part.as_str() {
-            Some("Cluster") => Ok(RuleScope::Cluster),
-            Some("Namespaced") => Ok(RuleScope::Namespaced),
-            Some("*") => Ok(RuleScope::Every),
-            _ => Err(FormFault::BadForm),
-        }
+        choice(
+            part,
+            &[
+                ("Cluster", RuleScope::Cluster),
+                ("Namespaced", RuleScope::Namespaced),
+                ("*", RuleScope::Every),
+            ],
+        )
     }
 }
 

@@ -6,7 +6,7 @@ ghost use Rattle.documents.specs.Requirement.{requirement_seen};
 ghost use Rattle.policy.specs.MatchRules.{label_of, labels_of, requirement};
 ghost use Rattle.policy.specs.declared.form.FormFault.TheVariants as FormFault;
 
-use crate::form::{Form, FormFault, has_only, optional_list, optional_or, required};
+use crate::form::{Form, FormFault, choice, has_only, optional_list, optional_or, required};
 use documents::Requirement;
 use serde_json::{Map, Value as Json};
 use std::alloc::Global;
@@ -31,13 +31,15 @@ impl Form for Operator {
     ghost seen = { λ operator. operator };
 
     fn read(_alloc: Global, part: &Json) -> Result<Operator, FormFault> {
-        match part.as_str() {
-            Some("In") => Ok(Operator::In),
-            Some("NotIn") => Ok(Operator::NotIn),
-            Some("Exists") => Ok(Operator::Exists),
-            Some("DoesNotExist") => Ok(Operator::DoesNotExist),
-            _ => Err(FormFault::BadForm),
-        }
+        choice(
+            part,
+            &[
+                ("In", Operator::In),
+                ("NotIn", Operator::NotIn),
+                ("Exists", Operator::Exists),
+                ("DoesNotExist", Operator::DoesNotExist),
+            ],
+        )
     }
 }
 

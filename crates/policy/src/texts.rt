@@ -6,18 +6,6 @@ ghost use Rattle.policy.specs.Texts.{named_by, denial_text, printable, escaped, 
 
 use std::alloc::{AllocError, Global};
 
-// Names the policy and the binding after the text.
-fn push_names(text: &mut String, policy: &str, binding: &str) -> Result<(), AllocError>
-    ensures { OnOk result (string_bytes text.new ≡ string_bytes text.old ++ named_by policy.now binding.now) }
-{
-    text.push_str("ValidatingAdmissionPolicy '")?;
-    text.push_str(policy)?;
-    text.push_str("' with binding '")?;
-    text.push_str(binding)?;
-    text.push_str("'")?;
-    Ok(())
-}
-
 /// The message of the refusal of a write that is denied: it names the policy and the binding, and says what the policy says.
 ///
 /// # Errors
@@ -31,11 +19,9 @@ pub fn denial_text(
 ) -> Result<String, AllocError>
     ensures { IfOk result (λ s. string_bytes s ≡ denial_text policy.now binding.now message.now) }
 {
-    let mut text = String::new(alloc);
-    push_names(&mut text, policy, binding)?;
-    text.push_str(" denied request: ")?;
-    text.push_str(message)?;
-    Ok(text)
+    format!(in alloc;
+        "ValidatingAdmissionPolicy '{policy}' with binding '{binding}' denied request: {message}"
+    )
 }
 
 fn characters(alloc: Global, text: &str) -> Result<Vec<char>, AllocError>
@@ -107,11 +93,9 @@ fn warning_text(
 ) -> Result<String, AllocError>
     ensures { IfOk result (λ s. string_bytes s ≡ codes "Validation failed for " ++ (named_by policy.now binding.now ++ (codes ": " ++ message.now))) }
 {
-    let mut text = String::from_str(alloc, "Validation failed for ")?;
-    push_names(&mut text, policy, binding)?;
-    text.push_str(": ")?;
-    text.push_str(message)?;
-    Ok(text)
+    format!(in alloc;
+        "Validation failed for ValidatingAdmissionPolicy '{policy}' with binding '{binding}': {message}"
+    )
 }
 
 /// The text of a warning, to stand between quotes: 256 characters at most, before quotes and backslashes are escaped.

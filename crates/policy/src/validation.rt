@@ -1,6 +1,6 @@
 //! Validations of policies.
 
-use crate::form::{Form, FormFault, has_only, optional, optional_or, required};
+use crate::form::{Form, FormFault, choice, has_only, optional, optional_or, required};
 use serde_json::Value as Json;
 use std::alloc::Global;
 
@@ -37,13 +37,15 @@ impl Form for Reason {
     ghost seen = { λ reason. reason };
 
     fn read(_alloc: Global, part: &Json) -> Result<Reason, FormFault> {
-        match part.as_str() {
-            Some("Unauthorized") => Ok(Reason::Unauthorized),
-            Some("Forbidden") => Ok(Reason::Forbidden),
-            Some("Invalid") => Ok(Reason::Invalid),
-            Some("RequestEntityTooLarge") => Ok(Reason::RequestEntityTooLarge),
-            _ => Err(FormFault::BadForm),
-        }
+        choice(
+            part,
+            &[
+                ("Unauthorized", Reason::Unauthorized),
+                ("Forbidden", Reason::Forbidden),
+                ("Invalid", Reason::Invalid),
+                ("RequestEntityTooLarge", Reason::RequestEntityTooLarge),
+            ],
+        )
     }
 }
 
