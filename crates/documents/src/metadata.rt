@@ -78,14 +78,12 @@ fn are_metadata_members(members: &Map<String, Value>) -> bool
 fn is_metadata_member(name: &str, value: &Value) -> bool
     ensures { result ≡ is_metadata_member name.now (view value.now) }
 {
-    if name == "name" {
-        value.as_str().is_some_and(|text| check_name(text))
-    } else if name == "namespace" {
-        value.as_str().is_some_and(|text| check_namespace(text))
-    } else if name == "labels" || name == "annotations" {
-        are_texts(value)
-    } else {
-        name == "resourceVersion" && value.is_string()
+    match name {
+        "name" => value.as_str().is_some_and(|text| check_name(text)),
+        "namespace" => value.as_str().is_some_and(|text| check_namespace(text)),
+        "labels" | "annotations" => are_texts(value),
+        "resourceVersion" => value.is_string(),
+        _ => false,
     }
 }
 

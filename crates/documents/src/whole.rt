@@ -10,10 +10,10 @@ pub(crate) fn has_whole_numbers(value: &Value) -> bool
     ensures { result ≡ is_whole (view value.now) }
 {
     match value {
-        Value::Null | Value::Bool(_) | Value::String(_) => true,
         Value::Number(number) => number.is_i64(),
         Value::Array(items) => items_have_whole_numbers(items),
         Value::Object(members) => members_have_whole_numbers(members),
+        _ => true,
     }
 }
 
