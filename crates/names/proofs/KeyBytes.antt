@@ -50,6 +50,12 @@ first_and_rest bytes (Some p) number parts e h =
     let rests : p.1 ≡ parts = cc in
     h.0 ∙ (λ i. (numbers i).now ∷ (rests i).now)
 
+-- and where there are none
+pub none_first : (bytes : List ℕ) (o : Option (Bor ℕ × Bor (List ℕ))) → o ≡ None
+    → MatchOption o (length bytes ≡ 0) (λ p. IsFirstAndRest bytes p.0.now p.1.now) → length bytes ≡ 0
+none_first bytes None e h = h
+none_first bytes (Some p) e h = cc
+
 -- no key has these parts, if they make none
 pub no_key_of_parts : (k : Key) (r : Resource) (namespace name : List ℕ) → k.resource ≡ r → namespace ≡ k.namespace → name ≡ k.name
     → is_key (record { resource = r; namespace = namespace; name = name }) ≡ false → IsTrue (is_key k) → ⊥

@@ -121,9 +121,15 @@ impl Key {
         ensures no_key { result ≡ Err KeyFault.NoKey
             → (k : KeyData) → IsTrue (is_key k) → key_bytes k ≢ bytes.now }
     {
-        let (number, parts) = bytes.split_first().ok_or(KeyFault::NoKey)?;
-        let resource = ResourceTable::numbered(*number).ok_or(KeyFault::NoKey)?;
-        let (namespace, name) = split_at_zero(parts).ok_or(KeyFault::NoKey)?;
+        let Some((number, parts)) = bytes.split_first() else {
+            return Err(KeyFault::NoKey);
+        };
+        let Some(resource) = ResourceTable::numbered(*number) else {
+            return Err(KeyFault::NoKey);
+        };
+        let Some((namespace, name)) = split_at_zero(parts) else {
+            return Err(KeyFault::NoKey);
+        };
         Key::new(alloc, resource, namespace, name)
     }
 
@@ -168,8 +174,7 @@ impl Key {
     pub fn bytes(&self, alloc: Global) -> Result<Vec<u8>, AllocError>
         ensures { IfOk result (λ bytes. bytes.items ≡ key_bytes self.now) }
     {
-        let mut bytes = Vec::new(alloc);
-        bytes.push(self.resource.number())?;
+        let mut bytes = Vec::from_slice(alloc, &[self.resource.number()])?;
         bytes.extend_from_slice(self.namespace.as_bytes())?;
         bytes.push(0)?;
         bytes.extend_from_slice(self.name.as_bytes())?;

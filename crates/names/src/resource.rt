@@ -20,15 +20,6 @@ pub enum Scope {
     Cluster,
 }
 
-/// What the table says of one resource.
-#[derive(Clone, Copy)]
-struct Row {
-    number: u8,
-    plural: &'static str,
-    kind: &'static str,
-    scope: Scope,
-}
-
 /// An API group with its version, apart and as `apiVersion` has them.
 #[derive(Clone, Copy)]
 struct Group {
@@ -38,58 +29,6 @@ struct Group {
 }
 
 impl Resource {
-    fn row(self) -> Row
-        ensures number { result.number ≡ (row self).number }
-        ensures plural { result.plural.now ≡ (row self).plural }
-        ensures kind { result.kind.now ≡ (row self).kind }
-        ensures scope { result.scope ≡ (row self).scope }
-    {
-        match self {
-            Resource::ConfigMap => Row {
-                number: 1,
-                plural: "configmaps",
-                kind: "ConfigMap",
-                scope: Scope::Namespaced,
-            },
-            Resource::Node => Row {
-                number: 2,
-                plural: "nodes",
-                kind: "Node",
-                scope: Scope::Cluster,
-            },
-            Resource::Pod => Row {
-                number: 3,
-                plural: "pods",
-                kind: "Pod",
-                scope: Scope::Namespaced,
-            },
-            Resource::Service => Row {
-                number: 4,
-                plural: "services",
-                kind: "Service",
-                scope: Scope::Namespaced,
-            },
-            Resource::Deployment => Row {
-                number: 5,
-                plural: "deployments",
-                kind: "Deployment",
-                scope: Scope::Namespaced,
-            },
-            Resource::ValidatingAdmissionPolicy => Row {
-                number: 6,
-                plural: "validatingadmissionpolicies",
-                kind: "ValidatingAdmissionPolicy",
-                scope: Scope::Cluster,
-            },
-            Resource::ValidatingAdmissionPolicyBinding => Row {
-                number: 7,
-                plural: "validatingadmissionpolicybindings",
-                kind: "ValidatingAdmissionPolicyBinding",
-                scope: Scope::Cluster,
-            },
-        }
-    }
-
     fn in_group(self) -> Group
         ensures name { result.name.now ≡ (row self).group }
         ensures version { result.version.now ≡ (row self).version }
@@ -120,21 +59,45 @@ impl Resource {
     pub fn number(self) -> u8
         ensures { result ≡ (row self).number }
     {
-        self.row().number
+        match self {
+            Resource::ConfigMap => 1,
+            Resource::Node => 2,
+            Resource::Pod => 3,
+            Resource::Service => 4,
+            Resource::Deployment => 5,
+            Resource::ValidatingAdmissionPolicy => 6,
+            Resource::ValidatingAdmissionPolicyBinding => 7,
+        }
     }
 
     /// Its name in paths, as `configmaps`.
     pub fn plural(self) -> &'static str
         ensures { result.now ≡ (row self).plural }
     {
-        self.row().plural
+        match self {
+            Resource::ConfigMap => "configmaps",
+            Resource::Node => "nodes",
+            Resource::Pod => "pods",
+            Resource::Service => "services",
+            Resource::Deployment => "deployments",
+            Resource::ValidatingAdmissionPolicy => "validatingadmissionpolicies",
+            Resource::ValidatingAdmissionPolicyBinding => "validatingadmissionpolicybindings",
+        }
     }
 
     /// The `kind` of its objects, as `ConfigMap`.
     pub fn kind(self) -> &'static str
         ensures { result.now ≡ (row self).kind }
     {
-        self.row().kind
+        match self {
+            Resource::ConfigMap => "ConfigMap",
+            Resource::Node => "Node",
+            Resource::Pod => "Pod",
+            Resource::Service => "Service",
+            Resource::Deployment => "Deployment",
+            Resource::ValidatingAdmissionPolicy => "ValidatingAdmissionPolicy",
+            Resource::ValidatingAdmissionPolicyBinding => "ValidatingAdmissionPolicyBinding",
+        }
     }
 
     /// Its API group, which is empty for the core group.
@@ -162,7 +125,14 @@ impl Resource {
     pub fn scope(self) -> Scope
         ensures { result ≡ (row self).scope }
     {
-        self.row().scope
+        match self {
+            Resource::ConfigMap | Resource::Pod | Resource::Service | Resource::Deployment => {
+                Scope::Namespaced
+            }
+            Resource::Node
+            | Resource::ValidatingAdmissionPolicy
+            | Resource::ValidatingAdmissionPolicyBinding => Scope::Cluster,
+        }
     }
 
     /// Whether its scope is `Namespaced`.
