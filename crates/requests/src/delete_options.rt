@@ -62,12 +62,11 @@ fn are_options(members: &Map<String, Value>) -> bool
 fn is_option(name: &str, value: &Value) -> bool
     ensures { result ≡ is_option name.now (view value.now) }
 {
-    if name == "apiVersion" {
-        value.as_str().is_some_and(|text| "v1" == text)
-    } else if name == "kind" {
-        value.as_str().is_some_and(|text| "DeleteOptions" == text)
-    } else {
-        name == "preconditions" && are_preconditions(value)
+    match name {
+        "apiVersion" => value.as_str().is_some_and(|text| "v1" == text),
+        "kind" => value.as_str().is_some_and(|text| "DeleteOptions" == text),
+        "preconditions" => are_preconditions(value),
+        _ => false,
     }
 }
 

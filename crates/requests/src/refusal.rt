@@ -71,81 +71,114 @@ pub enum Refusal {
 }
 
 impl Refusal {
-    // The table of codes, reasons and messages.
-    fn answer(self) -> (u16, &'static str, &'static str)
-        ensures { answer self ≡ record { code = result.0; reason = result.1.now; message = result.2.now } }
-    {
-        match self {
-            Refusal::MalformedRequest => (400, "BadRequest", "malformed or unfinished request"),
-            Refusal::UnservedVersion => (505, "VersionNotSupported", "only HTTP/1.1 is served"),
-            Refusal::TooManyFields => (
-                431,
-                "RequestHeaderFieldsTooLarge",
-                "more than 32 header fields",
-            ),
-            Refusal::UnservedTransferCoding => {
-                (501, "NotImplemented", "no transfer coding is served")
-            }
-            Refusal::BadHost => (400, "BadRequest", "exactly one Host is needed"),
-            Refusal::BadContentLength => (400, "BadRequest", "bad Content-Length"),
-            Refusal::BodyTooLarge => (413, "RequestEntityTooLarge", "body too large"),
-            Refusal::UnservedExpectation => (417, "ExpectationFailed", "no expectation is served"),
-            Refusal::BadTarget => (400, "BadRequest", "target must be a path"),
-            Refusal::NoSuchPath => (404, "NotFound", "no such path"),
-            Refusal::MethodNotAllowed => (405, "MethodNotAllowed", "method not allowed"),
-            Refusal::BadQuery => (400, "BadRequest", "bad query"),
-            Refusal::BadNameInPath => (400, "BadRequest", "bad name in path"),
-            Refusal::UnexpectedBody => (400, "BadRequest", "unexpected body"),
-            Refusal::BadVersion => (400, "BadRequest", "bad resourceVersion"),
-            Refusal::Expired => (410, "Expired", "resourceVersion too old"),
-            Refusal::BodyIsNotJson => (400, "BadRequest", "body is not JSON"),
-            Refusal::NumberOutsideRange => (400, "BadRequest", "number outside 64 bits"),
-            Refusal::WrongKind => (
-                400,
-                "BadRequest",
-                "apiVersion or kind does not fit the path",
-            ),
-            Refusal::BadMetadata => (422, "Invalid", "bad metadata"),
-            Refusal::WrongName => (400, "BadRequest", "name or namespace does not fit the path"),
-            Refusal::VersionOnCreate => (
-                400,
-                "BadRequest",
-                "resourceVersion must be empty on create",
-            ),
-            Refusal::BadDeleteOptions => (400, "BadRequest", "bad delete options"),
-            Refusal::AlreadyExists => (409, "AlreadyExists", "already exists"),
-            Refusal::NotFound => (404, "NotFound", "not found"),
-            Refusal::VersionNotCurrent => (409, "Conflict", "resourceVersion is not current"),
-            Refusal::BadSpec => (422, "Invalid", "bad spec"),
-            Refusal::ObjectTooLarge => (413, "RequestEntityTooLarge", "object too large"),
-            Refusal::TooManyObjects => (507, "InsufficientStorage", "too many objects"),
-            Refusal::RevisionExhausted => (507, "InsufficientStorage", "revision exhausted"),
-            Refusal::OutOfMemory => (503, "ServiceUnavailable", "out of memory"),
-            Refusal::StorageFailed => (500, "InternalError", "storage failed"),
-        }
-    }
-
     /// The status code of the reply (RFC 9110 section 15).
     pub fn code(self) -> u16
         ensures { result ≡ (answer self).code }
     {
-        let (code, _, _) = self.answer();
-        code
+        match self {
+            Refusal::MalformedRequest
+            | Refusal::BadHost
+            | Refusal::BadContentLength
+            | Refusal::BadTarget
+            | Refusal::BadQuery
+            | Refusal::BadNameInPath
+            | Refusal::UnexpectedBody
+            | Refusal::BadVersion
+            | Refusal::BodyIsNotJson
+            | Refusal::NumberOutsideRange
+            | Refusal::WrongKind
+            | Refusal::WrongName
+            | Refusal::VersionOnCreate
+            | Refusal::BadDeleteOptions => 400,
+            Refusal::UnservedVersion => 505,
+            Refusal::TooManyFields => 431,
+            Refusal::UnservedTransferCoding => 501,
+            Refusal::BodyTooLarge | Refusal::ObjectTooLarge => 413,
+            Refusal::UnservedExpectation => 417,
+            Refusal::NoSuchPath | Refusal::NotFound => 404,
+            Refusal::MethodNotAllowed => 405,
+            Refusal::Expired => 410,
+            Refusal::BadMetadata | Refusal::BadSpec => 422,
+            Refusal::AlreadyExists | Refusal::VersionNotCurrent => 409,
+            Refusal::TooManyObjects | Refusal::RevisionExhausted => 507,
+            Refusal::OutOfMemory => 503,
+            Refusal::StorageFailed => 500,
+        }
     }
 
     /// The reason, a word for programs.
     pub fn reason(self) -> &'static str
         ensures { result.now ≡ (answer self).reason }
     {
-        let (_, reason, _) = self.answer();
-        reason
+        match self {
+            Refusal::MalformedRequest
+            | Refusal::BadHost
+            | Refusal::BadContentLength
+            | Refusal::BadTarget
+            | Refusal::BadQuery
+            | Refusal::BadNameInPath
+            | Refusal::UnexpectedBody
+            | Refusal::BadVersion
+            | Refusal::BodyIsNotJson
+            | Refusal::NumberOutsideRange
+            | Refusal::WrongKind
+            | Refusal::WrongName
+            | Refusal::VersionOnCreate
+            | Refusal::BadDeleteOptions => "BadRequest",
+            Refusal::UnservedVersion => "VersionNotSupported",
+            Refusal::TooManyFields => "RequestHeaderFieldsTooLarge",
+            Refusal::UnservedTransferCoding => "NotImplemented",
+            Refusal::BodyTooLarge | Refusal::ObjectTooLarge => "RequestEntityTooLarge",
+            Refusal::UnservedExpectation => "ExpectationFailed",
+            Refusal::NoSuchPath | Refusal::NotFound => "NotFound",
+            Refusal::MethodNotAllowed => "MethodNotAllowed",
+            Refusal::Expired => "Expired",
+            Refusal::BadMetadata | Refusal::BadSpec => "Invalid",
+            Refusal::AlreadyExists => "AlreadyExists",
+            Refusal::VersionNotCurrent => "Conflict",
+            Refusal::TooManyObjects | Refusal::RevisionExhausted => "InsufficientStorage",
+            Refusal::OutOfMemory => "ServiceUnavailable",
+            Refusal::StorageFailed => "InternalError",
+        }
     }
 
     /// The message, for people.
     pub fn message(self) -> &'static str
         ensures { result.now ≡ (answer self).message }
     {
-        let (_, _, message) = self.answer();
-        message
+        match self {
+            Refusal::MalformedRequest => "malformed or unfinished request",
+            Refusal::UnservedVersion => "only HTTP/1.1 is served",
+            Refusal::TooManyFields => "more than 32 header fields",
+            Refusal::UnservedTransferCoding => "no transfer coding is served",
+            Refusal::BadHost => "exactly one Host is needed",
+            Refusal::BadContentLength => "bad Content-Length",
+            Refusal::BodyTooLarge => "body too large",
+            Refusal::UnservedExpectation => "no expectation is served",
+            Refusal::BadTarget => "target must be a path",
+            Refusal::NoSuchPath => "no such path",
+            Refusal::MethodNotAllowed => "method not allowed",
+            Refusal::BadQuery => "bad query",
+            Refusal::BadNameInPath => "bad name in path",
+            Refusal::UnexpectedBody => "unexpected body",
+            Refusal::BadVersion => "bad resourceVersion",
+            Refusal::Expired => "resourceVersion too old",
+            Refusal::BodyIsNotJson => "body is not JSON",
+            Refusal::NumberOutsideRange => "number outside 64 bits",
+            Refusal::WrongKind => "apiVersion or kind does not fit the path",
+            Refusal::BadMetadata => "bad metadata",
+            Refusal::WrongName => "name or namespace does not fit the path",
+            Refusal::VersionOnCreate => "resourceVersion must be empty on create",
+            Refusal::BadDeleteOptions => "bad delete options",
+            Refusal::AlreadyExists => "already exists",
+            Refusal::NotFound => "not found",
+            Refusal::VersionNotCurrent => "resourceVersion is not current",
+            Refusal::BadSpec => "bad spec",
+            Refusal::ObjectTooLarge => "object too large",
+            Refusal::TooManyObjects => "too many objects",
+            Refusal::RevisionExhausted => "revision exhausted",
+            Refusal::OutOfMemory => "out of memory",
+            Refusal::StorageFailed => "storage failed",
+        }
     }
 }
