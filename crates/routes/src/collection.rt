@@ -47,20 +47,6 @@ fn answering(collection: Collection, question: Question) -> Request
     }
 }
 
-// The collection of a resource, in one namespace or, without one, in all.
-fn collection_in(
-    alloc: Global,
-    resource: Resource,
-    namespace: Option<&str>,
-) -> Result<Collection, AllocError>
-    ensures { IfOk result (λ c. collection_of c ≡ record { resource = resource; namespace = option_map (λ n. n.now) namespace.entry }) }
-{
-    Ok(Collection {
-        resource,
-        namespace: copied(alloc, namespace)?,
-    })
-}
-
 // What a question asks of a collection, or what refuses its message.
 fn asked_by(
     alloc: Global,
@@ -78,7 +64,11 @@ fn asked_by(
     if !message.body().is_empty() {
         return Ok(Request::Refused(Refusal::UnexpectedBody));
     }
-    let collection = collection_in(alloc, resource, namespace)?;
+    let namespace = copied(alloc, namespace)?;
+    let collection = Collection {
+        resource,
+        namespace,
+    };
     Ok(answering(collection, question))
 }
 

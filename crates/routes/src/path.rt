@@ -108,19 +108,22 @@ fn pieces_under<'p>(
 fn pieces_in<'p>(group: &'p str, parts: &[&'p str]) -> Option<Pieces<'p>>
     ensures { result ≡ pieces_in group.now (map (λ part. part.now) parts.now) }
 {
-    let (version, rest) = parts.split_first()?;
-    pieces_under(Some(group), version, rest)
+    match parts {
+        [version, rest @ ..] => pieces_under(Some(group), version, rest),
+        [] => None,
+    }
 }
 
 // What stands after the first slash.
 fn pieces_after<'p>(parts: &[&'p str]) -> Option<Pieces<'p>>
     ensures { result ≡ pieces_after (map (λ part. part.now) parts.now) }
 {
-    let (word, after) = parts.split_first()?;
-    let (part, rest) = after.split_first()?;
-    match *word {
-        "api" => pieces_under(None, part, rest),
-        "apis" => pieces_in(part, rest),
+    match parts {
+        [word, part, rest @ ..] => match *word {
+            "api" => pieces_under(None, part, rest),
+            "apis" => pieces_in(part, rest),
+            _ => None,
+        },
         _ => None,
     }
 }

@@ -112,7 +112,7 @@ fn of_item(
         Method::Get => Some(get_request(alloc, message, target, name, query)?),
         Method::Put => Some(replace_request(alloc, message, target, name, query)?),
         Method::Delete => Some(delete_request(alloc, message, target, name, query)?),
-        Method::Head | Method::Post | Method::Other => None,
+        _ => None,
     })
 }
 
@@ -130,7 +130,7 @@ fn of_collection(
     Ok(match message.method() {
         Method::Get => Some(collection_request_within(alloc, message, target, query)?),
         Method::Post => Some(create_request(alloc, message, target, query)?),
-        Method::Head | Method::Put | Method::Delete | Method::Other => None,
+        _ => None,
     })
 }
 
@@ -160,7 +160,7 @@ fn of_everywhere(
 {
     Ok(match message.method() {
         Method::Get => Some(collection_request(alloc, message, resource, None, query)?),
-        Method::Head | Method::Post | Method::Put | Method::Delete | Method::Other => None,
+        _ => None,
     })
 }
 

@@ -4,7 +4,7 @@ use Rattle.std.proofs.lemmas.List.{length-map, length-take}
 use Rattle.requests.specs.RequestOf.{request_of}
 use Rattle.routes.specs.Allow.{allow_of}
 use Rattle.routes.specs.Asked.{asked}
-use Rattle.routes.proofs.Fronts.{front_length, up_to}
+use Rattle.routes.proofs.Fronts.{front_length, one_more, up_to}
 use Rattle.routes.proofs.front.route_front.Goals as goal
 
 pub push-requires-clause-requests_room : goal.push-requires-clause-requests_room
@@ -38,6 +38,23 @@ loop-message-init c = record {
   requests_room = c.in-Ok.ensures.room.0;
   allows_room = c.in-Ok.ensures.room.1;
 }
+
+pub loop-message-preserved : goal.loop-message-preserved
+loop-message-preserved c =
+    let front = c.loop-message.front in
+    let routed = c.in-Ok-route.routed in
+    let messages = c.args.messages.now in
+    let i = c.loop-message.message-index in
+    let message = c.message-item.result in
+    let below = c.loop-message-test.true in
+    let methods_of = option_map (λ (methods : Bor (List ℕ)). methods.now) in record {
+      requests = one_more request_of asked front.requests.items c.push.new.self.requests.items routed.request messages i message below c.message-item.is
+          c.in-Ok-route.ensures.request c.push.ensures.requests c.loop-message.invariant.requests;
+      allows = one_more methods_of allow_of front.allows.items c.push.new.self.allows.items routed.allow messages i message below c.message-item.is
+          c.in-Ok-route.ensures.allow c.push.ensures.allows c.loop-message.invariant.allows;
+      requests_room = rw c.push.ensures.requests_capacity c.loop-message.invariant.requests_room;
+      allows_room = rw c.push.ensures.allows_capacity c.loop-message.invariant.allows_room;
+    }
 
 pub returns-in-Err-route-clause-few : goal.returns-in-Err-route-clause-few
 returns-in-Err-route-clause-few c =
