@@ -1,4 +1,4 @@
--- What is found on a device that was read, after a run that only read, and with a fault.
+-- What is found on a device that was read, with a fault.
 use Rattle.std.proofs.Common.{◌≡◌, ◌≢◌, ◌⊎◌, inl, inr, sym, ap, subst, ℕ, List, Result, Ok, Err, IfOk, IsErrOf}
 use Rattle.std.specs.Result.{IsErrAnd}
 use Rattle.device.specs.Disk.{Disk, HasFailed}
@@ -27,25 +27,6 @@ err_of (Ok x) e holds = absurd holds
 err_of (Err f) e holds = ap Err holds
 
 module _ {D : Type 0} (disk : Disk D) where
-  -- what was read after a run that only read
-  pub found_after : (old mid new : D) (result : Result Opened Fault) → Ran disk old mid Same → HasRead disk mid new result → HasRead disk old new result
-  found_after old mid new result run read =
-      let For : Rules → History → List ℕ → Type 0 = λ rules h x. StandsFor rules x h in
-      record {
-        rules = read.rules;
-        works = read.works;
-        in_data = read.in_data;
-        found = λ keeps rules h stands. read.found (run.kept keeps) rules h (subst (For rules h) (sym (run.seen keeps)) stands);
-        redone = read.redone;
-        log = λ keeps.
-            let Of : List ℕ → Type 0 = λ x. IfOk result (λ opened. IsLogOf x (root_of opened.paged) opened.log) in
-            subst Of (run.seen keeps) (read.log (run.kept keeps));
-        damaged = λ keeps damage is rules h stands. read.damaged (run.kept keeps) damage is rules h (subst (For rules h) (sym (run.seen keeps)) stands);
-        ran = read_then disk old mid new run read.ran;
-        refusal = read.refusal;
-        cause = λ is. failed_then disk old mid new run (read.cause is);
-      }
-
   module _ (old new : D) (run : Ran disk old new Same) where
     -- a fault
     pub found_none : (f : Fault) → f ≢ fault.Failed → f ≢ fault.Exhausted → (f ≡ fault.Device → HasFailed disk old new)

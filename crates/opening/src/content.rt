@@ -31,7 +31,7 @@ use names::Key;
 use objects::{Format, Rules};
 use paged::Paged;
 use recovery::{RecoveryFault, written_keys};
-use roots::{Root, counted_root};
+use roots::{Root, synced_root};
 use std::alloc::Global;
 
 /// What is shown of a history, over the pages of the root that counts, and the log behind these.
@@ -121,11 +121,12 @@ fn read_pages_alone<D: Device>(alloc: Global, device: &mut D, root: &Root, damag
     }
 }
 
-// Reads the store on a device. Nothing is written.
-fn read_store<D: Device>(alloc: Global, device: &mut D) -> Result<Opened, Fault>
-    ensures { HasRead D.disk device.old device.new result }
+/// Syncs a device, and reads the store on it. Nothing is written.
+pub(crate) fn synced_store<D: Device>(alloc: Global, device: &mut D) -> Result<Opened, Fault>
+    ensures read { HasRead D.disk device.old device.new result }
+    ensures durable { D.disk.keeps device.old → OnOk result (Only (D.disk.content device.new) (D.disk.left device.new)) }
 {
-    let root = counted_root(device)?;
+    let root = synced_root(device)?;
     match read_log(alloc, device, root.log_start()) {
         Ok((log, payloads)) => {
             let paged = read_objects(alloc, device, &root, &payloads)?;
@@ -134,15 +135,4 @@ fn read_store<D: Device>(alloc: Global, device: &mut D) -> Result<Opened, Fault>
         Err(Fault::Damaged(damage)) => Err(read_pages_alone(alloc, device, &root, damage)),
         Err(fault) => Err(fault),
     }
-}
-
-/// Syncs a device, and reads the store on it. Nothing is written.
-pub(crate) fn synced_store<D: Device>(alloc: Global, device: &mut D) -> Result<Opened, Fault>
-    ensures read { HasRead D.disk device.old device.new result }
-    ensures durable { D.disk.keeps device.old → OnOk result (Only (D.disk.content device.new) (D.disk.left device.new)) }
-{
-    if device.sync().is_err() {
-        return Err(Fault::Device);
-    }
-    read_store(alloc, device)
 }

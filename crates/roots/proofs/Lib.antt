@@ -1,4 +1,5 @@
 pub mod Counting
+pub mod Syncing
 pub mod Zeros
 pub mod Fronts
 pub mod Laying

@@ -1,11 +1,11 @@
 //! The header of a store's file and its two roots, of which one counts.
 //!
 //! A root says where a generation of the store lies: its pages, and behind them the first gate of its log. Of the roots
-//! whose gates are open the one of greater generation counts. Opening answers it, or that the content holds none.
+//! whose gates are open the one of greater generation counts. Opening syncs the device and answers it, or that the content holds none.
 //!
 //! ```text
 //! let first = start(&mut device)?;
-//! let root = counted_root(&mut device)?;
+//! let root = synced_root(&mut device)?;
 //! let log = Log::open(&mut device, root.log_start())?;
 //! ```
 //!
@@ -27,5 +27,5 @@ mod slots;
 pub use generation::{clear_slot, install};
 pub use new_store::{StartFault, start};
 pub use next::{Exhausted, next_root, place};
-pub use open::{RootFault, counted_root};
+pub use open::{RootFault, counted_root, synced_root};
 pub use root::{Root, Slot};

@@ -1,7 +1,7 @@
 //! The root that counts on a device.
 
-ghost use Rattle.std.specs.Prelude.{◌≡◌, ◌<◌, ◌≤◌, ◌+◌, ◌*◌, ◌⊎◌, ◌↔◌, ◌^◌, length, take, IsTrue, IfOk, OnErr, IsErrOf};
-ghost use Rattle.device.specs.Disk.{HasFailed};
+ghost use Rattle.std.specs.Prelude.{◌≡◌, ◌<◌, ◌≤◌, ◌+◌, ◌*◌, ◌⊎◌, ◌↔◌, ◌^◌, length, take, IsTrue, IfOk, OnOk, OnErr, IsErrOf};
+ghost use Rattle.device.specs.Disk.{HasFailed, Only};
 ghost use Rattle.device.specs.Step.{Same};
 ghost use Rattle.device.specs.Run.{Ran};
 ghost use Rattle.gatelog.specs.Record.{part};
@@ -74,4 +74,27 @@ pub fn counted_root<D: Device>(device: &mut D) -> Result<Root, RootFault>
         Some(root) if lies_inside(&root, sectors) => Ok(root),
         _ => Err(RootFault::Root),
     }
+}
+
+/// Syncs a device, and finds the root that counts on it: from then on a crash leaves what was read. Nothing is written, and no memory is taken.
+///
+/// # Errors
+///
+/// Those of [`counted_root`].
+pub fn synced_root<D: Device>(device: &mut D) -> Result<Root, RootFault>
+    ensures found { D.disk.keeps device.old → IfOk result (HoldsRoot (D.disk.content device.old)) }
+    ensures damaged { D.disk.keeps device.old → (IsErrOf result RootFault.Header ⊎ IsErrOf result RootFault.Root)
+        → (root : Root) → HoldsRoot (D.disk.content device.old) root → ⊥ }
+    ensures header { D.disk.keeps device.old → IsErrOf result RootFault.Header
+        → IsHeader (part 0 512 (D.disk.content device.old)) → length (D.disk.content device.old) < 9 * 512 }
+    ensures root { D.disk.keeps device.old → IsErrOf result RootFault.Root
+        → IsHeader (part 0 512 (D.disk.content device.old)) × (9 * 512 ≤ length (D.disk.content device.old)) }
+    ensures small { IfOk result (λ root. log_start root < 2 ^ 54) }
+    ensures in_data { IfOk result (λ root. 8 ≤ root.first) }
+    ensures durable { D.disk.keeps device.old → OnOk result (Only (D.disk.content device.new) (D.disk.left device.new)) }
+    ensures ran { Ran D.disk device.old device.new Same }
+    ensures cause { IsErrOf result RootFault.Device → HasFailed D.disk device.old device.new }
+{
+    device.sync()?;
+    counted_root(device)
 }
