@@ -10,8 +10,8 @@ use Rattle.requests.specs.Refusal as table
 use Rattle.requests.specs.Request.{Request, get, list, watch, create, replace, delete, refused}
 use Rattle.requests.specs.Reply.{Reply, showing}
 use Rattle.requests.specs.View.{stored_at}
-use Rattle.policy.specs.declared.validation.Reason.{Reason}
-use Rattle.policy.specs.declared.validation.Reason.TheVariants.{Unauthorized, Forbidden, Invalid, RequestEntityTooLarge}
+use Rattle.denials.specs.declared.asked.Reason.{Reason}
+use Rattle.denials.specs.declared.asked.Reason.TheVariants.{Unauthorized, Forbidden, Invalid, RequestEntityTooLarge}
 use Rattle.objects.specs.declared.format.Rules.{Rules}
 use Rattle.recovery.specs.Conditions.{Refusal, known, with_bad_expression, denied_by, asks_for}
 use Rattle.apicore.specs.Step.{Asked, reason_code, status, refusal, success, warnings_of, verdict_of, reply}

@@ -31,7 +31,7 @@ use Rattle.holdings.specs.Prepared.{writes_of, AreNext, IsNextPut, IsNextDeletio
 use Rattle.holdings.specs.Writes.{Put, Deletion}
 use Rattle.objects.specs.declared.event.Change.TheVariants.{Added, Modified}
 use Rattle.plancode.specs.Plans.{Judged}
-use Rattle.policy.specs.declared.validation.Reason.{Reason}
+use Rattle.denials.specs.declared.asked.Reason.{Reason}
 use Rattle.expressions.specs.Specification.{Specification, these, plans_in}
 use Rattle.expressions.specs.Specification as stands
 use Rattle.verdict.specs.Admission.{verdict}

@@ -11,10 +11,10 @@ use Rattle.requests.specs.Request.{Request, get, list, watch, create, replace, d
 use Rattle.requests.specs.Listing.{listing, watching}
 use Rattle.requests.specs.Reply.{Reply, saying, showing}
 use Rattle.requests.specs.View.{stored_at, document_at, after_all, view}
-use Rattle.policy.specs.declared.validation.Reason.{Reason}
-use Rattle.policy.specs.declared.validation.Reason.TheVariants.{Unauthorized, Forbidden, Invalid, RequestEntityTooLarge}
+use Rattle.denials.specs.declared.asked.Reason.{Reason}
+use Rattle.denials.specs.declared.asked.Reason.TheVariants.{Unauthorized, Forbidden, Invalid, RequestEntityTooLarge}
 use Rattle.expressions.specs.Specification.{Specification}
-use Rattle.policy.specs.Texts.{denial_text}
+use Rattle.verdict.specs.Texts.{denial_text}
 use Rattle.denials.specs.Verdict.{Verdict, admitted, denied}
 use Rattle.recovery.specs.Standing.{Write, History, View}
 use Rattle.recovery.specs.Conditions.{Refusal, known, with_bad_expression, denied_by, Condition, first_of, own_conditions, asks_for}

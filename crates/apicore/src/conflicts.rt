@@ -1,9 +1,10 @@
 // Whether a request asks for another revision than that of the object which is stored.
 ghost use Rattle.std.specs.Prelude.{◌≡◌, IfOk, option_map, string_bytes};
-ghost use Rattle.recovery.specs.Conditions.{is_text_of, update_conflicts_at, deletion_conflicts_at};
+ghost use Rattle.recovery.specs.Conditions.{update_conflicts_at, deletion_conflicts_at};
 
 use requests::Manifest;
 use std::alloc::{AllocError, Global};
+use versions::is_text_of;
 
 /// Whether the manifest asks for another revision than this one.
 pub(crate) fn update_conflicts(
@@ -32,12 +33,4 @@ pub(crate) fn deletion_conflicts(
         Some(text) => Ok(!is_text_of(alloc, text.as_str(), revision)?),
         None => Ok(false),
     }
-}
-
-// Whether the text is that of the revision. Texts are compared: a number has more than one.
-fn is_text_of(alloc: Global, text: &str, revision: u64) -> Result<bool, AllocError>
-    ensures { IfOk result (λ b. b ≡ is_text_of revision text.now) }
-{
-    let current = format!(in alloc; "{revision}")?;
-    Ok(text == current.as_str())
 }

@@ -7,10 +7,11 @@ ghost use Rattle.recovery.specs.Conditions.{known, with_bad_expression, denied_b
 ghost use Rattle.apicore.specs.Step.{reason_code, reason_word};
 
 use crate::prepared::Prepared;
+use denials::Reason;
 use objects::LookupFault;
-use policy::{Reason, denial_text};
 use requests::{Refusal, Reply};
 use std::alloc::Global;
+use verdict::denial_text;
 
 /// The step that a refusal of the table makes.
 pub(crate) fn refused(alloc: Global, refusal: Refusal) -> Result<Prepared, LookupFault>

@@ -3,19 +3,19 @@ use Rattle.std.specs.Prelude.{ℕ, ◌++◌, ◌==◌, ◌||◌, Bool, codes, if
 use Rattle.std.specs.List.{list_all, list_any}
 use Rattle.celmean.specs.Value.{Null, Truth, Int, Uint, Text, Sequence, Mapping, Outcome, Gives, Error}
 use Rattle.celmean.specs.Macros.{is_true, is_false}
-use Rattle.policy.specs.Forms as form
-use Rattle.policy.specs.Spec.{Validation}
-use Rattle.policy.specs.declared.policy.FailurePolicy.{FailurePolicy}
-use Rattle.policy.specs.declared.policy.FailurePolicy.TheVariants.{Fail, Ignore}
-use Rattle.policy.specs.declared.validation.Reason.{Reason}
-use Rattle.policy.specs.declared.validation.Reason.TheVariants.{Invalid}
+use Rattle.denials.specs.Validation as asked
+use Rattle.denials.specs.Validation.{Validation}
+use Rattle.denials.specs.declared.asked.FailurePolicy.{FailurePolicy}
+use Rattle.denials.specs.declared.asked.FailurePolicy.TheVariants.{Fail, Ignore}
+use Rattle.denials.specs.declared.asked.Reason.{Reason}
+use Rattle.denials.specs.declared.asked.Reason.TheVariants.{Invalid}
 
 pub record Denial : Type 0 where
   pub reason : Reason
-  pub message : form.Text
+  pub message : asked.Text
 
 -- what cannot be evaluated is denied, or passes
-abbrev pub failure : FailurePolicy → (message : form.Text) → Option Denial
+abbrev pub failure : FailurePolicy → (message : asked.Text) → Option Denial
 failure Fail message = Some (record { reason = Invalid; message = message })
 failure Ignore message = None
 
@@ -30,7 +30,7 @@ abbrev pub breaks_line : ℕ → Bool
 breaks_line byte = byte == 10 || byte == 13
 
 -- a text on one line that is not blank
-abbrev pub line_of : Outcome → Option form.Text
+abbrev pub line_of : Outcome → Option asked.Text
 line_of (Gives (Text s)) = if list_all is_blank s || list_any breaks_line s then None else Some s
 line_of (Gives Null) = None
 line_of (Gives (Truth b)) = None
@@ -41,13 +41,13 @@ line_of (Gives (Mapping es)) = None
 line_of Error = None
 
 -- the line, or else the message, or else the expression
-abbrev pub said : Validation → (line : Option form.Text) → form.Text
+abbrev pub said : Validation → (line : Option asked.Text) → asked.Text
 said v line = unwrap_or line (unwrap_or v.message (codes "failed expression: " ++ v.expression))
 
 -- ---- validations
 
 -- of a validation that is true nothing, of one that is false its denial with this line, else a failure
-abbrev pub told : FailurePolicy → Validation → (line : Option form.Text) → Outcome → Option Denial
+abbrev pub told : FailurePolicy → Validation → (line : Option asked.Text) → Outcome → Option Denial
 told f v line o =
     if is_true o then None
     else (if is_false o then Some (record { reason = v.reason; message = said v line })

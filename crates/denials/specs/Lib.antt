@@ -1,3 +1,4 @@
+pub mod Validation
 pub mod Denials
 pub mod Verdict
 pub mod Seen

@@ -5,12 +5,11 @@ ghost use Rattle.celmean.specs.Macros.{is_false};
 ghost use Rattle.celmean.specs.Seen.{outcome_of};
 ghost use Rattle.denials.specs.Denials.{failure, said, told};
 ghost use Rattle.denials.specs.Seen.{denial_seen};
-ghost use Rattle.policy.specs.Forms.{Text};
-ghost use Rattle.policy.specs.Spec.{validation_seen};
+ghost use Rattle.denials.specs.Validation.{Text, validation_seen};
 
+use crate::asked::{FailurePolicy, Reason, Validation};
 use crate::messages::{prefixed, said};
 use celmean::{Outcome, is_false, is_true};
-use policy::{FailurePolicy, Reason, Validation};
 use std::alloc::{AllocError, Global};
 
 /// Why a write is not admitted.

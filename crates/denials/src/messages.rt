@@ -4,10 +4,10 @@ ghost use Rattle.std.specs.Prelude.{◌≡◌, ◌++◌, option_map, string_byte
 ghost use Rattle.std.specs.List.{list_all, list_any};
 ghost use Rattle.celmean.specs.Seen.{outcome_of};
 ghost use Rattle.denials.specs.Denials.{is_blank, breaks_line, line_of, said};
-ghost use Rattle.policy.specs.Spec.{validation_seen};
+ghost use Rattle.denials.specs.Validation.{validation_seen};
 
+use crate::asked::Validation;
 use celmean::{Outcome, Value};
-use policy::Validation;
 use std::alloc::{AllocError, Global};
 
 fn is_blank(text: &[u8]) -> bool

@@ -1,14 +1,11 @@
 //! What denials come to.
 
-ghost use Rattle.std.specs.Prelude.{◌≡◌, map, Some, IfOk, string_bytes};
-ghost use Rattle.std.specs.Option.{option_map_or};
-ghost use Rattle.denials.specs.Seen.{denial_seen, verdict_seen};
-ghost use Rattle.denials.specs.Verdict as model;
-ghost use Rattle.denials.specs.Verdict.{after_warnings};
-ghost use Rattle.policy.specs.Spec.{binding_seen};
+ghost use Rattle.std.specs.Prelude.{◌≡◌, IfOk};
+ghost use Rattle.denials.specs.Seen.{denial_seen, decision_seen};
+ghost use Rattle.denials.specs.Verdict.{decision};
 
+use crate::asked::{Action, Reason};
 use crate::denial::Denial;
-use policy::{Action, Binding, Reason, warning};
 use std::alloc::{AllocError, Global};
 
 /// Whether a write is admitted.
@@ -29,34 +26,39 @@ pub enum Verdict {
     },
 }
 
-/// The verdict, where the binding of this name denies the write. Else the denial stands as a warning after those before it.
+/// What a denial by a binding comes to.
+#[derive(Drop)]
+pub enum Decision {
+    /// The binding denies: this is the verdict.
+    Decided(Verdict),
+    /// The binding warns: a warning tells of the denial.
+    Warned(Denial),
+}
+
+/// What a denial by the binding of this name comes to, for a policy and an action of the binding.
 ///
 /// # Errors
 ///
 /// Where no memory is left.
 pub fn decide(
     alloc: Global,
-    warnings: &mut Vec<String>,
+    policy: &str,
     name: &str,
-    binding: &Binding,
+    action: Action,
     denial: Denial,
-) -> Result<Option<Verdict>, AllocError>
-    ensures { (rest : model.Verdict) → IfOk result (λ o.
-        after_warnings (map string_bytes warnings.old.items) (model.decide name.now (binding_seen binding.now) (Some (denial_seen denial)) rest)
-        ≡ option_map_or verdict_seen o (after_warnings (map string_bytes warnings.new.items) rest)) }
+) -> Result<Decision, AllocError>
+    ensures { IfOk result (λ x. decision_seen x ≡ decision action policy.now name.now (denial_seen denial)) }
 {
-    let Denial { reason, message } = denial;
-    let policy = binding.policy.as_str();
-    match binding.action {
-        Action::Deny => Ok(Some(Verdict::Denied {
-            policy: String::from_str(alloc, policy)?,
-            binding: String::from_str(alloc, name)?,
-            reason,
-            message,
-        })),
-        Action::Warn => {
-            warnings.push(warning(alloc, policy, name, message.as_str())?)?;
-            Ok(None)
+    match action {
+        Action::Deny => {
+            let Denial { reason, message } = denial;
+            Ok(Decision::Decided(Verdict::Denied {
+                policy: String::from_str(alloc, policy)?,
+                binding: String::from_str(alloc, name)?,
+                reason,
+                message,
+            }))
         }
+        Action::Warn => Ok(Decision::Warned(denial)),
     }
 }

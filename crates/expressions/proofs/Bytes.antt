@@ -14,10 +14,11 @@ use Rattle.plan.proofs.Spelled.{code_within}
 use Rattle.planlist.specs.Plans.{plan_bytes, list_bytes}
 use Rattle.policy.specs.Forms as form
 use Rattle.policy.specs.Policies.{policy_of}
-use Rattle.policy.specs.Spec.{Policy, policy_seen, named_seen, validation_seen}
+use Rattle.policy.specs.Spec.{Policy, policy_seen, named_seen}
+use Rattle.denials.specs.Validation.{validation_seen}
 use Rattle.policy.specs.declared.named.Named as code_named
 use Rattle.policy.specs.declared.policy.Policy as code_policy
-use Rattle.policy.specs.declared.validation.Validation as code_validation
+use Rattle.denials.specs.declared.asked.Validation as code_validation
 use Rattle.expressions.specs.Expressions.{Source, Variables, message, of_condition, of_variable, of_validation, sources, and_declared}
 use Rattle.expressions.specs.Plans.{plan_of, names_at, and_named, each_plan, plans_of}
 use Rattle.expressions.specs.Typed.{AreTyped}

@@ -8,7 +8,8 @@ use Rattle.celtypes.specs.Types.{ValueType}
 use Rattle.plan.specs.Seen.{IsSmall}
 use Rattle.plancode.specs.Plans.{Judged}
 use Rattle.policy.specs.Forms.{Text}
-use Rattle.policy.specs.Spec.{Named, Validation, Policy}
+use Rattle.policy.specs.Spec.{Named, Policy}
+use Rattle.denials.specs.Validation.{Validation}
 use Rattle.expressions.specs.Variables.{names_in, declared_by, variables_among, HasItsType, Declares}
 use Rattle.expressions.specs.Expressions.{Place, condition, variable, validation, message, Source, Variables, of_condition, of_variable, of_validation, sources, scope_at, and_declared}
 use Rattle.expressions.specs.Plans.{names_at, and_named, plan_of, each_plan}

@@ -6,7 +6,8 @@ use Rattle.std.specs.List.{flat_map}
 use Rattle.std.specs.Option.{option_map_or}
 use Rattle.std.specs.Prelude.{if◌then◌else◌}
 use Rattle.policy.specs.Forms.{Text}
-use Rattle.policy.specs.Spec.{Named, Validation, Policy}
+use Rattle.policy.specs.Spec.{Named, Policy}
+use Rattle.denials.specs.Validation.{Validation}
 use Rattle.expressions.specs.Expressions.{message, Source, of_condition, of_variable, of_validation, sources}
 use Rattle.expressions.specs.Places.{variable_places, validation_places, places_of}
 

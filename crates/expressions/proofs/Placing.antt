@@ -4,7 +4,8 @@ use Rattle.std.specs.List.{flat_map}
 use Rattle.std.specs.Option.{option_map_or}
 use Rattle.celtree.specs.Tree.{Expr}
 use Rattle.policy.specs.Forms.{Text}
-use Rattle.policy.specs.Spec.{Named, Validation, Policy}
+use Rattle.policy.specs.Spec.{Named, Policy}
+use Rattle.denials.specs.Validation.{Validation}
 use Rattle.expressions.specs.Expressions.{Place, condition, variable, validation, message, Source, Variables, of_condition, of_variable, of_validation, sources}
 use Rattle.expressions.specs.Plans.{names_at, and_named, each_plan, plans_of}
 use Rattle.expressions.specs.Typed.{AreTyped}

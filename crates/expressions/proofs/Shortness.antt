@@ -7,12 +7,13 @@ use Rattle.std.specs.Prelude.{codes}
 use Rattle.serde_json.specs.Data.{Data, Items, no_items, item}
 use Rattle.serde_json.specs.Find.{get, as_str, as_array}
 use Rattle.documents.specs.Json.{text}
-use Rattle.policy.specs.declared.policy.FailurePolicy.TheVariants.{Fail}
-use Rattle.policy.specs.declared.validation.Reason.TheVariants.{Invalid}
+use Rattle.denials.specs.declared.asked.FailurePolicy.TheVariants.{Fail}
+use Rattle.denials.specs.declared.asked.Reason.TheVariants.{Invalid}
 use Rattle.policy.specs.MatchRules.{match_rules_of}
 use Rattle.policy.specs.Forms.{Text, given, provided, has_only, field, perhaps, read_or, optional, each, list_of, filled_list_of}
 use Rattle.policy.specs.Policies.{named_of, are_conditions, are_variables, reason_of, validation_of, param_kind_of, failure_policy_of, has_rules, policy_members, policy_spec_of, policy_of}
-use Rattle.policy.specs.Spec.{Named, Validation, Policy}
+use Rattle.policy.specs.Spec.{Named, Policy}
+use Rattle.denials.specs.Validation.{Validation}
 use Rattle.expressions.specs.Expressions.{message, Source, of_condition, of_variable, of_validation, sources}
 use Rattle.expressions.specs.Laws.{total_length}
 use Rattle.expressions.proofs.Weights.{weight, items_weight, found_weight, weight_at, three_at, text_weight, array_weight, within_text}

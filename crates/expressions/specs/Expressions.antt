@@ -5,7 +5,8 @@ use Rattle.std.specs.Option.{option_map_or}
 use Rattle.celtypes.specs.Types.{ValueType, bool, string}
 use Rattle.celtypes.specs.Typing.{Scope}
 use Rattle.policy.specs.Forms.{Text}
-use Rattle.policy.specs.Spec.{Named, Validation, Policy}
+use Rattle.policy.specs.Spec.{Named, Policy}
+use Rattle.denials.specs.Validation.{Validation}
 
 -- what an expression is for
 pub data Place : Type 0 where

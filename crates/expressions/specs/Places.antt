@@ -4,7 +4,8 @@ use Rattle.std.specs.List.{flat_map}
 use Rattle.std.specs.Option.{option_map_or}
 use Rattle.serde_json.specs.Data.{Data}
 use Rattle.policy.specs.Policies.{policy_of}
-use Rattle.policy.specs.Spec.{Named, Validation, Policy}
+use Rattle.policy.specs.Spec.{Named, Policy}
+use Rattle.denials.specs.Validation.{Validation}
 use Rattle.expressions.specs.Expressions.{sources}
 
 -- variables may name those before them

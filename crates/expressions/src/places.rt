@@ -3,11 +3,13 @@
 ghost use Rattle.std.specs.Prelude.{◌≡◌, ◌++◌, ◌≤◌, length, map, nat_le, if◌then◌else◌, Some, None, IfOk, IfSome, option_map};
 ghost use Rattle.std.specs.List.{flat_map};
 ghost use Rattle.expressions.specs.Expressions.{sources};
-ghost use Rattle.policy.specs.Spec.{named_seen, validation_seen, policy_seen};
+ghost use Rattle.policy.specs.Spec.{named_seen, policy_seen};
+ghost use Rattle.denials.specs.Validation.{validation_seen};
 ghost use Rattle.expressions.specs.Places.{variable_places, validation_places, places_of, policy_in};
 
+use denials::Validation;
 use documents::Doc;
-use policy::{Named, Policy, Validation};
+use policy::{Named, Policy};
 use std::alloc::{AllocError, Global};
 
 // Match conditions name no variable.

@@ -4,9 +4,11 @@ ghost use Rattle.std.specs.Prelude.{◌≡◌, ◌++◌, map, IfOk};
 ghost use Rattle.std.specs.List.{flat_map};
 ghost use Rattle.expressions.specs.Expressions.{of_condition, of_variable, of_validation, sources};
 ghost use Rattle.expressions.specs.Seen.{source_seen};
-ghost use Rattle.policy.specs.Spec.{named_seen, validation_seen, policy_seen};
+ghost use Rattle.policy.specs.Spec.{named_seen, policy_seen};
+ghost use Rattle.denials.specs.Validation.{validation_seen};
 
-use policy::{Named, Policy, Validation};
+use denials::Validation;
+use policy::{Named, Policy};
 use std::alloc::{AllocError, Global};
 
 /// What an expression is for.

@@ -1,3 +1,2 @@
 pub mod Gathering
 pub mod Steps
-pub mod Parts

@@ -5,5 +5,3 @@ pub mod Forms
 pub mod MatchRules
 pub mod Policies
 pub mod Spec
-pub mod Request
-pub mod Texts

@@ -8,13 +8,14 @@ use Rattle.names.specs.declared.resource.Resource.{Resource}
 use Rattle.celtokens.specs.Word.{is_identifier}
 use Rattle.policy.specs.Matching.{is_guarded}
 use Rattle.policy.specs.Rules.{MatchRules}
-use Rattle.policy.specs.declared.policy.FailurePolicy.{FailurePolicy}
-use Rattle.policy.specs.declared.policy.FailurePolicy.TheVariants.{Fail, Ignore}
-use Rattle.policy.specs.declared.validation.Reason.{Reason}
-use Rattle.policy.specs.declared.validation.Reason.TheVariants.{Unauthorized, Forbidden, Invalid, RequestEntityTooLarge}
+use Rattle.denials.specs.declared.asked.FailurePolicy.{FailurePolicy}
+use Rattle.denials.specs.declared.asked.FailurePolicy.TheVariants.{Fail, Ignore}
+use Rattle.denials.specs.declared.asked.Reason.{Reason}
+use Rattle.denials.specs.declared.asked.Reason.TheVariants.{Unauthorized, Forbidden, Invalid, RequestEntityTooLarge}
 use Rattle.policy.specs.Forms.{Text, given, provided, has_only, field, perhaps, optional, list_of, filled_list_of, choice, spec_of, are_distinct}
 use Rattle.policy.specs.MatchRules.{match_rules_of}
-use Rattle.policy.specs.Spec.{Named, Validation, Policy}
+use Rattle.policy.specs.Spec.{Named, Policy}
+use Rattle.denials.specs.Validation.{Validation}
 
 -- ---- match conditions and variables
 

@@ -3,17 +3,16 @@ use Rattle.std.specs.Prelude.{List, Option, map, option_map, string_bytes}
 use Rattle.names.specs.declared.resource.Resource.{Resource}
 use Rattle.documents.specs.Requirement.{Requirement, requirement_seen}
 use Rattle.policy.specs.Rules.{MatchRules, match_rules_seen}
-use Rattle.policy.specs.declared.binding.Action.{Action}
+use Rattle.denials.specs.declared.asked.Action.{Action}
 use Rattle.policy.specs.declared.binding.Binding as code_binding
 use Rattle.policy.specs.declared.params.NotFound.{NotFound}
 use Rattle.policy.specs.declared.params.ParamRef as code_param_ref
 use Rattle.policy.specs.declared.params.Wanted as code_wanted
 use Rattle.policy.specs.declared.params.Wanted.TheVariants.{ByName, BySelector}
-use Rattle.policy.specs.declared.policy.FailurePolicy.{FailurePolicy}
+use Rattle.denials.specs.declared.asked.FailurePolicy.{FailurePolicy}
 use Rattle.policy.specs.declared.policy.Policy as code_policy
 use Rattle.policy.specs.declared.named.Named as code_named
-use Rattle.policy.specs.declared.validation.Reason.{Reason}
-use Rattle.policy.specs.declared.validation.Validation as code_validation
+use Rattle.denials.specs.Validation.{Validation, validation_seen}
 use Rattle.policy.specs.Forms.{Text}
 
 -- ---- policies
@@ -22,12 +21,6 @@ use Rattle.policy.specs.Forms.{Text}
 pub record Named : Type 0 where
   pub name : Text
   pub expression : Text
-
-pub record Validation : Type 0 where
-  pub expression : Text
-  pub message : Option Text
-  pub message_expression : Option Text
-  pub reason : Reason
 
 pub record Policy : Type 0 where
   pub failure_policy : FailurePolicy
@@ -62,14 +55,6 @@ pub record Binding : Type 0 where
 
 abbrev pub named_seen : code_named.Named → Named
 named_seen n = record { name = string_bytes n.name; expression = string_bytes n.expression }
-
-abbrev pub validation_seen : code_validation.Validation → Validation
-validation_seen v = record {
-  expression = string_bytes v.expression;
-  message = option_map string_bytes v.message;
-  message_expression = option_map string_bytes v.message_expression;
-  reason = v.reason;
-}
 
 abbrev pub policy_seen : code_policy.Policy → Policy
 policy_seen p = record {

@@ -14,18 +14,10 @@ use crate::form::{
 };
 use crate::match_rules::MatchRules;
 use crate::params::ParamRef;
+use denials::Action;
 use names::check_name;
 use serde_json::Value as Json;
 use std::alloc::{AllocError, Global};
-
-/// What becomes of a write that a policy denies.
-#[derive(Clone, Copy)]
-pub enum Action {
-    /// It is refused.
-    Deny,
-    /// Its reply has a warning.
-    Warn,
-}
 
 /// A binding of a policy: where the policy is in force, and with which parameters (Kubernetes,
 /// `ValidatingAdmissionPolicyBindingSpec`).
@@ -67,7 +59,7 @@ impl Binding {
 
 impl Form for Action {
     ghost use Rattle.policy.specs.Bindings.{action_of};
-    ghost use Rattle.policy.specs.declared.binding.Action.{Action};
+    ghost use Rattle.denials.specs.declared.asked.Action.{Action};
 
     ghost Spelled = { Action };
 

@@ -1,5 +1,5 @@
 //! Admission policies and their bindings, read from documents, and the writes that they are for (Kubernetes,
-//! admissionregistration.k8s.io/v1, and "Validating Admission Policy": `matchConstraints` and `matchResources`), with what their expressions see of such a write, and what is told of a denial.
+//! admissionregistration.k8s.io/v1, and "Validating Admission Policy": `matchConstraints` and `matchResources`).
 //!
 //! ```text
 //! let document = Doc::read(alloc, body)?;
@@ -20,9 +20,6 @@
 //! none, and its scope is the resource's. A policy is asked for a write that its constraints and its binding's resources match,
 //! where a binding without rules matches all, and never for writes to policies and bindings. `is_guarded` and
 //! `matches` answer exactly that, and take no memory.
-//!
-//! [`request_document`] is the document `request` that a policy's expressions see of a write (`specs/Request.antt`), and [`denial_text`] and [`warning`] are what is
-//! told of a denial (`specs/Texts.antt`).
 #![tactic(auto)]
 
 mod attempt;
@@ -32,18 +29,13 @@ mod match_rules;
 mod named;
 mod params;
 mod policy;
-mod request;
 mod rules;
 mod selector;
-mod texts;
 mod validation;
 
 pub use attempt::{Attempt, is_guarded, matches};
-pub use binding::{Action, Binding};
+pub use binding::Binding;
 pub use match_rules::{Entry, MatchRules, Operation, OperationEntry, Rule, RuleScope};
 pub use named::Named;
 pub use params::{NotFound, ParamRef, Wanted};
-pub use policy::{FailurePolicy, Policy};
-pub use request::request_document;
-pub use texts::{denial_text, warning};
-pub use validation::{Reason, Validation};
+pub use policy::Policy;

@@ -16,19 +16,10 @@ use crate::form::{
 };
 use crate::match_rules::MatchRules;
 use crate::named::{Named, are_conditions, are_variables};
-use crate::validation::Validation;
+use denials::{FailurePolicy, Validation};
 use names::{Resource, ResourceTable};
 use serde_json::Value as Json;
 use std::alloc::{AllocError, Global};
-
-/// What becomes of a write where a policy cannot be evaluated.
-#[derive(Clone, Copy)]
-pub enum FailurePolicy {
-    /// It is denied.
-    Fail,
-    /// The policy lets it pass.
-    Ignore,
-}
 
 /// What a policy asks of writes (Kubernetes, `ValidatingAdmissionPolicySpec`).
 pub struct Policy {
@@ -76,7 +67,7 @@ impl Policy {
 
 impl Form for FailurePolicy {
     ghost use Rattle.policy.specs.Policies.{failure_policy_of};
-    ghost use Rattle.policy.specs.declared.policy.FailurePolicy.{FailurePolicy};
+    ghost use Rattle.denials.specs.declared.asked.FailurePolicy.{FailurePolicy};
 
     ghost Spelled = { FailurePolicy };
 

@@ -1,34 +1,13 @@
 //! Validations of policies.
 
 use crate::form::{Form, FormFault, choice, has_only, optional, optional_or, required};
+use denials::{Reason, Validation};
 use serde_json::Value as Json;
 use std::alloc::Global;
 
-/// The reason of a refusal, which decides its status code.
-#[derive(Clone, Copy)]
-pub enum Reason {
-    Unauthorized,
-    Forbidden,
-    Invalid,
-    RequestEntityTooLarge,
-}
-
-/// What must hold of a write, and what is said where it does not.
-#[derive(Drop)]
-pub struct Validation {
-    /// What must hold: a text of the Common Expression Language.
-    pub expression: String,
-    /// What is said where it does not hold.
-    pub message: Option<String>,
-    /// An expression for what is said, which goes before the message.
-    pub message_expression: Option<String>,
-    /// The reason of the refusal.
-    pub reason: Reason,
-}
-
 impl Form for Reason {
     ghost use Rattle.policy.specs.Policies.{reason_of};
-    ghost use Rattle.policy.specs.declared.validation.Reason.{Reason};
+    ghost use Rattle.denials.specs.declared.asked.Reason.{Reason};
 
     ghost Spelled = { Reason };
 
@@ -51,10 +30,10 @@ impl Form for Reason {
 
 impl Form for Validation {
     ghost use Rattle.policy.specs.Policies.{validation_of};
-    ghost use Rattle.policy.specs.Spec as spec;
-    ghost use Rattle.policy.specs.Spec.{validation_seen};
+    ghost use Rattle.denials.specs.Validation as said;
+    ghost use Rattle.denials.specs.Validation.{validation_seen};
 
-    ghost Spelled = { spec.Validation };
+    ghost Spelled = { said.Validation };
 
     ghost form_of = { validation_of };
 

@@ -14,7 +14,8 @@ use Rattle.holdings.specs.Holdings.{State}
 use Rattle.holdings.specs.Sources.{found_in}
 use Rattle.holdings.specs.declared.source.Found.{Found}
 use Rattle.recovery.specs.Beside.{Beside}
-use Rattle.recovery.specs.Conditions.{Condition, known, first_of, replace_conditions, delete_conditions, is_text_of, update_conflicts, update_conflicts_at, deletion_conflicts, deletion_conflicts_at}
+use Rattle.versions.specs.Version.{is_text_of}
+use Rattle.recovery.specs.Conditions.{Condition, known, first_of, replace_conditions, delete_conditions, update_conflicts, update_conflicts_at, deletion_conflicts, deletion_conflicts_at}
 use Rattle.recovery.proofs.Showing.{getting}
 
 -- what is found is stored, with something beside it

@@ -1,7 +1,6 @@
 -- What refuses a request before the policies are asked, and the write that it asks for.
-use Rattle.std.specs.Prelude.{ℕ, List, [], ◌∷◌, ◌++◌, length, map, Bool, true, false, not, ◌&&◌, ◌==◌, decimal, if◌then◌else◌, Option, Some, None}
+use Rattle.std.specs.Prelude.{ℕ, List, [], ◌∷◌, ◌++◌, length, map, Bool, true, false, not, ◌&&◌, ◌==◌, if◌then◌else◌, Option, Some, None}
 use Rattle.std.specs.Option.{option_map_or}
-use Rattle.std.specs.Str.{bytes_eq}
 use Rattle.celtree.specs.Tree.{Expr}
 use Rattle.objects.specs.declared.format.Rules.{Rules}
 use Rattle.names.specs.Key.{Key}
@@ -16,8 +15,9 @@ use Rattle.requests.specs.History as write
 use Rattle.requests.specs.Listing.{watch_conditions}
 use Rattle.requests.specs.View as seen
 use Rattle.requests.specs.View.{stored_at, exists, is_too_large, is_full, is_exhausted}
-use Rattle.policy.specs.declared.validation.Reason.{Reason}
+use Rattle.denials.specs.declared.asked.Reason.{Reason}
 use Rattle.expressions.specs.Specification.{Specification, sound, bad_spec, bad_expression}
+use Rattle.versions.specs.Version.{is_text_of}
 use Rattle.recovery.specs.Standing.{Write, View}
 
 pub data Refusal : Type 0 where
@@ -45,10 +45,6 @@ abbrev pub form_conditions : Specification Expr → List Condition
 form_conditions (sound trees) = []
 form_conditions bad_spec = (known BadSpec, true) ∷ []
 form_conditions (bad_expression text) = (with_bad_expression text, true) ∷ []
-
--- the text is that of a revision: texts are compared, not numbers
-abbrev pub is_text_of : (revision : ℕ) → (text : List ℕ) → Bool
-is_text_of revision text = bytes_eq text (decimal revision)
 
 -- an update asks for another revision than this one: an empty text asks for none, and what asks for none is unconditional
 abbrev pub update_conflicts_at : (revision : ℕ) → (asked : Option (List ℕ)) → Bool

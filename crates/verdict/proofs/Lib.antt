@@ -1,3 +1,10 @@
+pub mod Parts
+pub mod Lists
+pub mod Kept
+pub mod OutcomeTurns
+pub mod Gathered
+pub mod Meant
+pub mod Warnings
 pub mod Standing
 pub mod Turns
 pub mod Ascending

@@ -9,7 +9,8 @@ use Rattle.policy.specs.Bindings.{binding_of}
 use Rattle.policy.specs.Policies.{policy_of}
 use Rattle.policy.specs.Spec.{Binding}
 use Rattle.denials.specs.Denials.{Denial}
-use Rattle.denials.specs.Verdict.{Verdict, Finding, verdict_of}
+use Rattle.denials.specs.Verdict.{Verdict}
+use Rattle.verdict.specs.Deciding.{Finding, verdict_of}
 use Rattle.expressions.specs.Objects.{Object, Objects, policy_key, shown_objects}
 use Rattle.expressions.specs.Listed.{listed}
 use Rattle.verdict.specs.OneBinding.{denial}

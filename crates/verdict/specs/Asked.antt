@@ -2,10 +2,10 @@
 use Rattle.std.specs.Prelude.{List, Option, None}
 use Rattle.celtree.specs.Tree.{Expr}
 use Rattle.policy.specs.Rules.{Attempt}
-use Rattle.evaluation.specs.Trees.{conditions_of}
-use Rattle.evaluation.specs.Environment.{seen}
+use Rattle.verdict.specs.Trees.{conditions_of}
+use Rattle.verdict.specs.Environment.{seen}
 use Rattle.denials.specs.Denials.{Denial}
-use Rattle.evaluation.specs.Denials.{conditions}
+use Rattle.verdict.specs.Denials.{conditions}
 use Rattle.policy.specs.Spec as spec
 use Rattle.policy.specs.Spec.{Binding}
 use Rattle.expressions.specs.Listed.{Shown}

@@ -1,3 +1,12 @@
+pub mod Request
+pub mod Texts
+pub mod Trees
+pub mod Environment
+pub mod Denials
+pub mod Ready
+pub mod Seen
+pub mod ByPlans
+pub mod Deciding
 pub mod Admission
 pub mod Turns
 pub mod Laws

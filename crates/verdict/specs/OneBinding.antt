@@ -6,10 +6,10 @@ use Rattle.policy.specs.Matching.{is_matched}
 use Rattle.policy.specs.Spec as spec
 use Rattle.policy.specs.declared.params.NotFound.{NotFound}
 use Rattle.policy.specs.declared.params.NotFound.TheVariants as when_not_found
-use Rattle.evaluation.specs.Trees.{conditions_of}
-use Rattle.evaluation.specs.Environment.{seen}
+use Rattle.verdict.specs.Trees.{conditions_of}
+use Rattle.verdict.specs.Environment.{seen}
 use Rattle.denials.specs.Denials.{Denial, failure}
-use Rattle.evaluation.specs.Denials.{Conditions, met, unmet, neither, conditions, first_denial, evaluate}
+use Rattle.verdict.specs.Denials.{Conditions, met, unmet, neither, conditions, first_denial, evaluate}
 use Rattle.expressions.specs.Listed.{Shown}
 use Rattle.verdict.specs.Parameters.{Parameters, found, misconfigured, not_found, parameters}
 

@@ -7,10 +7,11 @@ ghost use Rattle.serde_json.specs.View.{view};
 ghost use Rattle.plancode.specs.Plans.{Judged};
 ghost use Rattle.policy.specs.Rules.{attempt_seen};
 ghost use Rattle.expressions.specs.Specification.{these, plans_seen};
-ghost use Rattle.policy.specs.Request.{request_of};
+ghost use Rattle.verdict.specs.Request.{request_of};
 ghost use Rattle.denials.specs.Seen.{denial_seen, verdict_seen};
-ghost use Rattle.denials.specs.Verdict as model;
-ghost use Rattle.denials.specs.Verdict.{after_warnings};
+ghost use Rattle.denials.specs.Verdict as verdicts;
+ghost use Rattle.verdict.specs.Deciding as model;
+ghost use Rattle.verdict.specs.Deciding.{after_warnings};
 ghost use Rattle.expressions.specs.Objects.{Object, Objects, HasTrees, HaveTrees, held};
 ghost use Rattle.expressions.specs.LookupSeen.{held_by, listed_seen};
 ghost use Rattle.verdict.specs.Admission.{bindings, denial_by, finding, verdict};
@@ -20,8 +21,9 @@ ghost use Rattle.objects.specs.Failing.{HasGrown};
 ghost use Rattle.objects.specs.declared.fault.Part.{Part};
 ghost use Rattle.objects.specs.declared.fault.LookupFault.TheVariants as LookupFault;
 
+use crate::deciding::decided;
 use crate::one_binding::denial;
-use denials::{Denial, Verdict, decide};
+use denials::{Denial, Verdict};
 use expressions::{Bound, Found, Listed, Lookup};
 use objects::LookupFault;
 use policy::Attempt;
@@ -149,7 +151,7 @@ fn turn<'a, L: Lookup<'a>>(
 ) -> Result<Option<Verdict>, LookupFault>
     requires told { IfSome request.old (λ d. view d ≡ request_of (attempt_seen attempt.now)) }
     ensures told { OnOk result (IfSome request.new (λ d. view d ≡ request_of (attempt_seen attempt.now))) }
-    ensures found { (objects : Objects) → L.shows lookup.old objects → HaveTrees objects → (rest : model.Verdict) → IfOk result (λ o.
+    ensures found { (objects : Objects) → L.shows lookup.old objects → HaveTrees objects → (rest : verdicts.Verdict) → IfOk result (λ o.
         after_warnings (map string_bytes warnings.old.items) (model.decide named.now.0 named.now.1 (denial_by objects (attempt_seen attempt.now) named.now.1) rest)
         ≡ option_map_or verdict_seen o (after_warnings (map string_bytes warnings.new.items) rest)) }
     ensures kept { (objects : Objects) → L.shows lookup.old objects → L.shows lookup.new objects }
@@ -159,7 +161,7 @@ fn turn<'a, L: Lookup<'a>>(
     ensures damaged { (part : Part) → IsErrOf result (LookupFault.Damaged part) → (objects : Objects) → L.shows lookup.old objects → ⊥ }
 {
     match denial_by(alloc, lookup, named.bound, attempt, request)? {
-        Some(denial) => Ok(decide(alloc, warnings, named.name, named.bound.binding(), denial)?),
+        Some(denial) => Ok(decided(alloc, warnings, named.name, named.bound.binding(), denial)?),
         None => Ok(None),
     }
 }

@@ -5,12 +5,18 @@
 //! match admit(alloc, &mut lookup, &attempt)? {
 //!     Verdict::Admitted(warnings) => reply(warnings),
 //!     Verdict::Denied { policy, binding, reason, message } => {
-//!         refuse(reason, policy::denial_text(alloc, &policy, &binding, &message)?)
+//!         refuse(reason, denial_text(alloc, &policy, &binding, &message)?)
 //!     }
 //! }
 //! ```
 //!
 //! What policies, bindings and parameters there are is asked of a `expressions::Lookup`, as it stands before the write.
+//!
+//! What a policy says of a write is evaluated by the plans of its expressions. `specs/Denials.antt` says it by what its expressions mean, and
+//! `specs/Environment.antt` what they see of the write. Where the plans are those of the policy's expressions, each with a type (`specs/Ready.antt`),
+//! [`conditions`] and [`evaluate`] answer exactly that. They answer whatever the plans are, and fail where no memory is left alone.
+//! [`request_document`] is the document `request` that expressions see of a write (`specs/Request.antt`), and [`denial_text`] and [`warning`] are what is
+//! told of a denial (`specs/Texts.antt`).
 //!
 //! A binding whose policy matches the write, and whose match conditions are met, looks its parameters up and evaluates the policy with
 //! each: the first denial is its own. `specs/OneBinding.antt` says what one binding gives over a list of objects, and [`denial`] gives that of each list which the
@@ -23,10 +29,23 @@
 #![tactic(auto)]
 
 mod admission;
+mod answers;
+mod deciding;
 mod laws;
 mod one_binding;
+mod outcomes;
 mod parameters;
+mod request;
+mod scene;
+mod texts;
+mod together;
+mod validations;
 
 pub use admission::admit;
+pub use answers::Conditions;
 pub use laws::bindings_ascend;
 pub use one_binding::denial;
+pub use request::request_document;
+pub use texts::{denial_text, warning};
+pub use together::conditions;
+pub use validations::evaluate;

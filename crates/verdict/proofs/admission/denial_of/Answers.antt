@@ -8,7 +8,7 @@ use Rattle.policy.specs.Policies.{policy_of}
 use Rattle.policy.specs.Spec.{Policy, Binding, policy_seen, binding_seen}
 use Rattle.expressions.specs.Plans.{plans_of}
 use Rattle.expressions.specs.Specification.{plans_in}
-use Rattle.evaluation.specs.Ready.{AreReady}
+use Rattle.verdict.specs.Ready.{AreReady}
 use Rattle.denials.specs.Seen.{denial_seen}
 use Rattle.expressions.specs.Objects.{Held, shown_objects}
 use Rattle.verdict.specs.OneBinding.{denial}

@@ -16,13 +16,13 @@ pub returns-in_err-denial-clause-damaged : goal.returns-in_err-denial-clause-dam
 returns-in_err-denial-clause-damaged g c = λ part told.
     c.denial_by.ensures.damaged part (same_fault c.from_residual.ensures.1 c.in_err-denial.was told)
 
-pub returns-in_err-decide-in-Some-clause-told : goal.returns-in_err-decide-in-Some-clause-told
-returns-in_err-decide-in-Some-clause-told g c =
-    IfOk-from_err c.from_residual-in_err-decide-in-Some.result _ c.from_residual-in_err-decide-in-Some.ensures.0
+pub returns-in_err-decided-in-Some-clause-told : goal.returns-in_err-decided-in-Some-clause-told
+returns-in_err-decided-in-Some-clause-told g c =
+    IfOk-from_err c.from_residual-in_err-decided-in-Some.result _ c.from_residual-in_err-decided-in-Some.ensures.0
 
-pub returns-in_err-decide-in-Some-clause-found : goal.returns-in_err-decide-in-Some-clause-found
-returns-in_err-decide-in-Some-clause-found g c = λ objects shows trees rest.
-    IfOk-from_err c.from_residual-in_err-decide-in-Some.result _ c.from_residual-in_err-decide-in-Some.ensures.0
+pub returns-in_err-decided-in-Some-clause-found : goal.returns-in_err-decided-in-Some-clause-found
+returns-in_err-decided-in-Some-clause-found g c = λ objects shows trees rest.
+    IfOk-from_err c.from_residual-in_err-decided-in-Some.result _ c.from_residual-in_err-decided-in-Some.ensures.0
 
 pub returns-in_err-denial-clause-kept : goal.returns-in_err-denial-clause-kept
 returns-in_err-denial-clause-kept g c = c.denial_by.ensures.kept
@@ -33,23 +33,23 @@ returns-in_err-denial-clause-goes g c = c.denial_by.ensures.goes
 pub returns-in_err-denial-clause-counts : goal.returns-in_err-denial-clause-counts
 returns-in_err-denial-clause-counts g c = c.denial_by.ensures.counts
 
-pub returns-in_err-decide-in-Some-clause-kept : goal.returns-in_err-decide-in-Some-clause-kept
-returns-in_err-decide-in-Some-clause-kept g c = c.denial_by.ensures.kept
+pub returns-in_err-decided-in-Some-clause-kept : goal.returns-in_err-decided-in-Some-clause-kept
+returns-in_err-decided-in-Some-clause-kept g c = c.denial_by.ensures.kept
 
-pub returns-in_err-decide-in-Some-clause-goes : goal.returns-in_err-decide-in-Some-clause-goes
-returns-in_err-decide-in-Some-clause-goes g c = c.denial_by.ensures.goes
+pub returns-in_err-decided-in-Some-clause-goes : goal.returns-in_err-decided-in-Some-clause-goes
+returns-in_err-decided-in-Some-clause-goes g c = c.denial_by.ensures.goes
 
-pub returns-in_err-decide-in-Some-clause-counts : goal.returns-in_err-decide-in-Some-clause-counts
-returns-in_err-decide-in-Some-clause-counts g c = c.denial_by.ensures.counts
+pub returns-in_err-decided-in-Some-clause-counts : goal.returns-in_err-decided-in-Some-clause-counts
+returns-in_err-decided-in-Some-clause-counts g c = c.denial_by.ensures.counts
 
-pub returns-in_ok-decide-in-Some-clause-kept : goal.returns-in_ok-decide-in-Some-clause-kept
-returns-in_ok-decide-in-Some-clause-kept g c = c.denial_by.ensures.kept
+pub returns-in_ok-decided-in-Some-clause-kept : goal.returns-in_ok-decided-in-Some-clause-kept
+returns-in_ok-decided-in-Some-clause-kept g c = c.denial_by.ensures.kept
 
-pub returns-in_ok-decide-in-Some-clause-goes : goal.returns-in_ok-decide-in-Some-clause-goes
-returns-in_ok-decide-in-Some-clause-goes g c = c.denial_by.ensures.goes
+pub returns-in_ok-decided-in-Some-clause-goes : goal.returns-in_ok-decided-in-Some-clause-goes
+returns-in_ok-decided-in-Some-clause-goes g c = c.denial_by.ensures.goes
 
-pub returns-in_ok-decide-in-Some-clause-counts : goal.returns-in_ok-decide-in-Some-clause-counts
-returns-in_ok-decide-in-Some-clause-counts g c = c.denial_by.ensures.counts
+pub returns-in_ok-decided-in-Some-clause-counts : goal.returns-in_ok-decided-in-Some-clause-counts
+returns-in_ok-decided-in-Some-clause-counts g c = c.denial_by.ensures.counts
 
 pub returns-in-None-clause-kept : goal.returns-in-None-clause-kept
 returns-in-None-clause-kept g c = c.denial_by.ensures.kept
@@ -60,11 +60,11 @@ returns-in-None-clause-goes g c = c.denial_by.ensures.goes
 pub returns-in-None-clause-counts : goal.returns-in-None-clause-counts
 returns-in-None-clause-counts g c = c.denial_by.ensures.counts
 
-pub returns-in_ok-decide-in-Some-clause-device : goal.returns-in_ok-decide-in-Some-clause-device
-returns-in_ok-decide-in-Some-clause-device g c = λ told. absurd (no_fault told)
+pub returns-in_ok-decided-in-Some-clause-device : goal.returns-in_ok-decided-in-Some-clause-device
+returns-in_ok-decided-in-Some-clause-device g c = λ told. absurd (no_fault told)
 
-pub returns-in_ok-decide-in-Some-clause-damaged : goal.returns-in_ok-decide-in-Some-clause-damaged
-returns-in_ok-decide-in-Some-clause-damaged g c = λ part told. absurd (no_fault told)
+pub returns-in_ok-decided-in-Some-clause-damaged : goal.returns-in_ok-decided-in-Some-clause-damaged
+returns-in_ok-decided-in-Some-clause-damaged g c = λ part told. absurd (no_fault told)
 
 pub returns-in-None-clause-device : goal.returns-in-None-clause-device
 returns-in-None-clause-device g c = λ told. absurd (no_fault told)

@@ -3,8 +3,8 @@ use Rattle.std.specs.Option.{option_map_or}
 use Rattle.std.proofs.lemmas.Result.{IfOk-from_err}
 use Rattle.policy.specs.Rules.{attempt_seen}
 use Rattle.verdict.specs.Admission.{finding}
-use Rattle.denials.specs.Verdict.{verdict_of}
-use Rattle.denials.specs.Verdict.{after_warnings}
+use Rattle.verdict.specs.Deciding.{verdict_of}
+use Rattle.verdict.specs.Deciding.{after_warnings}
 use Rattle.denials.specs.Seen.{verdict_seen}
 use Rattle.denials.specs.declared.verdict.Verdict as code_verdict
 use Rattle.verdict.proofs.Faults.{same_fault, no_fault, as_many, no_fewer, grown_after}

@@ -2,11 +2,11 @@ use Rattle.std.proofs.Common.{◌≡◌, ◌≤◌, map, drop, string_bytes}
 use Rattle.std.specs.Prelude.{IfSome}
 use Rattle.serde_json.specs.View.{view}
 use Rattle.policy.specs.Rules.{attempt_seen}
-use Rattle.policy.specs.Request.{request_of}
+use Rattle.verdict.specs.Request.{request_of}
 use Rattle.verdict.specs.Admission.{finding}
 use Rattle.expressions.specs.Objects.{Objects, HaveTrees}
-use Rattle.denials.specs.Verdict.{verdict_of}
-use Rattle.denials.specs.Verdict.{after_warnings}
+use Rattle.verdict.specs.Deciding.{verdict_of}
+use Rattle.verdict.specs.Deciding.{after_warnings}
 use Rattle.verdict.proofs.admission.verdict_of.Given as goal
 
 -- the warnings so far, and then the verdict of the bindings that are left

@@ -2,9 +2,9 @@ use Rattle.std.proofs.Common.{◌≡◌, List, Some, map, drop}
 use Rattle.celtree.specs.Tree.{Expr}
 use Rattle.policy.specs.Rules.{attempt_seen}
 use Rattle.policy.specs.Spec.{policy_seen}
-use Rattle.evaluation.specs.Environment.{seen}
-use Rattle.evaluation.specs.Denials.{first_denial, evaluate}
-use Rattle.evaluation.specs.Ready.{AreReady}
+use Rattle.verdict.specs.Environment.{seen}
+use Rattle.verdict.specs.Denials.{first_denial, evaluate}
+use Rattle.verdict.specs.Ready.{AreReady}
 use Rattle.verdict.proofs.one_binding.first_denial.Given as goal
 
 -- what is left decides

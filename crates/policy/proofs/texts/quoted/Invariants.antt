@@ -1,9 +1,0 @@
-use Rattle.std.proofs.Common.{◌≡◌, ◌++◌, map, drop, string_bytes}
-use Rattle.std.specs.List.{flat_map}
-use Rattle.policy.specs.Texts.{printable, escaped}
-use Rattle.policy.proofs.texts.quoted.Given as goal
-
--- what was written, and then the rest
-abbrev pub invariant-loop-character : goal.invariant-loop-character
-invariant-loop-character l =
-    string_bytes l.text ++ flat_map escaped (map printable (drop l.character-index l.characters)) ≡ flat_map escaped (map printable l.characters)
