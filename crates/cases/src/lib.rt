@@ -17,5 +17,5 @@ pub use report::{Report, Told};
 pub use run::{Bench, paths, run_text};
 pub use text_builder::TextBuilder;
 pub use word_reader::WordReader;
-pub use words::{bytes, first_word, number, shown, spelled, text, yes_or_no};
-pub use wrong::{Wrong, compare, wanted};
+pub use words::{first_word, number, numbered, push_bytes, shown, spelled, text, yes_or_no};
+pub use wrong::{Wrong, compare, compared, wanted};

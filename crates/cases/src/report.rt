@@ -61,11 +61,12 @@ impl Report {
         wrong: &Wrong,
     ) -> io::Result<()> {
         self.failed = self.failed.saturating_add(1);
-        match wrong {
-            Wrong::Memory => println!(rt; "{file}:{line}: out of memory"),
-            Wrong::Told(why) => println!(rt; "{file}:{line}: {why}"),
-            Wrong::Found(found) => println!(rt; "{file}:{line}: it is: {found}"),
-        }
+        let (front, why) = match wrong {
+            Wrong::Memory => ("", "out of memory"),
+            Wrong::Told(why) => ("", *why),
+            Wrong::Found(found) => ("it is: ", found.as_str()),
+        };
+        println!(rt; "{file}:{line}: {front}{why}")
     }
 
     /// Adds what the lines of a file have come to, and tells why those fail that do.

@@ -1,7 +1,7 @@
 //! Files of cases, line by line.
 
 use crate::report::Told;
-use crate::wrong::{Wrong, wanted};
+use crate::wrong::Wrong;
 use std::alloc::Global;
 use std::rt::{Env, Files};
 use std::{env, fs, io};
@@ -14,8 +14,10 @@ pub trait Bench: Drop + Sized {
     /// Does what a line says, and tells how many comparisons it made, all of which held.
     fn line(&mut self, alloc: Global, line: &str) -> Result<u64, Wrong>;
 
-    /// Ends the file or the case: asks that nothing is left to be compared, and tells how many comparisons that made.
-    fn end(&mut self, alloc: Global) -> Result<u64, Wrong>;
+    /// Ends the file or the case: asks that nothing is left to be compared.
+    fn end(&self) -> Result<(), Wrong> {
+        Ok(())
+    }
 }
 
 // What a file has come to.
@@ -52,24 +54,22 @@ impl<B: Bench> Reading<B> {
     }
 
     // Asks that something was compared, and nothing left out.
-    fn end(&mut self, alloc: Global) -> Result<u64, Wrong> {
-        let Some(bench) = &mut self.bench else {
-            return Ok(0);
-        };
-        let comparisons = bench.end(alloc)?;
-        wanted(
-            self.has_compared || comparisons > 0,
-            "nothing is compared before this line",
-        )?;
-        Ok(comparisons)
+    fn end(&self) -> Result<u64, Wrong> {
+        match &self.bench {
+            Some(bench) => match bench.end() {
+                Ok(()) if self.has_compared => Ok(0),
+                Ok(()) => Err(Wrong::Told("nothing is compared before this line")),
+                Err(wrong) => Err(wrong),
+            },
+            None => Ok(0),
+        }
     }
 
     // Does what a line says that is no comment.
     fn step(&mut self, alloc: Global, file: &str, line: &str) -> Result<u64, Wrong> {
         if line.starts_with("case ") {
-            let ended = self.end(alloc);
-            self.begin(alloc, file, true)?;
-            return ended;
+            let ended = self.end();
+            return self.begin(alloc, file, true).and(ended);
         }
         if self.bench.is_none() && !self.is_case {
             self.begin(alloc, file, false)?;
@@ -99,31 +99,33 @@ pub fn run_text<B: Bench>(alloc: Global, file: &str, text: &str) -> Told {
     }
     let done = match last {
         0 => Err(Wrong::Told("the file is empty")),
-        _ => reading.end(alloc),
+        _ => reading.end(),
     };
     told.note(last, done);
     told
 }
 
-// Adds the path of a file of a folder, unless it tells of the others.
-fn push_path(alloc: Global, folder: &str, name: &str, paths: &mut Vec<String>) -> io::Result<()> {
-    if !name.ends_with(".md") {
-        paths.push(format!(in alloc; "{folder}/{name}")?)?;
+// Adds the path of a file, unless it tells of the others.
+fn push_path(alloc: Global, path: &str, paths: &mut Vec<String>) -> io::Result<()> {
+    if !path.ends_with(".md") {
+        paths.push(String::from_str(alloc, path)?)?;
     }
     Ok(())
 }
 
-// Adds the paths of the files of a folder, without those that tell of the others.
+// Adds the paths of the files of these folders, ascending, without those that tell of the others.
 fn push_files<R: Files + Alloc<A = Global> + Clone + Drop>(
     rt: &R,
     alloc: Global,
-    folder: &str,
+    folders: &[&str],
     paths: &mut Vec<String>,
 ) -> io::Result<()> {
-    for entry in fs::read_dir(rt, folder)? {
-        push_path(alloc, folder, entry?.file_name(), paths)?;
+    for folder in folders {
+        for entry in fs::read_dir(rt, *folder)? {
+            push_path(alloc, entry?.path().as_str(), paths)?;
+        }
     }
-    Ok(())
+    Ok(paths.sort()?)
 }
 
 /// The paths that the arguments name, or else those of the files of these folders, ascending, without those that end in `.md`.
@@ -134,10 +136,7 @@ pub fn paths<R: Files + Env + Alloc<A = Global> + Clone + Drop>(
 ) -> io::Result<Vec<String>> {
     let mut paths: Vec<String> = env::args(rt)?.skip(1).collect(alloc)?;
     if paths.is_empty() {
-        for folder in folders.iter() {
-            push_files(rt, alloc, folder, &mut paths)?;
-        }
-        paths.sort()?;
+        push_files(rt, alloc, folders, &mut paths)?;
     }
     Ok(paths)
 }

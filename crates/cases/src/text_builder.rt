@@ -1,6 +1,6 @@
 //! A text that is gathered piece by piece.
 
-use crate::wrong::Wrong;
+use crate::wrong::{Wrong, compared};
 use std::alloc::Global;
 use std::fmt::Display;
 
@@ -55,6 +55,16 @@ impl TextBuilder {
         }
     }
 
+    /// Adds bytes in hex, two digits each, as words.
+    pub fn spell(&mut self, bytes: &[u8]) {
+        for byte in bytes {
+            self.word("");
+            if write!(self.text, "{byte:02x}").is_err() {
+                self.fail(Wrong::Memory);
+            }
+        }
+    }
+
     /// The whole text.
     ///
     /// # Errors
@@ -65,6 +75,18 @@ impl TextBuilder {
         match wrong {
             Some(wrong) => Err(wrong),
             None => Ok(text),
+        }
+    }
+
+    /// Asks that the text is the one that is wanted, which is one comparison.
+    ///
+    /// # Errors
+    ///
+    /// What was wrong first, or the text, where it is another.
+    pub fn compare(self, wanted: &str) -> Result<u64, Wrong> {
+        match self.end() {
+            Ok(text) => compared(text, wanted),
+            Err(wrong) => Err(wrong),
         }
     }
 }

@@ -1,5 +1,6 @@
 //! The words, numbers and bytes of a line.
 
+use crate::text_builder::TextBuilder;
 use crate::wrong::Wrong;
 use std::alloc::Global;
 use std::fmt::Display;
@@ -30,6 +31,18 @@ pub fn first_word(text: &str) -> (&str, &str) {
     }
 }
 
+/// A text in which a number stands for each mark.
+///
+/// # Errors
+///
+/// Want of memory.
+pub fn numbered(alloc: Global, text: &str, mark: &str, number: u64) -> Result<String, Wrong> {
+    let number = shown(alloc, &number)?;
+    let numbered = text.replace(alloc, mark, number.as_str());
+    drop(number);
+    Ok(numbered?)
+}
+
 /// The number that a text spells in decimal digits.
 ///
 /// # Errors
@@ -42,20 +55,19 @@ pub fn number(text: &str) -> Result<u64, Wrong> {
     }
 }
 
-/// The bytes of a text, two hex digits each, with blanks between them.
+/// Adds the bytes of a text, two hex digits each, with blanks between them.
 ///
 /// # Errors
 ///
 /// Where a word is no byte, and want of memory.
-pub fn bytes(alloc: Global, text: &str) -> Result<Vec<u8>, Wrong> {
-    let mut bytes = Vec::new(alloc);
+pub fn push_bytes(bytes: &mut Vec<u8>, text: &str) -> Result<(), Wrong> {
     for word in text.split_whitespace() {
         match u8::from_str_radix(word, 16) {
             Ok(byte) if word.len() == 2 => bytes.push(byte)?,
             _ => return Err(Wrong::Told("a byte is two hex digits")),
         }
     }
-    Ok(bytes)
+    Ok(())
 }
 
 /// Bytes as lines have them: two hex digits each, with blanks between them.
@@ -64,13 +76,9 @@ pub fn bytes(alloc: Global, text: &str) -> Result<Vec<u8>, Wrong> {
 ///
 /// Want of memory.
 pub fn spelled(alloc: Global, bytes: &[u8]) -> Result<String, Wrong> {
-    let mut text = String::new(alloc);
-    for byte in bytes {
-        let space = if text.is_empty() { "" } else { " " };
-        let word = format!(in alloc; "{space}{byte:02x}")?;
-        text.push_str(word.as_str())?;
-    }
-    Ok(text)
+    let mut text = TextBuilder::new(alloc);
+    text.spell(bytes);
+    text.end()
 }
 
 /// What a value shows.

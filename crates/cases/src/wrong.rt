@@ -1,6 +1,6 @@
 //! Why a line fails.
 
-ghost use Rattle.std.specs.Prelude.{◌≡◌, ◌↔◌, IsTrue, IsOk};
+ghost use Rattle.std.specs.Prelude.{◌≡◌, ◌↔◌, IsTrue, IsOk, string_bytes};
 
 use std::alloc::{AllocError, AllocFailed, Global};
 use std::fmt;
@@ -46,6 +46,21 @@ pub fn wanted(holds: bool, otherwise: &'static str) -> Result<(), Wrong>
         Ok(())
     } else {
         Err(Wrong::Told(otherwise))
+    }
+}
+
+/// One comparison, where a text is the one that is wanted.
+///
+/// # Errors
+///
+/// The text, where it is another.
+pub fn compared(found: String, wanted: &str) -> Result<u64, Wrong>
+    ensures same { IsOk result ↔ (string_bytes found ≡ wanted.now) }
+{
+    if found.as_str() == wanted {
+        Ok(1)
+    } else {
+        Err(Wrong::Found(found))
     }
 }
 
