@@ -1,6 +1,6 @@
 //! What the lines of a case work on, and the lines by their words.
 
-use crate::device_lines::{call, counts, crash, firsts, length, new_device, sector, tries};
+use crate::device_lines::{call, counts, crash, firsts, length, sector, tries};
 use crate::generation_lines::{install_next, next, place_of};
 use crate::line::Line;
 use crate::log_lines::{LogLines, filled};
@@ -9,18 +9,21 @@ use crate::page_lines::{page, page_find, page_room, page_with};
 use crate::root_lines::{log_start, new_store, root, write_sector};
 use crate::scan_lines::{lay, scan_pages};
 use crate::shelf_lines::shelf;
+use crate::store_device::on_store_device;
 use crate::writing_lines::write_entries;
 use cases::{Bench, Told, Wrong, run_text};
 use device::MemDevice;
+use pages::PageBuilder;
 use std::alloc::Global;
 
 const ROOM_SECTORS: u64 = 32;
 
-// A device in memory, and the log that a case opened on it.
+// A device in memory, the log that a case opened on it, and the page that its lines make.
 #[derive(Drop)]
 struct Disk {
     device: MemDevice,
     log: LogLines,
+    page: PageBuilder,
 }
 
 /// What the cases of a file of what lies on a disk come to.
@@ -31,6 +34,7 @@ pub fn run_disk(alloc: Global, file: &str, text: &str) -> Told {
 impl Bench for Disk {
     fn new(alloc: Global, _file: &str) -> Result<Disk, Wrong> {
         Ok(Disk {
+            page: PageBuilder::new(alloc)?,
             device: MemDevice::new(alloc, ROOM_SECTORS)?,
             log: LogLines { log: None },
         })
@@ -38,100 +42,79 @@ impl Bench for Disk {
 
     // `LINE => ANSWER`; a line with no answer wants `ok`.
     fn line(&mut self, alloc: Global, line: &str) -> Result<u64, Wrong> {
-        let (asked, wanted) = line.split_once(" => ").unwrap_or((line, "ok"));
+        let (asked, wanted) = match line.split_once(" => ") {
+            Some(both) => both,
+            None => (line, "ok"),
+        };
         let mut line = Line::new(alloc, asked);
-        answer(alloc, &mut self.device, &mut self.log, &mut line);
-        line.compare(alloc, wanted)
-    }
-
-    fn end(&mut self, _alloc: Global) -> Result<u64, Wrong> {
-        Ok(0)
+        self.answer(alloc, &mut line);
+        line.compare(wanted)
     }
 }
 
 // Each of these answers the lines of its kind, and hands on the others.
-
-fn answer(alloc: Global, device: &mut MemDevice, log: &mut LogLines, line: &mut Line<'_>) {
-    match line.word() {
-        "device" => new_device(alloc, device, line),
-        "call" => {
-            let done = call(device, line);
-            line.ended(done);
+impl Disk {
+    fn answer(&mut self, alloc: Global, line: &mut Line<'_>) {
+        match line.word() {
+            "call" => {
+                let done = call(&mut self.device, line);
+                line.ended(done);
+            }
+            "calls" => tries(alloc, &mut self.device, line),
+            "len" => length(&mut self.device, line),
+            "firsts" => firsts(&mut self.device, line),
+            "counts" => counts(&self.device, line),
+            "crash" => crash(alloc, &mut self.device, line),
+            word => self.of_sectors(alloc, word, line),
         }
-        "calls" => tries(device, line),
-        "len" => length(device, line),
-        "firsts" => firsts(alloc, device, line),
-        "counts" => counts(device, line),
-        "fail" => {
-            device.fail_on(line.number());
-            line.answer.word("ok");
-        }
-        "stop" => {
-            device.stop_on(line.number());
-            line.answer.word("ok");
-        }
-        "crash" => crash(alloc, device, line),
-        word => of_sectors(alloc, word, device, log, line),
     }
-}
 
-fn of_sectors(
-    alloc: Global,
-    word: &str,
-    device: &mut MemDevice,
-    log: &mut LogLines,
-    line: &mut Line<'_>,
-) {
-    match word {
-        "sector" => sector(alloc, device, line),
-        "begins" => write_sector(alloc, device, line),
-        "new-store" => new_store(device, line),
-        "root" => root(device, line),
-        "next" => next(device, line),
-        "install" => install_next(device, line),
-        "write" => write_entries(alloc, device, line),
-        "lay" => lay(alloc, device, line),
-        "scan" => scan_pages(alloc, device, line),
-        "shelf" => shelf(alloc, device, line),
-        _ => of_the_log(alloc, word, device, log, line),
-    }
-}
-
-fn of_the_log(
-    alloc: Global,
-    word: &str,
-    device: &mut MemDevice,
-    log: &mut LogLines,
-    line: &mut Line<'_>,
-) {
-    match word {
-        "start" => {
-            let done = log.start(device, line.number());
-            line.ended(done);
+    fn of_sectors(&mut self, alloc: Global, word: &str, line: &mut Line<'_>) {
+        match word {
+            "sector" => sector(&mut self.device, line),
+            "begins" => write_sector(alloc, &mut self.device, line),
+            "new-store" => new_store(&mut self.device, line),
+            "root" => root(&mut self.device, line),
+            "next" => next(&mut self.device, line),
+            "install" => install_next(&mut self.device, line),
+            "write" => write_entries(alloc, &mut self.device, line),
+            "scan" => scan_pages(alloc, &mut self.device, line),
+            "shelf" => shelf(alloc, &mut self.device, line),
+            _ => self.of_the_log(alloc, word, line),
         }
-        "open" => {
-            let done = log.open(device, line.number());
-            line.ended(done);
-        }
-        "append" => log.append_payload(alloc, device, line),
-        "append-set" => log.append_set(alloc, device, line),
-        "records" => log.records(alloc, device, line),
-        "gate" => log.gate(line),
-        _ => of_pages(alloc, word, line),
     }
-}
 
-fn of_pages(alloc: Global, word: &str, line: &mut Line<'_>) {
-    match word {
-        "page" => page(alloc, line),
-        "page-with" => page_with(alloc, line),
-        "page-room" => page_room(alloc, line),
-        "page-find" => page_find(alloc, line),
-        "place" => place_of(line),
-        "filled" => filled(alloc, line),
-        "log-start" => log_start(line),
-        "file-after-crash" => file_after_crash(alloc, line),
-        "remembered" => remembered(alloc, line),
-        _ => line.refuse("no such line"),
+    fn of_the_log(&mut self, alloc: Global, word: &str, line: &mut Line<'_>) {
+        match word {
+            "start" => {
+                let done = self.log.start(&mut self.device, line.number());
+                line.ended(done);
+            }
+            "open" => {
+                let done = self.log.open(&mut self.device, line.number());
+                line.ended(done);
+            }
+            "append" => self.log.append_payload(alloc, &mut self.device, line),
+            "append-set" => self.log.append_set(alloc, &mut self.device, line),
+            "records" => self.log.records(alloc, &mut self.device, line),
+            "gate" => self.log.gate(line),
+            _ => self.of_pages(alloc, word, line),
+        }
+    }
+
+    fn of_pages(&mut self, alloc: Global, word: &str, line: &mut Line<'_>) {
+        match word {
+            "page" => page(alloc, &mut self.page, line),
+            "page-with" => page_with(alloc, &mut self.page, line),
+            "page-room" => page_room(alloc, &mut self.page, line),
+            "page-find" => page_find(alloc, &mut self.page, line),
+            "lay" => lay(alloc, &mut self.device, &mut self.page, line),
+            "place" => place_of(line),
+            "filled" => filled(alloc, line),
+            "log-start" => log_start(line),
+            "file-after-crash" => file_after_crash(alloc, line),
+            "remembered" => remembered(alloc, line),
+            _ => on_store_device(alloc, &mut self.device, word, line),
+        }
     }
 }

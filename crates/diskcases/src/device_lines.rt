@@ -69,9 +69,9 @@ pub fn call(device: &mut MemDevice, line: &mut Line<'_>) -> Result<(), DeviceFau
 }
 
 /// `CALL; CALL; ..`: whether each of them succeeds, in turn: `+` or `-`.
-pub fn tries(device: &mut MemDevice, line: &mut Line<'_>) {
-    for one in line.rest.split("; ") {
-        line.rest = one;
+pub fn tries(alloc: Global, device: &mut MemDevice, line: &mut Line<'_>) {
+    for one in &line.parts(alloc, line.rest, "; ") {
+        line.rest = *one;
         let done = call(device, line);
         line.answer.push(if done.is_ok() { "+" } else { "-" });
     }
@@ -87,23 +87,18 @@ pub fn read_sector<D: Device>(device: &mut D, at: u64) -> Result<[u8; 512], Devi
 }
 
 /// The first byte of each sector.
-pub fn firsts(alloc: Global, device: &mut MemDevice, line: &mut Line<'_>) {
+pub fn firsts(device: &mut MemDevice, line: &mut Line<'_>) {
     let sectors = match device.len() {
         Ok(0) => return line.answer.word("none"),
         Ok(sectors) => sectors,
         Err(fault) => return line.show(&fault),
     };
-    let mut found = Vec::new(alloc);
     for at in 0..sectors {
-        let done = match read_sector(device, at) {
-            Ok(sector) => found.push(sector[0]),
+        match read_sector(device, at) {
+            Ok(sector) => line.answer.spell(&[sector[0]]),
             Err(fault) => return line.show(&fault),
-        };
-        if done.is_err() {
-            return line.fail(Wrong::Memory);
         }
     }
-    line.spell(alloc, found.as_slice());
 }
 
 /// The bytes up to the last that is not zero.
@@ -118,13 +113,13 @@ pub(crate) fn without_zeros(sector: &[u8; 512]) -> &[u8] {
 }
 
 /// The bytes of a sector up to its last that is not zero.
-pub fn sector(alloc: Global, device: &mut MemDevice, line: &mut Line<'_>) {
+pub fn sector(device: &mut MemDevice, line: &mut Line<'_>) {
     let Ok(found) = read_sector(device, line.number()) else {
         return line.answer.word("device failed");
     };
     match without_zeros(&found) {
         [] => line.answer.word("zeros"),
-        bytes => line.spell(alloc, bytes),
+        bytes => line.answer.spell(bytes),
     }
 }
 
@@ -136,14 +131,6 @@ pub fn counts(device: &MemDevice, line: &mut Line<'_>) {
     }
 }
 
-fn pick(word: &str) -> Result<Pick, Wrong> {
-    match word {
-        "old" => Ok(Pick::Old),
-        "new" => Ok(Pick::New),
-        _ => Ok(Pick::Fill(byte(word)?)),
-    }
-}
-
 /// `LENGTH PICK ..`: adds the picks, each `old`, `new` or a byte, and gives the length, a number, or `all` that there may be.
 ///
 /// # Errors
@@ -152,7 +139,11 @@ fn pick(word: &str) -> Result<Pick, Wrong> {
 pub fn crash_words(line: &str, picks: &mut Vec<Pick>) -> Result<u64, Wrong> {
     let (length, words) = first_word(line);
     for word in words.split_whitespace() {
-        picks.push(pick(word)?)?;
+        picks.push(match word {
+            "old" => Pick::Old,
+            "new" => Pick::New,
+            _ => Pick::Fill(byte(word)?),
+        })?;
     }
     match length {
         "all" => Ok(u64::MAX),

@@ -1,14 +1,14 @@
 //! Devices over files of the operating system, in the current folder.
 
 use crate::device_lines::read_sector;
-use cases::Wrong;
+use cases::{Wrong, wanted};
 use device::{CreateFault, Device, FileDevice, OpenFault, write_through};
 use std::fs;
 use std::fs::File;
 use std::rt::Files;
 
 // Whether a sector begins with this byte.
-fn begins<D: Device>(device: &mut D, at: u64, with: u8) -> bool {
+fn begins(device: &mut FileDevice, at: u64, with: u8) -> bool {
     match read_sector(device, at) {
         Ok(sector) => sector[0] == with,
         Err(_) => false,
@@ -16,7 +16,7 @@ fn begins<D: Device>(device: &mut D, at: u64, with: u8) -> bool {
 }
 
 // Writes a sector and syncs, if the place is at most the length.
-fn puts<D: Device>(device: &mut D, at: u64, with: u8) -> bool {
+fn puts(device: &mut FileDevice, at: u64, with: u8) -> bool {
     match device.len() {
         Ok(len) if at <= len => write_through(device, at, &[with; 512]).is_ok(),
         _ => false,
@@ -24,7 +24,7 @@ fn puts<D: Device>(device: &mut D, at: u64, with: u8) -> bool {
 }
 
 // Cuts to one sector.
-fn shortens<D: Device>(device: &mut D) -> bool {
+fn shortens(device: &mut FileDevice) -> bool {
     match device.len() {
         Ok(len) if len >= 1 => device.cut(1).is_ok() && matches!(device.len(), Ok(1)),
         _ => false,
@@ -92,16 +92,13 @@ fn refuses<R: Files<File = File>>(rt: &R, name: &str) -> bool {
 ///
 /// # Errors
 ///
-/// What they do otherwise.
+/// Where they do otherwise.
 pub fn check_files<R: Files<File = File>>(rt: &R) -> Result<(), Wrong> {
-    if !is_held(rt, "kept.device") || !keeps_its_sectors(rt, "kept.device") {
-        return Err(Wrong::Told("a file does not keep its sectors"));
-    }
-    if !leaves_out_a_rest(rt, "rest.device") {
-        return Err(Wrong::Told("a rest is part of the device"));
-    }
-    if !refuses(rt, "there.device") {
-        return Err(Wrong::Told("a file is taken that should not be"));
-    }
-    Ok(())
+    wanted(
+        is_held(rt, "kept.device")
+            && keeps_its_sectors(rt, "kept.device")
+            && leaves_out_a_rest(rt, "rest.device")
+            && refuses(rt, "there.device"),
+        "a device over a file does otherwise than it says",
+    )
 }

@@ -1,6 +1,6 @@
 //! A line that is answered.
 
-use cases::{TextBuilder, Wrong, compare, first_word, number, spelled};
+use cases::{TextBuilder, Wrong, first_word, number};
 use std::alloc::Global;
 use std::fmt::Display;
 
@@ -82,14 +82,6 @@ impl<'a> Line<'a> {
         self.answer.show(value);
     }
 
-    /// Adds bytes in hex, as words.
-    pub fn spell(&mut self, alloc: Global, bytes: &[u8]) {
-        match spelled(alloc, bytes) {
-            Ok(text) => self.answer.word(text.as_str()),
-            Err(wrong) => self.fail(wrong),
-        }
-    }
-
     /// Adds bytes that are a text, as a word.
     pub fn say(&mut self, bytes: &[u8]) {
         self.answer
@@ -119,11 +111,8 @@ impl<'a> Line<'a> {
     /// # Errors
     ///
     /// What was wrong first, or the answer, where it is another.
-    pub fn compare(self, alloc: Global, wanted: &str) -> Result<u64, Wrong> {
-        let found = self.end()?;
-        match compare(alloc, found.as_str(), wanted) {
-            Ok(()) => Ok(1),
-            Err(wrong) => Err(wrong),
-        }
+    pub fn compare(self, wanted: &str) -> Result<u64, Wrong> {
+        let Line { answer, .. } = self;
+        answer.compare(wanted)
     }
 }

@@ -77,10 +77,10 @@ impl LogLines {
 
     /// `records PAYLOAD ; ..`: whether the log has these payloads.
     pub fn records(&mut self, alloc: Global, device: &mut MemDevice, line: &mut Line<'_>) {
-        let wanted = line.payloads(alloc);
         let Some(log) = &mut self.log else {
             return line.refuse("there is no log");
         };
+        let wanted = line.payloads(alloc);
         match log.records(alloc, device) {
             Ok(found) if found == wanted => line.answer.word("ok"),
             Ok(found) => {
@@ -110,7 +110,7 @@ pub fn filled(alloc: Global, line: &mut Line<'_>) {
     };
     for _ in 0..parts {
         if body.extend(part.as_slice()).is_err() {
-            return line.refuse("the parts do not fit");
+            line.refuse("the parts do not fit");
         }
     }
     let more = part.get(..rest as usize).unwrap_or(&[]);

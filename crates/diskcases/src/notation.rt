@@ -1,7 +1,7 @@
 //! Payloads, entries and keys, as lines have them.
 
 use crate::line::Line;
-use cases::{Wrong, bytes, number};
+use cases::{Wrong, number, push_bytes};
 use names::{Key, KeyFault, Resource};
 use records::Entry;
 use std::alloc::{AllocError, Global};
@@ -19,34 +19,46 @@ pub fn byte(word: &str) -> Result<u8, Wrong> {
 }
 
 // Adds bytes in hex, or `BYTES xN`, so many times those bytes.
-fn add_bytes(alloc: Global, payload: &mut Vec<u8>, part: &str) -> Result<(), Wrong> {
-    let (hex, times) = part.split_once(" x").unwrap_or((part, "1"));
-    let times = number(times)?;
-    let once = bytes(alloc, hex)?;
-    for _ in 0..times {
-        payload.extend_from_slice(once.as_slice())?;
+fn add_bytes(payload: &mut Vec<u8>, part: &str) -> Result<(), Wrong> {
+    let (hex, times) = match part.split_once(" x") {
+        Some(both) => both,
+        None => (part, "1"),
+    };
+    for _ in 0..number(times)? {
+        push_bytes(payload, hex)?;
     }
     Ok(())
 }
 
 // Adds a part: `'TEXT'`, or bytes.
-fn add_part(alloc: Global, payload: &mut Vec<u8>, part: &str) -> Result<(), Wrong> {
+fn add_part(payload: &mut Vec<u8>, part: &str) -> Result<(), Wrong> {
     let quoted = match part.strip_prefix('\'') {
         Some(rest) => rest.strip_suffix('\''),
         None => None,
     };
     match quoted {
         Some(text) => Ok(payload.extend_from_slice(text.as_bytes())?),
-        None => add_bytes(alloc, payload, part),
+        None => add_bytes(payload, part),
     }
 }
 
 impl Line<'_> {
+    /// The parts of a text, with a separator between them.
+    pub fn parts<'a>(&mut self, alloc: Global, text: &'a str, separator: &str) -> Vec<&'a str> {
+        let mut parts = Vec::new(alloc);
+        for part in text.split(separator) {
+            if parts.push(part).is_err() {
+                self.fail(Wrong::Memory);
+            }
+        }
+        parts
+    }
+
     /// The bytes of a payload: its parts, with ` + ` between them.
     pub fn payload(&mut self, alloc: Global, text: &str) -> Vec<u8> {
         let mut payload = Vec::new(alloc);
-        for part in text.split(" + ") {
-            if let Err(wrong) = add_part(alloc, &mut payload, part) {
+        for part in &self.parts(alloc, text, " + ") {
+            if let Err(wrong) = add_part(&mut payload, part) {
                 self.fail(wrong);
             }
         }
@@ -59,7 +71,7 @@ impl Line<'_> {
         if self.rest.is_empty() {
             return found;
         }
-        for one in self.rest.split(" ; ") {
+        for one in &self.parts(alloc, self.rest, " ; ") {
             let payload = self.payload(alloc, one);
             if found.push(payload).is_err() {
                 self.fail(Wrong::Memory);

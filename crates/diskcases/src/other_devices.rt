@@ -21,11 +21,9 @@ pub fn file_after_crash(alloc: Global, line: &mut Line<'_>) {
 /// `remembered BYTE`: how a sector of this byte begins, which was written to a device that remembers each moment, and synced.
 pub fn remembered(alloc: Global, line: &mut Line<'_>) {
     let mut device = Recorded::new(alloc);
-    if write_through(&mut device, 0, &[line.byte(); 512]).is_err() {
-        return line.fail(Wrong::Memory);
-    }
+    let written = write_through(&mut device, 0, &[line.byte(); 512]);
     match read_sector(&mut device, 0) {
-        Ok(sector) => line.show(&sector[0]),
-        Err(_) => line.fail(Wrong::Memory),
+        Ok(sector) if written.is_ok() => line.show(&sector[0]),
+        _ => line.fail(Wrong::Memory),
     }
 }

@@ -5,8 +5,11 @@ use cases::{Wrong, first_word};
 use pages::{Page, PageBuilder};
 use std::alloc::Global;
 
-fn push_cells(page: &mut PageBuilder, line: &mut Line<'_>) {
-    for cell in line.rest.split(" ; ") {
+/// Makes the page of the cells that the rest has: `KEY VALUE ; KEY VALUE ..`.
+pub(crate) fn fill(alloc: Global, page: &mut PageBuilder, line: &mut Line<'_>) {
+    page.clear();
+    let cells = line.parts(alloc, line.rest, " ; ");
+    for cell in &cells {
         let (key, value) = first_word(cell);
         if page.push(key.as_bytes(), value.as_bytes()).is_err() {
             line.refuse("the page has no room for its cells");
@@ -14,46 +17,21 @@ fn push_cells(page: &mut PageBuilder, line: &mut Line<'_>) {
     }
 }
 
-/// The page of the cells that the rest has: `KEY VALUE ; KEY VALUE ..`.
-pub(crate) fn page_of(alloc: Global, line: &mut Line<'_>) -> Option<PageBuilder> {
-    match PageBuilder::new(alloc) {
-        Ok(mut page) => {
-            push_cells(&mut page, line);
-            Some(page)
-        }
-        Err(_) => {
-            line.fail(Wrong::Memory);
-            None
-        }
-    }
-}
-
 /// `page FRONT BACK CELLS`: so many of the page's first bytes, and so many of its last.
-pub fn page(alloc: Global, line: &mut Line<'_>) {
+pub fn page(alloc: Global, page: &mut PageBuilder, line: &mut Line<'_>) {
     let (front, back) = (line.number() as usize, line.number() as usize);
-    let Some(page) = page_of(alloc, line) else {
-        return;
-    };
+    fill(alloc, page, line);
     let bytes = page.bytes();
     let from = bytes.len().saturating_sub(back);
-    line.spell(alloc, bytes.get(..front).unwrap_or(&[]));
+    line.answer.spell(bytes.get(..front).unwrap_or(&[]));
     line.answer.push(" ..");
-    line.spell(alloc, bytes.get(from..).unwrap_or(&[]));
-}
-
-fn push_page(line: &mut Line<'_>, page: &Page<'_>) {
-    for i in 0..page.len() {
-        line.say(page.key(i));
-        line.say(page.cell(i));
-    }
+    line.answer.spell(bytes.get(from..).unwrap_or(&[]));
 }
 
 /// `page-with AT BYTE CELLS`: the keys and values of the page of these cells with this byte at a place, or why it is no page.
-pub fn page_with(alloc: Global, line: &mut Line<'_>) {
+pub fn page_with(alloc: Global, page: &mut PageBuilder, line: &mut Line<'_>) {
     let (at, with) = (line.number() as usize, line.byte());
-    let Some(page) = page_of(alloc, line) else {
-        return;
-    };
+    fill(alloc, page, line);
     let Ok(mut bytes) = page.bytes().to_vec(alloc) else {
         return line.fail(Wrong::Memory);
     };
@@ -61,17 +39,20 @@ pub fn page_with(alloc: Global, line: &mut Line<'_>) {
         *byte = with;
     }
     match Page::check(&bytes) {
-        Ok(page) => push_page(line, &page),
+        Ok(page) => {
+            for i in 0..page.len() {
+                line.say(page.key(i));
+                line.say(page.cell(i));
+            }
+        }
         Err(damage) => line.show(&damage),
     }
 }
 
 /// `page-room BYTES CELLS`: whether the page has room for a further cell with a key of one byte and a value of so many.
-pub fn page_room(alloc: Global, line: &mut Line<'_>) {
+pub fn page_room(alloc: Global, page: &mut PageBuilder, line: &mut Line<'_>) {
     let size = line.number() as usize;
-    let Some(mut page) = page_of(alloc, line) else {
-        return;
-    };
+    fill(alloc, page, line);
     match vec![in alloc; 0; size] {
         Ok(value) => line.ended(page.push(b"z", &value)),
         Err(_) => line.fail(Wrong::Memory),
@@ -79,12 +60,10 @@ pub fn page_room(alloc: Global, line: &mut Line<'_>) {
 }
 
 /// `page-find KEY CELLS`: the value that is found under the key, or `none`.
-pub fn page_find(alloc: Global, line: &mut Line<'_>) {
+pub fn page_find(alloc: Global, page: &mut PageBuilder, line: &mut Line<'_>) {
     let key = line.word();
-    let Some(built) = page_of(alloc, line) else {
-        return;
-    };
-    match Page::check(built.bytes()) {
+    fill(alloc, page, line);
+    match Page::check(page.bytes()) {
         Ok(page) => match page.find(key.as_bytes()) {
             Some(value) => line.say(value),
             None => line.answer.word("none"),

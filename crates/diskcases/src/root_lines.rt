@@ -1,7 +1,6 @@
 //! Lines on the roots of a store.
 
 use crate::line::Line;
-use cases::bytes;
 use device::{Device, MemDevice};
 use roots::{Root, RootFault, Slot, StartFault, counted_root, start};
 use std::alloc::Global;
@@ -73,10 +72,7 @@ fn write_each(device: &mut MemDevice, from: u64, to: u64, sector: &[u8; 512]) ->
 /// `begins FROM TO HEX ..`: writes sectors that begin with these bytes, and have zeros behind them, if each place is at most the length.
 pub fn write_sector(alloc: Global, device: &mut MemDevice, line: &mut Line<'_>) {
     let (from, to) = (line.number(), line.number());
-    let first = match bytes(alloc, line.rest) {
-        Ok(first) => first,
-        Err(wrong) => return line.fail(wrong),
-    };
+    let first = line.payload(alloc, line.rest);
     let mut sector = [0; 512];
     let size = first.len().min(512);
     sector[..size].copy_from_slice(&first[..size]);

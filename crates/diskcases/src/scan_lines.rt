@@ -5,19 +5,19 @@ ghost use Rattle.device.specs.Memory.{memory_content};
 ghost use Rattle.roots.specs.Root.{log_start};
 
 use crate::line::Line;
-use crate::page_lines::page_of;
+use crate::page_lines::fill;
+use crate::writing_lines::push_keys;
 use checkpoint::{ReadFault, Reader, ScanFault, scan};
 use device::{Device, MemDevice};
+use pages::PageBuilder;
 use records::Entry;
 use roots::{Root, Slot};
 use std::alloc::Global;
 
 /// `lay SECTOR CELLS`: writes the page of these cells, if its place is at most the length.
-pub fn lay(alloc: Global, device: &mut MemDevice, line: &mut Line<'_>) {
+pub fn lay(alloc: Global, device: &mut MemDevice, page: &mut PageBuilder, line: &mut Line<'_>) {
     let at = line.number();
-    let Some(page) = page_of(alloc, line) else {
-        return;
-    };
+    fill(alloc, page, line);
     line.answer.word(match device.len() {
         Ok(len) if at <= len && device.write(at, page.bytes()).is_ok() => "ok",
         _ => "device failed",
@@ -122,10 +122,7 @@ pub fn scan_pages(alloc: Global, device: &mut MemDevice, line: &mut Line<'_>) {
     match read_pages(alloc, device, &root, &mut listing) {
         Ok(first_keys) => {
             push_entries(line, &listing.entries);
-            line.answer.word("begin");
-            for key in &first_keys {
-                line.say(key);
-            }
+            push_keys(line, &first_keys);
         }
         Err(fault) => line.answer.word(fault),
     }

@@ -111,8 +111,9 @@ pub fn shelf(alloc: Global, device: &mut MemDevice, line: &mut Line<'_>) {
     let Some(mut shelf) = shelf_at(alloc, device, first, pages, line) else {
         return;
     };
-    for question in line.rest.split(" ; ") {
-        line.rest = question;
+    let questions = line.parts(alloc, line.rest, " ; ");
+    for question in &questions {
+        line.rest = *question;
         ask(alloc, &mut shelf, device, line);
     }
 }

@@ -4,7 +4,6 @@ use crate::device_lines::{counts, length, new_device, read_sector, without_zeros
 use crate::line::Line;
 use crate::log_lines::LogLines;
 use crate::notation::byte;
-use cases::{Wrong, bytes};
 use device::{Device, DeviceFault, MemDevice};
 use std::alloc::Global;
 
@@ -45,13 +44,8 @@ fn put_line(device: &mut MemDevice, line: &mut Line<'_>) {
 // `change SECTOR PLACE BYTES`: overwrites bytes of a sector.
 fn change_line(alloc: Global, device: &mut MemDevice, line: &mut Line<'_>) {
     let (at, from) = (line.number(), line.number());
-    match bytes(alloc, line.rest) {
-        Ok(with) => {
-            let done = change(device, at, from as usize, &with);
-            line.ended(done);
-        }
-        Err(wrong) => line.fail(wrong),
-    }
+    let with = line.payload(alloc, line.rest);
+    line.ended(change(device, at, from as usize, &with));
 }
 
 // `noise BYTE`: fills the nine sectors of a new store.
@@ -75,7 +69,7 @@ fn append(alloc: Global, device: &mut MemDevice, line: &mut Line<'_>) {
 }
 
 // `sector SECTOR`: its bytes up to the last that is not zero, or `BYTE throughout`.
-fn sector(alloc: Global, device: &mut MemDevice, line: &mut Line<'_>) {
+fn sector(device: &mut MemDevice, line: &mut Line<'_>) {
     let at = line.number();
     let mut found = [0; 512];
     let is_read = at < device.len().unwrap_or(0) && device.read(at, &mut found).is_ok();
@@ -83,13 +77,13 @@ fn sector(alloc: Global, device: &mut MemDevice, line: &mut Line<'_>) {
         return line.refuse("there is no such sector");
     }
     if found == [found[0]; 512] {
-        line.spell(alloc, &[found[0]]);
+        line.answer.spell(&[found[0]]);
         return line.answer.word("throughout");
     }
-    line.spell(alloc, without_zeros(&found));
+    line.answer.spell(without_zeros(&found));
 }
 
-/// Answers a line on the device of a store that is shut, after its word.
+/// Answers a line on the device of a store that is shut, after its word. The bench of devices hands on what is no line of its own.
 pub fn on_store_device(alloc: Global, device: &mut MemDevice, word: &str, line: &mut Line<'_>) {
     match word {
         "device" => new_device(alloc, device, line),
@@ -102,7 +96,7 @@ pub fn on_store_device(alloc: Global, device: &mut MemDevice, word: &str, line: 
             line.answer.word("ok");
         }
         "sectors" => length(device, line),
-        "sector" => sector(alloc, device, line),
+        "sector" => sector(device, line),
         "calls" => counts(device, line),
         "put" => put_line(device, line),
         "change" => change_line(alloc, device, line),

@@ -3,7 +3,7 @@
 use crate::line::Line;
 use crate::root_lines::push_root;
 use cases::Wrong;
-use checkpoint::{EntryList, WriteFault, Written, write};
+use checkpoint::{EntryList, WriteFault, write};
 use device::{Device, MemDevice};
 use roots::counted_root;
 use std::alloc::Global;
@@ -14,7 +14,7 @@ fn entries_of(alloc: Global, line: &mut Line<'_>) -> EntryList {
     if line.rest.is_empty() {
         return EntryList::new(entries);
     }
-    for one in line.rest.split(" | ") {
+    for one in &line.parts(alloc, line.rest, " | ") {
         let entry = line.entry(alloc, one);
         if entries.push(entry.into_parts()).is_err() {
             line.fail(Wrong::Memory);
@@ -43,15 +43,14 @@ fn is_word(bytes: &[u8]) -> bool {
     true
 }
 
-// Adds the root, and the first key of each page: as a word, or its bytes in hex where they are none.
-fn push_written(alloc: Global, line: &mut Line<'_>, written: &Written) {
-    push_root(line, &written.root);
+/// Adds the first key of each page: as a word, or its bytes in hex where they are none.
+pub(crate) fn push_keys(line: &mut Line<'_>, first_keys: &[Vec<u8>]) {
     line.answer.word("begin");
-    for key in &written.first_keys {
+    for key in first_keys {
         if is_word(key) {
             line.say(key);
         } else {
-            line.spell(alloc, key);
+            line.answer.spell(key);
         }
     }
 }
@@ -60,15 +59,20 @@ fn push_written(alloc: Global, line: &mut Line<'_>, written: &Written) {
 /// page, in hex where it is no word.
 pub fn write_entries(alloc: Global, device: &mut MemDevice, line: &mut Line<'_>) {
     let (last_gate, revision) = (line.number(), line.number());
-    let mut entries = entries_of(alloc, line);
     let (Ok(current), Ok(sectors)) = (counted_root(device), device.len()) else {
         return line.answer.word("no root counts");
     };
     if last_gate < 8 || last_gate >= 1 << 54 || last_gate >= sectors {
         return line.answer.word("no gate of a log");
     }
-    match write(alloc, device, &current, last_gate, revision, &mut entries) {
-        Ok(written) => push_written(alloc, line, &written),
+    let mut entries = entries_of(alloc, line);
+    let written = write(alloc, device, &current, last_gate, revision, &mut entries);
+    drop(entries);
+    match written {
+        Ok(written) => {
+            push_root(line, &written.root);
+            push_keys(line, &written.first_keys);
+        }
         Err(fault) => line.answer.word(fault_text(fault)),
     }
 }
