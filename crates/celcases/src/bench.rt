@@ -9,7 +9,7 @@ use crate::scope::{variable_names, variables};
 use crate::tokens::tokens_text;
 use crate::trees::tree_text;
 use crate::types::type_text;
-use cases::{Bench, Told, Wrong, compare, first_word, run_text};
+use cases::{Bench, Told, Wrong, compared, first_word, run_text};
 use celtokens::is_identifier;
 use celtypes::Env;
 use instructions::Name;
@@ -19,7 +19,7 @@ use std::alloc::Global;
 #[derive(Drop)]
 struct Expressions {
     // the ending of the file's name, which says what its rows ask
-    asked: &'static str,
+    asked: String,
     texts: Notation,
     documents: Documents,
     // whether neither `params` nor variables are declared
@@ -29,30 +29,6 @@ struct Expressions {
     names: Name,
 }
 
-const ENDINGS: [&str; 11] = [
-    "tokens",
-    "words",
-    "trees",
-    "types",
-    "codes",
-    "lengths",
-    "encodings",
-    "bytes",
-    "values",
-    "plans",
-    "meanings",
-];
-
-// The ending of a file's name: the empty text where it is none of these.
-fn ending_of(file: &str) -> &'static str {
-    for ending in ENDINGS {
-        if file.ends_with(ending) {
-            return ending;
-        }
-    }
-    ""
-}
-
 /// What the rows of a file of expressions come to; the ending of its name says what they ask.
 pub fn run_expressions(alloc: Global, file: &str, text: &str) -> Told {
     run_text::<Expressions>(alloc, file, text)
@@ -60,8 +36,12 @@ pub fn run_expressions(alloc: Global, file: &str, text: &str) -> Told {
 
 impl Bench for Expressions {
     fn new(alloc: Global, file: &str) -> Result<Expressions, Wrong> {
+        let ending = match file.rsplit_once('.') {
+            Some((_, ending)) => ending,
+            None => "",
+        };
         Ok(Expressions {
-            asked: ending_of(file),
+            asked: cases::text(alloc, ending)?,
             texts: Notation::Plain,
             documents: Documents::new(alloc)?,
             is_bare: false,
@@ -77,10 +57,6 @@ impl Bench for Expressions {
         };
         let text = self.texts.question(alloc, text)?;
         self.compare(alloc, text.as_str(), wanted)
-    }
-
-    fn end(&mut self, _alloc: Global) -> Result<u64, Wrong> {
-        Ok(0)
     }
 }
 
@@ -120,18 +96,21 @@ impl Expressions {
 
     // Compares what is found about a text with what is wanted, as the row writes it.
     fn compare(&self, alloc: Global, text: &str, wanted: &str) -> Result<u64, Wrong> {
-        let found = self.answer(alloc, text)?;
         let wanted = self.texts.answer(alloc, wanted)?;
-        match compare(alloc, found.as_str(), wanted.as_str()) {
-            Ok(()) if self.asked == "values" => Ok(2),
-            Ok(()) => Ok(1),
+        let compared = match self.answer(alloc, text) {
+            Ok(found) => compared(found, wanted.as_str()),
             Err(wrong) => Err(wrong),
+        };
+        drop(wanted);
+        match compared {
+            Ok(_) if self.asked.as_str() == "values" => Ok(2),
+            compared => compared,
         }
     }
 
     // What is found about a text.
     fn answer(&self, alloc: Global, text: &str) -> Result<String, Wrong> {
-        let variables = variables(alloc, variable_names(self.asked, self.is_bare))?;
+        let variables = variables(alloc, variable_names(self.asked.as_str(), self.is_bare))?;
         let env = Env {
             has_params: !self.is_bare,
             variables: &variables,
@@ -141,7 +120,7 @@ impl Expressions {
 
     // The same, where this is declared.
     fn answer_among(&self, alloc: Global, text: &str, env: &Env<'_>) -> Result<String, Wrong> {
-        match self.asked {
+        match self.asked.as_str() {
             "tokens" => tokens_text(alloc, text),
             "words" => cases::text(
                 alloc,
@@ -153,7 +132,7 @@ impl Expressions {
             ),
             "trees" => Ok(tree_text(alloc, text)),
             "types" => Ok(type_text(alloc, text, env)),
-            "codes" | "lengths" | "encodings" => code_text(alloc, self.asked, text, env),
+            "codes" | "lengths" | "encodings" => code_text(alloc, self.asked.as_str(), text, env),
             "bytes" => decoding_text(alloc, text, self.variables, self.names),
             "values" => value_text(alloc, text, env, &self.documents),
             "plans" => Ok(plan_text(alloc, text, env, &self.documents)),

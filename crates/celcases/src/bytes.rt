@@ -1,7 +1,7 @@
 //! The plans of bytes, as rows have them.
 
-use crate::codes::printed;
-use cases::{Wrong, bytes};
+use crate::codes::{instructions_text, printed};
+use cases::{Wrong, push_bytes};
 use instructions::{Name, encode};
 use plancode::{Verified, decode};
 use std::alloc::Global;
@@ -28,10 +28,11 @@ pub(crate) fn decoding_text(
     variables: u16,
     names: Name,
 ) -> Result<String, Wrong> {
-    let bytes = bytes(alloc, text)?;
+    let mut bytes = Vec::new(alloc);
+    push_bytes(&mut bytes, text)?;
     match decode(alloc, &bytes, variables, names) {
         Ok(plan) if plan.vars() == variables && is_copied(alloc, &plan, &bytes) => {
-            printed(alloc, &plan.instructions())
+            Ok(instructions_text(alloc, plan.instructions()))
         }
         Ok(_) => Err(Wrong::Told(
             "the plan has other variables than its place, or its copy has other bytes",

@@ -72,12 +72,15 @@ impl Documents {
         })
     }
 
-    /// The values of `object`, `oldObject`, `request` and `params`.
-    pub(crate) fn values(&self, alloc: Global) -> Result<Vec<Value>, Wrong> {
-        let mut values = Vec::new(alloc);
+    /// Adds the values of `object`, `oldObject`, `request` and `params`.
+    pub(crate) fn push_values(
+        &self,
+        alloc: Global,
+        values: &mut Vec<Value>,
+    ) -> Result<(), AllocError> {
         for document in [&self.object, &self.old_object, &self.request, &self.params] {
             values.push(value_of(alloc, document.value())?)?;
         }
-        Ok(values)
+        Ok(())
     }
 }

@@ -2,7 +2,7 @@
 
 use crate::given::document;
 use crate::texts::put;
-use cases::{TextBuilder, Wrong, text};
+use cases::{TextBuilder, Wrong, numbered, text};
 use std::alloc::Global;
 
 /// How the texts of rows are written.
@@ -24,27 +24,18 @@ const MOST_TIMES: u64 = 65536;
 // The length of an expression that is filled: the longest that there is.
 const FILLED_BYTES: usize = 4096;
 
-// Adds the part once, with its number.
-fn put_once(out: &mut TextBuilder, part: &str, number: u64) {
-    let mut is_first = true;
-    for piece in part.split('#') {
-        if !is_first {
-            out.show(&number);
-        }
-        is_first = false;
-        out.push(piece);
-    }
-}
-
 // Adds `COUNT PART` written out: whether it is that.
-fn put_times(out: &mut TextBuilder, times: &str) -> bool {
+fn put_times(alloc: Global, out: &mut TextBuilder, times: &str) -> bool {
     let Some((count, part)) = times.split_once(' ') else {
         return false;
     };
     match count.parse::<u64>() {
         Ok(count) if count <= MOST_TIMES => {
             for number in 0..count {
-                put_once(out, part, number);
+                match numbered(alloc, part, "#", number) {
+                    Ok(piece) => out.push(piece.as_str()),
+                    Err(wrong) => out.fail(wrong),
+                }
             }
             true
         }
@@ -60,7 +51,7 @@ pub(crate) fn repeated(alloc: Global, written: &str) -> Result<String, Wrong> {
     for part in written.split('`') {
         is_repeated = !is_repeated;
         if is_repeated {
-            is_right = put_times(&mut out, part) && is_right;
+            is_right = put_times(alloc, &mut out, part) && is_right;
         } else {
             out.push(part);
         }

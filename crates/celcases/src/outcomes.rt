@@ -30,11 +30,6 @@ fn meant(
     }
 }
 
-// What a name stands for: none for the error.
-fn binding<'a>(name: &'a str, value: Option<&'a Value>) -> Binding<'a> {
-    Binding { name, value }
-}
-
 // What the expression means, as a row has it, where names stand for these values; or the first name and the first two variables alone.
 fn named_text<'a>(
     alloc: Global,
@@ -45,15 +40,36 @@ fn named_text<'a>(
     is_lone: bool,
 ) -> String {
     let names = [
-        binding("object", values.first()),
-        binding("oldObject", values.get(1)),
-        binding("request", values.get(2)),
-        binding("params", values.get(3)),
+        Binding {
+            name: "object",
+            value: values.first(),
+        },
+        Binding {
+            name: "oldObject",
+            value: values.get(1),
+        },
+        Binding {
+            name: "request",
+            value: values.get(2),
+        },
+        Binding {
+            name: "params",
+            value: values.get(3),
+        },
     ];
     let variables = [
-        binding("fine", Some(fine)),
-        binding("broken", None),
-        binding("last", Some(last)),
+        Binding {
+            name: "fine",
+            value: Some(fine),
+        },
+        Binding {
+            name: "broken",
+            value: None,
+        },
+        Binding {
+            name: "last",
+            value: Some(last),
+        },
     ];
     let meant = if is_lone {
         meant(alloc, text, &names[..1], &variables[..2])
@@ -71,7 +87,8 @@ pub(crate) fn meaning_text(
     documents: &Documents,
     is_lone: bool,
 ) -> Result<String, Wrong> {
-    let values = documents.values(alloc)?;
+    let mut values = Vec::new(alloc);
+    documents.push_values(alloc, &mut values)?;
     let last = Value::Bool(true);
     Ok(match values.first() {
         Some(object) if is_lone => named_text(alloc, text, &values, object, &last, true),

@@ -63,59 +63,47 @@ fn put_leaf(out: &mut String, tree: &Tree) {
 fn put_tree(out: &mut String, tree: &Tree) {
     match tree {
         Tree::Field(of, name) => {
-            put_tree(out, of);
-            put_between(out, ".", name, "");
+            put_within(out, "", of, ".");
+            put(out, name);
         }
         Tree::Has(of, name) => {
-            put(out, "(has ");
-            put_tree(out, of);
-            put_between(out, ".", name, ")");
+            put_within(out, "(has ", of, ".");
+            put_between(out, "", name, ")");
         }
         Tree::Index(of, index) => {
             put_tree(out, of);
-            put(out, "[");
-            put_tree(out, index);
-            put(out, "]");
+            put_within(out, "[", index, "]");
         }
         Tree::List(items) => put_trees(out, "[", items, " ]"),
         Tree::Map(entries) => put_entries(out, entries),
         Tree::Unary(prefix, of) => {
-            put_between(out, "(", prefix_sign(*prefix), " ");
-            put_tree(out, of);
-            put(out, ")");
+            put_between(out, "(", prefix_sign(*prefix), "");
+            put_within(out, " ", of, ")");
         }
         Tree::Infix(operator, left, right) => {
-            put(out, "(");
-            put_tree(out, left);
-            put_between(out, " ", operator_sign(*operator), " ");
-            put_tree(out, right);
-            put(out, ")");
+            put_within(out, "(", left, " ");
+            put(out, operator_sign(*operator));
+            put_within(out, " ", right, ")");
         }
         Tree::Conditional(test, first, second) => {
-            put(out, "(");
-            put_tree(out, test);
-            put(out, " ? ");
+            put_within(out, "(", test, " ? ");
             put_tree(out, first);
-            put(out, " : ");
-            put_tree(out, second);
-            put(out, ")");
+            put_within(out, " : ", second, ")");
         }
         Tree::Call(name, arguments) => {
             put(out, name);
             put_trees(out, "(", arguments, " )");
         }
         Tree::Method(of, name, arguments) => {
-            put_tree(out, of);
-            put_between(out, ".", name, "");
+            put_within(out, "", of, ".");
+            put(out, name);
             put_trees(out, "(", arguments, " )");
         }
         Tree::Macro(kind, of, variable, body) => {
-            put(out, "(");
-            put_tree(out, of);
-            put_between(out, " ", macro_name(*kind), " ");
-            put_between(out, "", variable, " ");
-            put_tree(out, body);
-            put(out, ")");
+            put_within(out, "(", of, " ");
+            put(out, macro_name(*kind));
+            put_between(out, " ", variable, " ");
+            put_within(out, "", body, ")");
         }
         _ => put_leaf(out, tree),
     }
@@ -128,11 +116,17 @@ fn put_between(out: &mut String, before: &str, part: &str, after: &str) {
 }
 
 #[cycle(put)]
+fn put_within(out: &mut String, before: &str, tree: &Tree, after: &str) {
+    put(out, before);
+    put_tree(out, tree);
+    put(out, after);
+}
+
+#[cycle(put)]
 fn put_trees(out: &mut String, before: &str, trees: &Vec<Tree>, after: &str) {
     put(out, before);
     for tree in trees {
-        put(out, " ");
-        put_tree(out, tree);
+        put_within(out, " ", tree, "");
     }
     put(out, after);
 }
@@ -141,9 +135,7 @@ fn put_trees(out: &mut String, before: &str, trees: &Vec<Tree>, after: &str) {
 fn put_entries(out: &mut String, entries: &Vec<(Tree, Tree)>) {
     put(out, "{");
     for (key, value) in entries {
-        put(out, " ");
-        put_tree(out, key);
-        put(out, ": ");
+        put_within(out, " ", key, ": ");
         put_tree(out, value);
     }
     put(out, " }");
