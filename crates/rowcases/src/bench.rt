@@ -1,9 +1,9 @@
 //! What the rows of a file are asked of, and the questions by their words.
 
-use crate::{documents_asked, edits, names_asked, stored};
-use cases::{Bench, Told, Wrong, compare, first_word, run_text};
+use crate::{documents_asked, edits, names_asked, record_bench, stored};
+use cases::{Bench, Told, Wrong, compared, first_word, run_text};
 use documents::Doc;
-use objects::{Format, Objects};
+use objects::Objects;
 use std::alloc::Global;
 
 // A document and objects, which the rows change one after the other.
@@ -16,6 +16,11 @@ struct Rows {
 /// What the rows of a file come to.
 pub fn run_rows(alloc: Global, file: &str, text: &str) -> Told {
     run_text::<Rows>(alloc, file, text)
+}
+
+/// What the cases of a file of records and entries come to.
+pub fn run_records(alloc: Global, file: &str, text: &str) -> Told {
+    run_rows(alloc, file, text)
 }
 
 impl Bench for Rows {
@@ -32,15 +37,10 @@ impl Bench for Rows {
             return Err(Wrong::Told("no row: QUESTION => ANSWER"));
         };
         let (word, rest) = first_word(question);
-        let found = self.of_the_document(alloc, word, rest)?;
-        match compare(alloc, found.as_str(), wanted) {
-            Ok(()) => Ok(1),
+        match self.of_the_document(alloc, word, rest) {
+            Ok(found) => compared(found, wanted),
             Err(wrong) => Err(wrong),
         }
-    }
-
-    fn end(&mut self, _alloc: Global) -> Result<u64, Wrong> {
-        Ok(0)
     }
 }
 
@@ -78,7 +78,7 @@ fn of_values(alloc: Global, word: &str, rest: &str) -> Result<String, Wrong> {
         "told" => names_asked::told(alloc, rest),
         "numbered" => names_asked::numbered(alloc, rest),
         "plural" | "kind" => names_asked::number_of(alloc, word, rest),
-        "format" => names_asked::rules_text(alloc, &Format::First.rules()),
+        "format" => names_asked::format(alloc),
         "json" => documents_asked::read(alloc, rest.as_bytes()),
         "json-bytes" => documents_asked::read_hex(alloc, rest),
         "nested" => documents_asked::repeated(alloc, rest, ("", "[", "]", "")),
@@ -88,6 +88,6 @@ fn of_values(alloc: Global, word: &str, rest: &str) -> Result<String, Wrong> {
             documents_asked::of_document(alloc, word, rest)
         }
         "selects" => documents_asked::selects(alloc, rest),
-        _ => Err(Wrong::Told("no such question")),
+        _ => record_bench::answer(alloc, word, rest),
     }
 }

@@ -5,14 +5,14 @@ ghost use Rattle.holdings.specs.Prepared.{HasRoomFor};
 
 use crate::sent::message;
 use crate::streams::routed_first;
+use crate::texts::parted;
 use apicore::{Prepared, prepare};
-use cases::{Wrong, first_word, shown};
+use cases::{Wrong, first_word, numbered};
 use diskcases::Line;
 use holdings::Nothing;
 use objects::{Format, Rules};
 use recovery::{Core, RecoveryFault, redone};
-use requests::Request;
-use routes::Routes;
+use routes::{Routed, Routes};
 use std::alloc::Global;
 
 // The limits in front of a line: `first`, those of the first format, or the events of the window, the bytes of a text and of a body, the objects, and
@@ -32,17 +32,11 @@ fn rules_of(line: &mut Line<'_>) -> Rules {
     }
 }
 
-// A payload's spelling, in which a number of six digits, from 100001 on, stands for `%`.
-fn numbered(alloc: Global, spelled: &str, number: u64) -> Result<String, Wrong> {
-    let number = shown(alloc, &number.saturating_add(100_000))?;
-    Ok(spelled.replace(alloc, "%", number.as_str())?)
-}
-
-// So many payloads, as they are numbered.
+// So many payloads, in whose spelling a number of six digits, from 100001 on, stands for `%`.
 fn numbered_log(alloc: Global, count: u64, spelled: &str, line: &mut Line<'_>) -> Vec<Vec<u8>> {
     let mut log = Vec::new(alloc);
     for number in 1..=count {
-        match numbered(alloc, spelled, number) {
+        match numbered(alloc, spelled, "%", number.saturating_add(100_000)) {
             Ok(text) => {
                 let payload = line.payload(alloc, text.as_str());
                 if log.push(payload).is_err() {
@@ -92,28 +86,22 @@ pub fn redo(alloc: Global, line: &mut Line<'_>) {
 }
 
 // What a message asks for.
-fn request(alloc: Global, routes: &Routes, text: &str) -> Result<Request, Wrong> {
+fn routed(alloc: Global, routes: &Routes, text: &str) -> Result<Routed, Wrong> {
     let sent = message(alloc, text)?;
-    Ok(routed_first(alloc, routes, sent.as_str())?.request)
-}
-
-fn prepared(core: &mut Core, alloc: Global, request: &Request) -> Result<Prepared, Wrong>
-    ensures { IfOk result (λ p. HasRoomFor core.new p.write) }
-{
-    match prepare(core, alloc, &mut Nothing, request) {
-        Ok(prepared) => Ok(prepared),
-        Err(_) => Err(Wrong::Memory),
-    }
+    routed_first(alloc, routes, sent.as_str())
 }
 
 // The step that a message asks for. Its request is dropped here, and so in no function that drops the step too.
 fn step(core: &mut Core, alloc: Global, routes: &Routes, text: &str) -> Result<Prepared, Wrong>
     ensures { IfOk result (λ p. HasRoomFor core.new p.write) }
 {
-    let request = request(alloc, routes, text)?;
-    let prepared = prepared(core, alloc, &request);
-    drop(request);
-    prepared
+    let routed = routed(alloc, routes, text)?;
+    let prepared = prepare(core, alloc, &mut Nothing, &routed.request);
+    drop(routed);
+    match prepared {
+        Ok(prepared) => Ok(prepared),
+        Err(_) => Err(Wrong::Memory),
+    }
 }
 
 // Takes the step that a message asks for, and shows the code and the body of its reply.
@@ -132,10 +120,10 @@ fn answer_all(core: &mut Core, alloc: Global, asked: &str, line: &mut Line<'_>) 
     let Ok(routes) = Routes::new(alloc) else {
         return line.fail(Wrong::Memory);
     };
-    for (at, text) in asked.split(" | ").enumerate() {
-        if at > 0 {
-            line.answer.word("|");
-        }
+    let mut between = "";
+    for text in &line.parts(alloc, asked, " | ") {
+        line.answer.word(between);
+        between = "|";
         answer(core, alloc, &routes, text, line);
     }
 }
@@ -143,7 +131,7 @@ fn answer_all(core: &mut Core, alloc: Global, asked: &str, line: &mut Line<'_>) 
 /// `answered LIMITS PAYLOAD ; .. | METHOD TARGET [BODY] | ..`: the codes and the bodies that these messages are answered by, in turn, over the store of a log.
 pub fn answered(alloc: Global, line: &mut Line<'_>) {
     let rules = rules_of(line);
-    let (log, asked) = line.rest.split_once("| ").unwrap_or((line.rest, ""));
+    let (log, asked) = parted(line.rest, "| ");
     line.rest = log.trim_end();
     match store(alloc, rules, line) {
         Ok(mut core) => answer_all(&mut core, alloc, asked, line),

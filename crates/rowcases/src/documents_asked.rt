@@ -2,7 +2,7 @@
 
 use crate::names_asked::resource;
 use crate::texts::{document_text, made_text, or_empty, push_times};
-use cases::{TextBuilder, Wrong, bytes, first_word, number, text, yes_or_no};
+use cases::{TextBuilder, Wrong, first_word, number, push_bytes, text, yes_or_no};
 use documents::{
     Doc, Document, ReadFault, has_kind, has_metadata, metadata_copy, metadata_text, shown_document,
 };
@@ -25,7 +25,10 @@ pub fn read(alloc: Global, bytes: &[u8]) -> Result<String, Wrong> {
         Ok(document) => {
             let written = made_text(alloc, document.clone());
             drop(document);
-            read_again(alloc, written?)
+            match written {
+                Ok(written) => read_again(alloc, written.as_str()),
+                Err(wrong) => Err(wrong),
+            }
         }
         Err(Wrong::Told(why)) => text(alloc, why),
         Err(wrong) => Err(wrong),
@@ -33,23 +36,22 @@ pub fn read(alloc: Global, bytes: &[u8]) -> Result<String, Wrong> {
 }
 
 // The text, which must be that of the document that it spells.
-fn read_again(alloc: Global, written: String) -> Result<String, Wrong> {
+fn read_again(alloc: Global, written: &str) -> Result<String, Wrong> {
     let document = document(alloc, written.as_bytes())?;
     let again = document_text(alloc, &document);
     drop(document);
-    if again?.as_str() == written.as_str() {
-        Ok(written)
-    } else {
-        Err(Wrong::Told("its text reads to another document"))
+    match again {
+        Ok(again) if again.as_str() == written => Ok(again),
+        Ok(_) => Err(Wrong::Told("its text reads to another document")),
+        Err(wrong) => Err(wrong),
     }
 }
 
 /// `json-bytes HEX ..`: the same of bytes.
 pub fn read_hex(alloc: Global, text: &str) -> Result<String, Wrong> {
-    match bytes(alloc, text) {
-        Ok(bytes) => read(alloc, bytes.as_slice()),
-        Err(wrong) => Err(wrong),
-    }
+    let mut bytes = Vec::new(alloc);
+    push_bytes(&mut bytes, text)?;
+    read(alloc, bytes.as_slice())
 }
 
 /// `nested N`: so many lists, one in another; `string N`: a string of so many characters. `the same`, where the text of these four

@@ -81,7 +81,7 @@ fn show_pieces(alloc: Global, policy: &Key, entries: &[Entry], plans: &[u8], lin
         if read_piece(alloc, policy, &mut again, entry.key(), entry.cell()).is_err() {
             line.refuse("a piece is not read");
         }
-        line.spell(alloc, entry.key());
+        line.answer.spell(entry.key());
         line.show(&entry.cell().len());
     }
     if again.as_slice() != plans {

@@ -1,7 +1,7 @@
 //! Exchanges over a connection, and questions, by their words.
 
-use crate::sent::{message, short, spelled_out};
-use cases::{Bench, TextBuilder, Wrong, compare, first_word, number, shown};
+use crate::sent::{compare_reply, message, short};
+use cases::{Bench, Wrong, first_word, number, numbered};
 use std::alloc::Global;
 
 const MORE_WRITTEN: &str = "more was written than the lines before tell";
@@ -43,10 +43,7 @@ impl<S: Service> Bench for Exchange<S> {
         match word {
             ">" => self.send(rest, "\r\n"),
             ">|" => self.send(rest, ""),
-            ">>" => match message(alloc, rest) {
-                Ok(message) => self.send(message.as_str(), ""),
-                Err(wrong) => Err(wrong),
-            },
+            ">>" => self.send_message(alloc, rest),
             "<" => self.next(alloc, rest, "\r\n"),
             "<|" => self.next(alloc, rest, ""),
             "<n" => self.next(alloc, "", "\n"),
@@ -55,9 +52,8 @@ impl<S: Service> Bench for Exchange<S> {
         }
     }
 
-    fn end(&mut self, _alloc: Global) -> Result<u64, Wrong> {
-        self.settle()?;
-        Ok(0)
+    fn end(&self) -> Result<(), Wrong> {
+        self.settle()
     }
 }
 
@@ -80,6 +76,11 @@ impl<S: Service> Exchange<S> {
         self.sent.push_str(text)?;
         self.sent.push_str(line_end)?;
         Ok(0)
+    }
+
+    fn send_message(&mut self, alloc: Global, text: &str) -> Result<u64, Wrong> {
+        let message = message(alloc, text)?;
+        self.send(message.as_str(), "")
     }
 
     // Compares what was written next.
@@ -107,10 +108,8 @@ impl<S: Service> Exchange<S> {
             Some(row) => row,
             None => (line, "ok"),
         };
-        let wanted = spelled_out(alloc, wanted)?;
-        let found = self.answer(alloc, question)?;
-        match compare(alloc, found.as_str(), wanted.as_str()) {
-            Ok(()) => Ok(1),
+        match self.answer(alloc, question) {
+            Ok(found) => compare_reply(alloc, found, wanted),
             Err(wrong) => Err(wrong),
         }
     }
@@ -118,17 +117,23 @@ impl<S: Service> Exchange<S> {
     // Sends one message, and gives its reply.
     fn request(&mut self, alloc: Global, question: &str) -> Result<String, Wrong> {
         let sent = message(alloc, question)?;
-        let answer = self.service.serve(alloc, sent.as_str())?;
-        short(alloc, answer.as_str())
+        let answer = self.service.serve(alloc, sent.as_str());
+        drop(sent);
+        match answer {
+            Ok(answer) => short(alloc, answer.as_str()),
+            Err(wrong) => Err(wrong),
+        }
     }
 
     // One of `times`: the reply to a message that is accepted.
-    fn one_of(&mut self, alloc: Global, question: &str) -> Result<String, Wrong> {
-        let reply = self.request(alloc, question)?;
-        if reply.starts_with("20") {
-            Ok(reply)
-        } else {
-            Err(Wrong::Told("one of them is refused"))
+    fn one_of(&mut self, alloc: Global, question: &str, number: u64) -> Result<String, Wrong> {
+        let question = numbered(alloc, question, "%", number)?;
+        let reply = self.request(alloc, question.as_str());
+        drop(question);
+        match reply {
+            Ok(reply) if reply.starts_with("20") => Ok(reply),
+            Ok(_) => Err(Wrong::Told("one of them is refused")),
+            Err(wrong) => Err(wrong),
         }
     }
 
@@ -137,11 +142,7 @@ impl<S: Service> Exchange<S> {
         let (count, question) = first_word(rest);
         let mut answer = String::new(alloc);
         for number in 1..=number(count)? {
-            let number = shown(alloc, &number)?;
-            let Ok(question) = question.replace(alloc, "%", number.as_str()) else {
-                return Err(Wrong::Memory);
-            };
-            answer = self.one_of(alloc, question.as_str())?;
+            answer = self.one_of(alloc, question, number)?;
         }
         Ok(answer)
     }
@@ -149,17 +150,19 @@ impl<S: Service> Exchange<S> {
     // `lines METHOD ..`: the code of the reply, and the number of line feeds in its body.
     fn lines(&mut self, alloc: Global, question: &str) -> Result<String, Wrong> {
         let reply = self.request(alloc, question)?;
-        let mut line = TextBuilder::new(alloc);
-        line.push(first_word(reply.as_str()).0);
-        line.word("");
-        line.show(&reply.matches("\n").count());
-        line.end()
+        let (code, body) = first_word(reply.as_str());
+        let line = format!(in alloc; "{code} {}", body.matches("\n").count());
+        drop(reply);
+        Ok(line?)
     }
 
     fn answer(&mut self, alloc: Global, question: &str) -> Result<String, Wrong> {
         let (word, rest) = first_word(question);
+        // a method
+        if let [b'A'..=b'Z', ..] = word.as_bytes() {
+            return self.request(alloc, question);
+        }
         match word {
-            "GET" | "POST" | "PUT" | "DELETE" | "PATCH" => self.request(alloc, question),
             "times" => self.times(alloc, rest),
             "lines" => self.lines(alloc, rest),
             _ => self.service.answer(alloc, word, rest),

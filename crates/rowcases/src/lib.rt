@@ -22,9 +22,8 @@ mod streams;
 mod texts;
 mod view_lines;
 
-pub use bench::run_rows;
+pub use bench::{run_records, run_rows};
 pub use exchange::{Exchange, Service};
 pub use laws::{laws_of_histories, laws_of_records, laws_of_requests};
-pub use record_bench::run_records;
 pub use sent::{message, short};
 pub use streams::{fault_word, routed_first};

@@ -1,9 +1,13 @@
 //! Questions on names, keys, resources and formats.
 
 use crate::texts::{or_dash, or_empty, quoted};
-use cases::{TextBuilder, WordReader, Wrong, bytes, first_word, shown, spelled, text, yes_or_no};
+use cases::{
+    TextBuilder, WordReader, Wrong, first_word, push_bytes, shown, spelled, text, yes_or_no,
+};
 use names::{Key, KeyFault, Resource, ResourceTable, Scope, check_name, check_namespace};
-use objects::Rules;
+use objects::Format;
+use records::RecordFault;
+use recovery::RecoveryFault;
 use std::alloc::Global;
 
 /// The resource with this plural in its paths.
@@ -76,8 +80,11 @@ fn spelled_key(alloc: Global, key: &Key) -> Result<String, Wrong> {
 
 /// `bytes HEX ..`: the key that they spell, copied.
 pub fn key_read(alloc: Global, text: &str) -> Result<String, Wrong> {
-    let bytes = bytes(alloc, text)?;
-    match read(alloc, bytes.as_slice()) {
+    let mut bytes = Vec::new(alloc);
+    push_bytes(&mut bytes, text)?;
+    let key = read(alloc, bytes.as_slice());
+    drop(bytes);
+    match key {
         Ok(key) => {
             let parts = copied_parts(alloc, &key);
             drop(key);
@@ -132,12 +139,16 @@ pub fn told(alloc: Global, text: &str) -> Result<String, Wrong> {
     match text {
         "NoKey" => shown(alloc, &KeyFault::NoKey),
         "Memory" => shown(alloc, &KeyFault::Memory),
+        "record memory" => shown(alloc, &RecordFault::Memory),
+        "recovery memory" => shown(alloc, &RecoveryFault::Memory),
+        "recovery plans" => shown(alloc, &RecoveryFault::Plans),
         _ => Err(Wrong::Told("no such fault")),
     }
 }
 
-/// The numbers of a format: events, bytes of a text and of a body, objects, the greatest revision.
-pub fn rules_text(alloc: Global, rules: &Rules) -> Result<String, Wrong> {
+/// `format`: the numbers of the first format: events, bytes of a text and of a body, objects, the greatest revision.
+pub fn format(alloc: Global) -> Result<String, Wrong> {
+    let rules = Format::First.rules();
     let mut line = TextBuilder::new(alloc);
     for limit in [
         rules.window_events,

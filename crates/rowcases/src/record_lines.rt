@@ -3,30 +3,30 @@
 use cases::Wrong;
 use diskcases::Line;
 use records::{RecordFault, StoredWrite, read_writes};
-use recovery::{RecoveryFault, written_keys};
+use recovery::written_keys;
 use requests::Manifest;
 use std::alloc::Global;
 
 // What a put says: the key, the text, and the plans where there are any.
-fn show_put(alloc: Global, manifest: &Manifest, plans: &[u8], line: &mut Line<'_>) {
+fn show_put(manifest: &Manifest, plans: &[u8], line: &mut Line<'_>) {
     line.answer.word("put");
     line.show_key(manifest.key());
     line.answer.word(manifest.text());
     if !plans.is_empty() {
-        line.spell(alloc, plans);
+        line.answer.spell(plans);
     }
     if manifest.version().is_some() {
         line.refuse("a stored document has a version");
     }
 }
 
-fn show_writes(alloc: Global, writes: &[StoredWrite<'_>], line: &mut Line<'_>) {
-    for (at, write) in writes.iter().enumerate() {
-        if at > 0 {
-            line.answer.word("|");
-        }
+fn show_writes(writes: &[StoredWrite<'_>], line: &mut Line<'_>) {
+    let mut between = "";
+    for write in writes {
+        line.answer.word(between);
+        between = "|";
         match write {
-            StoredWrite::Put(manifest, plans) => show_put(alloc, manifest, plans, line),
+            StoredWrite::Put(manifest, plans) => show_put(manifest, plans, line),
             StoredWrite::Delete(key) => {
                 line.answer.word("delete");
                 line.show_key(key);
@@ -39,7 +39,7 @@ fn show_writes(alloc: Global, writes: &[StoredWrite<'_>], line: &mut Line<'_>) {
 pub fn reads(alloc: Global, line: &mut Line<'_>) {
     let bytes = line.payload(alloc, line.rest);
     match read_writes(alloc, &bytes) {
-        Ok(writes) => show_writes(alloc, &writes, line),
+        Ok(writes) => show_writes(&writes, line),
         Err(fault) => line.show(&fault),
     }
 }
@@ -66,15 +66,5 @@ pub fn keys(alloc: Global, line: &mut Line<'_>) {
             }
         }
         Err(fault) => line.show(&fault),
-    }
-}
-
-/// `told FAULT`: what is told of it.
-pub fn tell_fault(line: &mut Line<'_>) {
-    match line.rest {
-        "record memory" => line.show(&RecordFault::Memory),
-        "recovery memory" => line.show(&RecoveryFault::Memory),
-        "recovery plans" => line.show(&RecoveryFault::Plans),
-        _ => line.answer.word("no such fault"),
     }
 }

@@ -1,17 +1,17 @@
 //! Messages and replies, as lines have them.
 
 use crate::texts::parted;
-use cases::{TextBuilder, WordReader, Wrong, first_word, shown, text};
+use cases::{TextBuilder, Wrong, compared, first_word, shown, text};
 use std::alloc::Global;
 
 /// The bytes of `METHOD TARGET [BODY]`, with one `Host`, and with the length of the body where there is one.
 pub fn message(alloc: Global, text: &str) -> Result<String, Wrong> {
-    let mut words = WordReader::new(text);
+    let (method, rest) = first_word(text);
+    let (target, body) = first_word(rest);
     let mut line = TextBuilder::new(alloc);
-    line.word(words.word());
-    line.word(words.word());
+    line.push(method);
+    line.word(target);
     line.push(" HTTP/1.1\r\nHost: x\r\n");
-    let body = words.rest();
     if !body.is_empty() {
         line.push("Content-Length: ");
         line.show(&body.len());
@@ -32,9 +32,10 @@ pub fn short(alloc: Global, answer: &str) -> Result<String, Wrong> {
     let Some((head, body)) = written.split_once("\r\n\r\n") else {
         return text(alloc, answer);
     };
-    let length = shown(alloc, &body.len())?;
     let (_, after) = parted(head, "\r\nContent-Length: ");
+    let length = shown(alloc, &body.len())?;
     let is_told = parted(after, "\r\n").0 == length.as_str();
+    drop(length);
     let (version, status) = first_word(head);
     if version != "HTTP/1.1" || !is_told {
         return text(alloc, answer);
@@ -49,21 +50,18 @@ pub fn short(alloc: Global, answer: &str) -> Result<String, Wrong> {
     line.end()
 }
 
-/// What a line wants: `refused CODE REASON MESSAGE` stands for the reply whose body is the `Status` of these.
-pub(crate) fn spelled_out(alloc: Global, wanted: &str) -> Result<String, Wrong> {
-    let mut words = WordReader::new(wanted);
-    if words.word() != "refused" {
-        return text(alloc, wanted);
+/// One comparison, where what is found is what a line wants: `refused CODE REASON MESSAGE` stands for the reply whose body is the
+/// `Status` of these.
+pub(crate) fn compare_reply(alloc: Global, found: String, wanted: &str) -> Result<u64, Wrong> {
+    let Some(refusal) = wanted.strip_prefix("refused ") else {
+        return compared(found, wanted);
+    };
+    let (code, rest) = first_word(refusal);
+    let (reason, message) = first_word(rest);
+    match format!(in alloc;
+        "{code} {{\"apiVersion\":\"v1\",\"code\":{code},\"kind\":\"Status\",\"message\":\"{message}\",\"reason\":\"{reason}\",\"status\":\"Failure\"}}"
+    ) {
+        Ok(reply) => compared(found, reply.as_str()),
+        Err(_) => Err(Wrong::Memory),
     }
-    let (code, reason) = (words.word(), words.word());
-    let mut line = TextBuilder::new(alloc);
-    line.push(code);
-    line.push(" {\"apiVersion\":\"v1\",\"code\":");
-    line.push(code);
-    line.push(",\"kind\":\"Status\",\"message\":\"");
-    line.push(words.rest());
-    line.push("\",\"reason\":\"");
-    line.push(reason);
-    line.push("\",\"status\":\"Failure\"}");
-    line.end()
 }

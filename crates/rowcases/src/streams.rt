@@ -9,8 +9,9 @@ use std::alloc::Global;
 // The messages of a stream that ends between two of them.
 fn messages_of(alloc: Global, sent: &str) -> Result<Vec<Message>, Wrong> {
     let mut cutter = Cutter::new(alloc)?;
-    match cutter.feed(alloc, sent.as_bytes()) {
-        Ok(messages) if cutter.finish().is_ok() => Ok(messages),
+    let fed = cutter.feed(alloc, sent.as_bytes());
+    match (fed, cutter.finish()) {
+        (Ok(messages), Ok(())) => Ok(messages),
         _ => Err(Wrong::Told("the stream has a fault")),
     }
 }
@@ -32,11 +33,14 @@ pub fn fault_word(fault: MessageFault) -> &'static str {
 
 /// What the first message of a stream asks for.
 pub fn routed_first(alloc: Global, routes: &Routes, sent: &str) -> Result<Routed, Wrong> {
-    match messages_of(alloc, sent)?.first() {
+    let messages = messages_of(alloc, sent)?;
+    let routed = match messages.first() {
         Some(message) => match route(alloc, routes, message) {
             Ok(routed) => Ok(routed),
             Err(_) => Err(Wrong::Memory),
         },
         None => Err(Wrong::Told("there is no message")),
-    }
+    };
+    drop(messages);
+    routed
 }

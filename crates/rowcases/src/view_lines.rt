@@ -16,7 +16,7 @@ fn entries_of(alloc: Global, line: &mut Line<'_>) -> Vec<Entry> {
     if line.rest.is_empty() {
         return entries;
     }
-    for one in line.rest.split(" | ") {
+    for one in &line.parts(alloc, line.rest, " | ") {
         if entries.push(line.entry(alloc, one)).is_err() {
             line.fail(Wrong::Memory);
         }
@@ -51,10 +51,11 @@ fn fill(alloc: Global, holdings: &mut Holdings<Vec<u8>>, view: KeptView, line: &
         }
     }
     for event in view.events {
-        if holdings.revision() >= view.revision {
-            return line.refuse("too many events");
+        if holdings.revision() < view.revision {
+            holdings.keep(event);
+        } else {
+            line.refuse("too many events");
         }
-        holdings.keep(event);
     }
 }
 
