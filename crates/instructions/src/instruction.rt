@@ -75,7 +75,7 @@ pub enum Function {
 }
 
 /// One instruction. It takes outcomes from the top of the stack and puts one there, if nothing else is said.
-#[derive(Debug, Drop)]
+#[derive(Drop)]
 pub enum Instruction {
     /// Puts a signed number.
     Int(i64),
@@ -127,7 +127,7 @@ pub enum Instruction {
 }
 
 /// A compiled expression.
-#[derive(Debug, Drop)]
+#[derive(Drop)]
 pub struct Plan {
     /// The instructions, in order.
     pub instructions: Vec<Instruction>,
