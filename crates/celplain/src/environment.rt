@@ -49,7 +49,10 @@ pub(crate) fn bind<'a>(
 ) -> Result<Vec<Binding<'a>>, AllocError>
     ensures { IfOk result (λ v. v.items ≡ first.entry ∷ bindings.now) }
 {
-    let mut all = Vec::from_slice(alloc, bindings)?;
-    all.insert(0, first)?;
+    let mut all = Vec::new(alloc);
+    all.push(first)?;
+    for binding in bindings {
+        all.push(*binding)?;
+    }
     Ok(all)
 }

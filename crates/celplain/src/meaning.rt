@@ -44,23 +44,20 @@ pub fn evaluate(
         Tree::Has(of, name) => evaluate_presence(alloc, of, name, environment),
         Tree::Index(of, index) => {
             let of = evaluate(alloc, of, environment)?;
-            evaluate_index(alloc, of, index, environment)
+            evaluate_index(alloc, &of, index, environment)
         }
         Tree::List(items) => evaluate_list(alloc, items, environment),
         Tree::Map(entries) => evaluate_map(alloc, entries, environment),
         Tree::Unary(prefix, of) => evaluate_unary(alloc, *prefix, of, environment),
         Tree::Infix(operator, left, right) => {
             let left = evaluate(alloc, left, environment)?;
-            evaluate_infix(alloc, *operator, left, right, environment)
+            evaluate_infix(alloc, *operator, &left, right, environment)
         }
         Tree::Conditional(test, first, second) => {
             let test = evaluate(alloc, test, environment)?;
-            let holds = is_true(&test);
-            let fails = is_false(&test);
-            drop(test);
-            if holds {
+            if is_true(&test) {
                 evaluate(alloc, first, environment)
-            } else if fails {
+            } else if is_false(&test) {
                 evaluate(alloc, second, environment)
             } else {
                 Ok(Outcome::Error)
@@ -69,11 +66,11 @@ pub fn evaluate(
         Tree::Call(name, arguments) => evaluate_call(alloc, name, arguments, environment),
         Tree::Method(of, name, arguments) => {
             let of = evaluate(alloc, of, environment)?;
-            evaluate_method(alloc, of, name, arguments, environment)
+            evaluate_method(alloc, &of, name, arguments, environment)
         }
         Tree::Macro(kind, of, variable, body) => {
             match evaluate_range(alloc, of, environment)? {
-                Some(items) => evaluate_over(alloc, *kind, variable, body, items, environment),
+                Some(items) => evaluate_over(alloc, *kind, variable, body, &items, environment),
                 None => Ok(Outcome::Error),
             }
         }
@@ -164,14 +161,14 @@ fn evaluate_call(
 #[cycle(evaluate)]
 fn evaluate_index(
     alloc: Global,
-    of: Outcome,
+    of: &Outcome,
     index: &Box<Tree>,
     environment: &Environment<'_>,
 ) -> Result<Outcome, AllocError>
-    ensures { IfOk result (λ o. outcome_of o ≡ with_values indexed (outcome_of of) (mean (view index.now.value) (environment_of environment.now))) }
+    ensures { IfOk result (λ o. outcome_of o ≡ with_values indexed (outcome_of of.now) (mean (view index.now.value) (environment_of environment.now))) }
 {
     let index = evaluate(alloc, index, environment)?;
-    index_of(&of, &index)
+    index_of(of, &index)
 }
 
 // An operator after its left side.
@@ -179,29 +176,29 @@ fn evaluate_index(
 fn evaluate_infix(
     alloc: Global,
     operator: Operator,
-    left: Outcome,
+    left: &Outcome,
     right: &Box<Tree>,
     environment: &Environment<'_>,
 ) -> Result<Outcome, AllocError>
-    ensures { IfOk result (λ o. outcome_of o ≡ infixed operator (outcome_of left) (mean (view right.now.value) (environment_of environment.now))) }
+    ensures { IfOk result (λ o. outcome_of o ≡ infixed operator (outcome_of left.now) (mean (view right.now.value) (environment_of environment.now))) }
 {
     let right = evaluate(alloc, right, environment)?;
-    infixed(operator, &left, &right)
+    infixed(operator, left, &right)
 }
 
 // A method of what was evaluated.
 #[cycle(evaluate)]
 fn evaluate_method(
     alloc: Global,
-    of: Outcome,
+    of: &Outcome,
     name: &String,
     arguments: &Vec<Tree>,
     environment: &Environment<'_>,
 ) -> Result<Outcome, AllocError>
-    ensures { IfOk result (λ o. outcome_of o ≡ method_called (string_bytes name.now) (outcome_of of) (all_means (views arguments.now.items) (environment_of environment.now))) }
+    ensures { IfOk result (λ o. outcome_of o ≡ method_called (string_bytes name.now) (outcome_of of.now) (all_means (views arguments.now.items) (environment_of environment.now))) }
 {
     let outcomes = evaluate_all(alloc, arguments, environment)?;
-    Ok(method_called(name, &of, &outcomes))
+    Ok(method_called(name, of, &outcomes))
 }
 
 // What a macro goes over.
@@ -224,16 +221,16 @@ fn evaluate_over(
     kind: Macro,
     variable: &String,
     body: &Box<Tree>,
-    items: Vec<Value>,
+    items: &Vec<Value>,
     environment: &Environment<'_>,
 ) -> Result<Outcome, AllocError>
-    ensures { IfOk result (λ o. outcome_of o ≡ over_items kind (λ x. mean (view body.now.value) (bind (string_bytes variable.now) x (environment_of environment.now))) (Some (values_seen items.items))) }
+    ensures { IfOk result (λ o. outcome_of o ≡ over_items kind (λ x. mean (view body.now.value) (bind (string_bytes variable.now) x (environment_of environment.now))) (Some (values_seen items.now.items))) }
 {
     if items.len() > LONGEST_RANGE {
         return Ok(Outcome::Error);
     }
-    let outcomes = evaluate_items(alloc, body, variable, &items, environment)?;
-    reduced(alloc, kind, &items, outcomes)
+    let outcomes = evaluate_items(alloc, body, variable, items, environment)?;
+    reduced(alloc, kind, items, outcomes)
 }
 
 #[cycle(evaluate)]
@@ -290,9 +287,7 @@ fn evaluate_items(
             names: &names,
             variables: environment.variables,
         };
-        let outcome = evaluate(alloc, body, &inner);
-        drop(names);
-        outcomes.push(outcome?)?;
+        outcomes.push(evaluate(alloc, body, &inner)?)?;
     }
     Ok(outcomes)
 }
