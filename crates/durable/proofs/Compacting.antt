@@ -259,3 +259,17 @@ stops_by f true only is =
     absurd (⊎_elim (λ memory. let never : fault.Memory ≡ fault.Device = sym (ap of_write_fault memory) ∙ is in memory_apart never)
     (λ exhausted. let never : fault.Exhausted ≡ fault.Device = sym (ap of_write_fault exhausted) ∙ is in exhausted_apart never)
     (only refl))
+
+memory_undamaged : (damage : Damage) → fault.Memory ≡ fault.Damaged damage → ⊥
+memory_undamaged damage is = cc
+
+exhausted_undamaged : (damage : Damage) → fault.Exhausted ≡ fault.Damaged damage → ⊥
+exhausted_undamaged damage is = cc
+
+pub stops_by_damage : (f : WriteFault) (damage : Damage) (served : Bool) → (served ≡ true → (f ≡ write_fault.Memory) ⊎ (f ≡ write_fault.Exhausted)) → of_write_fault f ≡ fault.Damaged damage
+    → served ≡ false
+stops_by_damage f damage false only is = refl
+stops_by_damage f damage true only is =
+    absurd (⊎_elim (λ memory. let never : fault.Memory ≡ fault.Damaged damage = sym (ap of_write_fault memory) ∙ is in memory_undamaged damage never)
+    (λ exhausted. let never : fault.Exhausted ≡ fault.Damaged damage = sym (ap of_write_fault exhausted) ∙ is in exhausted_undamaged damage never)
+    (only refl))

@@ -345,8 +345,10 @@ impl<D: Device> Store<D> {
         ensures device { result.1 ≡ Some Fault.Device
             → HasStopped self.old self.new (map request_of requests.now) result.0.items }
 
-        // Damage is found only where no view is shown.
+        // Damage is found only where no view is shown, and nothing is written for the request that finds it.
         ensures damaged { (damage : Damage) → result.1 ≡ Some (Fault.Damaged damage) → (rules : Rules) (v : View) → ServesAt rules self.old v → ⊥ }
+        ensures damaged_ran { (damage : Damage) → result.1 ≡ Some (Fault.Damaged damage) → result.0.items ≡ []
+            → Ran D.disk (device_of self.old) (device_of self.new) Same }
 
         ensures refusal { serves self.old ≡ true → IfSome result.1 MayBeMet }
         ensures failed { serves self.old ≡ false → (self.new ≡ self.old) × (result.0.items ≡ []) × (result.1 ≡ Some Fault.Failed) }
@@ -405,12 +407,18 @@ impl<D: Device> Store<D> {
         ensures memory { (rules : Rules) (h : History) → IsSettledAt rules self.old h → IsErrOf result Fault.Memory ⊎ IsErrOf result Fault.Exhausted
             → IsSettledAt rules self.new h × (D.disk.content (device_of self.new) ≡ D.disk.content (device_of self.old)) }
         ensures greatest { IsErrOf result Fault.Exhausted → (root_of self.old).generation ≡ 2 ^ 64 - 1 }
+
+        // Damage is found only where no history is shown, and nothing is written then.
         ensures damaged { (damage : Damage) → IsErrOf result (Fault.Damaged damage) → (rules : Rules) (h : History) → IsSettledAt rules self.old h → ⊥ }
+        ensures damaged_ran { (damage : Damage) → IsErrOf result (Fault.Damaged damage) → D.disk.keeps (device_of self.old)
+            → Ran D.disk (device_of self.old) (device_of self.new) Same }
 
         ensures failed { serves self.old ≡ false → IsErrOf result Fault.Failed × (self.new ≡ self.old) }
         ensures failed_only { IsErrOf result Fault.Failed → serves self.old ≡ false }
         ensures goes_on { OnOk result (serves self.new ≡ true) }
+        ensures memory_goes_on { IsErrOf result Fault.Memory ⊎ IsErrOf result Fault.Exhausted → serves self.new ≡ serves self.old }
         ensures stops { IsErrOf result Fault.Device → serves self.new ≡ false }
+        ensures damaged_stops { (damage : Damage) → IsErrOf result (Fault.Damaged damage) → serves self.new ≡ false }
         ensures cause { IsErrOf result Fault.Device → HasFailed D.disk (device_of self.old) (device_of self.new) }
         ensures count { D.disk.failures (device_of self.old) ≤ D.disk.failures (device_of self.new) }
     {
@@ -491,6 +499,9 @@ impl<D: Device> Store<D> {
             × HoldsLog (log_start (root_of self.new)) [] (log_start (root_of self.new)) (D.disk.content (device_of self.new))) }
         ensures damaged { (rules : Rules) (h : History) (damage : Damage) → HoldsHistory rules D.disk (device_of self.old) h → revision_of self.old ≡ (view rules h).revision
             → in_list next.entries ≡ entries_of (view rules h) → IsErrOf result (Fault.Damaged damage) → ⊥ }
+        ensures damaged_ran { (damage : Damage) → IsErrOf result (Fault.Damaged damage) → D.disk.keeps (device_of self.old)
+            → Ran D.disk (device_of self.old) (device_of self.new) Same }
+        ensures damaged_stops { (damage : Damage) → IsErrOf result (Fault.Damaged damage) → serves self.new ≡ false }
         ensures next { OnOk result ((root_of self.new).generation ≡ (root_of self.old).generation + 1) }
         ensures empty { OnOk result (((log_of self.new).start ≡ log_start (root_of self.new)) × ((log_of self.new).last ≡ (log_of self.new).start)) }
         ensures told { IfOk result (IsToldOf (root_of self.new)) }
@@ -576,6 +587,7 @@ impl<D: Device> Store<D> {
         ensures refusal { serves self.old ≡ true → IfErr result MayBeMet }
         ensures stops { IsErrOf result Fault.Device → serves self.new ≡ false }
         ensures damaged_stops { (damage : Damage) → IsErrOf result (Fault.Damaged damage) → serves self.new ≡ false }
+        ensures memory_goes_on { IsErrOf result Fault.Memory → serves self.new ≡ serves self.old }
         ensures cause { IsErrOf result Fault.Device → HasFailed D.disk (device_of self.old) (device_of self.new) }
         ensures failed { serves self.old ≡ false → IsErrOf result Fault.Failed × (self.new ≡ self.old) }
     {

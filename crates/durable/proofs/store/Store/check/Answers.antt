@@ -29,6 +29,7 @@ returns-then-not-self g c = record {
   refusal = λ serves. absurd (true≢false (sym serves ∙ c.if-not-self.true));
   stops = λ is. c.if-not-self.true;
   damaged_stops = λ damage is. c.if-not-self.true;
+  memory_goes_on = λ is. refl;
   cause = λ is. failed_alone Faults.Device no_device is;
   failed = λ stopped. (refl, refl);
 }
@@ -54,6 +55,7 @@ returns-in_err-next g c =
       refusal = λ serves. leaves.refusal;
       stops = leaves.stops;
       damaged_stops = leaves.damaged_stops;
+      memory_goes_on = λ is. leaves.memory_goes_on is ∙ sym c.if-not-self.false;
       cause = leaves.cause;
       failed = λ stopped. absurd (true≢false (sym c.if-not-self.false ∙ stopped));
     }
@@ -78,6 +80,7 @@ returns-in_err-has_own_plans g c =
       refusal = λ serves. leaves.refusal;
       stops = leaves.stops;
       damaged_stops = leaves.damaged_stops;
+      memory_goes_on = λ is. leaves.memory_goes_on is ∙ sym c.if-not-self.false;
       cause = leaves.cause;
       failed = λ stopped. absurd (true≢false (sym c.if-not-self.false ∙ stopped));
     }
@@ -103,6 +106,7 @@ returns-then-not-branch g c =
       refusal = λ serves. leaves.refusal;
       stops = leaves.stops;
       damaged_stops = leaves.damaged_stops;
+      memory_goes_on = λ is. leaves.memory_goes_on is ∙ sym c.if-not-self.false;
       cause = leaves.cause;
       failed = λ stopped. absurd (true≢false (sym c.if-not-self.false ∙ stopped));
     }
@@ -130,6 +134,7 @@ returns g c =
       refusal = λ serves. tt;
       stops = λ is. absurd (no_fault is);
       damaged_stops = λ damage is. absurd (no_fault is);
+      memory_goes_on = λ is. absurd (no_fault is);
       cause = λ is. absurd (no_fault is);
       failed = λ stopped. absurd (true≢false (sym c.if-not-self.false ∙ stopped));
     }

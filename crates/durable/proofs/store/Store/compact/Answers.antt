@@ -13,7 +13,7 @@ use Rattle.durable.proofs.Called.{serves_passed, passed_on, failed_alone, no_dev
 use Rattle.durable.proofs.Keeping.{root_is}
 use Rattle.durable.proofs.Numbers.{history_kept}
 use Rattle.durable.proofs.Renewing.{on_ok_three, at_either, failed_then, serves_between, settled_between, revision_between, serves_unchanged, settled_unchanged, keepable_here, moments_renewed, settled_renewed, serves_renewed, left_renewed}
-use Rattle.durable.proofs.Unwritten.{held_after, left_read, moments_read}
+use Rattle.durable.proofs.Unwritten.{held_after, left_read, moments_read, read_then}
 use Rattle.durable.proofs.store.Store.compact.Goals as goal
 
 pub returns-then-not-self : goal.returns-then-not-self
@@ -33,10 +33,13 @@ returns-then-not-self g c =
       memory = λ rules h settled told. absurd (true≢false (sym settled.working ∙ stopped));
       greatest = λ is. failed_alone Fault.Exhausted no_exhausted is;
       damaged = λ damage is. failed_alone (Fault.Damaged damage) (no_damage damage) is;
+      damaged_ran = λ damage is. failed_alone (Fault.Damaged damage) (no_damage damage) is;
       failed = λ was. (refl, refl);
       failed_only = λ is. stopped;
       goes_on = tt;
+      memory_goes_on = λ is. refl;
       stops = λ is. stopped;
+      damaged_stops = λ damage is. stopped;
       cause = λ is. failed_alone Fault.Device no_device is;
       count = omega arith;
     }
@@ -70,10 +73,13 @@ returns-in_err-next g c =
       damaged = λ damage is rules h settled.
           c.next.ensures.damaged damage (passed_on told (Fault.Damaged damage) passed.1 c.in_err-next.was is) (view rules h) settled.shows
           (keepable_here store mid mid run core still rules h settled);
+      damaged_ran = λ damage is keeps. run;
       failed = λ stopped. absurd (true≢false (sym c.if-not-self.false ∙ stopped));
       failed_only = λ is. absurd (not_failed told leaves.refusal is);
       goes_on = IfOk-from_err told _ passed.0;
+      memory_goes_on = λ is. ⊎_elim leaves.memory_goes_on (λ other. absurd (exhausted other)) is ∙ sym c.if-not-self.false;
       stops = leaves.stops;
+      damaged_stops = leaves.damaged_stops;
       cause = leaves.cause;
       count = run.count;
     }
@@ -131,6 +137,9 @@ returns g c =
           let revision : revision_of mid ≡ (view rules h).revision = revision_between store mid mid run core still (view rules h) settled.shows in
           let holds = held_after g.D.Device.disk rules h store.device mid.device run (held rules store h settled) in
           c.write_next.ensures.damaged rules h damage holds revision shown told;
+      damaged_ran = λ damage is keeps. read_then g.D.Device.disk store.device mid.device new.device run (c.write_next.ensures.damaged_ran damage is (run.kept keeps));
+      damaged_stops = c.write_next.ensures.damaged_stops;
+      memory_goes_on = λ is. (c.write_next.ensures.unchanged is).1 ∙ sym c.if-not-self.false;
       serving = λ rules v serving keepable keeps.
           let Keeps : Rules → Type 0 = λ r. IsKeepable r v in
           on_ok_three _ _ _ _ c.write_next.result

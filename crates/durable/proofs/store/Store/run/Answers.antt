@@ -1,11 +1,16 @@
-use Rattle.std.proofs.Common.{arith, ◌≡◌, ◌∙◌, sym, ap, subst, ◌≤◌, ◌++◌, List, length, take, map, refl, ◌⊎◌, inl, inr, eqb-true, true≢false, Option, Some, None, IfSome}
-use Rattle.std.proofs.lemmas.List.{append-nil, length-map, nil_from_length}
+use Rattle.std.proofs.Common.{arith, ◌≡◌, ◌∙◌, sym, ap, subst, ◌≤◌, ◌++◌, List, length, take, map, refl, [], ◌∷◌, ◌⊎◌, inl, inr, eqb-true, true≢false, Option, Some, None, IfSome}
+use Rattle.std.proofs.lemmas.Bool.{eqb-false}
+use Rattle.std.proofs.lemmas.List.{append-nil, length-map, length-take, nil_from_length}
+use Rattle.device.specs.declared.device.Device.{Ghosts}
 use Rattle.device.specs.Disk.{Disk, HasFailed}
+use Rattle.device.specs.Run.{Ran}
+use Rattle.device.specs.Step.{Same}
 use Rattle.requests.specs.Request.{Request}
 use Rattle.requests.specs.RequestOf.{request_of}
 use Rattle.requests.specs.Reply.{Reply}
 use Rattle.durable.specs.declared.fault.Fault.{Fault}
 use Rattle.durable.specs.declared.fault.Fault.TheVariants as Faults
+use Rattle.durable.specs.declared.store.Store.{Store}
 use Rattle.durable.specs.Faults.{MayBeMet}
 use Rattle.durable.specs.Settled.{device_of, HasServed}
 use Rattle.durable.proofs.Called.{no_device, no_memory, no_damage}
@@ -13,6 +18,10 @@ use Rattle.durable.proofs.Meeting.{told_none, none_told, told_other, device_memo
 use Rattle.durable.proofs.Runs.{run_none}
 use Rattle.durable.proofs.Grouping.{in_parts, served_so_far, stopped_so_far, left_after, still_inside}
 use Rattle.durable.proofs.store.Store.run.Goals as goal
+
+nothing_before : (before more : List Reply) → before ++ more ≡ [] → before ≡ []
+nothing_before [] more none = refl
+nothing_before (first ∷ rest) more none = cc
 
 failed_later : {D : Type 0} (disk : Disk D) (old mid new : D) → disk.failures old ≤ disk.failures mid → HasFailed disk mid new → HasFailed disk old new
 failed_later disk old mid new before (inl more) = inl (omega (arith, before, more))
@@ -26,6 +35,7 @@ returns-then-not-settled g c =
       memory = λ is. told_other Faults.Failed Faults.Memory no_memory is;
       device = λ is. told_other Faults.Failed Faults.Device no_device is;
       damaged = λ damage is. told_other Faults.Failed (Faults.Damaged damage) (no_damage damage) is;
+      damaged_ran = λ damage is. told_other Faults.Failed (Faults.Damaged damage) (no_damage damage) is;
       refusal = λ serves. absurd (true≢false (sym serves ∙ stopped));
       failed = λ was. (refl, c.new.ensures.items, refl);
       goes_on = λ told. refl;
@@ -45,6 +55,7 @@ returns-in-Err g c =
           subst Served (sym c.new-in-Err.ensures.items) (run_none c.args.self.now (g.met.D.Device.only_now c.args.self.now.device));
       device = λ is. told_other Faults.Memory Faults.Device device_memory is;
       damaged = λ damage is. told_other Faults.Memory (Faults.Damaged damage) (damage_memory damage) is;
+      damaged_ran = λ damage is. told_other Faults.Memory (Faults.Damaged damage) (damage_memory damage) is;
       refusal = λ serves. inr (inl refl);
       failed = λ was. absurd (true≢false (sym working ∙ was));
       goes_on = λ told. refl;
@@ -68,6 +79,7 @@ loop-rest-init g c =
       working,
       working,
       omega arith,
+      λ nothing. refl,
     )
 
 pub loop-rest-preserved : goal.loop-rest-preserved
@@ -95,6 +107,9 @@ loop-rest-preserved g c =
       c.answer_group.ensures.met.goes_on (inl c.in-None.is),
       c.loop-rest.invariant.5,
       omega (arith, c.loop-rest.invariant.6, c.answer_group.ensures.met.count),
+      λ nothing.
+      let some = eqb-false (length c.loop-rest.rest.now) 0 (sym c.is_empty.ensures ∙ c.loop-rest-test.true) in
+      absurd (omega (arith, ap length nothing, c.answer_group.ensures.met.all c.in-None.is, ap length c.split_at.ensures.front, length-take c.min.result c.loop-rest.rest.now, c.min.ensures, some)),
     )
 
 pub returns-in-Some : goal.returns-in-Some
@@ -118,6 +133,10 @@ returns-in-Some g c =
       damaged = λ damage is rules v serving.
           let so_far = c.loop-rest.invariant.0.shown rules v serving in
           c.answer_group.ensures.met.damaged damage (c.in-Some.is ∙ is) rules _ so_far.serving;
+      damaged_ran = λ damage is nothing.
+          let From : Store g.row.D.Denot g.D.Device → Type 0 = λ store. Ran g.D.Device.disk (device_of store) (device_of c.answer_group.new.self) Same in
+          subst From (c.loop-rest.invariant.7 (nothing_before given c.answer_group.ensures.answered.more (sym c.answer_group.ensures.answered.pushed ∙ nothing)))
+          (c.answer_group.ensures.met.damaged_ran damage (c.in-Some.is ∙ is));
       refusal = λ working.
           let Met : Option Fault → Type 0 = λ stop. IfSome stop MayBeMet in
           subst Met c.in-Some.is c.answer_group.ensures.met.refusal;
@@ -146,6 +165,7 @@ returns g c =
       memory = λ is. none_told Faults.Memory is;
       device = λ is. none_told Faults.Device is;
       damaged = λ damage is. none_told (Faults.Damaged damage) is;
+      damaged_ran = λ damage is. none_told (Faults.Damaged damage) is;
       refusal = λ serves. tt;
       failed = λ was. absurd (true≢false (sym c.loop-rest.invariant.5 ∙ was));
       goes_on = λ told. c.loop-rest.invariant.4 ∙ sym c.loop-rest.invariant.5;

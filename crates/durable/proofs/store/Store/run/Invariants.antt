@@ -1,4 +1,4 @@
-use Rattle.std.proofs.Common.{◌≡◌, ◌≤◌, ◌++◌, length, take, map, true}
+use Rattle.std.proofs.Common.{◌≡◌, ◌≤◌, ◌++◌, [], length, take, map, true}
 use Rattle.std.specs.Vec.{vec_capacity}
 use Rattle.requests.specs.RequestOf.{request_of}
 use Rattle.durable.specs.Settled.{device_of, serves, HasServed}
@@ -14,6 +14,7 @@ invariant-loop-rest g l =
     × (serves l.self ≡ true)
     × (serves l.fn.self ≡ true)
     × (g.D.Device.disk.failures (device_of l.fn.self) ≤ g.D.Device.disk.failures (device_of l.self))
+    × (l.replies.items ≡ [] → l.self ≡ l.fn.self)
 
 -- and each group takes some of the rest
 abbrev pub decreases-loop-rest : goal.decreases-loop-rest

@@ -1,6 +1,7 @@
 use Rattle.std.proofs.Common.{arith, ◌∙◌, ◌≤◌, ◌+◌, refl, sym, ap, subst, inl, inr, ⊎_elim, List, [], Err}
 use Rattle.std.proofs.Math.Logic.{∥∥₁_elim, ∥∥₁_prop}
 use Rattle.std.proofs.lemmas.Grind.{merely}
+use mathlib.Core.HLevel.{⊥_prop}
 use Rattle.device.specs.Run.{Stands}
 use Rattle.checkpoint.proofs.Faults.{no_fault}
 use Rattle.checkpoint.specs.Filling.{AllFit}
@@ -21,7 +22,7 @@ use Rattle.durable.specs.Settled.{root_of}
 use Rattle.durable.proofs.Called.{err_same}
 use Rattle.durable.proofs.Answering.{Small}
 use Rattle.durable.proofs.Keeping.{reaches}
-use Rattle.durable.proofs.Compacting.{ready_at, entries_written, ready_in_use, ready_same, list_source, generation_in_use, stands_either, stands_written, written_counts, only_device, only_memory, only_exhausted, damaged_or_long, stops_by, never_told_failed}
+use Rattle.durable.proofs.Compacting.{ready_at, entries_written, ready_in_use, ready_same, list_source, generation_in_use, stands_either, stands_written, written_counts, only_device, only_memory, only_exhausted, damaged_or_long, stops_by, stops_by_damage, never_told_failed}
 use Rattle.durable.proofs.Single.{AreHeld, held_once}
 use Rattle.durable.proofs.Numbers.{history_kept, of_first, kept_size}
 use Rattle.durable.proofs.store.Store.write_next.Goals as goal
@@ -114,6 +115,8 @@ returns-in-Ok g c =
           (subst (Counts c.write.new.device) (sym c.start_over.ensures.root) (written_counts c.in-Ok.written.root all (disk.content c.write.new.device) written.seen));
       paged = tt;
       damaged = λ rules h damage held revision entries is. absurd (no_fault is);
+      damaged_ran = λ damage is. absurd (no_fault is);
+      damaged_stops = λ damage is. absurd (no_fault is);
       next = ap (λ (r : Root). r.generation) now ∙ c.in-Ok.ensures.next.generation ∙ ap (λ (r : Root). r.generation + 1) c.root.ensures;
       empty =
           let empty = c.start_over.ensures.empty in
@@ -166,6 +169,17 @@ returns g c =
           (λ is. c.write.ensures.damaged held.keeps all used source (c.in-Err.is ∙ ap Err is))
           (λ is. c.write.ensures.fits held.keeps all refl (c.in-Err.is ∙ ap Err is) fit)
           (damaged_or_long fault damage (sym c.from.ensures ∙ err_same told));
+      damaged_ran = λ damage is keeps.
+          ⊎_elim
+          (λ spoiled.
+          absurd (∥∥₁_elim (ready_at disk store.device (root_of store) root store.log c.root.ensures (store.ready c.requires.serves keeps)) ⊥_prop
+          (λ ready.
+          let used = ready_in_use disk store.device root store.log last c.last_gate-last_gate.ensures ready in
+          c.write.ensures.damaged keeps (in_list c.args.next.entries) used (list_source root last (disk.content store.device) c.args.next.entries c.requires.ascending)
+          (c.in-Err.is ∙ ap Err spoiled))))
+          (λ long. c.in-Err.ensures.too_long (ap Err long))
+          (damaged_or_long fault damage (told ∙ err_same is));
+      damaged_stops = λ damage is. stops_by_damage fault damage c.changed_nothing-self.result c.changed_nothing-self.ensures.0 (told ∙ err_same is);
       counts = λ rules h held revision entries. tt;
       next = tt;
       empty = tt;
