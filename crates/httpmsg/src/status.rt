@@ -26,7 +26,8 @@ impl Model for Status {
 impl Status {
     /// The status of a code; 500 where it has not three digits.
     pub fn of(code: u16) -> Status
-        ensures { IsStatusCode code → result ≡ code }
+        ensures same { IsStatusCode code → result ≡ code }
+        ensures other { (IsStatusCode code → ⊥) → result ≡ 500 }
     {
         match StatusCode::from_u16(code) {
             Ok(_) => Status { code },
