@@ -1,6 +1,6 @@
 //! The writes of a record, as they are gathered.
 
-ghost use Rattle.std.specs.Prelude.{◌≡◌, ◌≢◌, ◌<◌, ◌≤◌, ◌+◌, ◌++◌, ◌∷◌, [], ℕ, List, length, IfOk, OnOk, OnErr, IsErrOf, MatchOption};
+ghost use Rattle.std.specs.Prelude.{◌≡◌, ◌≢◌, ◌<◌, ◌≤◌, ◌+◌, ◌++◌, ◌∷◌, ◌⊎◌, [], ℕ, List, length, IfOk, OnOk, OnErr, IsErrOf, MatchOption};
 ghost use Rattle.gatelog.specs.declared.fault.LogFault.TheVariants as LogFault;
 ghost use Rattle.gatelog.specs.Payload.{payload_of};
 ghost use Rattle.documents.specs.Json.{text};
@@ -55,7 +55,7 @@ impl Group {
         ensures same { (ws : List (Write (List ℕ))) → Gathers self.old ws → OnErr result (Gathers self.new ws) }
         ensures long { (ws : List (Write (List ℕ))) (w : Write (List ℕ)) → Gathers self.old ws → bytes.now ≡ write_bytes w
             → IsErrOf result LogFault.TooLong → 67108864 < length (payload (ws ++ w ∷ [])) }
-        ensures refusal { IsErrOf result LogFault.Device → ⊥ }
+        ensures refusal { OnErr result (IsErrOf result LogFault.TooLong ⊎ IsErrOf result LogFault.Memory) }
         ensures count { count_of self.new ≤ count_of self.old + 1 }
         ensures uncounted { OnErr result (count_of self.new ≡ count_of self.old) }
     {
@@ -82,7 +82,7 @@ impl Group {
         ensures same { (ws : List (Write (List ℕ))) → Gathers self.old ws → OnErr result (Gathers self.new ws) }
         ensures long { (ws : List (Write (List ℕ))) (d : Document) → Gathers self.old ws → document_text.now ≡ text d.json
             → IsErrOf result LogFault.TooLong → 67108864 < length (payload (ws ++ put key.now d plans.now ∷ [])) }
-        ensures refusal { IsErrOf result LogFault.Device → ⊥ }
+        ensures refusal { OnErr result (IsErrOf result LogFault.TooLong ⊎ IsErrOf result LogFault.Memory) }
         ensures count { count_of self.new ≤ count_of self.old + 1 }
         ensures uncounted { OnErr result (count_of self.new ≡ count_of self.old) }
     {
@@ -101,7 +101,7 @@ impl Group {
         ensures same { (ws : List (Write (List ℕ))) → Gathers self.old ws → OnErr result (Gathers self.new ws) }
         ensures long { (ws : List (Write (List ℕ))) → Gathers self.old ws
             → IsErrOf result LogFault.TooLong → 67108864 < length (payload (ws ++ delete key.now ∷ [])) }
-        ensures refusal { IsErrOf result LogFault.Device → ⊥ }
+        ensures refusal { OnErr result (IsErrOf result LogFault.TooLong ⊎ IsErrOf result LogFault.Memory) }
         ensures count { count_of self.new ≤ count_of self.old + 1 }
         ensures uncounted { OnErr result (count_of self.new ≡ count_of self.old) }
     {

@@ -1,6 +1,6 @@
 //! The bytes of one write, as they stand in a payload.
 
-ghost use Rattle.std.specs.Prelude.{◌≡◌, ◌≤◌, ◌++◌, ◌∷◌, ◌^◌, ◌⊎◌, [], length, IfOk, OnOk, IsErrOf};
+ghost use Rattle.std.specs.Prelude.{◌≡◌, ◌≤◌, ◌++◌, ◌∷◌, ◌^◌, ◌⊎◌, [], length, IfOk, OnOk, OnErr, IsErrOf};
 ghost use Rattle.gatelog.specs.declared.fault.LogFault.TheVariants as LogFault;
 ghost use Rattle.documents.specs.Json.{text};
 ghost use Rattle.names.specs.Key.{key_bytes};
@@ -34,7 +34,7 @@ pub(crate) fn add_key(bytes: &mut Vec<u8>, alloc: Global, key: &Key) -> Result<(
 fn add_long_field(bytes: &mut Vec<u8>, more: &[u8]) -> Result<(), LogFault>
     ensures added { OnOk result (bytes.new.items ≡ bytes.old.items ++ field 4 more.now) }
     ensures long { IsErrOf result LogFault.TooLong → 2 ^ 32 ≤ length more.now }
-    ensures refusal { IsErrOf result LogFault.Device → ⊥ }
+    ensures refusal { OnErr result (IsErrOf result LogFault.TooLong ⊎ IsErrOf result LogFault.Memory) }
 {
     if more.len() > u32::MAX as usize {
         return Err(LogFault::TooLong);
@@ -55,7 +55,7 @@ pub(crate) fn put_bytes(
 ) -> Result<Vec<u8>, LogFault>
     ensures bytes { (d : Document) → document_text.now ≡ text d.json → IfOk result (λ bytes. bytes.items ≡ write_bytes (put key.now d plans.now)) }
     ensures long { IsErrOf result LogFault.TooLong → (2 ^ 32 ≤ length document_text.now) ⊎ (2 ^ 32 ≤ length plans.now) }
-    ensures refusal { IsErrOf result LogFault.Device → ⊥ }
+    ensures refusal { OnErr result (IsErrOf result LogFault.TooLong ⊎ IsErrOf result LogFault.Memory) }
 {
     let mut bytes = Vec::from_slice(alloc, &[PUT])?;
     add_key(&mut bytes, alloc, key)?;

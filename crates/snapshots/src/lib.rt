@@ -37,7 +37,6 @@
 mod base;
 mod below;
 mod fault;
-mod gathered;
 mod keys;
 mod laws;
 mod listed;
@@ -54,7 +53,6 @@ mod storing;
 pub use base::Base;
 pub use below::Below;
 pub use fault::SnapshotFault;
-pub use gathered::Gathered;
 pub use laws::{entries_ascend, entries_fit, entries_have_one_view, histories_are_kept};
 pub use making::FromDocument;
 pub use renewing::renewed;

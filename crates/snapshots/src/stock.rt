@@ -199,7 +199,8 @@ impl Stock {
             Some(cell) => (read_entry(alloc, bytes, cell)?.1, cell.len()),
             None => return Ok(None),
         };
-        self.keep(alloc, key, &stocked, cell_bytes)?;
+        // Without memory it is not kept, and read again.
+        let _kept = self.keep(alloc, key, &stocked, cell_bytes);
         Ok(Some(stocked))
     }
 

@@ -1,5 +1,5 @@
 -- What a policy says of a write (Kubernetes, "Validating Admission Policy": match conditions, variables, validations, failure policy).
-use Rattle.std.specs.Prelude.{◌∷◌, ◌++◌, List, [], codes, if◌then◌else◌, Option, Some, None, unwrap_or, option_and_then}
+use Rattle.std.specs.Prelude.{◌∷◌, ◌++◌, List, [], if◌then◌else◌, Option, None, Some, option_and_then}
 use Rattle.std.specs.Option.{option_map_or}
 use Rattle.celtree.specs.Tree.{Expr}
 use Rattle.celmean.specs.Value.{Outcome}
@@ -8,7 +8,7 @@ use Rattle.celmean.specs.Macros.{is_true, is_false}
 use Rattle.policy.specs.Forms as form
 use Rattle.policy.specs.Spec.{Policy}
 use Rattle.denials.specs.declared.asked.FailurePolicy.{FailurePolicy}
-use Rattle.denials.specs.Denials.{Denial, failure, line_of}
+use Rattle.denials.specs.Denials.{Denial, line_of, told}
 use Rattle.verdict.specs.Trees.{NamedTree, Test, variables_of, tests_of}
 
 -- ---- match conditions
@@ -38,22 +38,11 @@ abbrev pub with_variables : List NamedTree → Environment → Environment
 with_variables [] env = env
 with_variables (v ∷ vs) env = with_variables vs (record { names = env.names; variables = env.variables ++ (v.name, mean v.tree env) ∷ [] })
 
--- ---- messages
-
--- what the message expression gives, or else the message, or else the expression
-abbrev pub message_of : Test → Environment → form.Text
-message_of t env =
-    unwrap_or (option_and_then (λ e. line_of (mean e env)) t.message)
-    (unwrap_or t.validation.message (codes "failed expression: " ++ t.validation.expression))
-
 -- ---- validations
 
--- of one that is true nothing, of one that is false its denial, else a failure
+-- what a validation says by its outcome, and by what its message expression gives
 abbrev pub on_outcome : FailurePolicy → Test → Environment → Outcome → Option Denial
-on_outcome f t env o =
-    if is_true o then None
-    else (if is_false o then Some (record { reason = t.validation.reason; message = message_of t env })
-    else failure f (codes "expression error: " ++ t.validation.expression))
+on_outcome f t env o = told f t.validation (option_and_then (λ e. line_of (mean e env)) t.message) o
 
 abbrev pub first_denial : {A : Type 0} → (A → Option Denial) → List A → Option Denial
 first_denial f [] = None

@@ -19,12 +19,6 @@ returns-in-None-clause-found g c objects stocks =
     let none : None ≡ find bytes_cmp c.args.bytes.now stocks.entries = c.in-None.ensures stocks.entries stocks.shelves in
     none_there stocks.entries objects stocks.hold c.args.key.now c.requires.key c.args.bytes.now c.requires.bytes none
 
-pub returns-in_err-keep-clause-kept : goal.returns-in_err-keep-clause-kept
-returns-in_err-keep-clause-kept g c =
-    let read = c.in_ok-read_entry-in-Some-cell.ensures in
-    still_with g.D.Device.disk c.args.device.now c.args.self.now c.keep.new.self c.keep.ensures.shelf c.args.key.now c.requires.key c.args.bytes.now
-    c.requires.bytes c.in-Some-cell.cell.now c.in_ok-read_entry-in-Some-cell.field-0 c.in-Some-cell.ensures read.storable read.entry c.keep.ensures.found
-
 pub returns-clause-found : goal.returns-clause-found
 returns-clause-found g c objects stocks =
     let read = c.in_ok-read_entry-in-Some-cell.ensures in
@@ -34,8 +28,8 @@ returns-clause-found g c objects stocks =
 pub returns-clause-kept : goal.returns-clause-kept
 returns-clause-kept g c =
     let read = c.in_ok-read_entry-in-Some-cell.ensures in
-    still_with g.D.Device.disk c.args.device.now c.args.self.now c.keep.new.self c.keep.ensures.shelf c.args.key.now c.requires.key c.args.bytes.now
-    c.requires.bytes c.in-Some-cell.cell.now c.in_ok-read_entry-in-Some-cell.field-0 c.in-Some-cell.ensures read.storable read.entry c.keep.ensures.found
+    still_with g.D.Device.disk c.args.device.now c.args.self.now c.keep-kept.new.self c.keep-kept.ensures.shelf c.args.key.now c.requires.key c.args.bytes.now
+    c.requires.bytes c.in-Some-cell.cell.now c.in_ok-read_entry-in-Some-cell.field-0 c.in-Some-cell.ensures read.storable read.entry c.keep-kept.ensures.found
 
 pub returns-in_err-clone-clause-kept : goal.returns-in_err-clone-clause-kept
 returns-in_err-clone-clause-kept g c objects stocks = stocks
