@@ -41,7 +41,7 @@ Stands = Stored Beside
 
 -- ---- looking up
 
-value_found : (key : Key) (os : List (Key × Stands)) → value_at key (map entry_held os) ≡ option_map held_of (value_at key os)
+pub value_found : (key : Key) (os : List (Key × Stands)) → value_at key (map entry_held os) ≡ option_map held_of (value_at key os)
 value_found key os = value_at-map held_of key os
 
 listed_found : (r : Resource) (n : Option Text) (os : List (Key × Stands)) → listed r n (map entry_held os) ≡ map entry_held (listed r n os)
@@ -104,7 +104,7 @@ module _ {A B : Type 0} (f : A → B) where
   below_map key (o ∷ os) = ap (λ (b : Bool). is_lt (key_cmp key o.0) && b) (below_map key os)
 
   -- whether keys ascend lies not in what stands under them
-  sorted_map : (os : List (Key × A)) → is_sorted key_cmp (map (λ o. (o.0, f o.1)) os) ≡ is_sorted key_cmp os
+  pub sorted_map : (os : List (Key × A)) → is_sorted key_cmp (map (λ o. (o.0, f o.1)) os) ≡ is_sorted key_cmp os
   sorted_map [] = refl
   sorted_map (o ∷ os) =
       ap (λ (b : Bool). b && is_sorted key_cmp (map (λ p. (p.0, f p.1)) os)) (below_map o.0 os)

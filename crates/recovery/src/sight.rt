@@ -13,6 +13,7 @@ ghost use Rattle.expressions.specs.LookupSeen.{held_by, listed_seen, shown_held}
 ghost use Rattle.recovery.specs.Beside.{Beside as BesideData};
 ghost use Rattle.recovery.specs.Sights.{held_of, entry_held};
 
+use crate::named::{found_documents, key_wanted};
 use crate::wanted::wanted_among;
 use crate::{Beside, Core};
 use documents::Doc;
@@ -73,8 +74,14 @@ impl<'a, 's, S: Source<Beside>> Lookup<'a> for Sight<'a, 's, S> {
         namespace: &str,
         wanted: &Wanted,
     ) -> Result<Vec<Doc>, LookupFault> {
-        let below = self.source.list(alloc, resource, Some(namespace))?;
-        Ok(parameters_over(alloc, self.core, &below, resource, namespace, wanted)?)
+        // What is wanted by its name is looked up alone: a list reads all of the namespace.
+        let Some(key) = key_wanted(alloc, resource, namespace, wanted)? else {
+            let below = self.source.list(alloc, resource, Some(namespace))?;
+            return Ok(parameters_over(alloc, self.core, &below, resource, namespace, wanted)?);
+        };
+        let found = self.core.find(alloc, self.source, &key);
+        drop(key);
+        Ok(found_documents(alloc, found?)?)
     }
 }
 
