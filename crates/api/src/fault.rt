@@ -15,7 +15,7 @@ pub enum ServeFault {
     Memory,
     /// The store's content stands for no history.
     Damaged(Damage),
-    /// The store's device failed before.
+    /// The store's device failed before, or damage was found.
     Failed,
 }
 

@@ -13,10 +13,10 @@ use device::Device;
 use pages::PAGE_BYTES;
 use std::alloc::{AllocError, AllocFailed, Global};
 
-// Bytes before the first slot of a page, and of a slot with the length of a key.
+// Bytes before the first slot of a page, and those of a cell beside its key and what stands under that: its slot, and the length of its key.
 const HEAD_BYTES: usize = 8;
 
-const SLOT_BYTES: usize = 6;
+const CELL_OVERHEAD_BYTES: usize = 6;
 
 /// Why entries cannot be walked, or be laid on pages.
 #[derive(Clone, Copy)]
@@ -126,7 +126,7 @@ fn room_left(free: usize, key: &[u8], cell: &[u8]) -> Option<usize>
     ensures some { IfSome result (λ left. left + (6 + length key.now + length cell.now) ≡ free) }
     ensures none { IfNone result (free < 6 + length key.now + length cell.now) }
 {
-    free.checked_sub(SLOT_BYTES)?
+    free.checked_sub(CELL_OVERHEAD_BYTES)?
         .checked_sub(key.len())?
         .checked_sub(cell.len())
 }

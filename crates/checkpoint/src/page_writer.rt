@@ -4,12 +4,9 @@ ghost use Rattle.std.specs.Prelude.{◌≡◌, ◌≤◌, ◌+◌, ◌++◌, len
 
 use crate::writing::WriteFault;
 use device::{Device, DeviceFault};
-use pages::{Full, PAGE_BYTES, PageBuilder};
+use pages::{Full, PAGE_BYTES, PAGE_SECTORS, PageBuilder};
 use roots::Root;
 use std::alloc::{AllocError, Global};
-
-// Sectors in a page.
-const PAGE_SECTORS: u64 = 64;
 
 // Pages that one write of the device takes at most: 512 KiB, of which a write's own cost is little, as is the memory beside that of the
 // entries.

@@ -14,12 +14,9 @@ ghost use Rattle.checkpoint.specs.Index.{keys_of, IsIndexed};
 use crate::index::Index;
 use crate::reader::{Reader, tell_unrefused};
 use device::{Device, DeviceFault};
-use pages::{PAGE_BYTES, Page, PageDamage};
+use pages::{PAGE_BYTES, PAGE_SECTORS, Page, PageDamage};
 use roots::Root;
 use std::alloc::{AllocError, Global};
-
-// Sectors in a page.
-const PAGE_SECTORS: u64 = 64;
 
 /// Why the pages of a root are not read.
 #[derive(Clone, Copy)]

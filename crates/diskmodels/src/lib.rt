@@ -12,7 +12,7 @@
 //! let mut device = SectorFile::new(MemoryFile::new(alloc));
 //! write_through(&mut device, 0, &[1; 512])?;
 //! device.write(1, &[2; 512])?;
-//! let mut device = SectorFile::new(device.into_file().crash());
+//! let mut device = SectorFile::new(device.into_file().crash()?);
 //! ```
 //!
 //! The device then has one sector.

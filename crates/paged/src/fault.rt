@@ -13,7 +13,7 @@ pub enum ReadFault {
     Page,
     /// The pages hold no view.
     Entry,
-    /// The bytes of a policy's plans are those of no plans that it may have.
+    /// An object that is no policy has plans.
     Plans,
     /// There was no memory.
     Memory,

@@ -147,7 +147,7 @@ impl Paged {
     ///
     /// # Errors
     ///
-    /// `Plans` where the plans of a policy are none that it may have, `Damaged` where else no writes that may follow have these payloads, and
+    /// `Plans` where an object that is no policy has plans, `Damaged` where else no writes that may follow have these payloads, and
     /// `Memory` where there was none.
     pub fn redone(self, alloc: Global, payloads: &[Vec<u8>]) -> Result<Paged, RecoveryFault>
         ensures rules { IfOk result (λ p. p.core.rules ≡ self.core.rules) }

@@ -8,6 +8,9 @@ use byteorder::{BigEndian, ByteOrder};
 /// Bytes in a page.
 pub const PAGE_BYTES: usize = 32768;
 
+/// The sectors of 512 bytes of a page.
+pub const PAGE_SECTORS: u64 = 64;
+
 /// The first bytes of a page.
 pub(crate) const MARK: &[u8; 4] = b"PAGE";
 

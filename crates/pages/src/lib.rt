@@ -27,7 +27,7 @@ mod search;
 mod writing;
 
 pub use builder::{Full, PageBuilder};
-pub use cells::PAGE_BYTES;
+pub use cells::{PAGE_BYTES, PAGE_SECTORS};
 pub use damage::PageDamage;
 pub use laws::{one_list, one_page};
 pub use owned_page::OwnedPage;

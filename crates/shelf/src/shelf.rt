@@ -17,16 +17,13 @@ use crate::page::{read_page, tell_page};
 use checkpoint::Reader;
 use device::Device;
 use lru::LruCache;
-use pages::{OwnedPage, Page};
+use pages::{OwnedPage, PAGE_SECTORS, Page};
 use roots::Root;
 use std::alloc::{AllocError, Global};
 use std::num::NonZeroUsize;
 
 /// How many pages lie in memory, at most.
 pub const PAGES_IN_MEMORY: usize = 64;
-
-// Sectors in a page.
-const PAGE_SECTORS: u64 = 64;
 
 /// What becomes of the pages that are read to tell the entries of a range.
 #[derive(Clone, Copy)]

@@ -4,9 +4,9 @@
 //! let mut entries = entries_in(alloc, &core, &objects_below)?;  // to be written
 //! let written = write(alloc, &mut device, &root, last_gate, core.revision(), &mut entries)?;
 //!
-//! let mut told = Gathered::new(alloc);                          // to be read again
-//! scan(alloc, &mut device, &root, &mut told)?;
-//! let core = restored(alloc, rules, told.entries(), &below, count_below, root.revision)?;
+//! let mut sieve = Sieve::new(alloc, &chosen);                   // to be read again
+//! scan(alloc, &mut device, &root, &mut sieve)?;
+//! let core = restored(alloc, rules, sieve.kept(), &below, sieve.objects(), root.revision)?;
 //!
 //! let core = renewed(alloc, &core, &objects_below, &below)?;    // or held on once it is written
 //!
