@@ -209,8 +209,8 @@ fn write_generation<D: Device, E: Entries>(
 ///
 /// `TooLong` where an entry fits no page, `Exhausted` where `current` is of the greatest generation, and `Memory` where there was none, as
 /// for more pages than a root can tell: 2^32 - 1. Nothing is written then. `Damaged` where the device does not hold what the entries are
-/// of, and so never over entries that its content gives. `Device` where the device failed. After these two a read finds the one or the
-/// other generation, as a crash may leave it: so the device has to be opened again.
+/// of, and so never over entries that its content gives. `Device` where the device failed: a read then finds the one or the other
+/// generation, as a crash may leave it. After these two the device has to be opened again.
 pub fn write<D: Device, E: Entries>(
     alloc: Global,
     device: &mut D,
