@@ -1,38 +1,69 @@
 -- What is found on a device that was read, with a fault.
-use Rattle.std.proofs.Common.{◌≡◌, ◌≢◌, ◌⊎◌, inl, inr, sym, ap, subst, ℕ, List, Result, Ok, Err, IfOk, IsErrOf}
+use Rattle.std.proofs.Common.{◌≡◌, ◌≢◌, ◌<◌, ◌≤◌, ◌*◌, ◌⊎◌, inl, inr, ap, subst, length, ℕ, List, Result, Ok, Err, IsErrOf}
 use Rattle.std.specs.Result.{IsErrAnd}
 use Rattle.device.specs.Disk.{Disk, HasFailed}
 use Rattle.device.specs.Run.{Ran}
 use Rattle.device.specs.Step.{Same}
 use Rattle.objects.specs.declared.format.Rules.{Rules}
+use Rattle.gatelog.specs.Record.{part}
+use Rattle.recovery.specs.declared.fault.RecoveryFault.{RecoveryFault}
+use Rattle.recovery.specs.declared.fault.RecoveryFault.TheVariants as recovery_fault
 use Rattle.recovery.specs.Standing.{History}
 use Rattle.roots.specs.declared.open.RootFault.{RootFault}
 use Rattle.roots.specs.declared.open.RootFault.TheVariants as root_fault
 use Rattle.roots.specs.declared.root.Root.{Root}
-use Rattle.roots.specs.Root.{HoldsRoot}
-use Rattle.paged.specs.Paged.{root_of}
+use Rattle.roots.specs.Root.{IsHeader, HoldsRoot}
+use Rattle.paged.specs.declared.fault.ReadFault.{ReadFault}
+use Rattle.paged.specs.declared.fault.ReadFault.TheVariants as read_fault
 use Rattle.durable.specs.declared.fault.Damage.{Damage}
+use Rattle.durable.specs.declared.fault.Damage.TheVariants as damages
 use Rattle.durable.specs.declared.fault.Fault.{Fault}
 use Rattle.durable.specs.declared.fault.Fault.TheVariants as fault
-use Rattle.durable.specs.Faults.{of_root_fault}
+use Rattle.durable.specs.Faults.{of_root_fault, of_read_fault, of_recovery_fault}
 use Rattle.durable.specs.Stands.{StandsFor}
-use Rattle.durable.proofs.Renewing.{failed_then}
-use Rattle.durable.proofs.Unwritten.{read_then}
-use Rattle.opening.specs.declared.content.Opened.{Opened}
-use Rattle.opening.specs.Opened.{IsLogOf, HasRead}
+use Rattle.opening.specs.Opened.{HoldsNoBase, IsDamageBehind, IsDamageOf, HasRead}
 
 -- a result of which the error is known
 pub err_of : {T E : Type 0} (r : Result T E) (e : E) → IsErrAnd r (λ f. f ≡ e) → r ≡ Err e
 err_of (Ok x) e holds = absurd holds
 err_of (Err f) e holds = ap Err holds
 
+pub damage_same : {first second : Damage} → fault.Damaged first ≡ fault.Damaged second → first ≡ second
+damage_same same = cc
+
+module _ (content : List ℕ) (root : Root) where
+  -- pages that hold no base
+  pub behind_pages : {T : Type 0} (r : Result T ReadFault) (f : ReadFault) → r ≡ Err f
+      → (IsErrOf r read_fault.Page ⊎ (IsErrOf r read_fault.Entry ⊎ IsErrOf r read_fault.Plans) → HoldsNoBase content root)
+      → (damage : Damage) → of_read_fault f ≡ fault.Damaged damage → IsDamageBehind content root damage
+  behind_pages r read_fault.Device was none damage is = cc
+  behind_pages r read_fault.Page was none damage is = subst (IsDamageBehind content root) (damage_same is) (none (inl was))
+  behind_pages r read_fault.Entry was none damage is = subst (IsDamageBehind content root) (damage_same is) (none (inr (inl was)))
+  behind_pages r read_fault.Plans was none damage is = subst (IsDamageBehind content root) (damage_same is) tt
+  behind_pages r read_fault.Memory was none damage is = cc
+
+  -- payloads that are not taken
+  pub behind_payloads : (f : RecoveryFault) (damage : Damage) → of_recovery_fault f ≡ fault.Damaged damage → IsDamageBehind content root damage
+  behind_payloads recovery_fault.Damaged damage is = subst (IsDamageBehind content root) (damage_same is) tt
+  behind_payloads recovery_fault.Plans damage is = subst (IsDamageBehind content root) (damage_same is) tt
+  behind_payloads recovery_fault.Memory damage is = cc
+
+  -- of a content whose root counts
+  pub behind_counts : HoldsRoot content root → (damage : Damage) → IsDamageBehind content root damage → IsDamageOf content damage
+  behind_counts counts damages.Header behind = absurd behind
+  behind_counts counts damages.Root behind = absurd behind
+  behind_counts counts damages.Page behind = (root, counts, behind)
+  behind_counts counts damages.Entry behind = (root, counts, behind)
+  behind_counts counts damages.Log behind = (root, counts, behind)
+  behind_counts counts damages.Plan behind = (root, counts, behind)
+
 module _ {D : Type 0} (disk : Disk D) where
   module _ (old new : D) (run : Ran disk old new Same) where
     -- a fault
     pub found_none : (f : Fault) → f ≢ fault.Failed → f ≢ fault.Exhausted → (f ≡ fault.Device → HasFailed disk old new)
         → (disk.keeps old → (damage : Damage) → f ≡ fault.Damaged damage → (rules : Rules) (h : History) → StandsFor rules (disk.content old) h → ⊥)
-        → HasRead disk old new (Err f)
-    found_none f failed exhausted cause damaged = record {
+        → (disk.keeps old → (damage : Damage) → f ≡ fault.Damaged damage → IsDamageOf (disk.content old) damage) → HasRead disk old new (Err f)
+    found_none f failed exhausted cause damaged told = record {
       rules = tt;
       works = tt;
       in_data = tt;
@@ -40,6 +71,7 @@ module _ {D : Type 0} (disk : Disk D) where
       redone = tt;
       log = λ keeps. tt;
       damaged = λ keeps damage is. damaged keeps damage (let same : f ≡ fault.Damaged damage = cc in same);
+      told = λ keeps damage is. told keeps damage (let same : f ≡ fault.Damaged damage = cc in same);
       ran = run;
       refusal = (λ is. failed (let same : f ≡ fault.Failed = cc in same), λ is. exhausted (let same : f ≡ fault.Exhausted = cc in same));
       cause = λ is. cause (let same : f ≡ fault.Device = cc in same);
@@ -47,16 +79,21 @@ module _ {D : Type 0} (disk : Disk D) where
 
     -- a device that failed
     pub found_no_device : HasFailed disk old new → HasRead disk old new (Err fault.Device)
-    found_no_device failed = found_none fault.Device (λ is. cc) (λ is. cc) (λ is. failed) (λ keeps damage is rules h stands. cc)
+    found_no_device failed = found_none fault.Device (λ is. cc) (λ is. cc) (λ is. failed) (λ keeps damage is rules h stands. cc) (λ keeps damage is. cc)
 
     -- a root that does not count
     pub found_no_root : (result : Result Root RootFault) (f : RootFault) → result ≡ Err f → (IsErrOf result root_fault.Device → HasFailed disk old new)
         → (disk.keeps old → (IsErrOf result root_fault.Header ⊎ IsErrOf result root_fault.Root) → (root : Root) → HoldsRoot (disk.content old) root → ⊥)
+        → (disk.keeps old → IsErrOf result root_fault.Header → IsHeader (part 0 512 (disk.content old)) → length (disk.content old) < 9 * 512)
+        → (disk.keeps old → IsErrOf result root_fault.Root → IsHeader (part 0 512 (disk.content old)) × (9 * 512 ≤ length (disk.content old)))
         → HasRead disk old new (Err (of_root_fault f))
-    found_no_root result root_fault.Device is cause damaged = found_no_device (cause is)
-    found_no_root result root_fault.Header is cause damaged =
+    found_no_root result root_fault.Device is cause damaged header root = found_no_device (cause is)
+    found_no_root result root_fault.Header is cause damaged header root =
         found_none (of_root_fault root_fault.Header) (λ never. cc) (λ never. cc) (λ never. cc)
         (λ keeps damage _ rules h stands. damaged keeps (inl is) stands.root stands.counts)
-    found_no_root result root_fault.Root is cause damaged =
+        (λ keeps damage told. subst (IsDamageOf (disk.content old)) (damage_same told) (header keeps is))
+    found_no_root result root_fault.Root is cause damaged header root =
         found_none (of_root_fault root_fault.Root) (λ never. cc) (λ never. cc) (λ never. cc)
         (λ keeps damage _ rules h stands. damaged keeps (inr is) stands.root stands.counts)
+        (λ keeps damage told.
+        let there = root keeps is in subst (IsDamageOf (disk.content old)) (damage_same told) (there.0, there.1, damaged keeps (inr is)))

@@ -13,8 +13,9 @@ ghost use Rattle.recovery.specs.Known.{Writes};
 ghost use Rattle.recovery.specs.Taken.{HasRedone};
 ghost use Rattle.recovery.specs.Written.{Write, IsWritten};
 ghost use Rattle.durable.specs.declared.fault.Damage.{Damage as DamageData};
+ghost use Rattle.durable.specs.declared.fault.Damage.TheVariants as Damages;
 ghost use Rattle.durable.specs.declared.fault.Fault.TheVariants as Fault;
-ghost use Rattle.opening.specs.Opened.{HasRead, IsRedone};
+ghost use Rattle.opening.specs.Opened.{HasRead, IsDamageBehind, IsRedone};
 ghost use Rattle.recovery.specs.Beside.{Beside as BesideData};
 ghost use Rattle.requests.specs.View as seen;
 ghost use Rattle.requests.specs.View.{view};
@@ -81,6 +82,8 @@ fn read_objects<D: Device>(
     ensures damaged { D.disk.keeps device.old → (damage : DamageData) → IsErrOf result (Fault.Damaged damage)
         → (rules : Rules) (base : History) (ws : List Write) → AreOfFormat rules → IsHistory rules base
         → HoldsBase rules (D.disk.content device.old) root.now base → IsWritten rules (with_plans (view rules base)) ws (map (λ p. p.items) payloads.now) → ⊥ }
+    ensures behind { D.disk.keeps device.old → (damage : DamageData) → IsErrOf result (Fault.Damaged damage)
+        → IsDamageBehind (D.disk.content device.old) root.now damage }
     ensures redone { root.now.pages ≡ 0 → IfOk result (λ p. Below D.disk device.new p []
         × ((held : seen.View BesideData) × holdings.Shows p.core [] held × IsRedone first_rules held)) }
     ensures ran { Ran D.disk device.old device.new Same }
@@ -98,6 +101,7 @@ fn read_log<D: Device>(alloc: Global, device: &mut D, at: u64) -> Result<(Log, V
     ensures found { D.disk.keeps device.old → IfOk result (λ found. HoldsLog at (map (λ p. p.items) found.1.items) found.0.last (D.disk.content device.old)) }
     ensures damaged { D.disk.keeps device.old → (damage : DamageData) → IsErrOf result (Fault.Damaged damage)
         → (payloads : List (List ℕ)) (last : ℕ) → HoldsLog at payloads last (D.disk.content device.old) → ⊥ }
+    ensures log { (damage : DamageData) → IsErrOf result (Fault.Damaged damage) → damage ≡ Damages.Log }
     ensures ran { Ran D.disk device.old device.new Same }
     ensures refusal { (result ≢ Err Fault.Failed) × (result ≢ Err Fault.Exhausted) }
     ensures cause { IsErrOf result Fault.Device → HasFailed D.disk device.old device.new }
@@ -111,6 +115,8 @@ fn read_log<D: Device>(alloc: Global, device: &mut D, at: u64) -> Result<(Log, V
 fn read_pages_alone<D: Device>(alloc: Global, device: &mut D, root: &Root, damage: Damage) -> Fault
     requires small { log_start root.now < 2 ^ 54 }
     requires inside { D.disk.keeps device.old → 512 * log_start root.now ≤ length (D.disk.content device.old) }
+    ensures behind { D.disk.keeps device.old → IsDamageBehind (D.disk.content device.old) root.now damage
+        → (told : DamageData) → result ≡ Fault.Damaged told → IsDamageBehind (D.disk.content device.old) root.now told }
     ensures ran { Ran D.disk device.old device.new Same }
     ensures refusal { (result ≢ Fault.Failed) × (result ≢ Fault.Exhausted) }
     ensures cause { result ≡ Fault.Device → HasFailed D.disk device.old device.new }

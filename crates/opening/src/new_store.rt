@@ -2,7 +2,7 @@ ghost use Rattle.std.specs.Prelude.{◌≡◌, ◌≢◌, ◌*◌, List, ℕ, []
 ghost use Rattle.durable.specs.Rules.{first_rules};
 ghost use Rattle.device.specs.Disk.{HasFailed};
 ghost use Rattle.device.specs.Run.{Ran};
-ghost use Rattle.device.specs.Step.{Same};
+ghost use Rattle.device.specs.Step.{Same, Torn};
 ghost use Rattle.roots.specs.NewStore.{new_content};
 ghost use Rattle.durable.specs.Stands.{StandsFor};
 
@@ -14,7 +14,7 @@ use std::fmt::{Display, Formatter};
 /// Why no store was made.
 #[derive(Clone, Copy)]
 pub enum CreateFault {
-    /// The device failed in this call. It may hold a part of the new store.
+    /// The device failed in this call. One that was empty may hold a part of the new store.
     Device,
     /// The device has sectors: nothing changed.
     NotEmpty,
@@ -51,8 +51,8 @@ impl From<StartFault> for CreateFault {
 ///
 /// # Errors
 ///
-/// `NotEmpty` where the device has sectors, and nothing changes. `Device` only where the device failed in this call; it may then hold
-/// anything.
+/// `NotEmpty` where the device has sectors. `Device` only where the device failed in this call; one that was empty may then hold anything in nine
+/// sectors. Sectors that are there stay, whatever is answered.
 pub fn create<D: Device>(device: &mut D) -> Result<(), CreateFault>
     ensures empty { D.disk.keeps device.old → OnOk result (D.disk.content device.old ≡ []) }
     ensures content { D.disk.keeps device.old → OnOk result (D.disk.content device.new ≡ new_content) }
@@ -61,7 +61,10 @@ pub fn create<D: Device>(device: &mut D) -> Result<(), CreateFault>
     ensures left { D.disk.keeps device.old → OnOk result ((c : List ℕ) → D.disk.left device.new c → StandsFor first_rules c []) }
     ensures not_empty { D.disk.keeps device.old → IsErrOf result CreateFault.NotEmpty → D.disk.content device.old ≢ [] }
 
-    // A device with sectors is left as it was, at every moment.
+    ensures ran { Ran D.disk device.old device.new (Torn 0 4608) }
+
+    // A device with sectors is left as it was, at every moment, whatever is answered.
+    ensures sectors_stay { D.disk.keeps device.old → D.disk.content device.old ≢ [] → Ran D.disk device.old device.new Same }
     ensures untouched { IsErrOf result CreateFault.NotEmpty → Ran D.disk device.old device.new Same }
 
     ensures cause { IsErrOf result CreateFault.Device → HasFailed D.disk device.old device.new }

@@ -4,11 +4,12 @@ ghost use Rattle.objects.specs.declared.format.Rules.{Rules};
 ghost use Rattle.requests.specs.View as seen;
 ghost use Rattle.recovery.specs.Beside.{Beside};
 ghost use Rattle.recovery.specs.Standing.{History};
+ghost use Rattle.durable.specs.declared.fault.Damage.{Damage};
 ghost use Rattle.durable.specs.declared.fault.Fault.TheVariants as Fault;
 ghost use Rattle.durable.specs.Rules.{AreOfFormat};
 ghost use Rattle.durable.specs.Settled.{device_of, root_of, serves, kept_rules, Holds, IsSettledAt};
 ghost use Rattle.durable.specs.Stands.{StandsFor};
-ghost use Rattle.opening.specs.Opened.{IsRedone};
+ghost use Rattle.opening.specs.Opened.{IsDamageOf, IsRedone};
 
 use crate::content::synced_store;
 use device::Device;
@@ -19,7 +20,9 @@ use std::alloc::Global;
 ///
 /// # Errors
 ///
-/// `Device` only where the device failed in this call; `Memory`; `Damaged` only where the content stands for no history.
+/// `Device` only where the device failed in this call; `Memory`; `Damaged` only where the content stands for no history. It is `Header` where the first
+/// sector is no header, or there are fewer than nine, and `Root` where there are these and no root counts. The others are told only of a root that
+/// counts: `Page` and `Entry` where its pages hold what is seen of no history.
 pub fn open<D: Device>(alloc: Global, device: D) -> Result<Store<D>, (Fault, D)>
     ensures settled { (rules : Rules) (h : History) → D.disk.keeps device → StandsFor rules (D.disk.content device) h
         → IfOk result (λ store. IsSettledAt rules store h) }
@@ -39,6 +42,10 @@ pub fn open<D: Device>(alloc: Global, device: D) -> Result<Store<D>, (Fault, D)>
     ensures left_err { D.disk.keeps device → IfErr result (λ e. (c : List ℕ) → D.disk.left e.1 c → D.disk.left device c) }
     ensures refusal { (rules : Rules) (h : History) → D.disk.keeps device → StandsFor rules (D.disk.content device) h
         → IfErr result (λ e. (e.0 ≡ Fault.Device) ⊎ (e.0 ≡ Fault.Memory)) }
+
+    // What is told is what is damaged.
+    ensures told { D.disk.keeps device → (damage : Damage) → IfErr result (λ e. e.0 ≡ Fault.Damaged damage → IsDamageOf (D.disk.content device) damage) }
+
     ensures never_failed { IfErr result (λ e. (e.0 ≢ Fault.Failed) × (e.0 ≢ Fault.Exhausted)) }
     ensures cause { IfErr result (λ e. e.0 ≡ Fault.Device → HasFailed D.disk device e.1) }
     ensures count { IfOk result (λ store. D.disk.failures device ≤ D.disk.failures (device_of store)) }

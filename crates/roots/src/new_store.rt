@@ -1,6 +1,6 @@
 //! A new store.
 
-ghost use Rattle.std.specs.Prelude.{◌≡◌, ◌≤◌, ◌*◌, ℕ, [], length, slice_index, IfOk, OnOk, IsErrOf};
+ghost use Rattle.std.specs.Prelude.{◌≡◌, ◌≢◌, ◌≤◌, ◌*◌, ℕ, [], length, slice_index, IfOk, OnOk, IsErrOf};
 ghost use Rattle.device.specs.Disk.{Only, HasFailed, HasCause};
 ghost use Rattle.device.specs.Step.{Same, Torn};
 ghost use Rattle.device.specs.Run.{Ran};
@@ -91,7 +91,8 @@ fn write_sectors<D: Device>(device: &mut D, sectors: &[u8]) -> Result<(), Device
 ///
 /// # Errors
 ///
-/// `NotEmpty` where the device has sectors; they stay. `Device` where the device failed, which may leave any bytes in the nine sectors.
+/// `NotEmpty` where the device has sectors. `Device` where the device failed, which may leave any bytes in the nine sectors of one that was empty.
+/// Sectors that are there stay, whatever is answered.
 pub fn start<D: Device>(device: &mut D) -> Result<Root, StartFault>
     ensures empty { D.disk.keeps device.old → OnOk result (D.disk.content device.old ≡ []) }
     ensures slot { IfOk result (λ root. root.slot ≡ Slot.A) }
@@ -111,7 +112,8 @@ pub fn start<D: Device>(device: &mut D) -> Result<Root, StartFault>
     ensures ran { Ran D.disk device.old device.new (Torn 0 4608) }
     ensures not_empty { D.disk.keeps device.old → IsErrOf result StartFault.NotEmpty → D.disk.content device.old ≡ [] → ⊥ }
 
-    // A device with sectors is left as it was, at every moment.
+    // A device with sectors is left as it was, at every moment, whatever is answered.
+    ensures sectors_stay { D.disk.keeps device.old → D.disk.content device.old ≢ [] → Ran D.disk device.old device.new Same }
     ensures untouched { IsErrOf result StartFault.NotEmpty → Ran D.disk device.old device.new Same }
 
     ensures cause { IsErrOf result StartFault.Device → HasFailed D.disk device.old device.new }

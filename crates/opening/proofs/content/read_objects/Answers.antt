@@ -20,6 +20,7 @@ use Rattle.durable.specs.declared.fault.Fault.TheVariants as Fault
 use Rattle.checkpoint.proofs.Faults.{err_is}
 use Rattle.opening.proofs.Bases.{base_held, base_entries, page_entry_or_plans, log_or_plans}
 use Rattle.durable.proofs.Numbers.{first_numbers}
+use Rattle.opening.proofs.Finding.{behind_pages, behind_payloads}
 use Rattle.opening.proofs.Reading.{redone_holds}
 use Rattle.opening.proofs.content.read_objects.Goals as goal
 
@@ -37,6 +38,21 @@ returns-in_err-paged-clause-damaged g c keeps damage told rules base ws numbers 
     ⊎_elim (λ is. c.read.ensures.damaged keeps (inr (inl (c.in_err-paged.was ∙ ap Err is))) held kept entries holds.revision)
     (λ is. c.read.ensures.damaged keeps (inr (inr (c.in_err-paged.was ∙ ap Err is))) held kept entries holds.revision) other)
     fault
+
+pub returns-in_err-paged-clause-behind : goal.returns-in_err-paged-clause-behind
+returns-in_err-paged-clause-behind g c keeps damage told =
+    let content = g.D.Device.disk.content c.args.device.now in
+    let root = c.args.root.now in
+    behind_pages content root c.read.result c.in_err-paged.field-0.0 c.in_err-paged.was
+    (λ is rules base numbers history holds.
+    c.read.ensures.damaged keeps is (with_plans (view rules base)) (base_held rules content root base numbers history holds c.rules.result c.rules.ensures)
+    (base_entries rules content root base numbers history holds) holds.revision)
+    damage (sym (err_is c.from_residual-in_err-paged.result _ (Fault.Damaged damage) c.from_residual-in_err-paged.ensures.1 told))
+
+pub returns-in_err-redone-clause-behind : goal.returns-in_err-redone-clause-behind
+returns-in_err-redone-clause-behind g c keeps damage told =
+    behind_payloads (g.D.Device.disk.content c.args.device.now) c.args.root.now c.in_err-redone.field-0.0 damage
+    (sym (err_is c.from_residual-in_err-redone.result _ (Fault.Damaged damage) c.from_residual-in_err-redone.ensures.1 told))
 
 pub returns-in_err-redone-clause-damaged : goal.returns-in_err-redone-clause-damaged
 returns-in_err-redone-clause-damaged g c keeps damage told rules base ws numbers history holds written =

@@ -25,9 +25,9 @@ use Rattle.durable.proofs.Numbers.{first_numbers}
 use Rattle.durable.proofs.Renewing.{failed_then}
 use Rattle.durable.proofs.Unwritten.{read_then}
 use Rattle.opening.specs.declared.content.Opened.{Opened}
-use Rattle.opening.specs.Opened.{IsRedone, HasRead}
+use Rattle.opening.specs.Opened.{IsDamageBehind, IsRedone, HasRead}
 use Rattle.opening.proofs.Bases.{read_thrice}
-use Rattle.opening.proofs.Finding.{err_of, found_none, found_no_root}
+use Rattle.opening.proofs.Finding.{err_of, found_none, found_no_root, behind_counts}
 use Rattle.opening.proofs.Reading.{base_is, base_here, no_log_here, written_here, opened_shows}
 use Rattle.opening.proofs.content.synced_store.Goals as goal
 
@@ -37,7 +37,7 @@ returns-in_err-root-clause-read g c =
     let Read : Result Opened AnyFault → Type 0 = λ r. HasRead disk c.args.device.now c.synced_root.new.device r in
     subst Read (sym (err_of c.from_residual.result (of_root_fault c.in_err-root.field-0.0) c.from_residual.ensures.1))
     (found_no_root disk c.args.device.now c.synced_root.new.device c.synced_root.ensures.ran c.synced_root.result c.in_err-root.field-0.0 c.in_err-root.was
-    c.synced_root.ensures.cause c.synced_root.ensures.damaged)
+    c.synced_root.ensures.cause c.synced_root.ensures.damaged c.synced_root.ensures.header c.synced_root.ensures.root)
 
 pub returns-in_err-paged-in-Ok-clause-read : goal.returns-in_err-paged-in-Ok-clause-read
 returns-in_err-paged-in-Ok-clause-read g c =
@@ -69,7 +69,11 @@ returns-in_err-paged-in-Ok-clause-read g c =
     let By : List (List ℕ) → Type 0 = λ ps. IsWritten rules held later ps in
     c.read_objects.ensures.damaged (first.kept keeps) damage (c.in_err-paged-in-Ok.was ∙ ap Err is) rules stands.base later stands.numbers
     (base_is rules content h stands) (subst Keeps (sym (first.seen keeps)) (base_here rules content h stands root counts))
-    (subst By (ap (map (λ p. p.items)) (sym c.deref.ensures.value)) (written_here rules content h stands root counts payloads log.last there))))
+    (subst By (ap (map (λ p. p.items)) (sym c.deref.ensures.value)) (written_here rules content h stands root counts payloads log.last there)))
+    (λ keeps damage is.
+    let Behind : List ℕ → Type 0 = λ x. IsDamageBehind x root damage in
+    behind_counts content root (c.in_ok-root.ensures.found keeps) damage
+    (subst Behind (first.seen keeps) (c.read_objects.ensures.behind (first.kept keeps) damage (c.in_err-paged-in-Ok.was ∙ ap Err is)))))
 
 pub returns-in_ok-paged-in-Ok-clause-read : goal.returns-in_ok-paged-in-Ok-clause-read
 returns-in_ok-paged-in-Ok-clause-read g c =
@@ -124,6 +128,7 @@ returns-in_ok-paged-in-Ok-clause-read g c =
             holds = subst Of (sym c.in-Ok.ensures.place.0) (subst Log (c.synced_root.ensures.ran.seen keeps) there);
           };
       damaged = λ keeps damage is rules h stands. cc;
+      told = λ keeps damage is. cc;
       ran = read_thrice disk c.args.device.now c.synced_root.new.device c.read_log.new.device c.read_objects.new.device c.synced_root.ensures.ran c.read_log.ensures.ran
           c.read_objects.ensures.ran;
       refusal = ((λ is. cc), (λ is. cc));
@@ -150,6 +155,12 @@ returns-in-Err-Damaged-clause-read g c =
     no_log_here rules content h stands root (c.in_ok-root.ensures.found keeps)
     (subst (None (log_start root)) root_same
     (subst At c.log_start.ensures.place (c.read_log.ensures.damaged (c.synced_root.ensures.ran.kept keeps) c.in-Err-Damaged.damage found))))
+    (λ keeps damage is.
+    let Behind : List ℕ → Type 0 = λ x. IsDamageBehind x root damage in
+    let here = disk.content c.read_log.new.device in
+    let found : IsErrOf c.read_log.result (Fault.Damaged c.in-Err-Damaged.damage) = search common in
+    let of_log = subst (IsDamageBehind here root) (sym (c.read_log.ensures.log c.in-Err-Damaged.damage found)) tt in
+    behind_counts content root (c.in_ok-root.ensures.found keeps) damage (subst Behind (first.seen keeps) (told.behind (first.kept keeps) of_log damage is)))
 
 pub returns-in-Err-clause-read : goal.returns-in-Err-clause-read
 returns-in-Err-clause-read g c =
@@ -160,7 +171,7 @@ returns-in-Err-clause-read g c =
     (read_then disk c.args.device.now c.synced_root.new.device c.read_log.new.device c.synced_root.ensures.ran c.read_log.ensures.ran) c.in-Err.fault
     (λ is. told.refusal.0 (ap Err is)) (λ is. told.refusal.1 (ap Err is))
     (λ is. failed_then disk c.args.device.now c.synced_root.new.device c.read_log.new.device c.synced_root.ensures.ran (told.cause (ap Err is)))
-    (λ keeps damage is. absurd (excluded damage is))
+    (λ keeps damage is. absurd (excluded damage is)) (λ keeps damage is. absurd (excluded damage is))
 
 pub returns-in_ok-paged-in-Ok-clause-durable : goal.returns-in_ok-paged-in-Ok-clause-durable
 returns-in_ok-paged-in-Ok-clause-durable g c = λ keeps.
