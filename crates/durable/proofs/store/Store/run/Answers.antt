@@ -108,8 +108,8 @@ loop-rest-preserved g c =
       c.loop-rest.invariant.5,
       omega (arith, c.loop-rest.invariant.6, c.answer_group.ensures.met.count),
       λ nothing.
-      let some = eqb-false (length c.loop-rest.rest.now) 0 (sym c.is_empty.ensures ∙ c.loop-rest-test.true) in
-      absurd (omega (arith, ap length nothing, c.answer_group.ensures.met.all c.in-None.is, ap length c.split_at.ensures.front, length-take c.min.result c.loop-rest.rest.now, c.min.ensures, some)),
+          let some = eqb-false (length c.loop-rest.rest.now) 0 (sym c.is_empty.ensures ∙ c.loop-rest-test.true) in
+          absurd (omega (arith, ap length nothing, c.answer_group.ensures.met.all c.in-None.is, ap length c.split_at.ensures.front, length-take c.min.result c.loop-rest.rest.now, c.min.ensures, some)),
     )
 
 pub returns-in-Some : goal.returns-in-Some
