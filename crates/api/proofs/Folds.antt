@@ -23,7 +23,7 @@ use Rattle.api.specs.declared.fault.ServeFault.{ServeFault}
 use Rattle.api.specs.declared.fault.ServeFault.TheVariants.{Read, Write as WriteFault, Device, Memory, Damaged, Failed}
 use Rattle.routes.specs.ReplyBytes.{reply_bytes, closing_bytes}
 use Rattle.objects.specs.Failing.{HasGrown}
-use Rattle.api.specs.Answers.{Answered, ShowsAt, AreRead, messages, writes_of, reply_of, all_writes, all_bytes, AllRefused, WhereSettled, HasApplied, Answers, WritesSome, MeetsFailure, Stops}
+use Rattle.api.specs.Answers.{Answered, ShowsAt, AreRead, messages, writes_of, reply_of, all_writes, all_bytes, WhereSettled, HasApplied, Answers, WritesSome, MeetsFailure, Stops}
 
 module _ (rules : Rules) where
   -- what is seen after some answers
@@ -54,9 +54,8 @@ module _ (rules : Rules) where
   seen-append : (v : View) (xs ys : List Answered) → seen v (xs ++ ys) ≡ seen (seen v xs) ys
   seen-append v xs ys = ap (after_all rules v) (all_writes-append v xs ys) ∙ after_all-append rules v (all_writes rules v xs) (all_writes rules (seen v xs) ys)
 
-AllRefused-append : (xs ys : List Answered) → AllRefused xs → AllRefused ys → AllRefused (xs ++ ys)
-AllRefused-append [] ys first second = second
-AllRefused-append (x ∷ xs) ys first second = (first.0, AllRefused-append xs ys first.1 second)
+none_then : (xs ys : List Answered) → xs ≡ [] → ys ≡ [] → xs ++ ys ≡ []
+none_then xs ys first second = ap (λ (z : List Answered). z ++ ys) first ∙ second
 
 read_then : (xs ys : List Answered) → AreRead xs → AreRead ys → AreRead (xs ++ ys)
 read_then [] ys first second = second
@@ -132,7 +131,7 @@ module _ {D : Type 0} {g : Ghosts D} (rules : Rules) where
         failed = λ stopped.
             let first = before.failed stopped in
             let second = after.failed (before.serving ∙ stopped) in
-            (second.0 ∙ first.0, AllRefused-append xs ys first.1 second.1);
+            (second.0 ∙ first.0, none_then xs ys first.1 second.1);
         specified = read_then xs ys before.specified after.specified;
         admitted = admitted_then rules v xs ys before.admitted after.admitted;
         settled = λ h is settled. subst (IsSettledAt rules new) (append_assoc h us ws ∙ ap (λ w. h ++ w) (sym writes))
@@ -148,7 +147,7 @@ module _ {D : Type 0} {g : Ghosts D} (rules : Rules) where
   applied_none store v shows only_now = record {
     serving = refl;
     shows = shows;
-    failed = λ stopped. (refl, tt);
+    failed = λ stopped. (refl, refl);
     specified = tt;
     admitted = tt;
     settled = λ h is settled. subst (IsSettledAt rules store) (sym (append-nil h)) settled;
@@ -221,7 +220,7 @@ module _ {O D : Type 0} {g : Ghosts D} (rules : Rules) (took : O → O → List 
     whole = whole;
     written = written.taken;
     stopped = stopped;
-    failed = λ f. (failed f, tt);
+    failed = λ f. (failed f, refl);
     specified = read;
     admitted = admitted;
     left = left;
@@ -345,7 +344,7 @@ module _ {O D : Type 0} {g : Ghosts D} (rules : Rules) (took : O → O → List 
         failed = λ stopped.
             let earlier = before.store.failed stopped in
             let then_ = after.failed (before.store.serving ∙ stopped) in
-            (then_.0 ∙ earlier.0, AllRefused-append xs ys earlier.1 then_.1);
+            (then_.0 ∙ earlier.0, none_then xs ys earlier.1 then_.1);
         specified = subst AreRead (sym (append_assoc xs ys last)) (read_then xs (ys ++ last) before.store.specified after.specified);
         admitted = subst (λ zs. AreAdmitted rules v (all_writes rules v zs)) (sym (append_assoc xs ys last))
             (admitted_then rules v xs (ys ++ last) before.store.admitted after.admitted);

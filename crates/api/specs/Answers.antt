@@ -66,11 +66,6 @@ abbrev pub all_bytes : Rules → View → List Answered → List ℕ
 all_bytes rules v [] = []
 all_bytes rules v (a ∷ more) = reply_bytes a.message (reply_of rules v a) ++ all_bytes rules (after_all rules v (writes_of rules v a)) more
 
--- none of them was served
-abbrev pub AllRefused : List Answered → Type 0
-AllRefused [] = Unit {0}
-AllRefused (a ∷ more) = (a.is_served ≡ false) × AllRefused more
-
 -- ---- what a call that answers messages leaves
 
 -- The store keeps to these numbers and shows this view while it serves. Of one that has failed nothing is asked.
@@ -82,12 +77,12 @@ abbrev pub WhereSettled : {D : Type 0} {g : Ghosts D} → Rules → Store D g �
 WhereSettled rules old v P = (h : History) → v ≡ view rules h → IsSettledAt rules old h → P h
 
 -- The store showed v, and shows what the answers leave; each of their writes was admitted by the policies, bindings and parameters just
--- before it. A store that had failed is as it was. One that was settled at a history is settled after the writes of the answers, and at
+-- before it. Of a store that had failed none is answered, and it is as it was. One that was settled at a history is settled after the writes of the answers, and at
 -- every moment since a crash leaves that history followed by some first ones of them.
 pub record HasApplied {D : Type 0} {g : Ghosts D} (rules : Rules) (old new : Store D g) (v : View) (answered : List Answered) : Type 0 where
   pub serving : serves new ≡ serves old
   pub shows : ShowsAt rules new (after_all rules v (all_writes rules v answered))
-  pub failed : serves old ≡ false → (new ≡ old) × AllRefused answered
+  pub failed : serves old ≡ false → (new ≡ old) × (answered ≡ [])
   pub specified : AreRead answered
   pub admitted : AreAdmitted rules v (all_writes rules v answered)
   pub settled : WhereSettled rules old v (λ h. IsSettledAt rules new (h ++ all_writes rules v answered))
@@ -126,7 +121,7 @@ module _ {O D : Type 0} {g : Ghosts D} (rules : Rules) (took : O → O → List 
     pub whole : (unwritten ≡ []) ⊎ HasGrown (failures o) (failures p)
     pub written : took o p (all_bytes rules v answered ++ closing)
     pub stopped : serves new ≡ false
-    pub failed : serves old ≡ false → (new ≡ old) × AllRefused answered
+    pub failed : serves old ≡ false → (new ≡ old) × (answered ≡ [])
     pub specified : AreRead (answered ++ failing)
     pub admitted : AreAdmitted rules v (all_writes rules v (answered ++ failing))
     pub left : WhereSettled rules old v (λ h. IsLeftAt rules new h (all_writes rules v answered) (all_writes rules v (answered ++ failing)))
@@ -144,8 +139,19 @@ Stops rules took failures o p old new v ms ServeFaults.Memory = ⊥
 Stops rules took failures o p old new v ms (ServeFaults.Damaged damage) = ⊥
 Stops rules took failures o p old new v ms ServeFaults.Failed = MeetsFailure rules took o p old new failures v ms
 
+-- A refusal that closes is written behind all else, the whole of it unless the output failed.
+pub record RefusesLast {O : Type 0} (took : O → O → List ℕ → Type 0) (failures : O → ℕ) (o p : O) : Type 0 where
+  -- the output after what was written before
+  pub before : O
+  pub later : failures o ≤ failures before
+  pub closing : List ℕ
+  pub unwritten : List ℕ
+  pub refusal : closing_bytes false StorageFailed ≡ closing ++ unwritten
+  pub whole : (unwritten ≡ []) ⊎ HasGrown (failures before) (failures p)
+  pub written : took before p closing
+
 -- The output's and the device's fault are answered only where theirs grew, `Damaged` only where the store stopped, and `Failed` only where it had
--- stopped before.
+-- stopped before. Where no fault is answered the output did not fail.
 pub record HasCauses {T : Type 0} (output_old output_new device_old device_new : ℕ) (serves_old serves_new : Bool) (result : Result T ServeFault) : Type 0 where
   pub output_later : output_old ≤ output_new
   pub device_later : device_old ≤ device_new
@@ -155,3 +161,4 @@ pub record HasCauses {T : Type 0} (output_old output_new device_old device_new :
   pub damaged : (damage : Damage) → IsErrOf result (ServeFaults.Damaged damage) → (serves_old ≡ true) × (serves_new ≡ false)
   pub failed : IsErrOf result ServeFaults.Failed → serves_old ≡ false
   pub goes_on : OnOk result (serves_new ≡ serves_old)
+  pub output_well : OnOk result (output_new ≡ output_old)

@@ -1,5 +1,5 @@
 -- What serving a connection leaves: the bytes read and written, and the store.
-use Rattle.std.specs.Prelude.{◌≡◌, ℕ, ◌≤◌, ◌⊎◌, List, [], ◌++◌, length, Bool, true, false, None, Result, IsErrOf, OnOk}
+use Rattle.std.specs.Prelude.{◌≡◌, ◌≢◌, ℕ, ◌≤◌, ◌⊎◌, List, [], ◌++◌, length, Bool, true, false, None, Result, Err, IsErrOf, OnOk}
 use Rattle.std.specs.List.{AllByRecursion}
 use Rattle.device.specs.declared.device.Device.{Ghosts}
 use Rattle.requests.specs.declared.refusal.Refusal.TheVariants.{OutOfMemory, StorageFailed}
@@ -16,7 +16,7 @@ use Rattle.api.specs.declared.fault.ServeFault.{ServeFault}
 use Rattle.api.specs.declared.fault.ServeFault.TheVariants as ServeFaults
 use Rattle.routes.specs.ReplyBytes.{closing_bytes, end_bytes}
 use Rattle.objects.specs.Failing.{HasGrown}
-use Rattle.api.specs.Answers.{Answered, messages, AreRead, all_writes, all_bytes, AllRefused, WhereSettled, HasApplied}
+use Rattle.api.specs.Answers.{Answered, messages, AreRead, all_writes, all_bytes, WhereSettled, HasApplied}
 
 -- The whole input was read and is this stream, or whatever follows what was read, the stream is this.
 abbrev pub Ends : (ended : Type 0) → (read : List ℕ) → List Message → End → Type 0
@@ -81,7 +81,7 @@ module _ {D : Type 0} {g : Ghosts D} (rules : Rules) (old new : Store D g) (v : 
     pub whole : (unwritten ≡ []) ⊎ HasGrown output_old output_new
     pub text : written ≡ all_bytes rules v answered ++ closing
     pub stopped : serves new ≡ false
-    pub failed : serves old ≡ false → (new ≡ old) × AllRefused answered
+    pub failed : serves old ≡ false → (new ≡ old) × (answered ≡ [])
     pub specified : AreRead (answered ++ failing)
     pub admitted : AreAdmitted rules v (all_writes rules v (answered ++ failing))
     pub left : WhereSettled rules old v (λ h. IsLeftAt rules new h (all_writes rules v answered) (all_writes rules v (answered ++ failing)))
@@ -116,7 +116,8 @@ pub record Exchanged {I O : Type 0} (gave : I → I → List ℕ → Type 0) (to
   pub took_them : took output_old output_new written
   pub holds : Holds read written
 
--- Each fault of a connection is answered only where what it names failed, and `Damaged` only where the store stopped.
+-- Each fault of a connection is answered only where what it names failed, and `Damaged` only where the store stopped. The input failed only where
+-- `Read` is answered, and where no fault is the output did not fail.
 pub record HasAllCauses {T : Type 0} (input_old input_new output_old output_new device_old device_new : ℕ) (serves_old serves_new : Bool) (result : Result T ServeFault) : Type 0 where
   pub input_later : input_old ≤ input_new
   pub output_later : output_old ≤ output_new
@@ -127,3 +128,5 @@ pub record HasAllCauses {T : Type 0} (input_old input_new output_old output_new 
   pub damaged : (damage : Damage) → IsErrOf result (ServeFaults.Damaged damage) → (serves_old ≡ true) × (serves_new ≡ false)
   pub failed : IsErrOf result ServeFaults.Failed → serves_old ≡ false
   pub goes_on : OnOk result (serves_new ≡ serves_old)
+  pub input_well : result ≢ Err ServeFaults.Read → input_new ≡ input_old
+  pub output_well : OnOk result (output_new ≡ output_old)
