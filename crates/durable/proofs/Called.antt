@@ -19,7 +19,7 @@ use Rattle.durable.specs.declared.fault.Fault.{Fault}
 use Rattle.durable.specs.declared.fault.Fault.TheVariants as Faults
 use Rattle.durable.specs.declared.store.Store.{Store}
 use Rattle.durable.specs.Called.{ServesOn}
-use Rattle.durable.specs.Faults.{MayBeMet, of_lookup_fault, goes_on_after}
+use Rattle.durable.specs.Faults.{MayBeMet, of_part, of_lookup_fault, goes_on_after}
 use Rattle.durable.specs.Settled.{device_of, serves, LiesUnder}
 use Rattle.durable.proofs.Renewing.{failed_then, never_failed, never_exhausted}
 
@@ -81,13 +81,13 @@ module _ {D A : Type 0} {g : Ghosts D} (old new : Store D g) where
     cause = λ is. failed;
   }
 
-  serves_damaged : (damage : Damage) → serves new ≡ false → ServesOn {A = A} old new (Err (Faults.Damaged damage))
-  serves_damaged damage stopped = record {
+  serves_damaged : (part : Part) → serves new ≡ false → ServesOn {A = A} old new (Err (Faults.Damaged (of_part part)))
+  serves_damaged part stopped = record {
     goes_on = tt;
     memory_goes_on = λ is. cc;
     stops = λ is. stopped;
     damaged_stops = λ other is. stopped;
-    refusal = inr (inr (damage, refl));
+    refusal = inr (inr (part, refl));
     cause = λ is. cc;
   }
 
@@ -106,17 +106,17 @@ module _ {D A : Type 0} {g : Ghosts D} (old new : Store D g) where
       subst At (sym (told ∙ is)) (serves_device stopped failed)
 
   -- damage was found
-  pub serves_spoiled : {fault : Fault} (damage : Damage) → fault ≡ Faults.Damaged damage → serves new ≡ false → ServesOn {A = A} old new (Err fault)
-  serves_spoiled damage is stopped =
+  pub serves_spoiled : {fault : Fault} (part : Part) → fault ≡ Faults.Damaged (of_part part) → serves new ≡ false → ServesOn {A = A} old new (Err fault)
+  serves_spoiled part is stopped =
       let At : Fault → Type 0 = λ f. ServesOn {A = A} old new (Err f) in
-      subst At (sym is) (serves_damaged damage stopped)
+      subst At (sym is) (serves_damaged part stopped)
 
   -- a look met a fault
   serves_by : (fault : LookupFault) → serves new ≡ goes_on_after fault → (fault ≡ Looks.Device → HasFailed g.disk (device_of old) (device_of new))
       → ServesOn {A = A} old new (Err (of_lookup_fault fault))
   serves_by Looks.Device goes failed = serves_device goes (failed refl)
   serves_by Looks.Memory goes failed = serves_memory goes
-  serves_by (Looks.Damaged part) goes failed = serves_damaged _ goes
+  serves_by (Looks.Damaged part) goes failed = serves_damaged part goes
 
   pub serves_met : (fault : LookupFault) {told : Fault} → told ≡ of_lookup_fault fault → serves new ≡ goes_on_after fault
       → (fault ≡ Looks.Device → HasFailed g.disk (device_of old) (device_of new)) → ServesOn {A = A} old new (Err told)

@@ -28,7 +28,7 @@ use Rattle.durable.specs.declared.fault.Damage.{Damage}
 use Rattle.durable.specs.declared.fault.Fault.{Fault}
 use Rattle.durable.specs.declared.fault.Fault.TheVariants as Faults
 use Rattle.durable.specs.declared.store.Store.{Store}
-use Rattle.durable.specs.Faults.{MayBeMet}
+use Rattle.durable.specs.Faults.{of_part, MayBeMet}
 use Rattle.durable.specs.Ready.{HoldsHistory}
 use Rattle.durable.specs.Recorded.{IsGroup}
 use Rattle.durable.specs.Gathered.{in_record, CanBeAppended, HasStepped, StaysAs, HasGathered, HasGatheredMore, HasServedMore, HasStoppedIn, HasAnswered}
@@ -384,7 +384,7 @@ pub only_memory : (fault : Fault) (working : Bool) → working ≡ true → MayB
     → ((d : Damage) → fault ≡ Faults.Damaged d → working ≡ false) → fault ≡ Faults.Memory
 only_memory fault working serves (inl device) stops damaged = absurd (true≢false (sym serves ∙ stops device))
 only_memory fault working serves (inr (inl memory)) stops damaged = memory
-only_memory fault working serves (inr (inr found)) stops damaged = absurd (true≢false (sym serves ∙ damaged found.0 found.1))
+only_memory fault working serves (inr (inr found)) stops damaged = absurd (true≢false (sym serves ∙ damaged (of_part found.0) found.1))
 
 -- a fault of one result, seen from another
 pub retyped : {T S : Type 0} (fault other : Fault) → IsErrOf {T = S} (Err fault) other → IsErrOf {T = T} (Err fault) other

@@ -18,7 +18,7 @@ use Rattle.paged.proofs.Staying.{below_ran}
 use Rattle.durable.specs.declared.fault.Fault.{Fault}
 use Rattle.durable.specs.declared.fault.Fault.TheVariants as Faults
 use Rattle.durable.specs.declared.store.Store.{Store}
-use Rattle.durable.specs.Faults.{MayBeMet}
+use Rattle.durable.specs.Faults.{of_part, MayBeMet}
 use Rattle.durable.specs.Stands.{StandsFor}
 use Rattle.durable.specs.Settled.{device_of, serves, kept_rules, revision_of, IsFound, IsShown, LiesUnder, LiesStill, ServesAt, IsSettledAt, IsLeftAt, LeavesSome}
 use Rattle.durable.proofs.Answering.{serving_by, settled_serves, revision_is, shown_anew}
@@ -45,12 +45,12 @@ at_either P r e f is holds = ⊎_elim (λ one. at_error P r e one holds) (λ oth
 pub never_failed : (f : Fault) → MayBeMet f → f ≡ Faults.Failed → ⊥
 never_failed f (inl is) never = let both : Faults.Device ≡ Faults.Failed = sym is ∙ never in cc
 never_failed f (inr (inl is)) never = let both : Faults.Memory ≡ Faults.Failed = sym is ∙ never in cc
-never_failed f (inr (inr is)) never = let both : Faults.Damaged is.0 ≡ Faults.Failed = sym is.1 ∙ never in cc
+never_failed f (inr (inr is)) never = let both : Faults.Damaged (of_part is.0) ≡ Faults.Failed = sym is.1 ∙ never in cc
 
 pub never_exhausted : (f : Fault) → MayBeMet f → f ≡ Faults.Exhausted → ⊥
 never_exhausted f (inl is) never = let both : Faults.Device ≡ Faults.Exhausted = sym is ∙ never in cc
 never_exhausted f (inr (inl is)) never = let both : Faults.Memory ≡ Faults.Exhausted = sym is ∙ never in cc
-never_exhausted f (inr (inr is)) never = let both : Faults.Damaged is.0 ≡ Faults.Exhausted = sym is.1 ∙ never in cc
+never_exhausted f (inr (inr is)) never = let both : Faults.Damaged (of_part is.0) ≡ Faults.Exhausted = sym is.1 ∙ never in cc
 
 -- a device that failed after reads failed
 pub failed_then : {D : Type 0} (disk : Disk D) (old mid new : D) → Ran disk old mid Same → HasFailed disk mid new → HasFailed disk old new

@@ -2,7 +2,6 @@
 use Rattle.std.specs.Prelude.{◌≡◌, length}
 use Rattle.roots.specs.declared.root.Root.{Root}
 use Rattle.requests.specs.View.{View}
-use Rattle.recovery.specs.Beside.{Beside}
 use Rattle.durable.specs.declared.compacted.Compacted.{Compacted}
 use Rattle.durable.specs.declared.compacted.Checked.{Checked}
 
@@ -12,8 +11,8 @@ pub record IsToldOf (root : Root) (c : Compacted) : Type 0 where
   pub pages : c.pages ≡ root.pages
   pub first : c.first ≡ root.first
 
--- This is told of a store that holds a view, in the generation of a root.
-pub record IsCheckOf (root : Root) (held : View Beside) (c : Checked) : Type 0 where
+-- This is told of a store that holds a view, with or without what stands beside its objects, in the generation of a root.
+pub record IsCheckOf {B : Type 0} (root : Root) (held : View B) (c : Checked) : Type 0 where
   pub revision : c.revision ≡ held.revision
   pub objects : c.objects ≡ length held.objects
   pub generation : c.generation ≡ root.generation

@@ -190,3 +190,10 @@ pub record HasStopped {D : Type 0} {g : Ghosts D} (old new : Store D g) (request
       × (accepted rules v (asked ++ failing) ≡ [] → Ran g.disk (device_of old) (device_of new) Same)
       × AreAdmitted rules v (accepted rules v (asked ++ failing))
   pub stopped : (rules : Rules) (h : History) → IsSettledAt rules old h → HasStoppedAs rules old new h asked (asked ++ failing)
+
+-- Damage was found in the request after those that a run from old has answered, and nothing was written for it, nor after it.
+pub record HasFoundDamage {D : Type 0} {g : Ghosts D} (old new : Store D g) (requests : List Request) (given : List Reply) : Type 0 where
+  -- the store that had answered them
+  pub before : Store D g
+  pub served : HasServed old before (take (length given) requests) given
+  pub idle : Ran g.disk (device_of before) (device_of new) Same

@@ -1,7 +1,8 @@
-ghost use Rattle.std.specs.Prelude.{◌≡◌, ◌≢◌, ◌≤◌, ◌+◌, ◌-◌, ◌^◌, ◌<◌, IsTrue, ◌++◌, ◌∷◌, [], List, ℕ, length, take, map, true, false, is_ok, None, Some, IsSome, IfSome, IfOk, IfErr, OnOk, OnErr, IsErrOf, ◌⊎◌, ◌↔◌};
+ghost use Rattle.std.specs.Prelude.{◌≡◌, ◌≢◌, ◌≤◌, ◌+◌, ◌-◌, ◌^◌, ◌<◌, IsTrue, ◌++◌, ◌∷◌, [], List, ℕ, length, min, take, map, true, false, is_ok, None, Some, IsSome, IfSome, IfOk, IfErr, OnOk, OnErr, IsErrOf, ◌⊎◌, ◌↔◌};
 ghost use Rattle.checkpoint.specs.declared.writing.WriteFault.TheVariants as WriteFault;
 ghost use Rattle.durable.specs.Ready.{IsReady};
 ghost use Rattle.paged.specs.Paged.{root_of as paged_root};
+ghost use Rattle.records.specs.Payload.{group_limit};
 
 use crate::compacted::{Checked, Compacted};
 use crate::fault::{Damage, Fault};
@@ -22,6 +23,13 @@ fn changed_nothing(fault: WriteFault) -> bool
     ensures { IsTrue result ↔ ((fault ≡ WriteFault.Memory) ⊎ (fault ≡ WriteFault.Exhausted)) }
 {
     matches!(fault, WriteFault::Memory | WriteFault::Exhausted)
+}
+
+// How many of the requests that wait are a group, whose writes stand in one record: as many as a record holds writes, and else all.
+fn group_size(waiting: usize) -> usize
+    ensures { result ≡ min waiting group_limit }
+{
+    waiting.min(GROUP_LIMIT)
 }
 
 /// A store of objects on a device.
@@ -60,7 +68,6 @@ impl<D: Device> Store<D> {
     ghost use Rattle.holdings.specs.Holdings.{Shows, ShowsSame};
     ghost use Rattle.holdings.specs.Prepared.{HasRoomFor};
     ghost use Rattle.records.specs.Gathered.{Gathers, count_of};
-    ghost use Rattle.records.specs.Payload.{group_limit};
     ghost use Rattle.celtree.specs.Tree.{Expr};
     ghost use Rattle.expressions.specs.Specification.{Specification};
     ghost use Rattle.recovery.specs.Beside.{Beside};
@@ -77,7 +84,7 @@ impl<D: Device> Store<D> {
     ghost use Rattle.durable.specs.Gathered.{in_record, CanBeAppended, HasStepped, StaysAs, HasGatheredMore, HasServedMore, HasStoppedIn, HasAnswered, HasMet};
     ghost use Rattle.durable.specs.Ready.{IsReadyAt, HoldsHistory};
     ghost use Rattle.durable.specs.Stands.{StandsFor};
-    ghost use Rattle.durable.specs.Settled.{device_of, paged_of, root_of, log_of, serves, kept_rules, revision_of, LiesUnder, LiesStill, Holds, IsShown, ServesAt, IsFound, IsSettledAt, IsLeftAt, LeavesSome, HasReplied, HasFailedAt, HasServed, HasStopped};
+    ghost use Rattle.durable.specs.Settled.{device_of, paged_of, root_of, log_of, serves, kept_rules, revision_of, LiesUnder, LiesStill, Holds, IsShown, ServesAt, IsFound, IsSettledAt, IsLeftAt, LeavesSome, HasReplied, HasFailedAt, HasServed, HasStopped, HasFoundDamage};
 
     /// The store of what an opening found on a device: what is shown over the pages of the root that counts, and the log behind them. It serves.
     pub fn serving(device: D, paged: Paged, log: Log) -> Store<D>
@@ -318,6 +325,7 @@ impl<D: Device> Store<D> {
         requires few { length requests.now ≤ group_limit }
         requires room { length replies.old.items + length requests.now ≤ vec_capacity replies.old }
         ensures answered { HasAnswered self.old self.new (map request_of requests.now) replies.old.items replies.new.items result }
+        ensures none { (damage : Damage) → result ≡ Some (Fault.Damaged damage) → replies.new.items ≡ replies.old.items }
         ensures met { HasMet self.old self.new (length requests.now) replies.old replies.new result }
     {
         let before = replies.len();
@@ -349,6 +357,8 @@ impl<D: Device> Store<D> {
         ensures damaged { (damage : Damage) → result.1 ≡ Some (Fault.Damaged damage) → (rules : Rules) (v : View) → ServesAt rules self.old v → ⊥ }
         ensures damaged_ran { (damage : Damage) → result.1 ≡ Some (Fault.Damaged damage) → result.0.items ≡ []
             → Ran D.disk (device_of self.old) (device_of self.new) Same }
+        ensures damaged_served { (damage : Damage) → result.1 ≡ Some (Fault.Damaged damage)
+            → HasFoundDamage self.old self.new (map request_of requests.now) result.0.items }
 
         ensures refusal { serves self.old ≡ true → IfSome result.1 MayBeMet }
         ensures failed { serves self.old ≡ false → (self.new ≡ self.old) × (result.0.items ≡ []) × (result.1 ≡ Some Fault.Failed) }
@@ -367,7 +377,7 @@ impl<D: Device> Store<D> {
         };
         let mut rest = requests;
         while !rest.is_empty() {
-            let (group, more) = rest.split_at(rest.len().min(GROUP_LIMIT));
+            let (group, more) = rest.split_at(group_size(rest.len()));
             match self.answer_group(alloc, group, &mut replies) {
                 None => rest = more,
                 Some(fault) => return (replies, Some(fault)),
@@ -406,6 +416,7 @@ impl<D: Device> Store<D> {
             → ServesAt rules self.new v }
         ensures memory { (rules : Rules) (h : History) → IsSettledAt rules self.old h → IsErrOf result Fault.Memory ⊎ IsErrOf result Fault.Exhausted
             → IsSettledAt rules self.new h × (D.disk.content (device_of self.new) ≡ D.disk.content (device_of self.old)) }
+        ensures unchanged { IsErrOf result Fault.Memory ⊎ IsErrOf result Fault.Exhausted → Ran D.disk (device_of self.old) (device_of self.new) Same }
         ensures greatest { IsErrOf result Fault.Exhausted → (root_of self.old).generation ≡ 2 ^ 64 - 1 }
 
         // Damage is found only where no history is shown, and nothing is written then.
@@ -575,12 +586,15 @@ impl<D: Device> Store<D> {
         ensures told { (held : seen.View Beside) → Holds self.old held → IfOk result (IsCheckOf (root_of self.old) held) }
         ensures counted { (rules : Rules) (h : History) (settled : IsSettledAt rules self.old h)
             → IfOk result (λ c. c.generation ≡ settled.read.root.generation) }
+        ensures told_settled { (rules : Rules) (h : History) (settled : IsSettledAt rules self.old h)
+            → IfOk result (IsCheckOf settled.read.root (view rules h)) }
         ensures plans { (held : seen.View Beside) → Holds self.old held → OnOk result (AllByRecursion HasOwnPlans held.objects) }
 
         // What is shown stays, unless the store stops.
         ensures serving { (rules : Rules) (v : View) → ServesAt rules self.old v → OnOk result (ServesAt rules self.new v) }
         ensures memory { (rules : Rules) (v : View) → ServesAt rules self.old v → IsErrOf result Fault.Memory → ServesAt rules self.new v }
         ensures settled { (rules : Rules) (h : History) → IsSettledAt rules self.old h → OnOk result (IsSettledAt rules self.new h) }
+        ensures memory_settled { (rules : Rules) (h : History) → IsSettledAt rules self.old h → IsErrOf result Fault.Memory → IsSettledAt rules self.new h }
 
         ensures device { Ran D.disk (device_of self.old) (device_of self.new) Same }
         ensures damaged { (damage : Damage) → IsErrOf result (Fault.Damaged damage) → (rules : Rules) (v : View) → ServesAt rules self.old v → IsKeepable rules v → ⊥ }

@@ -16,7 +16,7 @@ use Rattle.durable.specs.declared.fault.Fault.TheVariants as Faults
 use Rattle.opening.specs.declared.episodes.Episode.{Episode}
 use Rattle.opening.specs.declared.episodes.Found.{Found}
 use Rattle.durable.specs.declared.store.Store.{Store}
-use Rattle.durable.specs.Faults.{MayBeMet}
+use Rattle.durable.specs.Faults.{of_part, MayBeMet}
 use Rattle.opening.specs.Lives.{requests_of, IsEpisode, EpisodeLeaves, LivesFrom}
 use Rattle.durable.specs.Ready.{HoldsHistory}
 use Rattle.durable.specs.Settled.{added, device_of, serves, IsFound, IsSettledAt, IsLeftAt, HasServed, HasStopped}
@@ -63,7 +63,7 @@ admitted_first rules v (w ∷ ws) us all = (all.0, admitted_first rules (after r
 device_only : (x : Fault) → (Some x ≡ Some Faults.Memory → ⊥) → ((d : Damage) → Some x ≡ Some (Faults.Damaged d) → ⊥) → MayBeMet x → x ≡ Faults.Device
 device_only x not_memory not_damaged (inl is) = is
 device_only x not_memory not_damaged (inr (inl is)) = absurd (not_memory (ap Some is))
-device_only x not_memory not_damaged (inr (inr found)) = absurd (not_damaged found.0 (ap Some found.1))
+device_only x not_memory not_damaged (inr (inr found)) = absurd (not_damaged (of_part found.0) (ap Some found.1))
 
 -- A store that was settled at the history, then run, and then perhaps compacted.
 module _ {D : Type 0} {g : Ghosts D} (rules : Rules) (old mid new : Store D g) (h : History) (e : Episode) (f : Found) (settled : IsSettledAt rules old h)

@@ -14,6 +14,7 @@ returns-then-self g c =
       answered = answered_group c.args.self.now c.take_group-stop.new.self (map request_of c.args.requests.now) before c.take_group-stop.result c.take_group-stop.new.replies.items
           (taken.served c.if-self.true) (λ none. taken.met.all none ∙ ap (λ (n : ℕ). length before + n) (sym (length-map c.args.requests.now request_of)))
           (λ device. true≢false (sym c.if-self.true ∙ taken.met.stops device));
+      none = λ damage is. absurd (true≢false (sym c.if-self.true ∙ taken.met.damaged_stops damage is));
       met = taken.met;
     }
 
@@ -29,6 +30,7 @@ returns g c =
       answered = subst Now (sym cut)
           (stopped_group c.args.self.now c.take_group-stop.new.self (map request_of c.args.requests.now) before c.take_group-stop.result
           (λ is. true≢false (sym (met.goes_on is) ∙ c.if-self.false)) taken.stopped);
+      none = λ damage is. cut;
       met = record {
         damaged = met.damaged;
         damaged_ran = met.damaged_ran;

@@ -2,6 +2,7 @@ use Rattle.std.proofs.Common.{rules, ◌∙◌, refl, sym, ap, subst, true≢fal
 use Rattle.std.proofs.lemmas.Result.{IfOk-from_err}
 use Rattle.checkpoint.proofs.Faults.{no_fault}
 use Rattle.roots.specs.declared.root.Root.{Root}
+use Rattle.objects.specs.declared.fault.Part.TheVariants.{Plans}
 use Rattle.objects.specs.declared.format.Rules.{Rules}
 use Rattle.holdings.specs.Holdings.{State, Shows}
 use Rattle.snapshots.specs.Keeping.{IsKeepable}
@@ -11,6 +12,7 @@ use Rattle.paged.proofs.Owning.{below_own}
 use Rattle.durable.specs.declared.fault.Fault.TheVariants as Faults
 use Rattle.durable.specs.Settled.{root_of}
 use Rattle.durable.proofs.Called.{serves_passed, serves_refused, serves_spoiled, passed_on, failed_alone, no_device, no_memory, no_damage, ran_met}
+use Rattle.durable.proofs.Checking.{checked_settled}
 use Rattle.durable.proofs.Keeping.{root_is}
 use Rattle.durable.proofs.Renewing.{serves_between, settled_between}
 use Rattle.durable.proofs.Unwritten.{idle}
@@ -24,6 +26,8 @@ returns-then-not-self g c = record {
   serving = λ rules v serving. tt;
   memory = λ rules v serving is. failed_alone Faults.Memory no_memory is;
   settled = λ rules h settled. tt;
+  told_settled = λ rules h settled. tt;
+  memory_settled = λ rules h settled is. failed_alone Faults.Memory no_memory is;
   device = idle g.D.Device.disk c.args.self.now.device (g.met.D.Device.only_now c.args.self.now.device);
   damaged = λ damage is. failed_alone (Faults.Damaged damage) (no_damage damage) is;
   refusal = λ serves. absurd (true≢false (sym serves ∙ c.if-not-self.true));
@@ -48,6 +52,8 @@ returns-in_err-next g c =
       serving = λ rules v serving. IfOk-from_err told _ passed.0;
       memory = λ rules v serving is. serves_between store mid mid c.next.ensures.device c.next.ensures.core c.next.ensures.lies (leaves.memory_goes_on is) rules v serving;
       settled = λ rules h settled. IfOk-from_err told _ passed.0;
+      told_settled = λ rules h settled. IfOk-from_err told _ passed.0;
+      memory_settled = λ rules h settled is. settled_between store mid mid c.next.ensures.device c.next.ensures.core c.next.ensures.lies (leaves.memory_goes_on is) rules h settled;
       device = c.next.ensures.device;
       damaged = λ damage is rules v serving keepable.
           let Keeps : Rules → Type 0 = λ r. IsKeepable r v in
@@ -75,6 +81,8 @@ returns-in_err-has_own_plans g c =
       serving = λ rules v serving. IfOk-from_err told _ passed.0;
       memory = λ rules v serving is. serves_between store mid mid c.next.ensures.device c.next.ensures.core c.next.ensures.lies working rules v serving;
       settled = λ rules h settled. IfOk-from_err told _ passed.0;
+      told_settled = λ rules h settled. IfOk-from_err told _ passed.0;
+      memory_settled = λ rules h settled is. settled_between store mid mid c.next.ensures.device c.next.ensures.core c.next.ensures.lies working rules h settled;
       device = c.next.ensures.device;
       damaged = λ damage is. absurd (true≢false (sym working ∙ leaves.damaged_stops damage is));
       refusal = λ serves. leaves.refusal;
@@ -90,7 +98,7 @@ returns-then-not-branch g c =
     let store = c.args.self.now in
     let mid = c.next.new.self in
     let new = c.stop_for.new.self in
-    let leaves = serves_spoiled store new _ c.stop_for.ensures.fault c.stop_for.ensures.stops in
+    let leaves = serves_spoiled store new Plans c.stop_for.ensures.fault c.stop_for.ensures.stops in
     record {
       told = λ held holds. tt;
       counted = λ rules h settled. tt;
@@ -98,6 +106,8 @@ returns-then-not-branch g c =
       serving = λ rules v serving. tt;
       memory = λ rules v serving is. absurd (true≢false (sym (leaves.memory_goes_on is) ∙ c.stop_for.ensures.stops));
       settled = λ rules h settled. tt;
+      told_settled = λ rules h settled. tt;
+      memory_settled = λ rules h settled is. absurd (true≢false (sym (leaves.memory_goes_on is) ∙ c.stop_for.ensures.stops));
       device = ran_met new mid.device mid.paged c.stop_for.ensures.device c.stop_for.ensures.paged store.device c.next.ensures.device;
       damaged = λ damage is rules v serving keepable.
           let shown = serving.shows in
@@ -129,6 +139,11 @@ returns g c =
       serving = λ rules v serving. serves_between store mid mid c.next.ensures.device c.next.ensures.core c.next.ensures.lies working rules v serving;
       memory = λ rules v serving is. absurd (no_fault is);
       settled = λ rules h settled. settled_between store mid mid c.next.ensures.device c.next.ensures.core c.next.ensures.lies working rules h settled;
+      told_settled = λ numbers h settled.
+          checked_settled store numbers h settled _ (λ held holds. search rules)
+          (ap (λ (r : Root). r.generation)
+          (root ∙ root_is g.D.Device.disk store.device (root_of store) store.log (store.ready settled.working settled.keeps) settled.read.root settled.read.counts));
+      memory_settled = λ rules h settled is. absurd (no_fault is);
       device = c.next.ensures.device;
       damaged = λ damage is. absurd (no_fault is);
       refusal = λ serves. tt;

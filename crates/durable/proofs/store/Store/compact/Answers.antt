@@ -9,7 +9,7 @@ use Rattle.recovery.proofs.Histories.{on_ok_to}
 use Rattle.durable.specs.declared.fault.Fault.TheVariants as Fault
 use Rattle.durable.specs.Settled.{root_of, revision_of}
 use Rattle.durable.proofs.Answering.{held}
-use Rattle.durable.proofs.Called.{serves_passed, passed_on, failed_alone, no_device, no_damage, no_exhausted, not_failed, not_exhausted}
+use Rattle.durable.proofs.Called.{serves_passed, passed_on, failed_alone, no_device, no_memory, no_damage, no_exhausted, not_failed, not_exhausted}
 use Rattle.durable.proofs.Keeping.{root_is}
 use Rattle.durable.proofs.Numbers.{history_kept}
 use Rattle.durable.proofs.Renewing.{on_ok_three, at_either, failed_then, serves_between, settled_between, revision_between, serves_unchanged, settled_unchanged, keepable_here, moments_renewed, settled_renewed, serves_renewed, left_renewed}
@@ -31,6 +31,7 @@ returns-then-not-self g c =
       device = λ rules h settled is. absurd (true≢false (sym settled.working ∙ stopped));
       memory_serving = λ rules v serving told. absurd (true≢false (sym serving.working ∙ stopped));
       memory = λ rules h settled told. absurd (true≢false (sym settled.working ∙ stopped));
+      unchanged = λ is. ⊎_elim (failed_alone Fault.Memory no_memory) (failed_alone Fault.Exhausted no_exhausted) is;
       greatest = λ is. failed_alone Fault.Exhausted no_exhausted is;
       damaged = λ damage is. failed_alone (Fault.Damaged damage) (no_damage damage) is;
       damaged_ran = λ damage is. failed_alone (Fault.Damaged damage) (no_damage damage) is;
@@ -69,6 +70,7 @@ returns-in_err-next g c =
           serves_between store mid mid run core still (⊎_elim leaves.memory_goes_on (λ other. absurd (exhausted other)) is) rules v serving;
       memory = λ rules h settled is.
           (settled_between store mid mid run core still (⊎_elim leaves.memory_goes_on (λ other. absurd (exhausted other)) is) rules h settled, run.seen settled.keeps);
+      unchanged = λ is. run;
       greatest = λ is. absurd (exhausted is);
       damaged = λ damage is rules h settled.
           c.next.ensures.damaged damage (passed_on told (Fault.Damaged damage) passed.1 c.in_err-next.was is) (view rules h) settled.shows
@@ -132,6 +134,7 @@ returns g c =
             settled_unchanged store mid c.write_next.new.self run core still c.in_ok-next.ensures.leaves.goes_on same unchanged.0 unchanged.1 rules h settled,
             unchanged.0.seen (run.kept settled.keeps) ∙ run.seen settled.keeps,
           );
+      unchanged = λ is. read_then g.D.Device.disk store.device mid.device new.device run (c.write_next.ensures.unchanged is).0;
       damaged = λ damage told rules h settled.
           let shown : in_list c.in_ok-next.next.entries ≡ entries_of (view rules h) = c.in_ok-next.ensures.entries (view rules h) settled.shows in
           let revision : revision_of mid ≡ (view rules h).revision = revision_between store mid mid run core still (view rules h) settled.shows in

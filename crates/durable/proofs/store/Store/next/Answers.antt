@@ -2,6 +2,7 @@ use Rattle.std.proofs.Common.{◌≡◌, ◌∙◌, sym, ap, subst, List, true, 
 use Rattle.std.specs.FinMap.{is_sorted}
 use Rattle.checkpoint.proofs.Faults.{no_fault}
 use Rattle.pages.specs.Page.{Entry, bytes_cmp}
+use Rattle.objects.specs.declared.fault.Part.TheVariants as Parts
 use Rattle.holdings.specs.Holdings.{State}
 use Rattle.checkpoint.specs.EntryList.{entries_of as in_list}
 use Rattle.snapshots.specs.Keeping.{entries_of}
@@ -91,5 +92,5 @@ returns g c =
       root = ap (λ (p : Paged). paged.root_of p) c.stop_for.ensures.paged ∙ c.next.ensures.root;
       lies = λ base below. lies_met new device _ c.stop_for.ensures.device c.stop_for.ensures.paged base (c.next.ensures.below base below);
       device = ran_met new device _ c.stop_for.ensures.device c.stop_for.ensures.paged store.device c.next.ensures.ran;
-      leaves = serves_spoiled store new _ c.stop_for.ensures.fault c.stop_for.ensures.stops;
+      leaves = serves_spoiled store new Parts.Entry c.stop_for.ensures.fault c.stop_for.ensures.stops;
     }

@@ -35,6 +35,7 @@ returns-then-not-settled g c =
       device = λ is. told_other Faults.Failed Faults.Device no_device is;
       damaged = λ damage is. told_other Faults.Failed (Faults.Damaged damage) (no_damage damage) is;
       damaged_ran = λ damage is. told_other Faults.Failed (Faults.Damaged damage) (no_damage damage) is;
+      damaged_served = λ damage is. told_other Faults.Failed (Faults.Damaged damage) (no_damage damage) is;
       refusal = λ serves. absurd (true≢false (sym serves ∙ stopped));
       failed = λ was. (refl, c.new.ensures.items, refl);
       goes_on = λ told. refl;
@@ -55,6 +56,7 @@ returns-in-Err g c =
       device = λ is. told_other Faults.Memory Faults.Device device_memory is;
       damaged = λ damage is. told_other Faults.Memory (Faults.Damaged damage) (damage_memory damage) is;
       damaged_ran = λ damage is. told_other Faults.Memory (Faults.Damaged damage) (damage_memory damage) is;
+      damaged_served = λ damage is. told_other Faults.Memory (Faults.Damaged damage) (damage_memory damage) is;
       refusal = λ serves. inr (inl refl);
       failed = λ was. absurd (true≢false (sym working ∙ was));
       goes_on = λ told. refl;
@@ -91,7 +93,7 @@ loop-rest-preserved g c =
     let inside : length given ≤ length all = omega (arith, c.loop-rest.invariant.2, length-map c.args.requests.now request_of) in
     let split : all ≡ take (length given) all ++ (group ++ later) =
     c.loop-rest.invariant.1 ∙ ap (λ (rs : List Request). take (length given) all ++ rs)
-    (in_parts request_of c.loop-rest.rest.now c.split_at.result.0.now c.split_at.result.1.now c.min.result c.split_at.ensures.front c.split_at.ensures.back) in (
+    (in_parts request_of c.loop-rest.rest.now c.split_at.result.0.now c.split_at.result.1.now c.group_size.result c.split_at.ensures.front c.split_at.ensures.back) in (
       served_so_far c.args.self.now c.loop-rest.self c.answer_group.new.self all group later given now c.answer_group.result inside split c.loop-rest.invariant.0 c.answer_group.ensures.answered
           (inl c.in-None.is),
       left_after c.args.self.now c.loop-rest.self c.answer_group.new.self all group later given now c.answer_group.result inside split c.loop-rest.invariant.0 c.answer_group.ensures.answered
@@ -108,7 +110,7 @@ loop-rest-preserved g c =
       omega (arith, c.loop-rest.invariant.6, c.answer_group.ensures.met.count),
       λ nothing.
           let some = eqb-false (length c.loop-rest.rest.now) 0 (sym c.is_empty.ensures ∙ c.loop-rest-test.true) in
-          absurd (omega (arith, ap length nothing, c.answer_group.ensures.met.all c.in-None.is, ap length c.split_at.ensures.front, length-take c.min.result c.loop-rest.rest.now, c.min.ensures, some)),
+          absurd (omega (arith, ap length nothing, c.answer_group.ensures.met.all c.in-None.is, ap length c.split_at.ensures.front, length-take c.group_size.result c.loop-rest.rest.now, c.group_size.ensures, some)),
     )
 
 pub returns-in-Some : goal.returns-in-Some
@@ -120,7 +122,7 @@ returns-in-Some g c =
     let inside : length given ≤ length all = omega (arith, c.loop-rest.invariant.2, length-map c.args.requests.now request_of) in
     let split : all ≡ take (length given) all ++ (group ++ later) =
     c.loop-rest.invariant.1 ∙ ap (λ (rs : List Request). take (length given) all ++ rs)
-    (in_parts request_of c.loop-rest.rest.now c.split_at.result.0.now c.split_at.result.1.now c.min.result c.split_at.ensures.front c.split_at.ensures.back) in
+    (in_parts request_of c.loop-rest.rest.now c.split_at.result.0.now c.split_at.result.1.now c.group_size.result c.split_at.ensures.front c.split_at.ensures.back) in
     record {
       all = λ none. told_none c.in-Some.fault none;
       memory = λ is.
@@ -136,6 +138,13 @@ returns-in-Some g c =
           let From : Store g.row.D.Denot g.D.Device → Type 0 = λ store. Ran g.D.Device.disk (device_of store) (device_of c.answer_group.new.self) Same in
           subst From (c.loop-rest.invariant.7 (nothing_before given c.answer_group.ensures.answered.more (sym c.answer_group.ensures.answered.pushed ∙ nothing)))
           (c.answer_group.ensures.met.damaged_ran damage (c.in-Some.is ∙ is));
+      damaged_served = λ damage is.
+          let Served : List Reply → Type 0 = λ replies. HasServed c.args.self.now c.loop-rest.self (take (length replies) all) replies in
+          record {
+            before = c.loop-rest.self;
+            served = subst Served (sym (c.answer_group.ensures.none damage (c.in-Some.is ∙ is))) c.loop-rest.invariant.0;
+            idle = c.answer_group.ensures.met.damaged_ran damage (c.in-Some.is ∙ is);
+          };
       refusal = λ working.
           let Met : Option Fault → Type 0 = λ stop. IfSome stop MayBeMet in
           subst Met c.in-Some.is c.answer_group.ensures.met.refusal;
@@ -165,6 +174,7 @@ returns g c =
       device = λ is. none_told Faults.Device is;
       damaged = λ damage is. none_told (Faults.Damaged damage) is;
       damaged_ran = λ damage is. none_told (Faults.Damaged damage) is;
+      damaged_served = λ damage is. none_told (Faults.Damaged damage) is;
       refusal = λ serves. tt;
       failed = λ was. absurd (true≢false (sym c.loop-rest.invariant.5 ∙ was));
       goes_on = λ told. c.loop-rest.invariant.4 ∙ sym c.loop-rest.invariant.5;
