@@ -1,6 +1,6 @@
 //! Where objects lie below.
 
-ghost use Rattle.std.specs.Prelude.{◌≡◌, ◌≤◌, ℕ, List, option_map, IfOk, IsErrOf};
+ghost use Rattle.std.specs.Prelude.{◌≡◌, ◌≤◌, ℕ, List, option_map, IfOk, OnOk, IsErrOf};
 ghost use Rattle.std.specs.List.{filter};
 ghost use Rattle.names.specs.Key.{Key as KeyData};
 ghost use Rattle.objects.specs.Objects.{value_at, is_of};
@@ -42,12 +42,15 @@ pub trait Source<P> {
     /// # Errors
     ///
     /// `Device` where the device failed, `Damaged` where what lies below is damaged, so that it holds no objects, `Memory` where there was none.
+    /// A device that failed is told as `Device`: the count of failures grows with no other answer.
     fn find(&mut self, alloc: Global, key: &Key) -> Result<Option<Found>, LookupFault>
         ensures found { (objects : List (KeyData × StoredData P)) → holds self.old objects → IfOk result (λ o. o ≡ option_map found_in (value_at key.now objects)) }
         ensures kept { (objects : List (KeyData × StoredData P)) → holds self.old objects → holds self.new objects }
         ensures goes { goes_to self.old self.new }
         ensures counts { failures self.old ≤ failures self.new }
+        ensures steady { OnOk result (failures self.new ≡ failures self.old) }
         ensures device { IsErrOf result LookupFault.Device → HasGrown (failures self.old) (failures self.new) }
+        ensures memory { IsErrOf result LookupFault.Memory → failures self.new ≡ failures self.old }
         ensures damaged { (part : Part) → IsErrOf result (LookupFault.Damaged part) → is_damaged self.new };
 
     /// The objects of a resource, in one namespace or in all, in key order.
@@ -66,7 +69,9 @@ pub trait Source<P> {
         ensures kept { (objects : List (KeyData × StoredData P)) → holds self.old objects → holds self.new objects }
         ensures goes { goes_to self.old self.new }
         ensures counts { failures self.old ≤ failures self.new }
+        ensures steady { OnOk result (failures self.new ≡ failures self.old) }
         ensures device { IsErrOf result LookupFault.Device → HasGrown (failures self.old) (failures self.new) }
+        ensures memory { IsErrOf result LookupFault.Memory → failures self.new ≡ failures self.old }
         ensures damaged { (part : Part) → IsErrOf result (LookupFault.Damaged part) → is_damaged self.new };
 
     /// What is damaged holds nothing.
