@@ -65,6 +65,9 @@ pub trait Lookup<'a> {
     /// What looks may make of it.
     ghost goes_to: { Self → Self → Type 0 };
 
+    /// What looks leave of it of which none was told that the device failed.
+    ghost unfailed: { Self → Self → Type 0 };
+
     /// The policy under a key. It lies in memory, so no fault is told.
     fn policy(&self, key: &Key) -> Option<Found<'a>>
         requires { key.now.resource ≡ ValidatingAdmissionPolicy }
@@ -84,9 +87,9 @@ pub trait Lookup<'a> {
         ensures kept { (objects : Objects) → shows self.old objects → shows self.new objects }
         ensures goes { goes_to self.old self.new }
         ensures counts { failures self.old ≤ failures self.new }
-        ensures steady { OnOk result (failures self.new ≡ failures self.old) }
+        ensures steady { OnOk result (unfailed self.old self.new) }
         ensures device { IsErrOf result LookupFault.Device → HasGrown (failures self.old) (failures self.new) }
-        ensures memory { IsErrOf result LookupFault.Memory → failures self.new ≡ failures self.old }
+        ensures memory { IsErrOf result LookupFault.Memory → unfailed self.old self.new }
         ensures damaged { (part : Part) → IsErrOf result (LookupFault.Damaged part) → is_damaged self.new };
 
     /// The objects of a resource in a namespace that are wanted, in key order, as they are shown.
@@ -94,7 +97,7 @@ pub trait Lookup<'a> {
     /// # Errors
     ///
     /// `Memory` where no memory is left, `Device` where the device failed, `Damaged` where what lies below is damaged, so that it shows nothing. A device
-    /// that failed is told as `Device`: the count of failures grows with no other answer.
+    /// that failed is told as `Device`, and never as `Memory`.
     fn parameters(
         &mut self,
         alloc: Global,
@@ -107,9 +110,9 @@ pub trait Lookup<'a> {
         ensures kept { (objects : Objects) → shows self.old objects → shows self.new objects }
         ensures goes { goes_to self.old self.new }
         ensures counts { failures self.old ≤ failures self.new }
-        ensures steady { OnOk result (failures self.new ≡ failures self.old) }
+        ensures steady { OnOk result (unfailed self.old self.new) }
         ensures device { IsErrOf result LookupFault.Device → HasGrown (failures self.old) (failures self.new) }
-        ensures memory { IsErrOf result LookupFault.Memory → failures self.new ≡ failures self.old }
+        ensures memory { IsErrOf result LookupFault.Memory → unfailed self.old self.new }
         ensures damaged { (part : Part) → IsErrOf result (LookupFault.Damaged part) → is_damaged self.new };
 
     /// The keys of what it shows ascend.
@@ -126,6 +129,12 @@ pub trait Lookup<'a> {
 
     /// Looks may come one after another.
     ghost goes_on: { (before between after : Self) → goes_to before between → goes_to between after → goes_to before after };
+
+    /// Without a look the device did not fail.
+    ghost unfailed_itself: { (lookup : Self) → unfailed lookup lookup };
+
+    /// Nor did it where looks came one after another, and it failed in none.
+    ghost unfailed_on: { (before between after : Self) → unfailed before between → unfailed between after → unfailed before after };
 
     /// What it lends stays.
     ghost lends_on: { (before after : Self) (all : List (KeyData × Held)) → goes_to before after → lends before all → lends after all };

@@ -78,9 +78,9 @@ fn bindings<'a, L: Lookup<'a>>(alloc: Global, lookup: &mut L) -> Result<Vec<Name
     ensures kept { (objects : Objects) → L.shows lookup.old objects → L.shows lookup.new objects }
     ensures goes { L.goes_to lookup.old lookup.new }
     ensures counts { L.failures lookup.old ≤ L.failures lookup.new }
-    ensures steady { OnOk result (L.failures lookup.new ≡ L.failures lookup.old) }
+    ensures steady { OnOk result (L.unfailed lookup.old lookup.new) }
     ensures device { IsErrOf result LookupFault.Device → HasGrown (L.failures lookup.old) (L.failures lookup.new) }
-    ensures memory { IsErrOf result LookupFault.Memory → L.failures lookup.new ≡ L.failures lookup.old }
+    ensures memory { IsErrOf result LookupFault.Memory → L.unfailed lookup.old lookup.new }
     ensures damaged { (part : Part) → IsErrOf result (LookupFault.Damaged part) → L.is_damaged lookup.new }
 {
     let listed = lookup.bindings(alloc)?;
@@ -105,9 +105,9 @@ fn denial_of<'a, L: Lookup<'a>>(
     ensures kept { (objects : Objects) → L.shows lookup.old objects → L.shows lookup.new objects }
     ensures goes { L.goes_to lookup.old lookup.new }
     ensures counts { L.failures lookup.old ≤ L.failures lookup.new }
-    ensures steady { OnOk result (L.failures lookup.new ≡ L.failures lookup.old) }
+    ensures steady { OnOk result (L.unfailed lookup.old lookup.new) }
     ensures device { IsErrOf result LookupFault.Device → HasGrown (L.failures lookup.old) (L.failures lookup.new) }
-    ensures memory { IsErrOf result LookupFault.Memory → L.failures lookup.new ≡ L.failures lookup.old }
+    ensures memory { IsErrOf result LookupFault.Memory → L.unfailed lookup.old lookup.new }
     ensures damaged { (part : Part) → IsErrOf result (LookupFault.Damaged part) → (ready : List Judged) → plans_seen found.now.plans.now ≡ these ready → L.is_damaged lookup.new }
     ensures never_passed { (p : Policy) (bytes : List ℕ) → (held_by found.now).policy ≡ Some p → (held_by found.now).plans ≡ spoiled bytes
         → IsTrue (is_matched p.constraints bound.now.resources (attempt_seen attempt.now)) → IsErrOf result (LookupFault.Damaged Part.Plans) }
@@ -145,9 +145,9 @@ fn denial_by<'a, L: Lookup<'a>>(
     ensures kept { (objects : Objects) → L.shows lookup.old objects → L.shows lookup.new objects }
     ensures goes { L.goes_to lookup.old lookup.new }
     ensures counts { L.failures lookup.old ≤ L.failures lookup.new }
-    ensures steady { OnOk result (L.failures lookup.new ≡ L.failures lookup.old) }
+    ensures steady { OnOk result (L.unfailed lookup.old lookup.new) }
     ensures device { IsErrOf result LookupFault.Device → HasGrown (L.failures lookup.old) (L.failures lookup.new) }
-    ensures memory { IsErrOf result LookupFault.Memory → L.failures lookup.new ≡ L.failures lookup.old }
+    ensures memory { IsErrOf result LookupFault.Memory → L.unfailed lookup.old lookup.new }
     ensures damaged { (part : Part) → IsErrOf result (LookupFault.Damaged part) → (objects : Objects) → L.shows lookup.old objects → ⊥ }
     ensures never_passed { (all : List (KeyData × Held)) → L.lends lookup.old all → AsksSpoiled all (attempt_seen attempt.now) bound.now
         → IsErrOf result (LookupFault.Damaged Part.Plans) }
@@ -178,9 +178,9 @@ fn turn<'a, L: Lookup<'a>>(
     ensures kept { (objects : Objects) → L.shows lookup.old objects → L.shows lookup.new objects }
     ensures goes { L.goes_to lookup.old lookup.new }
     ensures counts { L.failures lookup.old ≤ L.failures lookup.new }
-    ensures steady { OnOk result (L.failures lookup.new ≡ L.failures lookup.old) }
+    ensures steady { OnOk result (L.unfailed lookup.old lookup.new) }
     ensures device { IsErrOf result LookupFault.Device → HasGrown (L.failures lookup.old) (L.failures lookup.new) }
-    ensures memory { IsErrOf result LookupFault.Memory → L.failures lookup.new ≡ L.failures lookup.old }
+    ensures memory { IsErrOf result LookupFault.Memory → L.unfailed lookup.old lookup.new }
     ensures damaged { (part : Part) → IsErrOf result (LookupFault.Damaged part) → (objects : Objects) → L.shows lookup.old objects → ⊥ }
     ensures denies { IfOk result (λ o. IfSome o (λ v. IsDenied (verdict_seen v))) }
     ensures never_passed { (all : List (KeyData × Held)) → L.lends lookup.old all → AsksSpoiled all (attempt_seen attempt.now) named.now.1
@@ -205,9 +205,9 @@ fn verdict_of<'a, L: Lookup<'a>>(
     ensures kept { (objects : Objects) → L.shows lookup.old objects → L.shows lookup.new objects }
     ensures goes { L.goes_to lookup.old lookup.new }
     ensures counts { L.failures lookup.old ≤ L.failures lookup.new }
-    ensures steady { OnOk result (L.failures lookup.new ≡ L.failures lookup.old) }
+    ensures steady { OnOk result (L.unfailed lookup.old lookup.new) }
     ensures device { IsErrOf result LookupFault.Device → HasGrown (L.failures lookup.old) (L.failures lookup.new) }
-    ensures memory { IsErrOf result LookupFault.Memory → L.failures lookup.new ≡ L.failures lookup.old }
+    ensures memory { IsErrOf result LookupFault.Memory → L.unfailed lookup.old lookup.new }
     ensures damaged { (part : Part) → IsErrOf result (LookupFault.Damaged part) → (objects : Objects) → L.shows lookup.old objects → ⊥ }
     ensures never_passed { (all : List (KeyData × Held)) (b : Text × Binding) → L.lends lookup.old all → Contains bindings.now b
         → AsksSpoiled all (attempt_seen attempt.now) b.1 → IfOk result (λ v. IsDenied (verdict_seen v)) }
@@ -241,9 +241,9 @@ pub fn admit<'a, L: Lookup<'a>>(
     ensures kept { (objects : Objects) → L.shows lookup.old objects → L.shows lookup.new objects }
     ensures goes { L.goes_to lookup.old lookup.new }
     ensures counts { L.failures lookup.old ≤ L.failures lookup.new }
-    ensures steady { OnOk result (L.failures lookup.new ≡ L.failures lookup.old) }
+    ensures steady { OnOk result (L.unfailed lookup.old lookup.new) }
     ensures device { IsErrOf result LookupFault.Device → HasGrown (L.failures lookup.old) (L.failures lookup.new) }
-    ensures memory { IsErrOf result LookupFault.Memory → L.failures lookup.new ≡ L.failures lookup.old }
+    ensures memory { IsErrOf result LookupFault.Memory → L.unfailed lookup.old lookup.new }
     ensures damaged { (part : Part) → IsErrOf result (LookupFault.Damaged part) → (objects : Objects) → L.shows lookup.old objects → ⊥ }
 
     // A policy whose plans are spoiled lets no write pass that it is for: a binding before it may deny the write, and else a fault is told.

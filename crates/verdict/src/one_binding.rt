@@ -139,9 +139,9 @@ fn on_conditions<'a, L: Lookup<'a>>(
     ensures kept { (objects : Objects) → L.shows lookup.old objects → L.shows lookup.new objects }
     ensures goes { L.goes_to lookup.old lookup.new }
     ensures counts { L.failures lookup.old ≤ L.failures lookup.new }
-    ensures steady { OnOk result (L.failures lookup.new ≡ L.failures lookup.old) }
+    ensures steady { OnOk result (L.unfailed lookup.old lookup.new) }
     ensures device { IsErrOf result LookupFault.Device → HasGrown (L.failures lookup.old) (L.failures lookup.new) }
-    ensures memory { IsErrOf result LookupFault.Memory → L.failures lookup.new ≡ L.failures lookup.old }
+    ensures memory { IsErrOf result LookupFault.Memory → L.unfailed lookup.old lookup.new }
     ensures damaged { (part : Part) → IsErrOf result (LookupFault.Damaged part) → L.is_damaged lookup.new }
 {
     match conditions {
@@ -180,9 +180,9 @@ fn asked<'a, L: Lookup<'a>>(
     ensures kept { (objects : Objects) → L.shows lookup.old objects → L.shows lookup.new objects }
     ensures goes { L.goes_to lookup.old lookup.new }
     ensures counts { L.failures lookup.old ≤ L.failures lookup.new }
-    ensures steady { OnOk result (L.failures lookup.new ≡ L.failures lookup.old) }
+    ensures steady { OnOk result (L.unfailed lookup.old lookup.new) }
     ensures device { IsErrOf result LookupFault.Device → HasGrown (L.failures lookup.old) (L.failures lookup.new) }
-    ensures memory { IsErrOf result LookupFault.Memory → L.failures lookup.new ≡ L.failures lookup.old }
+    ensures memory { IsErrOf result LookupFault.Memory → L.unfailed lookup.old lookup.new }
     ensures damaged { (part : Part) → IsErrOf result (LookupFault.Damaged part) → L.is_damaged lookup.new }
 {
     let found = conditions(alloc, policy, plans, attempt, request)?;
@@ -213,9 +213,9 @@ pub fn denial<'a, L: Lookup<'a>>(
     ensures kept { (objects : Objects) → L.shows lookup.old objects → L.shows lookup.new objects }
     ensures goes { L.goes_to lookup.old lookup.new }
     ensures counts { L.failures lookup.old ≤ L.failures lookup.new }
-    ensures steady { OnOk result (L.failures lookup.new ≡ L.failures lookup.old) }
+    ensures steady { OnOk result (L.unfailed lookup.old lookup.new) }
     ensures device { IsErrOf result LookupFault.Device → HasGrown (L.failures lookup.old) (L.failures lookup.new) }
-    ensures memory { IsErrOf result LookupFault.Memory → L.failures lookup.new ≡ L.failures lookup.old }
+    ensures memory { IsErrOf result LookupFault.Memory → L.unfailed lookup.old lookup.new }
 
     // A policy whose plans are spoiled lets no write pass that it is for.
     ensures never_passed { (bytes : List ℕ) → plans_seen plans.now ≡ spoiled bytes

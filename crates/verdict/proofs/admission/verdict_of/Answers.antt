@@ -47,7 +47,9 @@ loop-named-preserved g c =
       no_fewer (g.L.Lookup.failures c.args.lookup.now) (g.L.Lookup.failures c.loop-named.lookup) (g.L.Lookup.failures c.turn.new.lookup)
           c.loop-named.invariant.3 c.turn.ensures.counts,
       c.in_ok-verdict.ensures.told,
-      c.in_ok-verdict.ensures.steady ∙ c.loop-named.invariant.5,
+      (let here : g.L.Lookup.unfailed c.loop-named.lookup c.turn.new.lookup = c.in_ok-verdict.ensures.steady in
+          let before : g.L.Lookup.unfailed c.args.lookup.now c.loop-named.lookup = c.loop-named.invariant.5 in
+          search rules),
       λ all lends.
           let goes : g.L.Lookup.goes_to c.args.lookup.now c.loop-named.lookup = c.loop-named.invariant.2 in
           let still : g.L.Lookup.lends c.loop-named.lookup all = search rules in
@@ -62,7 +64,7 @@ loop-named-init g c = (
   search rules,
   as_many (g.L.Lookup.failures c.args.lookup.now),
   tt,
-  refl,
+  search rules,
   λ all lends. none_begun all (attempt_seen c.args.attempt.now) c.args.bindings.now,
 )
 
@@ -136,7 +138,9 @@ returns-clause-never_passed g c = λ all b lends has asks.
 
 pub returns-in_err-verdict-clause-memory : goal.returns-in_err-verdict-clause-memory
 returns-in_err-verdict-clause-memory g c = λ told.
-    c.turn.ensures.memory (same_fault c.from_residual.ensures.1 c.in_err-verdict.was told) ∙ c.loop-named.invariant.5
+    let here : g.L.Lookup.unfailed c.loop-named.lookup c.turn.new.lookup = c.turn.ensures.memory (same_fault c.from_residual.ensures.1 c.in_err-verdict.was told) in
+    let before : g.L.Lookup.unfailed c.args.lookup.now c.loop-named.lookup = c.loop-named.invariant.5 in
+    search rules
 
 pub returns-in_err-verdict-clause-damage : goal.returns-in_err-verdict-clause-damage
 returns-in_err-verdict-clause-damage g c = λ part told.
@@ -146,7 +150,10 @@ pub returns-in_err-verdict-clause-never_passed : goal.returns-in_err-verdict-cla
 returns-in_err-verdict-clause-never_passed g c = λ all b lends has asks. IfOk-from_err c.from_residual.result _ c.from_residual.ensures.0
 
 pub returns-in-Some-clause-steady : goal.returns-in-Some-clause-steady
-returns-in-Some-clause-steady g c = c.in_ok-verdict.ensures.steady ∙ c.loop-named.invariant.5
+returns-in-Some-clause-steady g c =
+    let here : g.L.Lookup.unfailed c.loop-named.lookup c.turn.new.lookup = c.in_ok-verdict.ensures.steady in
+    let before : g.L.Lookup.unfailed c.args.lookup.now c.loop-named.lookup = c.loop-named.invariant.5 in
+    search rules
 
 pub returns-in-Some-clause-memory : goal.returns-in-Some-clause-memory
 returns-in-Some-clause-memory g c = λ told. absurd (no_fault told)

@@ -21,5 +21,5 @@ invariant-loop-named g l =
     × g.L.Lookup.goes_to l.fn.lookup l.lookup
     × (g.L.Lookup.failures l.fn.lookup ≤ g.L.Lookup.failures l.lookup)
     × IfSome l.request (λ d. view d ≡ request_of (attempt_seen l.attempt))
-    × (g.L.Lookup.failures l.lookup ≡ g.L.Lookup.failures l.fn.lookup)
+    × g.L.Lookup.unfailed l.fn.lookup l.lookup
     × ((all : List (Key × Held)) → g.L.Lookup.lends l.fn.lookup all → NoneAsks all (attempt_seen l.attempt) (take l.named-index l.bindings))
