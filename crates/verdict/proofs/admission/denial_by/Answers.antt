@@ -9,8 +9,6 @@ use Rattle.expressions.specs.Objects.{Object, all_held, policy_key}
 use Rattle.expressions.specs.LookupSeen.{held_by}
 use Rattle.verdict.specs.Admission.{denial_by}
 use Rattle.verdict.specs.Turns.{denial_by_policy}
-use Rattle.expressions.specs.Specification.{Plans, spoiled}
-use Rattle.policy.specs.Spec.{Policy}
 use Rattle.expressions.specs.Objects.{Held}
 use Rattle.verdict.proofs.Standing.{found_policy, plans_held, no_policy}
 use Rattle.verdict.proofs.Spoiling.{found_asked}
