@@ -1,5 +1,5 @@
 -- What requests write may follow.
-use Rattle.std.proofs.Common.{◌≡◌, ◌≤◌, ◌^◌, List, [], ◌∷◌, ◌++◌, Bool, true, false, cond, is_some, IsTrue, not, refl, sym, ap, subst, ◌∙◌, append_assoc}
+use Rattle.std.proofs.Common.{◌≡◌, ◌≤◌, ◌^◌, List, [], ◌∷◌, ◌++◌, Bool, true, false, cond, map, is_some, IsTrue, not, refl, sym, ap, subst, ◌∙◌, append_assoc}
 use Rattle.objects.specs.declared.format.Rules.{Rules}
 use Rattle.names.specs.Key.{is_key}
 use Rattle.requests.specs.declared.refusal.Refusal.TheVariants.{AlreadyExists, NotFound, VersionNotCurrent, BadSpec}
@@ -7,6 +7,13 @@ use Rattle.requests.specs.Codes.{document_in}
 use Rattle.requests.specs.Request.{Request, get, list, watch, create, replace, delete, refused, RequestHasForm}
 use Rattle.requests.specs.History as write
 use Rattle.requests.specs.History.{put}
+use Rattle.requests.specs.View as seen
+use Rattle.requests.specs.Mapped.{mapped_write}
+use Rattle.requests.proofs.Mapping.{all_mapped}
+use Rattle.holdings.specs.Prepared.{writes_of}
+use Rattle.recovery.specs.Beside.{Beside}
+use Rattle.recovery.specs.Shown.{plans_held, Shows}
+use Rattle.recovery.specs.Standing.{plans_beside, with_plans}
 use Rattle.requests.specs.View.{exists, is_too_large, is_full, is_exhausted, after_all, empty, view}
 use Rattle.requests.proofs.ViewLemmas.{after_all-append}
 use Rattle.celtree.specs.Tree.{Expr}
@@ -15,7 +22,8 @@ use Rattle.expressions.specs.Specification as beside
 use Rattle.recovery.specs.Standing.{Write, History, View, AllMayFollow, IsHistory}
 use Rattle.recovery.proofs.Following.{AllMayFollow-append}
 use Rattle.recovery.specs.Conditions.{known, with_bad_expression, asks_for, put_of, update_conflicts, deletion_conflicts}
-use Rattle.apicore.specs.Prepared.{IsReadOf}
+use Rattle.apicore.specs.Prepared.{IsReadOf, IsStepOf}
+use Rattle.apicore.specs.declared.prepared.Prepared.{Prepared}
 use Rattle.recovery.proofs.Conditions.{form_of, put_follows, replaced_follows, deleted_follows, nothing_follows, bad_form, bad_form_later}
 use Rattle.apicore.specs.Step.{Asked, verdict_conditions, verdict_of, writes, refusal, reply, accepted, replies, step, runs}
 
@@ -87,4 +95,16 @@ runs_are_steps rules h a rest =
     let seen : view rules (h ++ ws) ≡ after_all rules (view rules h) ws = view-step rules h a in (
       sym (append_assoc h ws (accepted rules (after_all rules (view rules h) ws) rest)) ∙ ap (λ v. (h ++ ws) ++ accepted rules v rest) (sym seen),
       ap (λ v. reply rules (view rules h) a ∷ replies rules v rest) (sym seen),
+    )
+
+pub prepared_step : (rules : Rules) (h : History) (held : seen.View Beside) (a : Asked) (p : Prepared) → Shows held (view rules h) → IsStepOf rules held (view rules h) a p
+    → (p.reply ≡ (step rules h a).1) × Shows (after_all rules held (writes_of p.write)) (view rules (step rules h a).0)
+prepared_step rules h held a p shows is =
+    let v = view rules h in (
+      is.reply,
+      all_mapped plans_held rules held (writes_of p.write)
+          ∙ ap (λ (u : seen.View Beside). after_all rules u (map (mapped_write plans_held) (writes_of p.write))) shows
+          ∙ ap (λ (ws : List (write.Write Beside)). after_all rules (with_plans v) ws) is.writes
+          ∙ sym (all_mapped plans_beside rules v (writes rules v a))
+          ∙ ap (λ (u : View). with_plans u) (sym (view-step rules h a)),
     )

@@ -1,6 +1,6 @@
 //! A write, asked of the policies.
 
-ghost use Rattle.std.specs.Prelude.{◌≡◌, ◌+◌, ◌≤◌, ◌<◌, List, [], ◌∷◌, map, option_map, if◌then◌else◌, Option, Some, None, is_some, IfOk, OnErr, IsErrOf, string_bytes};
+ghost use Rattle.std.specs.Prelude.{◌≡◌, ◌+◌, ◌≤◌, ◌<◌, List, [], ◌∷◌, map, option_map, if◌then◌else◌, Option, Some, None, is_some, IfOk, OnOk, OnErr, IsErrOf, string_bytes};
 ghost use Rattle.celtree.specs.Tree.{Expr};
 ghost use Rattle.serde_json.specs.View.{view};
 ghost use Rattle.names.specs.Key.{Key as KeyData};
@@ -54,7 +54,9 @@ fn verdict_of<S: Source<Beside>>(
     ensures kept { (base : List (KeyData × StoredData BesideData)) → S.holds source.old base → S.holds source.new base }
     ensures goes { S.goes_to source.old source.new }
     ensures counts { S.failures source.old ≤ S.failures source.new }
+    ensures steady { OnOk result (S.unfailed source.old source.new) }
     ensures device { IsErrOf result LookupFault.Device → HasGrown (S.failures source.old) (S.failures source.new) }
+    ensures memory { IsErrOf result LookupFault.Memory → S.unfailed source.old source.new }
     ensures damaged { (part : Part) → IsErrOf result (LookupFault.Damaged part) → (held : Held BesideData) (v : View) → IsOver (S.holds source.old) core.now held v → ⊥ }
 {
     let mut sight = Sight { core, source };
@@ -117,7 +119,7 @@ pub(crate) fn judged_put<'x, S: Source<Beside>>(
         → IfOk result (IsJudged held (λ warnings. showing (if is_some old then 200 else 201) warnings (document_in manifest.now.body) (held.revision + 1))
         (put manifest.now.key (document_in manifest.now.body) trees)
         (verdict (objects_of v) (record { operation = if is_some old then Update else Create; key = manifest.now.key; object = Some (document_in manifest.now.body).json; old_object = old }))) }
-    ensures looked { HasLooked S.holds S.goes_to S.failures core.old source.old source.new result }
+    ensures looked { HasLooked S.holds S.goes_to S.failures S.unfailed core.old source.old source.new result }
 {
     let attempt = put_attempt(manifest, old_object);
     match verdict_of(core, alloc, source, &attempt)? {
@@ -180,7 +182,7 @@ pub(crate) fn judged_delete<'x, S: Source<Beside>>(
     ensures judged { (held : Held BesideData) (v : View) → IsOver (S.holds source.old) core.old held v → option_map found_in (stored_at held key.now) ≡ Some found
         → IfOk result (IsJudged held (λ warnings. showing 200 warnings found.document (held.revision + 1)) (delete key.now)
         (verdict (objects_of v) (record { operation = Delete; key = key.now; object = None; old_object = Some (view old_object.now) }))) }
-    ensures looked { HasLooked S.holds S.goes_to S.failures core.old source.old source.new result }
+    ensures looked { HasLooked S.holds S.goes_to S.failures S.unfailed core.old source.old source.new result }
 {
     let deletion = Attempt {
         operation: Operation::Delete,

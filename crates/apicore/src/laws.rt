@@ -1,5 +1,5 @@
 // The laws of the definitions, each the contract of a function.
-ghost use Rattle.apicore.specs.Laws.{WritesFollow, AcceptedAreAdmitted, RunsAreSteps, ViewDecides};
+ghost use Rattle.apicore.specs.Laws.{WritesFollow, AcceptedAreAdmitted, RunsAreSteps, ViewDecides, PreparedIsStep};
 
 /// What a request writes may follow, so that a step makes a history of a history.
 pub fn writes_follow()
@@ -19,4 +19,9 @@ pub fn runs_are_steps()
 /// Equal views give equal replies, and equal views after.
 pub fn view_decides()
     ensures { ViewDecides }
+{}
+
+/// A step that is prepared, and whose write is then taken, is one step of the model.
+pub fn prepared_is_step()
+    ensures { PreparedIsStep }
 {}

@@ -20,6 +20,8 @@ mod preparing;
 mod reading;
 mod refusing;
 
-pub use laws::{accepted_are_admitted, runs_are_steps, view_decides, writes_follow};
+pub use laws::{
+    accepted_are_admitted, prepared_is_step, runs_are_steps, view_decides, writes_follow,
+};
 pub use prepared::Prepared;
 pub use preparing::prepare;

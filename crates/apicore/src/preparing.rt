@@ -1,5 +1,5 @@
 // The step of a request, with all its memory.
-ghost use Rattle.std.specs.Prelude.{◌≡◌, ◌≤◌, ◌<◌, ◌⊎◌, List, Some, None, false, IsTrue, IfOk, IsErrOf, option_map, string_bytes};
+ghost use Rattle.std.specs.Prelude.{◌≡◌, ◌≤◌, ◌<◌, ◌⊎◌, List, Some, None, false, IsTrue, IfOk, OnOk, IsErrOf, option_map, string_bytes};
 ghost use Rattle.celtree.specs.Tree.{Expr};
 ghost use Rattle.names.specs.Key.{Key as KeyData, is_key};
 ghost use Rattle.objects.specs.Failing.{HasGrown};
@@ -62,7 +62,9 @@ pub fn prepare<S: Source<Beside>>(
     ensures kept { (base : List (KeyData × StoredData BesideData)) → S.holds source.old base → S.holds source.new base }
     ensures goes { S.goes_to source.old source.new }
     ensures counts { S.failures source.old ≤ S.failures source.new }
+    ensures steady { OnOk result (S.unfailed source.old source.new) }
     ensures device { IsErrOf result LookupFault.Device → HasGrown (S.failures source.old) (S.failures source.new) }
+    ensures memory { IsErrOf result LookupFault.Memory → S.unfailed source.old source.new }
     ensures damaged { (part : Part) → IsErrOf result (LookupFault.Damaged part) → (held : Held BesideData) (v : View) → IsOver (S.holds source.old) core.old held v → ⊥ }
 
     // What stands in the request's document was read before the look that failed.
@@ -90,7 +92,7 @@ fn prepare_create<S: Source<Beside>>(
     ensures step { IfOk result (IsPrepared (S.holds source.old) core.old (create manifest.now)) }
     ensures ready { IfOk result (λ p. HasRoomFor core.new p.write) }
     ensures form { BodyHasForm manifest.now.key manifest.now.body }
-    ensures looked { HasLooked S.holds S.goes_to S.failures core.old source.old source.new result }
+    ensures looked { HasLooked S.holds S.goes_to S.failures S.unfailed core.old source.old source.new result }
     ensures read { IsErrOf result LookupFault.Device ⊎ ((part : Part) × IsErrOf result (LookupFault.Damaged part)) → (s : SpecificationOf Expr) × IsReadOf (create manifest.now) s }
 {
     // The document, of which the form speaks.
@@ -115,7 +117,7 @@ fn create_free<S: Source<Beside>>(
         → (held : Held BesideData) (v : View) → IsOver (S.holds source.old) core.old held v → stored_at held manifest.now.key ≡ None
         → IfOk result (IsStepOf core.old.rules held v (record { request = create manifest.now; specification = s })) }
     ensures ready { IfOk result (λ p. HasRoomFor core.new p.write) }
-    ensures looked { HasLooked S.holds S.goes_to S.failures core.old source.old source.new result }
+    ensures looked { HasLooked S.holds S.goes_to S.failures S.unfailed core.old source.old source.new result }
 {
     match specification {
         Specification::Sound(plans) => create_sound(core, alloc, source, manifest, plans),
@@ -137,7 +139,7 @@ fn create_sound<S: Source<Beside>>(
         → (held : Held BesideData) (v : View) → IsOver (S.holds source.old) core.old held v → stored_at held manifest.now.key ≡ None
         → IfOk result (IsStepOf core.old.rules held v (record { request = create manifest.now; specification = sound trees })) }
     ensures ready { IfOk result (λ p. HasRoomFor core.new p.write) }
-    ensures looked { HasLooked S.holds S.goes_to S.failures core.old source.old source.new result }
+    ensures looked { HasLooked S.holds S.goes_to S.failures S.unfailed core.old source.old source.new result }
 {
     match create_limit(core, manifest) {
         Some(refusal) => refused(alloc, refusal),
@@ -156,7 +158,7 @@ fn prepare_replace<S: Source<Beside>>(
     ensures step { IfOk result (IsPrepared (S.holds source.old) core.old (replace manifest.now)) }
     ensures ready { IfOk result (λ p. HasRoomFor core.new p.write) }
     ensures form { BodyHasForm manifest.now.key manifest.now.body }
-    ensures looked { HasLooked S.holds S.goes_to S.failures core.old source.old source.new result }
+    ensures looked { HasLooked S.holds S.goes_to S.failures S.unfailed core.old source.old source.new result }
     ensures read { IsErrOf result LookupFault.Device ⊎ ((part : Part) × IsErrOf result (LookupFault.Damaged part)) → (s : SpecificationOf Expr) × IsReadOf (replace manifest.now) s }
 {
     // The document, of which the form speaks.
@@ -183,7 +185,7 @@ fn replace_of<S: Source<Beside>>(
         → option_map found_in (stored_at held manifest.now.key) ≡ Some found.now
         → IfOk result (IsStepOf core.old.rules held v (record { request = replace manifest.now; specification = s })) }
     ensures ready { IfOk result (λ p. HasRoomFor core.new p.write) }
-    ensures looked { HasLooked S.holds S.goes_to S.failures core.old source.old source.new result }
+    ensures looked { HasLooked S.holds S.goes_to S.failures S.unfailed core.old source.old source.new result }
 {
     if update_conflicts(alloc, manifest, found.revision)? {
         return refused(alloc, Refusal::VersionNotCurrent);
@@ -207,7 +209,7 @@ fn replace_as<S: Source<Beside>>(
         → option_map found_in (stored_at held manifest.now.key) ≡ Some found.now
         → IfOk result (IsStepOf core.old.rules held v (record { request = replace manifest.now; specification = s })) }
     ensures ready { IfOk result (λ p. HasRoomFor core.new p.write) }
-    ensures looked { HasLooked S.holds S.goes_to S.failures core.old source.old source.new result }
+    ensures looked { HasLooked S.holds S.goes_to S.failures S.unfailed core.old source.old source.new result }
 {
     match specification {
         Specification::Sound(plans) => replace_sound(core, alloc, source, manifest, plans, found),
@@ -232,7 +234,7 @@ fn replace_sound<S: Source<Beside>>(
         → option_map found_in (stored_at held manifest.now.key) ≡ Some found.now
         → IfOk result (IsStepOf core.old.rules held v (record { request = replace manifest.now; specification = sound trees })) }
     ensures ready { IfOk result (λ p. HasRoomFor core.new p.write) }
-    ensures looked { HasLooked S.holds S.goes_to S.failures core.old source.old source.new result }
+    ensures looked { HasLooked S.holds S.goes_to S.failures S.unfailed core.old source.old source.new result }
 {
     match replace_limit(core, manifest) {
         Some(refusal) => refused(alloc, refusal),
@@ -257,7 +259,7 @@ fn replace_there<S: Source<Beside>>(
         → option_map found_in (stored_at held manifest.now.key) ≡ Some found.now → first_of (replace_limits core.old.rules held (document_in manifest.now.body)) ≡ None
         → IfOk result (IsStepOf core.old.rules held v (record { request = replace manifest.now; specification = sound trees })) }
     ensures ready { IfOk result (λ p. HasRoomFor core.new p.write) }
-    ensures looked { HasLooked S.holds S.goes_to S.failures core.old source.old source.new result }
+    ensures looked { HasLooked S.holds S.goes_to S.failures S.unfailed core.old source.old source.new result }
 {
     let old = shown_document(alloc, &found.document, found.revision)?;
     let old_object = Some(old.value());
@@ -276,7 +278,7 @@ fn prepare_delete<S: Source<Beside>>(
     ensures step { IfOk result (IsPrepared (S.holds source.old) core.old (delete key.now (option_map string_bytes version.now))) }
     ensures ready { IfOk result (λ p. HasRoomFor core.new p.write) }
     ensures form { IsTrue (is_key key.now) }
-    ensures looked { HasLooked S.holds S.goes_to S.failures core.old source.old source.new result }
+    ensures looked { HasLooked S.holds S.goes_to S.failures S.unfailed core.old source.old source.new result }
 {
     // A name of the key, which is well-formed.
     let _name = key.name();
@@ -299,7 +301,7 @@ fn delete_found<S: Source<Beside>>(
     ensures step { (held : Held BesideData) (v : View) → IsOver (S.holds source.old) core.old held v → option_map found_in (stored_at held key.now) ≡ Some found
         → (s : SpecificationOf Expr) → IfOk result (IsStepOf core.old.rules held v (record { request = delete key.now (option_map string_bytes version.now); specification = s })) }
     ensures ready { IfOk result (λ p. HasRoomFor core.new p.write) }
-    ensures looked { HasLooked S.holds S.goes_to S.failures core.old source.old source.new result }
+    ensures looked { HasLooked S.holds S.goes_to S.failures S.unfailed core.old source.old source.new result }
 {
     if deletion_conflicts(alloc, version, found.revision)? {
         return refused(alloc, Refusal::VersionNotCurrent);
@@ -325,7 +327,7 @@ fn delete_there<S: Source<Beside>>(
     ensures step { (held : Held BesideData) (v : View) → IsOver (S.holds source.old) core.old held v → option_map found_in (stored_at held key.now) ≡ Some found
         → (s : SpecificationOf Expr) → IfOk result (IsStepOf core.old.rules held v (record { request = delete key.now (option_map string_bytes version.now); specification = s })) }
     ensures ready { IfOk result (λ p. HasRoomFor core.new p.write) }
-    ensures looked { HasLooked S.holds S.goes_to S.failures core.old source.old source.new result }
+    ensures looked { HasLooked S.holds S.goes_to S.failures S.unfailed core.old source.old source.new result }
 {
     let old = shown_document(alloc, &found.document, found.revision)?;
     judged_delete(core, alloc, source, key, found, old.value())

@@ -34,7 +34,7 @@ pub(crate) fn get<S: Source<Beside>>(
 ) -> Result<Prepared, LookupFault>
     ensures step { IfOk result (IsPrepared (S.holds source.old) core.now (get key.now)) }
     ensures ready { IfOk result (λ p. p.write ≡ None) }
-    ensures looked { HasLooked S.holds S.goes_to S.failures core.now source.old source.new result }
+    ensures looked { HasLooked S.holds S.goes_to S.failures S.unfailed core.now source.old source.new result }
 {
     Ok(Prepared::replying(shown(core, alloc, source, key)?))
 }
@@ -49,7 +49,7 @@ pub(crate) fn list<S: Source<Beside>>(
 ) -> Result<Prepared, LookupFault>
     ensures step { IfOk result (IsPrepared (S.holds source.old) core.now (list (collection_of collection.now) (selector_seen selector.now))) }
     ensures ready { IfOk result (λ p. p.write ≡ None) }
-    ensures looked { HasLooked S.holds S.goes_to S.failures core.now source.old source.new result }
+    ensures looked { HasLooked S.holds S.goes_to S.failures S.unfailed core.now source.old source.new result }
 {
     let reply = listed(core, alloc, source, collection, selector)?;
     Ok(Prepared::replying(reply))

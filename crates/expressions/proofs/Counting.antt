@@ -52,3 +52,12 @@ pub not_counted : (p : Policy) (items : List ℕ) → items ≡ places_of p → 
 not_counted p items is many =
     let fits : nat_le (length (sources p)) 65535 ≡ false = grind (arith, nat_tests, many, ap (length {A = ℕ}) is, places_counted p) in
     ap (λ (b : Bool). if b then Some (places_of p) else None) (sym fits)
+
+-- variables are among them
+pub variables_counted_too : (p : Policy) → length p.variables ≤ length (sources p)
+variables_counted_too p =
+    let rest = flat_map of_validation p.validations in
+    let all = length-append (map of_condition p.conditions) (map of_variable p.variables ++ rest) in
+    let after = length-append (map of_variable p.variables) rest in
+    let each = length-map p.variables of_variable in
+    omega (arith, all, after, each)

@@ -10,5 +10,6 @@ pub mod Shortness
 pub mod Bytes
 pub mod Holding
 pub mod StoredLists
+mod OtherPlans
 pub mod LookupStanding
 pub mod Bindings

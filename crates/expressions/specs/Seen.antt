@@ -4,7 +4,6 @@ use Rattle.serde_json.specs.Data.{Data}
 use Rattle.celtree.specs.declared.tree.Tree.{Tree}
 use Rattle.celtree.specs.Tree.{Expr}
 use Rattle.celtree.specs.View.{view}
-use Rattle.policy.specs.Policies.{policy_of}
 use Rattle.policy.specs.Spec.{Policy}
 use Rattle.expressions.specs.declared.fault.PolicyFault.{PolicyFault}
 use Rattle.expressions.specs.declared.fault.PolicyFault.TheVariants.{BadSpec, BadExpression, Memory}
@@ -12,6 +11,7 @@ use Rattle.expressions.specs.declared.source.Place as code_place
 use Rattle.expressions.specs.declared.source.Place.TheVariants as place
 use Rattle.expressions.specs.declared.source.Source as code_source
 use Rattle.expressions.specs.Expressions.{Place, condition, variable, validation, message, Source}
+use Rattle.expressions.specs.Places.{policy_in}
 use Rattle.expressions.specs.Typed.{IsFirstBad, AreUntyped, HasBadExpression}
 
 abbrev pub place_seen : code_place.Place → Place
@@ -28,7 +28,7 @@ trees_seen ts = map view ts
 
 -- the fault is that of the document
 abbrev pub IsFaultOf : Data → PolicyFault → Type 0
-IsFaultOf document BadSpec = policy_of document ≡ None
+IsFaultOf document BadSpec = policy_in document ≡ None
 IsFaultOf document (BadExpression text) = HasBadExpression document (string_bytes text)
 IsFaultOf document Memory = Unit {0}
 

@@ -6,9 +6,9 @@ use Rattle.celread.specs.Reading.{IsReadAs}
 use Rattle.celtypes.specs.Types.{ValueType}
 use Rattle.celtypes.specs.Typing.{HasType}
 use Rattle.policy.specs.Forms.{Text}
-use Rattle.policy.specs.Policies.{policy_of}
 use Rattle.policy.specs.Spec.{Policy}
 use Rattle.expressions.specs.Expressions.{Source, Variables, sources, scope_at, and_declared, Suits}
+use Rattle.expressions.specs.Places.{policy_in}
 
 -- after these variables, the expression spells this tree, which has this type, as it must
 pub record IsTyped (p : Policy) (vs : Variables) (s : Source) (e : Expr) (t : ValueType) : Type 0 where
@@ -40,12 +40,12 @@ AreUntyped p ss = (trees : List Expr) → AreTyped p [] ss trees → ⊥
 
 -- the document is this policy, and its expressions spell these trees
 pub record IsPolicy (document : Data) (p : Policy) (trees : List Expr) : Type 0 where
-  pub form : policy_of document ≡ Some p
+  pub form : policy_in document ≡ Some p
   pub typed : AreTyped p [] (sources p) trees
 
 -- the document has the form of a policy, and this is the first of its expressions that is bad
 pub record HasBadExpression (document : Data) (text : Text) : Type 0 where
   pub policy : Policy
-  pub form : policy_of document ≡ Some policy
+  pub form : policy_in document ≡ Some policy
   pub bad : IsFirstBad policy [] (sources policy) text
   pub none : AreUntyped policy (sources policy)

@@ -18,13 +18,13 @@
 //! says by these what stands in an object. Objects of the other resources have no form, so all of them are sound.
 //!
 //! What policies, bindings and parameters there are is asked of a [`Lookup`], as it stands before a write: it lends what documents spell as
-//! policies, with their plans, and as bindings, so that none is read again or copied, and may read them from a device. `specs/Objects.antt` says what is held of
-//! an object, and each look of a [`Lookup`] gives that of any list of objects which the lookup shows.
+//! policies, with their plans, and as bindings, so that none is read again or copied, and may read parameters from a device. `specs/Objects.antt` says what is held
+//! of an object, and each look of a [`Lookup`] gives that of any list of objects which the lookup shows, and of policies and bindings that of what it lends.
 //!
 //! ```text
 //! for listed in lookup.bindings(alloc)? {
 //!     if let Some(bound) = listed.found.bound {
-//!         let policy = lookup.policy(alloc, bound.policy_key())?;
+//!         let policy = lookup.policy(bound.policy_key());
 //!     }
 //! }
 //! ```

@@ -1,13 +1,13 @@
 //! Where objects are looked up.
 
-ghost use Rattle.std.specs.Prelude.{◌≡◌, ◌≤◌, ℕ, List, map, option_map, Some, None, IfOk, IsErrOf, IsTrue};
+ghost use Rattle.std.specs.Prelude.{◌≡◌, ◌≤◌, ℕ, List, map, option_map, Some, None, IfOk, OnOk, IsErrOf, IsTrue};
 ghost use Rattle.std.specs.FinMap.{is_sorted};
-ghost use Rattle.names.specs.Key.{key_cmp};
+ghost use Rattle.names.specs.Key.{Key as KeyData, key_cmp};
 ghost use Rattle.names.specs.declared.resource.Resource.TheVariants.{ValidatingAdmissionPolicy, ValidatingAdmissionPolicyBinding};
 ghost use Rattle.objects.specs.Objects.{value_at};
 ghost use Rattle.policy.specs.Spec.{wanted_seen};
 ghost use Rattle.objects.specs.Failing.{HasGrown};
-ghost use Rattle.expressions.specs.Objects.{Objects, all_held, shown_objects};
+ghost use Rattle.expressions.specs.Objects.{Held, Objects, all_held, shown_objects};
 ghost use Rattle.expressions.specs.Listed.{listed, wanted_of};
 ghost use Rattle.expressions.specs.LookupSeen.{held_by, listed_seen};
 ghost use Rattle.objects.specs.declared.fault.Part.{Part};
@@ -47,11 +47,14 @@ pub struct Listed<'a> {
 
 /// Where objects are looked up, before a write.
 ///
-/// Policies and bindings are lent, for `'a`, and parameters are made, as they are shown. A look may read a device, and change what
-/// the lookup is made on: what it shows stays, and `goes_to` says what else its maker may know of it afterwards.
+/// Policies and bindings are lent from memory, for `'a`, and parameters are made, as they are shown. A look may read a device, and change what
+/// the lookup is made on: what it shows and lends stays, and `goes_to` says what else its maker may know of it afterwards.
 pub trait Lookup<'a> {
     /// It shows these objects. Nothing has to be known of their trees.
     ghost shows: { Self → Objects → Type 0 };
+
+    /// It lends policies and bindings of these objects, whatever their plans are.
+    ghost lends: { Self → List (KeyData × Held) → Type 0 };
 
     /// How often the device below has failed.
     ghost failures: { Self → ℕ };
@@ -62,39 +65,39 @@ pub trait Lookup<'a> {
     /// What looks may make of it.
     ghost goes_to: { Self → Self → Type 0 };
 
-    /// The policy under a key.
-    ///
-    /// # Errors
-    ///
-    /// `Memory` where no memory is left, `Device` where the device failed, `Damaged` where what lies below is damaged, so that it shows nothing.
-    fn policy(&mut self, alloc: Global, key: &Key) -> Result<Option<Found<'a>>, LookupFault>
+    /// What looks leave of it of which none was told that the device failed.
+    ghost unfailed: { Self → Self → Type 0 };
+
+    /// The policy under a key. It lies in memory, so no fault is told.
+    fn policy(&self, key: &Key) -> Option<Found<'a>>
         requires { key.now.resource ≡ ValidatingAdmissionPolicy }
-        ensures found { (objects : Objects) → shows self.old objects → IfOk result (λ o. option_map held_by o ≡ value_at key.now (all_held objects)) }
-        ensures kept { (objects : Objects) → shows self.old objects → shows self.new objects }
-        ensures goes { goes_to self.old self.new }
-        ensures counts { failures self.old ≤ failures self.new }
-        ensures device { IsErrOf result LookupFault.Device → HasGrown (failures self.old) (failures self.new) }
-        ensures damaged { (part : Part) → IsErrOf result (LookupFault.Damaged part) → is_damaged self.new };
+        ensures found { (objects : Objects) → shows self.now objects → option_map held_by result ≡ value_at key.now (all_held objects) }
+        ensures lent { (all : List (KeyData × Held)) → lends self.now all → option_map held_by result ≡ value_at key.now all };
 
     /// All bindings, in key order.
     ///
     /// # Errors
     ///
-    /// As those of `policy`.
+    /// As those of `parameters`.
     fn bindings(&mut self, alloc: Global) -> Result<Vec<Listed<'a>>, LookupFault>
         ensures found { (objects : Objects) → shows self.old objects
             → IfOk result (λ v. map listed_seen v.items ≡ listed ValidatingAdmissionPolicyBinding None (all_held objects)) }
+        ensures lent { (all : List (KeyData × Held)) → lends self.old all
+            → IfOk result (λ v. map listed_seen v.items ≡ listed ValidatingAdmissionPolicyBinding None all) }
         ensures kept { (objects : Objects) → shows self.old objects → shows self.new objects }
         ensures goes { goes_to self.old self.new }
         ensures counts { failures self.old ≤ failures self.new }
+        ensures steady { OnOk result (unfailed self.old self.new) }
         ensures device { IsErrOf result LookupFault.Device → HasGrown (failures self.old) (failures self.new) }
+        ensures memory { IsErrOf result LookupFault.Memory → unfailed self.old self.new }
         ensures damaged { (part : Part) → IsErrOf result (LookupFault.Damaged part) → is_damaged self.new };
 
     /// The objects of a resource in a namespace that are wanted, in key order, as they are shown.
     ///
     /// # Errors
     ///
-    /// As those of `policy`.
+    /// `Memory` where no memory is left, `Device` where the device failed, `Damaged` where what lies below is damaged, so that it shows nothing. A device
+    /// that failed is told as `Device`, and never as `Memory`.
     fn parameters(
         &mut self,
         alloc: Global,
@@ -107,11 +110,16 @@ pub trait Lookup<'a> {
         ensures kept { (objects : Objects) → shows self.old objects → shows self.new objects }
         ensures goes { goes_to self.old self.new }
         ensures counts { failures self.old ≤ failures self.new }
+        ensures steady { OnOk result (unfailed self.old self.new) }
         ensures device { IsErrOf result LookupFault.Device → HasGrown (failures self.old) (failures self.new) }
+        ensures memory { IsErrOf result LookupFault.Memory → unfailed self.old self.new }
         ensures damaged { (part : Part) → IsErrOf result (LookupFault.Damaged part) → is_damaged self.new };
 
     /// The keys of what it shows ascend.
     ghost ascending: { (lookup : Self) (objects : Objects) → shows lookup objects → IsTrue (is_sorted key_cmp objects) };
+
+    /// What it shows it lends.
+    ghost lends_shown: { (lookup : Self) (objects : Objects) → shows lookup objects → lends lookup (all_held objects) };
 
     /// What is damaged shows nothing.
     ghost shows_nothing: { (lookup : Self) (objects : Objects) → shows lookup objects → is_damaged lookup → ⊥ };
@@ -121,4 +129,13 @@ pub trait Lookup<'a> {
 
     /// Looks may come one after another.
     ghost goes_on: { (before between after : Self) → goes_to before between → goes_to between after → goes_to before after };
+
+    /// Without a look the device did not fail.
+    ghost unfailed_itself: { (lookup : Self) → unfailed lookup lookup };
+
+    /// Nor did it where looks came one after another, and it failed in none.
+    ghost unfailed_on: { (before between after : Self) → unfailed before between → unfailed between after → unfailed before after };
+
+    /// What it lends stays.
+    ghost lends_on: { (before after : Self) (all : List (KeyData × Held)) → goes_to before after → lends before all → lends after all };
 }

@@ -2,6 +2,7 @@
 
 ghost use Rattle.std.specs.Prelude.{◌≡◌, ◌++◌, ◌≤◌, length, map, nat_le, if◌then◌else◌, Some, None, IfOk, IfSome, option_map};
 ghost use Rattle.std.specs.List.{flat_map};
+ghost use Rattle.serde_json.specs.View.{view};
 ghost use Rattle.expressions.specs.Expressions.{sources};
 ghost use Rattle.policy.specs.Spec.{named_seen, policy_seen};
 ghost use Rattle.denials.specs.Validation.{validation_seen};
@@ -10,6 +11,7 @@ ghost use Rattle.expressions.specs.Places.{variable_places, validation_places, p
 use denials::Validation;
 use documents::Doc;
 use policy::{Named, Policy};
+use serde_json::Value as Json;
 use std::alloc::{AllocError, Global};
 
 // Match conditions name no variable.
@@ -99,7 +101,18 @@ pub(crate) fn policy_in(
     ensures policy { IfOk result (λ o. option_map (λ x. policy_seen x.0) o ≡ policy_in document.now) }
     ensures places { IfOk result (λ o. IfSome o (λ x. x.1.items ≡ places_of (policy_seen x.0))) }
 {
-    match Policy::of(alloc, document.value())? {
+    counted_policy(alloc, document.value())
+}
+
+/// The same of a document's value.
+pub(crate) fn counted_policy(
+    alloc: Global,
+    document: &Json,
+) -> Result<Option<(Policy, Vec<u16>)>, AllocError>
+    ensures policy { IfOk result (λ o. option_map (λ x. policy_seen x.0) o ≡ policy_in (view document.now)) }
+    ensures places { IfOk result (λ o. IfSome o (λ x. x.1.items ≡ places_of (policy_seen x.0))) }
+{
+    match Policy::of(alloc, document)? {
         Some(policy) => match places(alloc, &policy)? {
             Some(places) => Ok(Some((policy, places))),
             None => Ok(None),

@@ -100,6 +100,7 @@ fn policy_plans(alloc: Global, document: &Doc, bytes: &[u8]) -> Result<StoredPla
 fn no_plans(alloc: Global, bytes: &[u8]) -> Result<StoredPlans, ReadPlansFault>
     ensures found { IfOk result (λ p. ([] ≡ bytes.now) × (plans_seen p ≡ these [])) }
     ensures damaged { IsErrOf result read_fault.Damaged → [] ≢ bytes.now }
+    ensures refused { [] ≢ bytes.now → IsErrOf result read_fault.Damaged }
 {
     if !bytes.is_empty() {
         return Err(ReadPlansFault::Damaged);
@@ -123,6 +124,9 @@ pub fn stored_plans(
     ensures fits { IfOk result (λ p. MayHavePlans resource document.now (plans_seen p)) }
     ensures damaged { IsErrOf result read_fault.Damaged
         → (plans : Plans) → MayHavePlans resource document.now plans → plans_bytes resource plans ≢ bytes.now }
+
+    // Bytes of no plans that the object may have are told, before any memory is taken.
+    ensures refused { ((plans : Plans) → MayHavePlans resource document.now plans → plans_bytes resource plans ≢ bytes.now) → IsErrOf result read_fault.Damaged }
 {
     match resource {
         Resource::ValidatingAdmissionPolicy => policy_plans(alloc, document, bytes),

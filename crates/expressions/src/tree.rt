@@ -1,7 +1,8 @@
 //! The tree of a text.
 
-ghost use Rattle.std.specs.Prelude.{IfOk, MatchOption};
+ghost use Rattle.std.specs.Prelude.{◌≡◌, IfOk, OnOk, OnErr, MatchOption};
 ghost use Rattle.celread.specs.Reading.{IsNotRead};
+ghost use Rattle.celread.specs.declared.fault.ReadFault.TheVariants as ReadFault;
 ghost use Rattle.celtree.specs.View.{view};
 ghost use Rattle.expressions.specs.Trees.{IsTreeOf};
 
@@ -15,9 +16,20 @@ pub(crate) fn tree_of(alloc: Global, text: &str) -> Result<Option<Box<Tree>>, Al
 {
     match read(alloc, text) {
         Ok(tree) => Ok(Some(tree)),
-        Err(ReadFault::TooLong) => Ok(None),
-        Err(ReadFault::TooDeep) => Ok(None),
-        Err(ReadFault::NotInGrammar) => Ok(None),
-        Err(ReadFault::Memory) => Err(AllocError),
+        Err(fault) => {
+            spells_none(fault)?;
+            Ok(None)
+        }
+    }
+}
+
+// A text that is not read for this fault spells no tree, unless no memory is left.
+fn spells_none(fault: ReadFault) -> Result<(), AllocError>
+    ensures ok { OnOk result (fault ≡ ReadFault.Memory → ⊥) }
+    ensures err { OnErr result (fault ≡ ReadFault.Memory) }
+{
+    match fault {
+        ReadFault::TooLong | ReadFault::TooDeep | ReadFault::NotInGrammar => Ok(()),
+        ReadFault::Memory => Err(AllocError),
     }
 }

@@ -10,6 +10,7 @@ ghost use Rattle.policy.specs.Spec.{policy_seen};
 ghost use Rattle.serde_json.specs.View.{view};
 
 use crate::fault::PolicyFault;
+use crate::places::counted_policy;
 use crate::planning::plans_of;
 use crate::reading::trees_of;
 use celtree::Tree;
@@ -47,7 +48,8 @@ impl TypedPolicy {
     ///
     /// # Errors
     ///
-    /// [`PolicyFault::BadSpec`] where the document has not the form of a policy. [`PolicyFault::BadExpression`] with the text of the
+    /// [`PolicyFault::BadSpec`] where the document has not the form of a policy, or spells one with more than 65535
+    /// expressions. [`PolicyFault::BadExpression`] with the text of the
     /// first expression that spells no tree, or has no type as it must: match conditions and validations are truth values, message
     /// expressions are strings, and variables are of any type. [`PolicyFault::Memory`] where no memory is left.
     pub fn read(alloc: Global, document: &Json) -> Result<TypedPolicy, PolicyFault>
@@ -56,8 +58,8 @@ impl TypedPolicy {
         ensures alone { IfOk result (λ p. (trees : List Expr) → AreTyped p.policy [] (sources p.policy) trees → trees ≡ p.trees) }
         ensures fault { IfErr result (IsFaultOf (view document.now)) }
     {
-        let policy = match Policy::of(alloc, document)? {
-            Some(policy) => policy,
+        let policy = match counted_policy(alloc, document)? {
+            Some((policy, _)) => policy,
             None => return Err(PolicyFault::BadSpec),
         };
         let trees = trees_of(alloc, &policy)?;

@@ -241,7 +241,9 @@ impl<P: Drop> Holdings<P> {
         ensures kept { (base : List (KeyData × StoredData P)) → S.holds source.old base → S.holds source.new base }
         ensures goes { S.goes_to source.old source.new }
         ensures counts { S.failures source.old ≤ S.failures source.new }
+        ensures steady { OnOk result (S.unfailed source.old source.new) }
         ensures device { IsErrOf result LookupFault.Device → HasGrown (S.failures source.old) (S.failures source.new) }
+        ensures memory { IsErrOf result LookupFault.Memory → S.unfailed source.old source.new }
         ensures damaged { (part : Part) → IsErrOf result (LookupFault.Damaged part) → S.is_damaged source.new }
     {
         match self.changes.get(key) {

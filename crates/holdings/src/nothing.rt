@@ -21,11 +21,17 @@ impl<P: Drop> Source<P> for Nothing {
 
     ghost goes_to = { λ _ _. Unit {0} };
 
+    ghost unfailed = { λ _ _. Unit {0} };
+
     ghost holds_nothing = { λ _ _ _ never. never };
 
     ghost stays = { λ _. tt };
 
     ghost goes_on = { λ _ _ _ _ _. tt };
+
+    ghost unfailed_itself = { λ _. tt };
+
+    ghost unfailed_on = { λ _ _ _ _ _. tt };
 
     fn find(&mut self, _alloc: Global, _key: &Key) -> Result<Option<Found>, LookupFault> {
         Ok(None)

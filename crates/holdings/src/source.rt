@@ -1,6 +1,6 @@
 //! Where objects lie below.
 
-ghost use Rattle.std.specs.Prelude.{◌≡◌, ◌≤◌, ℕ, List, option_map, IfOk, IsErrOf};
+ghost use Rattle.std.specs.Prelude.{◌≡◌, ◌≤◌, ℕ, List, option_map, IfOk, OnOk, IsErrOf};
 ghost use Rattle.std.specs.List.{filter};
 ghost use Rattle.names.specs.Key.{Key as KeyData};
 ghost use Rattle.objects.specs.Objects.{value_at, is_of};
@@ -37,17 +37,23 @@ pub trait Source<P> {
     /// What looks may make of it.
     ghost goes_to: { Self → Self → Type 0 };
 
+    /// What looks leave of it of which none was told that the device failed.
+    ghost unfailed: { Self → Self → Type 0 };
+
     /// The object under a key.
     ///
     /// # Errors
     ///
     /// `Device` where the device failed, `Damaged` where what lies below is damaged, so that it holds no objects, `Memory` where there was none.
+    /// A device that failed is told as `Device`, and never as `Memory`.
     fn find(&mut self, alloc: Global, key: &Key) -> Result<Option<Found>, LookupFault>
         ensures found { (objects : List (KeyData × StoredData P)) → holds self.old objects → IfOk result (λ o. o ≡ option_map found_in (value_at key.now objects)) }
         ensures kept { (objects : List (KeyData × StoredData P)) → holds self.old objects → holds self.new objects }
         ensures goes { goes_to self.old self.new }
         ensures counts { failures self.old ≤ failures self.new }
+        ensures steady { OnOk result (unfailed self.old self.new) }
         ensures device { IsErrOf result LookupFault.Device → HasGrown (failures self.old) (failures self.new) }
+        ensures memory { IsErrOf result LookupFault.Memory → unfailed self.old self.new }
         ensures damaged { (part : Part) → IsErrOf result (LookupFault.Damaged part) → is_damaged self.new };
 
     /// The objects of a resource, in one namespace or in all, in key order.
@@ -66,7 +72,9 @@ pub trait Source<P> {
         ensures kept { (objects : List (KeyData × StoredData P)) → holds self.old objects → holds self.new objects }
         ensures goes { goes_to self.old self.new }
         ensures counts { failures self.old ≤ failures self.new }
+        ensures steady { OnOk result (unfailed self.old self.new) }
         ensures device { IsErrOf result LookupFault.Device → HasGrown (failures self.old) (failures self.new) }
+        ensures memory { IsErrOf result LookupFault.Memory → unfailed self.old self.new }
         ensures damaged { (part : Part) → IsErrOf result (LookupFault.Damaged part) → is_damaged self.new };
 
     /// What is damaged holds nothing.
@@ -77,4 +85,10 @@ pub trait Source<P> {
 
     /// Looks may come one after another.
     ghost goes_on: { (before between after : Self) → goes_to before between → goes_to between after → goes_to before after };
+
+    /// Without a look the device did not fail.
+    ghost unfailed_itself: { (source : Self) → unfailed source source };
+
+    /// Nor did it where looks came one after another, and it failed in none.
+    ghost unfailed_on: { (before between after : Self) → unfailed before between → unfailed between after → unfailed before after };
 }

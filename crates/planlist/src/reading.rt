@@ -46,16 +46,31 @@ impl<T: Drop> From<AllocFailed<T>> for ReadPlansFault {
     }
 }
 
+impl From<CodeFault> for ReadPlansFault {
+    ghost use Rattle.planlist.specs.Faults.{of_code_fault};
+
+    ghost from_gives = { λ code_fault e. e ≡ of_code_fault code_fault };
+
+    fn from(fault: CodeFault) -> ReadPlansFault {
+        match fault {
+            CodeFault::Truncated
+            | CodeFault::BadOperand
+            | CodeFault::TextNotUtf8
+            | CodeFault::TrailingBytes
+            | CodeFault::BadJump
+            | CodeFault::BadName
+            | CodeFault::BadStack => ReadPlansFault::Damaged,
+            CodeFault::Memory => ReadPlansFault::Memory,
+        }
+    }
+}
+
 // The plan of this code, for a place with so many variables.
 fn read_code(alloc: Global, variables: u16, code_bytes: &[u8]) -> Result<Verified, ReadPlansFault>
     ensures found { IfOk result (λ p. (p.vars ≡ variables) × IsVerified p.vars p.ops × (code p.ops ≡ code_bytes.now)) }
     ensures damaged { IsErrOf result fault.Damaged → (p : Judged) → IsFor variables p → code p.ops ≢ code_bytes.now }
 {
-    match decode(alloc, code_bytes, variables, Name::Params) {
-        Ok(plan) => Ok(plan),
-        Err(CodeFault::Memory) => Err(ReadPlansFault::Memory),
-        Err(_) => Err(ReadPlansFault::Damaged),
-    }
+    Ok(decode(alloc, code_bytes, variables, Name::Params)?)
 }
 
 // The plan that bytes begin with, for a place with so many variables, and what stands after it.

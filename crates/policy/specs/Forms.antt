@@ -69,9 +69,13 @@ are_distinct (name ∷ names) = not (is_among names name) && are_distinct names
 abbrev pub filled_list_of : {A : Type 0} → (Data → Option A) → Data → Option (List A)
 filled_list_of f d = given (list_of f d) (λ xs. provided (not (length xs == 0)) (Some xs))
 
+-- the members of an object
+abbrev pub top_members : List Text
+top_members = codes "apiVersion" ∷ codes "kind" ∷ codes "metadata" ∷ codes "spec" ∷ []
+
 -- the spec of an object: the object has no members but these
 abbrev pub spec_of : {A : Type 0} → (Data → Option A) → Data → Option A
-spec_of f d = provided (has_only (codes "apiVersion" ∷ codes "kind" ∷ codes "metadata" ∷ codes "spec" ∷ []) d) (field (codes "spec") f d)
+spec_of f d = provided (has_only top_members d) (field (codes "spec") f d)
 
 -- the only item
 abbrev pub only : {A : Type 0} → List A → Option A

@@ -1,11 +1,11 @@
 //! Records, read from the parts of documents.
 
-ghost use Rattle.std.specs.Prelude.{◌≡◌, [], List, Option, None, Some, map, option_map, IfOk, IsErrOf, string_bytes};
+ghost use Rattle.std.specs.Prelude.{◌≡◌, [], List, Option, None, Some, false, map, option_map, IfOk, OnErr, IsErrOf, string_bytes};
 ghost use Rattle.serde_json.specs.Data.{Data};
 ghost use Rattle.serde_json.specs.Find.{as_str};
 ghost use Rattle.serde_json.specs.View.{view, items_view, members_view};
 ghost use Rattle.documents.specs.Selecting.{is_among};
-ghost use Rattle.policy.specs.Forms.{has_only, all_among, field, perhaps, optional, list_of, filled_list_of, each, choice, spec_of};
+ghost use Rattle.policy.specs.Forms.{has_only, all_among, field, perhaps, optional, list_of, filled_list_of, each, choice, top_members, spec_of};
 ghost use Rattle.policy.specs.declared.form.FormFault.TheVariants as FormFault;
 
 use serde_json::{Map, Value as Json};
@@ -234,7 +234,9 @@ pub fn required_filled_list<F: Form>(
 /// Reads the spec of an object that has no members but `apiVersion`, `kind`, `metadata` and `spec`: `None` where it has not
 /// the form.
 pub fn spec_of<F: Form>(alloc: Global, object: &Json) -> Result<Option<F>, AllocError>
-    ensures { IfOk result (λ o. option_map F.seen o ≡ spec_of F.form_of (view object.now)) }
+    ensures spec { IfOk result (λ o. option_map F.seen o ≡ spec_of F.form_of (view object.now)) }
+    // An object with other members is refused before any memory is taken.
+    ensures others { has_only top_members (view object.now) ≡ false → OnErr result ⊥ }
 {
     if !has_only(object, &["apiVersion", "kind", "metadata", "spec"]) {
         return Ok(None);

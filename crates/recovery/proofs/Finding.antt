@@ -51,10 +51,10 @@ is_policy : (k : Key) → k.resource ≡ ValidatingAdmissionPolicy → IsTrue (i
 is_policy k is = ap (λ (r : Resource). (row r).number == (row ValidatingAdmissionPolicy).number) is
 
 -- a policy is found among the changes, since none lies below
-pub policy_found : (core : State Beside) (base : List (Key × Stands)) (held : seen.View Beside) (objects : Objects) (k : Key) (change : Option (Option Stands))
-    → holdings.Shows core base held → HasNoRules base → map entry_held held.objects ≡ all_held objects → k.resource ≡ ValidatingAdmissionPolicy → change ≡ value_at k core.changes.made
-    → option_map held_of (over change None) ≡ value_at k (all_held objects)
-policy_found core base held objects k change shows free are is changes =
+pub policy_found : (core : State Beside) (base : List (Key × Stands)) (held : seen.View Beside) (all : List (Key × Held)) (k : Key) (change : Option (Option Stands))
+    → holdings.Shows core base held → HasNoRules base → map entry_held held.objects ≡ all → k.resource ≡ ValidatingAdmissionPolicy → change ≡ value_at k core.changes.made
+    → option_map held_of (over change None) ≡ value_at k all
+policy_found core base held all k change shows free are is changes =
     ap (λ (c : Option (Option Stands)). option_map held_of (over c None)) changes
     ∙ ap (option_map held_of) (sym (found_where_covered ValidatingAdmissionPolicy k core.changes.made base (λ key of _. free.policies key of refl) (is_policy k is)))
     ∙ ap (λ (os : List (Key × Stands)). option_map held_of (value_at k os)) shows.objects.are
@@ -62,9 +62,9 @@ policy_found core base held objects k change shows free are is changes =
     ∙ ap (value_at k) are
 
 -- and all bindings are listed
-pub bindings_found : (r : Resource) (os : List (Key × Stands)) (objects : Objects) (lent : List (Key × Stands)) (hs : List (Key × Held)) → hs ≡ map entry_held lent → lent ≡ listed r None os
-    → map entry_held os ≡ all_held objects → hs ≡ listed r None (all_held objects)
-bindings_found r os objects lent hs shown_all are held_all =
+pub bindings_found : (r : Resource) (os : List (Key × Stands)) (all : List (Key × Held)) (lent : List (Key × Stands)) (hs : List (Key × Held)) → hs ≡ map entry_held lent → lent ≡ listed r None os
+    → map entry_held os ≡ all → hs ≡ listed r None all
+bindings_found r os all lent hs shown_all are held_all =
     shown_all ∙ ap (map entry_held) are ∙ sym (listed_found r None os) ∙ ap (λ (ps : List (Key × Held)). listed r None ps) held_all
 
 pub bindings_covered : (changes : List (Key × Option Stands)) (base : List (Key × Stands)) → HasNoRules base → AreCovered ValidatingAdmissionPolicyBinding changes base

@@ -1,4 +1,10 @@
 -- What is wrong with payloads of which one gives no write, or one that may not follow.
+use Rattle.std.specs.Prelude.{◌≡◌, ◌≢◌, ℕ, List, Contains, codes}
+use Rattle.requests.specs.History as plain
+use Rattle.requests.specs.History.{put, delete}
+use Rattle.records.specs.Payload as bytes
+use Rattle.expressions.specs.Specification as stored
+use Rattle.expressions.specs.Specification.{MayHavePlans, plans_bytes}
 use Rattle.holdings.specs.declared.redo.RedoFault as redo
 use Rattle.holdings.specs.declared.redo.RedoFault.TheVariants as redo_fault
 use Rattle.records.specs.declared.fault.RecordFault as record_of
@@ -22,3 +28,27 @@ of_redo_fault redo_fault.Memory = Memory
 abbrev pub of_plans_fault : plans_of.ReadPlansFault → RecoveryFault
 of_plans_fault plans_fault.Damaged = Plans
 of_plans_fault plans_fault.Memory = Memory
+
+-- what is told of each
+abbrev pub words : RecoveryFault → List ℕ
+words Damaged = codes "damaged log"
+words Plans = codes "damaged plans"
+words Memory = codes "out of memory"
+
+-- The write puts an object with plans that it may not have: one that is no policy, and has any.
+abbrev pub PutsOtherPlans : plain.Write (List ℕ) → Type 0
+PutsOtherPlans (put k d bytes) = (plans : stored.Plans) → MayHavePlans k.resource d.json plans → plans_bytes k.resource plans ≢ bytes
+PutsOtherPlans (delete k) = ⊥
+
+-- One of these writes does so.
+pub record OneHasOther (writes : List (plain.Write (List ℕ))) : Type 0 where
+  pub write : plain.Write (List ℕ)
+  pub stands : Contains writes write
+  pub other : PutsOtherPlans write
+
+-- One of the writes of this payload does so.
+pub record HasOtherPlans (payload : List ℕ) : Type 0 where
+  pub writes : List (plain.Write (List ℕ))
+  pub group : bytes.IsGroup writes
+  pub payload_is : bytes.payload writes ≡ payload
+  pub one : OneHasOther writes

@@ -1,10 +1,10 @@
 -- What a step leaves where it is prepared, whatever it answers.
-use Rattle.std.specs.Prelude.{◌≡◌, ◌≤◌, ℕ, List, Result, IsErrOf}
+use Rattle.std.specs.Prelude.{◌≡◌, ◌≤◌, ℕ, List, Result, OnOk, IsErrOf}
 use Rattle.names.specs.Key.{Key}
 use Rattle.objects.specs.Failing.{HasGrown}
 use Rattle.objects.specs.declared.fault.Part.{Part}
 use Rattle.objects.specs.declared.fault.LookupFault.{LookupFault}
-use Rattle.objects.specs.declared.fault.LookupFault.TheVariants.{Device, Damaged}
+use Rattle.objects.specs.declared.fault.LookupFault.TheVariants.{Device, Damaged, Memory}
 use Rattle.requests.specs.declared.stored.Stored.{Stored}
 use Rattle.requests.specs.View as seen
 use Rattle.holdings.specs.Holdings.{State, ShowsSame}
@@ -21,11 +21,13 @@ pub record IsAsBefore (before after : State Beside) : Type 0 where
   pub revision : after.revision ≡ before.revision
   pub shows : ShowsSame before after
 
--- What the source holds stays, and it has become what it may become; a failure of the device is told only where its count of failures grew, damage only where
--- the core shows no view over what it holds.
-pub record HasLooked {S A : Type 0} (holds : S → Base → Type 0) (goes_to : S → S → Type 0) (failures : S → ℕ) (core : State Beside) (before after : S) (result : Result A LookupFault) : Type 0 where
+-- What the source holds stays, and it has become what it may become; a failure of the device is told only where its count of failures grew, and where it is told
+-- as no other fault; damage is told only where the core shows no view over what it holds.
+pub record HasLooked {S A : Type 0} (holds : S → Base → Type 0) (goes_to : S → S → Type 0) (failures : S → ℕ) (unfailed : S → S → Type 0) (core : State Beside) (before after : S) (result : Result A LookupFault) : Type 0 where
   pub kept : (base : Base) → holds before base → holds after base
   pub goes : goes_to before after
   pub counts : failures before ≤ failures after
+  pub steady : OnOk result (unfailed before after)
   pub device : IsErrOf result Device → HasGrown (failures before) (failures after)
+  pub memory : IsErrOf result Memory → unfailed before after
   pub damaged : (part : Part) → IsErrOf result (Damaged part) → (held : seen.View Beside) (v : View) → IsOver (holds before) core held v → ⊥

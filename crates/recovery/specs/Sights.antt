@@ -1,6 +1,6 @@
 -- A core over a source, as objects are looked up in them.
 use Rattle.std.specs.Prelude.{◌≡◌, List, map, IsTrue}
-use Rattle.std.proofs.Common.{refl, ◌∙◌}
+use Rattle.std.proofs.Common.{refl, sym, subst, ◌∙◌}
 use Rattle.std.specs.FinMap.{is_sorted}
 use Rattle.names.specs.Key.{Key, key_cmp}
 use Rattle.requests.specs.declared.stored.Stored.{Stored}
@@ -28,6 +28,18 @@ pub record Sees {S : Type 0} (holds : S → List (Key × Stored Beside) → Type
   pub are : map entry_held held.objects ≡ all_held objects
   pub ascends : IsTrue (is_sorted key_cmp objects)
 
+-- The core has these objects, whatever their plans are, over objects among which no policy and no binding lies.
+pub record Lends {S : Type 0} (s : Sight S) (all : List (Key × Held)) : Type 0 where
+  pub base : List (Key × Stored Beside)
+  pub free : HasNoRules base
+  pub held : seen.View Beside
+  pub shows : holdings.Shows s.core.now base held
+  pub are : map entry_held held.objects ≡ all
+
+-- What is seen is lent.
+pub lends_shown : {S : Type 0} (holds : S → Base → Type 0) (s : Sight S) (objects : Objects) → Sees holds s objects → Lends s (all_held objects)
+lends_shown holds s objects sees = record { base = sees.base; free = sees.free; held = sees.held; shows = sees.shows; are = sees.are }
+
 -- Looks leave the core as it is, and the same source, of which they make what they may.
 pub record Goes {S : Type 0} (holds : S → List (Key × Stored Beside) → Type 0) (goes_to : S → S → Type 0) (before after : Sight S) : Type 0 where
   pub core : after.core.now ≡ before.core.now
@@ -46,3 +58,8 @@ module _ {S : Type 0} (holds : S → Base → Type 0) (goes_to : S → S → Typ
     kept = λ base below. second.kept base (first.kept base below);
     goes = further a.source.now b.source.now c.source.now first.goes second.goes;
   }
+
+  pub lends_on : (a b : Sight S) (all : List (Key × Held)) → Goes holds goes_to a b → Lends a all → Lends b all
+  lends_on a b all goes lends =
+      let Shown : holdings.State Beside → Type 0 = λ core. holdings.Shows core lends.base lends.held in
+      record { base = lends.base; free = lends.free; held = lends.held; shows = subst Shown (sym goes.core) lends.shows; are = lends.are }

@@ -19,6 +19,11 @@ pub enum RecoveryFault {
 }
 
 impl Display for RecoveryFault {
+    ghost use Rattle.std.specs.Prelude.{Some};
+    ghost use Rattle.recovery.specs.Faults.{words};
+
+    ghost output = { λ fault. Some (words fault) };
+
     fn fmt<W: fmt::Write>(&self, f: &mut Formatter<W>) -> fmt::Result {
         f.write_str(match self {
             RecoveryFault::Damaged => "damaged log",

@@ -43,7 +43,7 @@ pub fn shown<S: Source<Beside>>(
 ) -> Result<Reply, LookupFault>
     ensures reply { (held : Held BesideData) (v : View) → IsOver (S.holds source.old) core.now held v → IfOk result
         (λ r. r ≡ option_map_or (λ s. showing 200 [] s.document s.revision) (stored_at held key.now) (status NotFound)) }
-    ensures looked { HasLooked S.holds S.goes_to S.failures core.now source.old source.new result }
+    ensures looked { HasLooked S.holds S.goes_to S.failures S.unfailed core.now source.old source.new result }
 {
     let found = core.find(alloc, source, key)?;
     Ok(reply_of(alloc, found)?)
@@ -63,7 +63,7 @@ pub fn listed<S: Source<Beside>>(
 ) -> Result<Reply, LookupFault>
     ensures reply { (held : Held BesideData) (v : View) → IsOver (S.holds source.old) core.now held v
         → IfOk result (λ r. r ≡ listing held (collection_of collection.now) (selector_seen selector.now)) }
-    ensures looked { HasLooked S.holds S.goes_to S.failures core.now source.old source.new result }
+    ensures looked { HasLooked S.holds S.goes_to S.failures S.unfailed core.now source.old source.new result }
 {
     let below = source.list(alloc, collection.resource, collection.namespace())?;
     Ok(core.listed(alloc, collection, selector, &below)?)

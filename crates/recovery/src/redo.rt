@@ -1,4 +1,4 @@
-ghost use Rattle.std.specs.Prelude.{◌≡◌, ◌⊎◌, ℕ, List, [], map, IfOk, OnOk, IsErrOf};
+ghost use Rattle.std.specs.Prelude.{◌≡◌, ◌⊎◌, ℕ, List, [], map, Contains, IfOk, OnOk, IsErrOf};
 ghost use Rattle.names.specs.Key.{Key as KeyData};
 ghost use Rattle.requests.specs.declared.stored.Stored.{Stored as StoredData};
 ghost use Rattle.requests.specs.View.{View, after_all, MayFollow, AllMayFollow};
@@ -9,6 +9,7 @@ ghost use Rattle.holdings.specs.Holdings.{Shows};
 ghost use Rattle.holdings.specs.Known.{IsKnown, KnowsSame};
 ghost use Rattle.records.specs.WriteOf.{write_of};
 ghost use Rattle.recovery.specs.Beside.{Beside as BesideData};
+ghost use Rattle.recovery.specs.Faults.{PutsOtherPlans, OneHasOther, HasOtherPlans};
 ghost use Rattle.recovery.specs.Known.{written_key, Writes, AllKnown, KnowsEach};
 ghost use Rattle.recovery.specs.Standing.{recorded};
 ghost use Rattle.recovery.specs.Shown.{plans_held};
@@ -38,6 +39,8 @@ pub fn redone(alloc: Global, core: Core, payloads: &[Vec<u8>]) -> Result<Core, R
     ensures damaged { (base : List (KeyData × StoredData BesideData)) (held : View BesideData) → Shows core base held → AllKnown core base (map (λ p. p.items) payloads.now)
         → IsErrOf result RecoveryFault.Damaged ⊎ IsErrOf result RecoveryFault.Plans
         → (ws : List Write) → IsWritten core.rules (mapped plans_held held) ws (map (λ p. p.items) payloads.now) → ⊥ }
+    // Plans are told only where an object that is no policy has some.
+    ensures plans { IsErrOf result RecoveryFault.Plans → (bytes : List ℕ) × Contains (map (λ p. p.items) payloads.now) bytes × HasOtherPlans bytes }
 {
     let mut core = core;
     for payload in payloads {
@@ -59,6 +62,7 @@ fn redo(alloc: Global, core: &mut Core, bytes: &[u8]) -> Result<(), RecoveryFaul
         → ((key : KeyData) → Writes bytes.now key → IsKnown core.old base key)
         → IsErrOf result RecoveryFault.Damaged ⊎ IsErrOf result RecoveryFault.Plans
         → (ws : List Write) → IsGroup ws → payload ws ≡ bytes.now → AllMayFollow core.old.rules (mapped plans_held held) ws → ⊥ }
+    ensures plans { IsErrOf result RecoveryFault.Plans → HasOtherPlans bytes.now }
 {
     let writes = read_writes(alloc, bytes)?;
     redo_writes(alloc, core, writes)
@@ -80,6 +84,7 @@ fn redo_writes(
         → KnowsEach core.old base (map write_of writes.entry.items)
         → IsErrOf result RecoveryFault.Damaged ⊎ IsErrOf result RecoveryFault.Plans
         → (ws : List Write) → AreRecorded ws (map write_of writes.entry.items) → AllMayFollow core.old.rules (mapped plans_held held) ws → ⊥ }
+    ensures plans { IsErrOf result RecoveryFault.Plans → OneHasOther (map write_of writes.entry.items) }
 {
     for write in writes {
         redo_write(alloc, core, write)?;
@@ -99,6 +104,8 @@ fn redo_write(alloc: Global, core: &mut Core, write: StoredWrite<'_>) -> Result<
         → IsKnown core.old base (written_key (write_of write.entry))
         → IsErrOf result RecoveryFault.Damaged ⊎ IsErrOf result RecoveryFault.Plans
         → (w : Write) → HasPlans w → recorded w ≡ write_of write.entry → MayFollow core.old.rules (mapped plans_held held) w → ⊥ }
+    ensures plans { IsErrOf result RecoveryFault.Plans → PutsOtherPlans (write_of write.entry) }
+    ensures told { PutsOtherPlans (write_of write.entry) → IsErrOf result RecoveryFault.Plans }
 {
     match write {
         StoredWrite::Put(manifest, plans) => redo_put(alloc, core, &manifest, plans),
@@ -121,6 +128,8 @@ fn redo_put(
     ensures damaged { (base : List (KeyData × StoredData BesideData)) (held : View BesideData) → Shows core.old base held → IsKnown core.old base manifest.now.key
         → IsErrOf result RecoveryFault.Damaged ⊎ IsErrOf result RecoveryFault.Plans
         → (w : Write) → HasPlans w → recorded w ≡ put manifest.now.key (document_in manifest.now.body) plans.now → MayFollow core.old.rules (mapped plans_held held) w → ⊥ }
+    ensures plans { IsErrOf result RecoveryFault.Plans → PutsOtherPlans (put manifest.now.key (document_in manifest.now.body) plans.now) }
+    ensures told { PutsOtherPlans (put manifest.now.key (document_in manifest.now.body) plans.now) → IsErrOf result RecoveryFault.Plans }
 {
     let plans = stored_plans(
         alloc,
@@ -143,6 +152,7 @@ fn redo_delete(alloc: Global, core: &mut Core, key: &Key) -> Result<(), Recovery
     ensures damaged { (base : List (KeyData × StoredData BesideData)) (held : View BesideData) → Shows core.old base held → IsKnown core.old base key.now
         → IsErrOf result RecoveryFault.Damaged ⊎ IsErrOf result RecoveryFault.Plans
         → MayFollow core.old.rules (mapped plans_held held) (delete key.now) → ⊥ }
+    ensures plans { IsErrOf result RecoveryFault.Plans → ⊥ }
 {
     core.redo_delete(alloc, key)?;
     Ok(())

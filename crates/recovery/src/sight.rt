@@ -35,17 +35,27 @@ pub struct Sight<'a, 's, S> {
 }
 
 impl<'a, 's, S: Source<Beside>> Lookup<'a> for Sight<'a, 's, S> {
-    ghost use Rattle.recovery.specs.Sights.{Sees, Goes, stays, goes_on};
+    ghost use Rattle.recovery.specs.Sights.{Sees, Lends, Goes, lends_shown, stays, goes_on, lends_on};
 
     ghost shows = { Sees S.holds };
+
+    ghost lends = { Lends };
 
     ghost failures = { λ s. S.failures s.source.now };
 
     ghost is_damaged = { λ s. S.is_damaged s.source.now };
 
+    ghost unfailed = { λ a b. S.unfailed a.source.now b.source.now };
+
+    ghost unfailed_itself = { λ s. S.unfailed_itself s.source.now };
+
+    ghost unfailed_on = { λ a b c first second. S.unfailed_on a.source.now b.source.now c.source.now first second };
+
     ghost goes_to = { Goes S.holds S.goes_to };
 
     ghost ascending = { λ _ _ sees. sees.ascends };
+
+    ghost lends_shown = { lends_shown S.holds };
 
     ghost shows_nothing = { λ s _ sees damaged. S.holds_nothing s.source.now sees.base sees.below damaged };
 
@@ -53,11 +63,13 @@ impl<'a, 's, S: Source<Beside>> Lookup<'a> for Sight<'a, 's, S> {
 
     ghost goes_on = { goes_on S.holds S.goes_to S.goes_on };
 
-    fn policy(&mut self, _alloc: Global, key: &Key) -> Result<Option<Found<'a>>, LookupFault> {
+    ghost lends_on = { lends_on S.holds S.goes_to };
+
+    fn policy(&self, key: &Key) -> Option<Found<'a>> {
         match self.core.change(key) {
-            Some(Some(stored)) => Ok(Some(lent(stored))),
-            Some(None) => Ok(None),
-            None => Ok(None),
+            Some(Some(stored)) => Some(lent(stored)),
+            Some(None) => None,
+            None => None,
         }
     }
 

@@ -170,11 +170,18 @@ impl<'a, P: Drop, D: Device, M: FromDocument<P> + Drop> Source<P> for Base<'a, D
 
     ghost goes_to = { GoesTo };
 
+    // No device says yet that a read which it answers leaves its count of failures.
+    ghost unfailed = { λ _ _. Unit {0} };
+
     ghost holds_nothing = { holds_nothing M.made M.held };
 
     ghost stays = { stays };
 
     ghost goes_on = { goes_on };
+
+    ghost unfailed_itself = { λ _. tt };
+
+    ghost unfailed_on = { λ _ _ _ _ _. tt };
 
     fn find(&mut self, alloc: Global, key: &Key) -> Result<Option<Found>, LookupFault> {
         if self.making.is_held(key.resource()) {

@@ -7,6 +7,7 @@ pub mod Meant
 pub mod Warnings
 pub mod Standing
 pub mod Turns
+pub mod Spoiling
 pub mod Ascending
 pub mod BindingTurns
 pub mod Faults

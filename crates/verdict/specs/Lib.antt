@@ -9,6 +9,7 @@ pub mod ByPlans
 pub mod Deciding
 pub mod Admission
 pub mod Turns
+pub mod Spoiled
 pub mod Laws
 pub mod Parameters
 pub mod OneBinding

@@ -1,24 +1,31 @@
 //! The verdict on a write.
 
-ghost use Rattle.std.specs.Prelude.{◌≡◌, ◌≤◌, List, map, option_map, Some, None, IfOk, OnOk, IfSome, IsErrOf, string_bytes};
+ghost use Rattle.std.specs.Prelude.{◌≡◌, ◌≤◌, ◌⊎◌, ℕ, List, map, option_map, Some, None, Contains, IfOk, OnOk, IfSome, IsErrOf, IsTrue, string_bytes};
 ghost use Rattle.std.specs.List.{filter_map};
 ghost use Rattle.std.specs.Option.{option_map_or};
 ghost use Rattle.serde_json.specs.View.{view};
+ghost use Rattle.names.specs.Key.{Key as KeyData};
 ghost use Rattle.plancode.specs.Plans.{Judged};
+ghost use Rattle.policy.specs.Forms.{Text};
+ghost use Rattle.policy.specs.Matching.{is_matched};
 ghost use Rattle.policy.specs.Rules.{attempt_seen};
-ghost use Rattle.expressions.specs.Specification.{these, plans_seen};
+ghost use Rattle.policy.specs.Spec.{Policy, Binding, policy_seen};
+ghost use Rattle.expressions.specs.Specification.{these, spoiled, plans_seen};
 ghost use Rattle.verdict.specs.Request.{request_of};
 ghost use Rattle.denials.specs.Seen.{denial_seen, verdict_seen};
 ghost use Rattle.denials.specs.Verdict as verdicts;
 ghost use Rattle.verdict.specs.Deciding as model;
 ghost use Rattle.verdict.specs.Deciding.{after_warnings};
-ghost use Rattle.expressions.specs.Objects.{Object, Objects, HasTrees, HaveTrees, held};
+ghost use Rattle.expressions.specs.Objects.{Object, Objects, Held, HasTrees, HaveTrees, held};
+ghost use Rattle.expressions.specs.Listed.{listed};
 ghost use Rattle.expressions.specs.LookupSeen.{held_by, listed_seen};
 ghost use Rattle.verdict.specs.Admission.{bindings, denial_by, finding, verdict};
 ghost use Rattle.verdict.specs.Turns.{held_binding, denial_by_policy};
-ghost use Rattle.names.specs.declared.resource.Resource.TheVariants.{ValidatingAdmissionPolicy};
+ghost use Rattle.verdict.specs.Spoiled.{AsksSpoiled, HasSpoiled, IsDenied};
+ghost use Rattle.names.specs.declared.resource.Resource.TheVariants.{ValidatingAdmissionPolicy, ValidatingAdmissionPolicyBinding};
 ghost use Rattle.objects.specs.Failing.{HasGrown};
 ghost use Rattle.objects.specs.declared.fault.Part.{Part};
+ghost use Rattle.objects.specs.declared.fault.Part.TheVariants as Part;
 ghost use Rattle.objects.specs.declared.fault.LookupFault.TheVariants as LookupFault;
 
 use crate::deciding::decided;
@@ -66,10 +73,14 @@ fn bindings_among<'a>(alloc: Global, listed: &[Listed<'a>]) -> Result<Vec<Named<
 #[tactic(auto, using(crate::proofs::Standing::bindings_held))]
 fn bindings<'a, L: Lookup<'a>>(alloc: Global, lookup: &mut L) -> Result<Vec<Named<'a>>, LookupFault>
     ensures found { (objects : Objects) → L.shows lookup.old objects → IfOk result (λ v. v.items ≡ bindings objects) }
+    ensures lent { (all : List (KeyData × Held)) → L.lends lookup.old all
+        → IfOk result (λ v. v.items ≡ filter_map held_binding (listed ValidatingAdmissionPolicyBinding None all)) }
     ensures kept { (objects : Objects) → L.shows lookup.old objects → L.shows lookup.new objects }
     ensures goes { L.goes_to lookup.old lookup.new }
     ensures counts { L.failures lookup.old ≤ L.failures lookup.new }
+    ensures steady { OnOk result (L.unfailed lookup.old lookup.new) }
     ensures device { IsErrOf result LookupFault.Device → HasGrown (L.failures lookup.old) (L.failures lookup.new) }
+    ensures memory { IsErrOf result LookupFault.Memory → L.unfailed lookup.old lookup.new }
     ensures damaged { (part : Part) → IsErrOf result (LookupFault.Damaged part) → L.is_damaged lookup.new }
 {
     let listed = lookup.bindings(alloc)?;
@@ -94,8 +105,13 @@ fn denial_of<'a, L: Lookup<'a>>(
     ensures kept { (objects : Objects) → L.shows lookup.old objects → L.shows lookup.new objects }
     ensures goes { L.goes_to lookup.old lookup.new }
     ensures counts { L.failures lookup.old ≤ L.failures lookup.new }
+    ensures steady { OnOk result (L.unfailed lookup.old lookup.new) }
     ensures device { IsErrOf result LookupFault.Device → HasGrown (L.failures lookup.old) (L.failures lookup.new) }
+    ensures memory { IsErrOf result LookupFault.Memory → L.unfailed lookup.old lookup.new }
     ensures damaged { (part : Part) → IsErrOf result (LookupFault.Damaged part) → (ready : List Judged) → plans_seen found.now.plans.now ≡ these ready → L.is_damaged lookup.new }
+    ensures never_passed { (p : Policy) (bytes : List ℕ) → (held_by found.now).policy ≡ Some p → (held_by found.now).plans ≡ spoiled bytes
+        → IsTrue (is_matched p.constraints bound.now.resources (attempt_seen attempt.now)) → IsErrOf result (LookupFault.Damaged Part.Plans) }
+    ensures damage { (part : Part) → IsErrOf result (LookupFault.Damaged part) → L.is_damaged lookup.new ⊎ (part ≡ Part.Plans) }
 {
     match found.policy {
         Some(policy) => {
@@ -129,10 +145,15 @@ fn denial_by<'a, L: Lookup<'a>>(
     ensures kept { (objects : Objects) → L.shows lookup.old objects → L.shows lookup.new objects }
     ensures goes { L.goes_to lookup.old lookup.new }
     ensures counts { L.failures lookup.old ≤ L.failures lookup.new }
+    ensures steady { OnOk result (L.unfailed lookup.old lookup.new) }
     ensures device { IsErrOf result LookupFault.Device → HasGrown (L.failures lookup.old) (L.failures lookup.new) }
+    ensures memory { IsErrOf result LookupFault.Memory → L.unfailed lookup.old lookup.new }
     ensures damaged { (part : Part) → IsErrOf result (LookupFault.Damaged part) → (objects : Objects) → L.shows lookup.old objects → ⊥ }
+    ensures never_passed { (all : List (KeyData × Held)) → L.lends lookup.old all → AsksSpoiled all (attempt_seen attempt.now) bound.now
+        → IsErrOf result (LookupFault.Damaged Part.Plans) }
+    ensures damage { (part : Part) → IsErrOf result (LookupFault.Damaged part) → L.is_damaged lookup.new ⊎ (part ≡ Part.Plans) }
 {
-    let found = match lookup.policy(alloc, bound.policy_key())? {
+    let found = match lookup.policy(bound.policy_key()) {
         Some(found) => found,
         None => return Ok(None),
     };
@@ -157,8 +178,14 @@ fn turn<'a, L: Lookup<'a>>(
     ensures kept { (objects : Objects) → L.shows lookup.old objects → L.shows lookup.new objects }
     ensures goes { L.goes_to lookup.old lookup.new }
     ensures counts { L.failures lookup.old ≤ L.failures lookup.new }
+    ensures steady { OnOk result (L.unfailed lookup.old lookup.new) }
     ensures device { IsErrOf result LookupFault.Device → HasGrown (L.failures lookup.old) (L.failures lookup.new) }
+    ensures memory { IsErrOf result LookupFault.Memory → L.unfailed lookup.old lookup.new }
     ensures damaged { (part : Part) → IsErrOf result (LookupFault.Damaged part) → (objects : Objects) → L.shows lookup.old objects → ⊥ }
+    ensures denies { IfOk result (λ o. IfSome o (λ v. IsDenied (verdict_seen v))) }
+    ensures never_passed { (all : List (KeyData × Held)) → L.lends lookup.old all → AsksSpoiled all (attempt_seen attempt.now) named.now.1
+        → IsErrOf result (LookupFault.Damaged Part.Plans) }
+    ensures damage { (part : Part) → IsErrOf result (LookupFault.Damaged part) → L.is_damaged lookup.new ⊎ (part ≡ Part.Plans) }
 {
     match denial_by(alloc, lookup, named.bound, attempt, request)? {
         Some(denial) => Ok(decided(alloc, warnings, named.name, named.bound.binding(), denial)?),
@@ -178,8 +205,13 @@ fn verdict_of<'a, L: Lookup<'a>>(
     ensures kept { (objects : Objects) → L.shows lookup.old objects → L.shows lookup.new objects }
     ensures goes { L.goes_to lookup.old lookup.new }
     ensures counts { L.failures lookup.old ≤ L.failures lookup.new }
+    ensures steady { OnOk result (L.unfailed lookup.old lookup.new) }
     ensures device { IsErrOf result LookupFault.Device → HasGrown (L.failures lookup.old) (L.failures lookup.new) }
+    ensures memory { IsErrOf result LookupFault.Memory → L.unfailed lookup.old lookup.new }
     ensures damaged { (part : Part) → IsErrOf result (LookupFault.Damaged part) → (objects : Objects) → L.shows lookup.old objects → ⊥ }
+    ensures never_passed { (all : List (KeyData × Held)) (b : Text × Binding) → L.lends lookup.old all → Contains bindings.now b
+        → AsksSpoiled all (attempt_seen attempt.now) b.1 → IfOk result (λ v. IsDenied (verdict_seen v)) }
+    ensures damage { (part : Part) → IsErrOf result (LookupFault.Damaged part) → L.is_damaged lookup.new ⊎ (part ≡ Part.Plans) }
 {
     let mut warnings = Vec::new(alloc);
     let mut request = None;
@@ -209,8 +241,17 @@ pub fn admit<'a, L: Lookup<'a>>(
     ensures kept { (objects : Objects) → L.shows lookup.old objects → L.shows lookup.new objects }
     ensures goes { L.goes_to lookup.old lookup.new }
     ensures counts { L.failures lookup.old ≤ L.failures lookup.new }
+    ensures steady { OnOk result (L.unfailed lookup.old lookup.new) }
     ensures device { IsErrOf result LookupFault.Device → HasGrown (L.failures lookup.old) (L.failures lookup.new) }
+    ensures memory { IsErrOf result LookupFault.Memory → L.unfailed lookup.old lookup.new }
     ensures damaged { (part : Part) → IsErrOf result (LookupFault.Damaged part) → (objects : Objects) → L.shows lookup.old objects → ⊥ }
+
+    // A policy whose plans are spoiled lets no write pass that it is for: a binding before it may deny the write, and else a fault is told.
+    ensures never_passed { (all : List (KeyData × Held)) → L.lends lookup.old all → HasSpoiled all (attempt_seen attempt.now)
+        → IfOk result (λ v. IsDenied (verdict_seen v)) }
+
+    // Damage that does not lie below is that of plans.
+    ensures damage { (part : Part) → IsErrOf result (LookupFault.Damaged part) → L.is_damaged lookup.new ⊎ (part ≡ Part.Plans) }
 {
     let bindings = bindings(alloc, lookup)?;
     verdict_of(alloc, lookup, &bindings, attempt)

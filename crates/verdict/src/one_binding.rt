@@ -1,6 +1,6 @@
 //! What one binding of a policy says of a write.
 
-ghost use Rattle.std.specs.Prelude.{◌≡◌, ◌≤◌, ◌++◌, ℕ, List, map, option_map, Some, None, false, IfOk, OnOk, OnErr, IfSome, IsErrOf, IsTrue, string_bytes};
+ghost use Rattle.std.specs.Prelude.{◌≡◌, ◌≤◌, ◌⊎◌, ◌++◌, ℕ, List, map, option_map, Some, None, false, IfOk, OnOk, OnErr, IfSome, IsErrOf, IsTrue, string_bytes};
 ghost use Rattle.serde_json.specs.View.{view};
 ghost use Rattle.celtree.specs.Tree.{Expr};
 ghost use Rattle.policy.specs.Rules.{attempt_seen};
@@ -139,7 +139,9 @@ fn on_conditions<'a, L: Lookup<'a>>(
     ensures kept { (objects : Objects) → L.shows lookup.old objects → L.shows lookup.new objects }
     ensures goes { L.goes_to lookup.old lookup.new }
     ensures counts { L.failures lookup.old ≤ L.failures lookup.new }
+    ensures steady { OnOk result (L.unfailed lookup.old lookup.new) }
     ensures device { IsErrOf result LookupFault.Device → HasGrown (L.failures lookup.old) (L.failures lookup.new) }
+    ensures memory { IsErrOf result LookupFault.Memory → L.unfailed lookup.old lookup.new }
     ensures damaged { (part : Part) → IsErrOf result (LookupFault.Damaged part) → L.is_damaged lookup.new }
 {
     match conditions {
@@ -178,7 +180,9 @@ fn asked<'a, L: Lookup<'a>>(
     ensures kept { (objects : Objects) → L.shows lookup.old objects → L.shows lookup.new objects }
     ensures goes { L.goes_to lookup.old lookup.new }
     ensures counts { L.failures lookup.old ≤ L.failures lookup.new }
+    ensures steady { OnOk result (L.unfailed lookup.old lookup.new) }
     ensures device { IsErrOf result LookupFault.Device → HasGrown (L.failures lookup.old) (L.failures lookup.new) }
+    ensures memory { IsErrOf result LookupFault.Memory → L.unfailed lookup.old lookup.new }
     ensures damaged { (part : Part) → IsErrOf result (LookupFault.Damaged part) → L.is_damaged lookup.new }
 {
     let found = conditions(alloc, policy, plans, attempt, request)?;
@@ -209,12 +213,17 @@ pub fn denial<'a, L: Lookup<'a>>(
     ensures kept { (objects : Objects) → L.shows lookup.old objects → L.shows lookup.new objects }
     ensures goes { L.goes_to lookup.old lookup.new }
     ensures counts { L.failures lookup.old ≤ L.failures lookup.new }
+    ensures steady { OnOk result (L.unfailed lookup.old lookup.new) }
     ensures device { IsErrOf result LookupFault.Device → HasGrown (L.failures lookup.old) (L.failures lookup.new) }
+    ensures memory { IsErrOf result LookupFault.Memory → L.unfailed lookup.old lookup.new }
 
     // A policy whose plans are spoiled lets no write pass that it is for.
     ensures never_passed { (bytes : List ℕ) → plans_seen plans.now ≡ spoiled bytes
         → IsTrue (is_matched (policy_seen policy.now).constraints (binding_seen binding.now).resources (attempt_seen attempt.now)) → IsErrOf result (LookupFault.Damaged Part.Plans) }
     ensures damaged { (part : Part) → IsErrOf result (LookupFault.Damaged part) → (ready : List Judged) → plans_seen plans.now ≡ these ready → L.is_damaged lookup.new }
+
+    // Damage that does not lie below is that of the plans.
+    ensures damage { (part : Part) → IsErrOf result (LookupFault.Damaged part) → L.is_damaged lookup.new ⊎ (part ≡ Part.Plans) }
 
     // A write that the policy and the binding are not for is not denied, whatever the plans are.
     ensures unasked { is_matched (policy_seen policy.now).constraints (binding_seen binding.now).resources (attempt_seen attempt.now) ≡ false

@@ -1,6 +1,6 @@
 //! The parameters of a policy, as a binding asks for them.
 
-ghost use Rattle.std.specs.Prelude.{◌≡◌, ◌≤◌, map, option_map, Some, IfOk, IsErrOf};
+ghost use Rattle.std.specs.Prelude.{◌≡◌, ◌≤◌, map, option_map, Some, IfOk, OnOk, IsErrOf};
 ghost use Rattle.names.specs.Resource.{row};
 ghost use Rattle.policy.specs.Rules.{attempt_seen};
 ghost use Rattle.policy.specs.Spec.{binding_seen, param_ref_seen, wanted_seen};
@@ -75,7 +75,9 @@ fn looked_up<'a, L: Lookup<'a>>(
     ensures kept { (objects : Objects) → L.shows lookup.old objects → L.shows lookup.new objects }
     ensures goes { L.goes_to lookup.old lookup.new }
     ensures counts { L.failures lookup.old ≤ L.failures lookup.new }
+    ensures steady { OnOk result (L.unfailed lookup.old lookup.new) }
     ensures device { IsErrOf result LookupFault.Device → HasGrown (L.failures lookup.old) (L.failures lookup.new) }
+    ensures memory { IsErrOf result LookupFault.Memory → L.unfailed lookup.old lookup.new }
     ensures damaged { (part : Part) → IsErrOf result (LookupFault.Damaged part) → L.is_damaged lookup.new }
 {
     let documents = lookup.parameters(alloc, resource, namespace, wanted)?;
@@ -99,7 +101,9 @@ pub(crate) fn parameters_of<'a, L: Lookup<'a>>(
     ensures kept { (objects : Objects) → L.shows lookup.old objects → L.shows lookup.new objects }
     ensures goes { L.goes_to lookup.old lookup.new }
     ensures counts { L.failures lookup.old ≤ L.failures lookup.new }
+    ensures steady { OnOk result (L.unfailed lookup.old lookup.new) }
     ensures device { IsErrOf result LookupFault.Device → HasGrown (L.failures lookup.old) (L.failures lookup.new) }
+    ensures memory { IsErrOf result LookupFault.Memory → L.unfailed lookup.old lookup.new }
     ensures damaged { (part : Part) → IsErrOf result (LookupFault.Damaged part) → L.is_damaged lookup.new }
 {
     let resource = match kind {

@@ -1,4 +1,5 @@
 use Rattle.std.proofs.Common.{rules, ◌≡◌, ◌∙◌, ◌+◌, sym, ap, subst, IfOk, string_bytes, map}
+use Rattle.std.proofs.lemmas.Result.{IfOk-from_err}
 use Rattle.std.specs.Prelude.{IsErrOf}
 use Rattle.objects.specs.declared.fault.LookupFault.TheVariants as LookupFault
 use Rattle.requests.specs.History.{delete}
@@ -32,19 +33,21 @@ returns-in-Denied-clause-judged g c = λ held v over found.
 
 pub returns-in-Admitted-clause-looked : goal.returns-in-Admitted-clause-looked
 returns-in-Admitted-clause-looked g c =
-    looked_after g.S.Source.holds g.S.Source.goes_to g.S.Source.failures c.args.core.now c.args.source.now c.verdict_of.new.source c.admitted_delete.result
-    c.in_ok-warnings.ensures.kept c.in_ok-warnings.ensures.goes c.in_ok-warnings.ensures.counts c.admitted_delete.ensures.memory
+    looked_after g.S.Source.holds g.S.Source.goes_to g.S.Source.failures g.S.Source.unfailed c.args.core.now c.args.source.now c.verdict_of.new.source c.admitted_delete.result
+    c.in_ok-warnings.ensures.kept c.in_ok-warnings.ensures.goes c.in_ok-warnings.ensures.counts c.in_ok-warnings.ensures.steady c.admitted_delete.ensures.memory
 
 pub returns-in-Denied-clause-looked : goal.returns-in-Denied-clause-looked
 returns-in-Denied-clause-looked g c =
-    looked_after g.S.Source.holds g.S.Source.goes_to g.S.Source.failures c.args.core.now c.args.source.now c.verdict_of.new.source c.denied.result
-    c.in_ok-warnings.ensures.kept c.in_ok-warnings.ensures.goes c.in_ok-warnings.ensures.counts c.denied.ensures.memory
+    looked_after g.S.Source.holds g.S.Source.goes_to g.S.Source.failures g.S.Source.unfailed c.args.core.now c.args.source.now c.verdict_of.new.source c.denied.result
+    c.in_ok-warnings.ensures.kept c.in_ok-warnings.ensures.goes c.in_ok-warnings.ensures.counts c.in_ok-warnings.ensures.steady c.denied.ensures.memory
 
 pub returns-in_err-warnings-clause-looked : goal.returns-in_err-warnings-clause-looked
 returns-in_err-warnings-clause-looked g c = record {
   kept = c.verdict_of.ensures.kept;
   goes = c.verdict_of.ensures.goes;
   counts = c.verdict_of.ensures.counts;
+  steady = IfOk-from_err c.from_residual.result _ c.from_residual.ensures.0;
   device = λ told. let device : IsErrOf c.verdict_of.result LookupFault.Device = search rules in c.verdict_of.ensures.device device;
+  memory = λ told. let memory : IsErrOf c.verdict_of.result LookupFault.Memory = search rules in c.verdict_of.ensures.memory memory;
   damaged = λ part told held v over. let damaged : IsErrOf c.verdict_of.result (LookupFault.Damaged part) = search rules in c.verdict_of.ensures.damaged part damaged held v over;
 }

@@ -30,8 +30,8 @@ returns-in-BadExpression-clause-step g c = λ s is held v over none.
 
 pub returns-in-BadSpec-clause-looked : goal.returns-in-BadSpec-clause-looked
 returns-in-BadSpec-clause-looked g c =
-    looked_not g.S.Source.holds g.S.Source.goes_to g.S.Source.failures c.args.core.now c.args.source.now c.refused.result (g.met.S.Source.stays c.args.source.now) c.refused.ensures.memory
+    looked_not g.S.Source.holds g.S.Source.goes_to g.S.Source.failures g.S.Source.unfailed c.args.core.now c.args.source.now c.refused.result (g.met.S.Source.stays c.args.source.now) (g.met.S.Source.unfailed_itself c.args.source.now) c.refused.ensures.memory
 
 pub returns-in-BadExpression-clause-looked : goal.returns-in-BadExpression-clause-looked
 returns-in-BadExpression-clause-looked g c =
-    looked_not g.S.Source.holds g.S.Source.goes_to g.S.Source.failures c.args.core.now c.args.source.now c.bad_expression.result (g.met.S.Source.stays c.args.source.now) c.bad_expression.ensures.memory
+    looked_not g.S.Source.holds g.S.Source.goes_to g.S.Source.failures g.S.Source.unfailed c.args.core.now c.args.source.now c.bad_expression.result (g.met.S.Source.stays c.args.source.now) (g.met.S.Source.unfailed_itself c.args.source.now) c.bad_expression.ensures.memory

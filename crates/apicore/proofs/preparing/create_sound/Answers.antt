@@ -22,4 +22,4 @@ returns-in-None-clause-step g c = λ trees same held v over none.
 
 pub returns-in-Some-clause-looked : goal.returns-in-Some-clause-looked
 returns-in-Some-clause-looked g c =
-    looked_not g.S.Source.holds g.S.Source.goes_to g.S.Source.failures c.args.core.now c.args.source.now c.refused.result (g.met.S.Source.stays c.args.source.now) c.refused.ensures.memory
+    looked_not g.S.Source.holds g.S.Source.goes_to g.S.Source.failures g.S.Source.unfailed c.args.core.now c.args.source.now c.refused.result (g.met.S.Source.stays c.args.source.now) (g.met.S.Source.unfailed_itself c.args.source.now) c.refused.ensures.memory

@@ -20,7 +20,7 @@ returns-in_err-deletion_conflicts g c =
       same = as_it_was core;
       step = λ held v over found s. IfOk-from_err handed.result _ handed.ensures.0;
       ready = IfOk-from_err handed.result _ handed.ensures.0;
-      looked = looked_not g.S.Source.holds g.S.Source.goes_to g.S.Source.failures core source handed.result (g.met.S.Source.stays source) (only_memory handed.result handed.ensures.1);
+      looked = looked_not g.S.Source.holds g.S.Source.goes_to g.S.Source.failures g.S.Source.unfailed core source handed.result (g.met.S.Source.stays source) (g.met.S.Source.unfailed_itself source) (only_memory handed.result handed.ensures.1);
     }
 
 pub returns-then-branch : goal.returns-then-branch
@@ -37,7 +37,7 @@ returns-then-branch g c =
           (delete_found held c.args.key.now c.args.found found rules asked true (is_exhausted rules held) (sym c.in_ok-deletion_conflicts.ensures ∙ c.if-branch.true) refl) s)
           c.refused.ensures.step;
       ready = refused_ready core (known refusal.VersionNotCurrent) c.refused.result c.refused.ensures.step;
-      looked = looked_not g.S.Source.holds g.S.Source.goes_to g.S.Source.failures core source c.refused.result (g.met.S.Source.stays source) c.refused.ensures.memory;
+      looked = looked_not g.S.Source.holds g.S.Source.goes_to g.S.Source.failures g.S.Source.unfailed core source c.refused.result (g.met.S.Source.stays source) (g.met.S.Source.unfailed_itself source) c.refused.ensures.memory;
     }
 
 pub returns-then-is_exhausted : goal.returns-then-is_exhausted
@@ -56,7 +56,7 @@ returns-then-is_exhausted g c =
           (sym (c.is_exhausted.ensures.shown over.base held over.shows) ∙ c.if-is_exhausted.true)) s)
           refused.ensures.step;
       ready = refused_ready core (known refusal.RevisionExhausted) refused.result refused.ensures.step;
-      looked = looked_not g.S.Source.holds g.S.Source.goes_to g.S.Source.failures core source refused.result (g.met.S.Source.stays source) refused.ensures.memory;
+      looked = looked_not g.S.Source.holds g.S.Source.goes_to g.S.Source.failures g.S.Source.unfailed core source refused.result (g.met.S.Source.stays source) (g.met.S.Source.unfailed_itself source) refused.ensures.memory;
     }
 
 pub returns : goal.returns

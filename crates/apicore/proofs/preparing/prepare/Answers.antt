@@ -13,7 +13,7 @@ returns-in-Watch g c =
     let told = c.watch.ensures in
     let core = c.args.core.now in
     let source = c.args.source.now in
-    let looked = looked_not g.S.Source.holds g.S.Source.goes_to g.S.Source.failures core source c.watch.result (g.met.S.Source.stays source) told.memory in
+    let looked = looked_not g.S.Source.holds g.S.Source.goes_to g.S.Source.failures g.S.Source.unfailed core source c.watch.result (g.met.S.Source.stays source) (g.met.S.Source.unfailed_itself source) told.memory in
     record {
       rules = refl;
       revision = refl;
@@ -26,7 +26,9 @@ returns-in-Watch g c =
       kept = looked.kept;
       goes = looked.goes;
       counts = looked.counts;
+      steady = looked.steady;
       device = looked.device;
+      memory = looked.memory;
       damaged = looked.damaged;
       read = λ _. read_as _ _ (ap request_of c.in-Watch.is) (bad_spec, tt);
     }
@@ -36,7 +38,7 @@ returns-in-Refused g c =
     let told = c.refused.ensures in
     let core = c.args.core.now in
     let source = c.args.source.now in
-    let looked = looked_not g.S.Source.holds g.S.Source.goes_to g.S.Source.failures core source c.refused.result (g.met.S.Source.stays source) told.memory in
+    let looked = looked_not g.S.Source.holds g.S.Source.goes_to g.S.Source.failures g.S.Source.unfailed core source c.refused.result (g.met.S.Source.stays source) (g.met.S.Source.unfailed_itself source) told.memory in
     record {
       rules = refl;
       revision = refl;
@@ -49,7 +51,9 @@ returns-in-Refused g c =
       kept = looked.kept;
       goes = looked.goes;
       counts = looked.counts;
+      steady = looked.steady;
       device = looked.device;
+      memory = looked.memory;
       damaged = looked.damaged;
       read = λ _. read_as _ _ (ap request_of c.in-Refused.is) (bad_spec, tt);
     }
@@ -69,7 +73,9 @@ returns-in-Get g c =
       kept = told.looked.kept;
       goes = told.looked.goes;
       counts = told.looked.counts;
+      steady = told.looked.steady;
       device = told.looked.device;
+      memory = told.looked.memory;
       damaged = told.looked.damaged;
       read = λ _. read_as _ _ (ap request_of c.in-Get.is) (bad_spec, tt);
     }
@@ -89,7 +95,9 @@ returns-in-List g c =
       kept = told.looked.kept;
       goes = told.looked.goes;
       counts = told.looked.counts;
+      steady = told.looked.steady;
       device = told.looked.device;
+      memory = told.looked.memory;
       damaged = told.looked.damaged;
       read = λ _. read_as _ _ (ap request_of c.in-List.is) (bad_spec, tt);
     }
@@ -109,7 +117,9 @@ returns-in-Create g c =
       kept = told.looked.kept;
       goes = told.looked.goes;
       counts = told.looked.counts;
+      steady = told.looked.steady;
       device = told.looked.device;
+      memory = told.looked.memory;
       damaged = told.looked.damaged;
       read = λ failed. read_as _ _ (ap request_of c.in-Create.is) (told.read failed);
     }
@@ -129,7 +139,9 @@ returns-in-Replace g c =
       kept = told.looked.kept;
       goes = told.looked.goes;
       counts = told.looked.counts;
+      steady = told.looked.steady;
       device = told.looked.device;
+      memory = told.looked.memory;
       damaged = told.looked.damaged;
       read = λ failed. read_as _ _ (ap request_of c.in-Replace.is) (told.read failed);
     }
@@ -149,7 +161,9 @@ returns-in-Delete g c =
       kept = told.looked.kept;
       goes = told.looked.goes;
       counts = told.looked.counts;
+      steady = told.looked.steady;
       device = told.looked.device;
+      memory = told.looked.memory;
       damaged = told.looked.damaged;
       read = λ _. read_as _ _ (ap request_of c.in-Delete.is) (bad_spec, tt);
     }

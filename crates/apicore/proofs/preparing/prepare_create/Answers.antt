@@ -43,19 +43,20 @@ returns-in-None-clause-read g c = λ _. (c.in_ok-specification.ensures.0, c.in_o
 
 pub returns-in-None-clause-looked : goal.returns-in-None-clause-looked
 returns-in-None-clause-looked g c =
-    looked_on g.S.Source.holds g.S.Source.goes_to g.S.Source.failures c.args.core.now c.args.source.now c.find.new.source c.create_free.new.source c.create_free.result
+    looked_on g.S.Source.holds g.S.Source.goes_to g.S.Source.failures g.S.Source.unfailed c.args.core.now c.args.source.now c.find.new.source c.create_free.new.source c.create_free.result
     c.in_ok-find.ensures.kept c.in_ok-find.ensures.counts
+    (g.met.S.Source.unfailed_on c.args.source.now c.find.new.source c.create_free.new.source c.in_ok-find.ensures.steady)
     (g.met.S.Source.goes_on c.args.source.now c.find.new.source c.create_free.new.source c.in_ok-find.ensures.goes c.create_free.ensures.looked.goes) c.create_free.ensures.looked
 
 pub returns-in-Some-clause-looked : goal.returns-in-Some-clause-looked
 returns-in-Some-clause-looked g c =
-    looked_after g.S.Source.holds g.S.Source.goes_to g.S.Source.failures c.args.core.now c.args.source.now c.find.new.source c.refused.result
-    c.in_ok-find.ensures.kept c.in_ok-find.ensures.goes c.in_ok-find.ensures.counts c.refused.ensures.memory
+    looked_after g.S.Source.holds g.S.Source.goes_to g.S.Source.failures g.S.Source.unfailed c.args.core.now c.args.source.now c.find.new.source c.refused.result
+    c.in_ok-find.ensures.kept c.in_ok-find.ensures.goes c.in_ok-find.ensures.counts c.in_ok-find.ensures.steady c.refused.ensures.memory
 
 pub returns-in_err-specification-clause-looked : goal.returns-in_err-specification-clause-looked
 returns-in_err-specification-clause-looked g c =
-    looked_not g.S.Source.holds g.S.Source.goes_to g.S.Source.failures c.args.core.now c.args.source.now c.from_residual.result
-    (g.met.S.Source.stays c.args.source.now) (only_memory c.from_residual.result c.from_residual.ensures.1)
+    looked_not g.S.Source.holds g.S.Source.goes_to g.S.Source.failures g.S.Source.unfailed c.args.core.now c.args.source.now c.from_residual.result
+    (g.met.S.Source.stays c.args.source.now) (g.met.S.Source.unfailed_itself c.args.source.now) (only_memory c.from_residual.result c.from_residual.ensures.1)
 
 pub returns-in_err-find-clause-looked : goal.returns-in_err-find-clause-looked
 returns-in_err-find-clause-looked g c =
@@ -64,7 +65,9 @@ returns-in_err-find-clause-looked g c =
       kept = look.kept;
       goes = look.goes;
       counts = look.counts;
+      steady = IfOk-from_err c.from_residual-in_err-find.result _ c.from_residual-in_err-find.ensures.0;
       device = λ told. look.device (same_fault c.from_residual-in_err-find.ensures.1 c.in_err-find.was told);
+      memory = λ told. look.memory (same_fault c.from_residual-in_err-find.ensures.1 c.in_err-find.was told);
       damaged = λ part told held v over.
           g.met.S.Source.holds_nothing c.find.new.source over.base (look.kept over.base over.below)
           (look.damaged part (same_fault c.from_residual-in_err-find.ensures.1 c.in_err-find.was told));

@@ -25,11 +25,12 @@ returns-in-None-clause-step g c =
 
 pub returns-in-Some-clause-looked : goal.returns-in-Some-clause-looked
 returns-in-Some-clause-looked g c =
-    looked_on g.S.Source.holds g.S.Source.goes_to g.S.Source.failures c.args.core.now c.args.source.now c.find.new.source c.delete_found.new.source c.delete_found.result
+    looked_on g.S.Source.holds g.S.Source.goes_to g.S.Source.failures g.S.Source.unfailed c.args.core.now c.args.source.now c.find.new.source c.delete_found.new.source c.delete_found.result
     c.in_ok-found.ensures.kept c.in_ok-found.ensures.counts
+    (g.met.S.Source.unfailed_on c.args.source.now c.find.new.source c.delete_found.new.source c.in_ok-found.ensures.steady)
     (g.met.S.Source.goes_on c.args.source.now c.find.new.source c.delete_found.new.source c.in_ok-found.ensures.goes c.delete_found.ensures.looked.goes) c.delete_found.ensures.looked
 
 pub returns-in-None-clause-looked : goal.returns-in-None-clause-looked
 returns-in-None-clause-looked g c =
-    looked_after g.S.Source.holds g.S.Source.goes_to g.S.Source.failures c.args.core.now c.args.source.now c.find.new.source c.refused.result
-    c.in_ok-found.ensures.kept c.in_ok-found.ensures.goes c.in_ok-found.ensures.counts c.refused.ensures.memory
+    looked_after g.S.Source.holds g.S.Source.goes_to g.S.Source.failures g.S.Source.unfailed c.args.core.now c.args.source.now c.find.new.source c.refused.result
+    c.in_ok-found.ensures.kept c.in_ok-found.ensures.goes c.in_ok-found.ensures.counts c.in_ok-found.ensures.steady c.refused.ensures.memory

@@ -42,19 +42,20 @@ returns-in-None-clause-read g c = λ _. (c.in_ok-specification.ensures.0, c.in_o
 
 pub returns-in-Some-clause-looked : goal.returns-in-Some-clause-looked
 returns-in-Some-clause-looked g c =
-    looked_on g.S.Source.holds g.S.Source.goes_to g.S.Source.failures c.args.core.now c.args.source.now c.find.new.source c.replace_of.new.source c.replace_of.result
+    looked_on g.S.Source.holds g.S.Source.goes_to g.S.Source.failures g.S.Source.unfailed c.args.core.now c.args.source.now c.find.new.source c.replace_of.new.source c.replace_of.result
     c.in_ok-found.ensures.kept c.in_ok-found.ensures.counts
+    (g.met.S.Source.unfailed_on c.args.source.now c.find.new.source c.replace_of.new.source c.in_ok-found.ensures.steady)
     (g.met.S.Source.goes_on c.args.source.now c.find.new.source c.replace_of.new.source c.in_ok-found.ensures.goes c.replace_of.ensures.looked.goes) c.replace_of.ensures.looked
 
 pub returns-in-None-clause-looked : goal.returns-in-None-clause-looked
 returns-in-None-clause-looked g c =
-    looked_after g.S.Source.holds g.S.Source.goes_to g.S.Source.failures c.args.core.now c.args.source.now c.find.new.source c.refused.result
-    c.in_ok-found.ensures.kept c.in_ok-found.ensures.goes c.in_ok-found.ensures.counts c.refused.ensures.memory
+    looked_after g.S.Source.holds g.S.Source.goes_to g.S.Source.failures g.S.Source.unfailed c.args.core.now c.args.source.now c.find.new.source c.refused.result
+    c.in_ok-found.ensures.kept c.in_ok-found.ensures.goes c.in_ok-found.ensures.counts c.in_ok-found.ensures.steady c.refused.ensures.memory
 
 pub returns-in_err-specification-clause-looked : goal.returns-in_err-specification-clause-looked
 returns-in_err-specification-clause-looked g c =
-    looked_not g.S.Source.holds g.S.Source.goes_to g.S.Source.failures c.args.core.now c.args.source.now c.from_residual.result
-    (g.met.S.Source.stays c.args.source.now) (only_memory c.from_residual.result c.from_residual.ensures.1)
+    looked_not g.S.Source.holds g.S.Source.goes_to g.S.Source.failures g.S.Source.unfailed c.args.core.now c.args.source.now c.from_residual.result
+    (g.met.S.Source.stays c.args.source.now) (g.met.S.Source.unfailed_itself c.args.source.now) (only_memory c.from_residual.result c.from_residual.ensures.1)
 
 pub returns-in_err-found-clause-looked : goal.returns-in_err-found-clause-looked
 returns-in_err-found-clause-looked g c =
@@ -63,7 +64,9 @@ returns-in_err-found-clause-looked g c =
       kept = look.kept;
       goes = look.goes;
       counts = look.counts;
+      steady = IfOk-from_err c.from_residual-in_err-found.result _ c.from_residual-in_err-found.ensures.0;
       device = λ told. look.device (same_fault c.from_residual-in_err-found.ensures.1 c.in_err-found.was told);
+      memory = λ told. look.memory (same_fault c.from_residual-in_err-found.ensures.1 c.in_err-found.was told);
       damaged = λ part told held v over.
           g.met.S.Source.holds_nothing c.find.new.source over.base (look.kept over.base over.below)
           (look.damaged part (same_fault c.from_residual-in_err-found.ensures.1 c.in_err-found.was told));

@@ -18,7 +18,7 @@ returns-in_err-update_conflicts g c =
       same = as_it_was core;
       step = λ s is held v over found. IfOk-from_err handed.result _ handed.ensures.0;
       ready = IfOk-from_err handed.result _ handed.ensures.0;
-      looked = looked_not g.S.Source.holds g.S.Source.goes_to g.S.Source.failures core source handed.result (g.met.S.Source.stays source) (only_memory handed.result handed.ensures.1);
+      looked = looked_not g.S.Source.holds g.S.Source.goes_to g.S.Source.failures g.S.Source.unfailed core source handed.result (g.met.S.Source.stays source) (g.met.S.Source.unfailed_itself source) (only_memory handed.result handed.ensures.1);
     }
 
 pub returns-then-branch : goal.returns-then-branch
@@ -31,7 +31,7 @@ returns-then-branch g c =
           refused_own core.rules held v (replace c.args.manifest.now) s c.refused.result _
           (replace_conflicting core.rules held c.args.manifest.now v over.plans c.args.found.now found s (sym c.in_ok-update_conflicts.ensures ∙ c.if-branch.true)) c.refused.ensures.step;
       ready = refused_ready core (known refusal.VersionNotCurrent) c.refused.result c.refused.ensures.step;
-      looked = looked_not g.S.Source.holds g.S.Source.goes_to g.S.Source.failures core source c.refused.result (g.met.S.Source.stays source) c.refused.ensures.memory;
+      looked = looked_not g.S.Source.holds g.S.Source.goes_to g.S.Source.failures g.S.Source.unfailed core source c.refused.result (g.met.S.Source.stays source) (g.met.S.Source.unfailed_itself source) c.refused.ensures.memory;
     }
 
 pub returns : goal.returns

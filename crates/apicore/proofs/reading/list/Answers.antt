@@ -1,4 +1,5 @@
 use Rattle.std.proofs.Common.{rules, ◌∙◌, ap}
+use Rattle.std.proofs.lemmas.Result.{IfOk-from_err}
 use Rattle.recovery.proofs.Looking.{looked_as}
 use Rattle.apicore.proofs.Deciding.{list_prepared}
 use Rattle.apicore.proofs.reading.list.Goals as goal
@@ -9,4 +10,5 @@ returns-clause-step g c =
 
 pub returns-in_err-reply-clause-looked : goal.returns-in_err-reply-clause-looked
 returns-in_err-reply-clause-looked g c =
-    looked_as g.S.Source.holds g.S.Source.goes_to g.S.Source.failures c.args.core.now c.args.source.now c.listed.new.source c.listed.result _ (λ fault told. search rules) c.listed.ensures.looked
+    looked_as g.S.Source.holds g.S.Source.goes_to g.S.Source.failures g.S.Source.unfailed c.args.core.now c.args.source.now c.listed.new.source c.listed.result _ (λ fault told. search rules)
+    (IfOk-from_err c.from_residual.result _ c.from_residual.ensures.0) c.listed.ensures.looked

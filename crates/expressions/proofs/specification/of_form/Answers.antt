@@ -7,23 +7,24 @@ use Rattle.policy.specs.Spec.{Policy, policy_seen}
 use Rattle.expressions.specs.Expressions.{sources}
 use Rattle.expressions.specs.Plans.{plans_of}
 use Rattle.expressions.specs.Typed.{AreTyped}
-use Rattle.std.proofs.Common.{rules, Some}
+use Rattle.std.proofs.Common.{rules, arith, Some}
 use Rattle.policy.specs.Policies.{policy_of}
 use Rattle.expressions.proofs.Bytes.{short_list}
 use Rattle.expressions.proofs.Holding.{may_hold}
-use Rattle.expressions.proofs.Standing.{same_policy, spelled_policy, sound_policy}
+use Rattle.expressions.proofs.Counting.{variables_counted_too}
+use Rattle.expressions.proofs.Standing.{same_policy, spelled_policy, sound_policy, few_sources}
 use Rattle.expressions.proofs.specification.of_form.Goals as goal
 
 pub returns-in_ok-plans-in-Ok-clause-compiled : goal.returns-in_ok-plans-in-Ok-clause-compiled
 returns-in_ok-plans-in-Ok-clause-compiled c =
-    let is : policy_of c.args.document.now ≡ Some c.in-Ok.policy.policy = search rules in
+    let is = spelled_policy c.args.document.now c.in-Ok.policy.policy (search rules) in
     let same = same_policy c.args.document.now c.in-Ok.policy.policy (policy_seen c.args.form.now) is c.requires.form in
     sound_policy c.args.document.now c.in-Ok.policy.policy c.in-Ok.policy.trees c.in_ok-plans-in-Ok.plans.items (c.requires.form ∙ ap (λ (p : Policy). Some p) (sym same))
     c.in-Ok.ensures.ok.typed c.in-Ok.ensures.alone c.in_ok-plans-in-Ok.ensures
 
 pub returns-in_ok-plans-in-Ok-clause-short : goal.returns-in_ok-plans-in-Ok-clause-short
 returns-in_ok-plans-in-Ok-clause-short c =
-    let is : policy_of c.args.document.now ≡ Some c.in-Ok.policy.policy = search rules in
+    let is = spelled_policy c.args.document.now c.in-Ok.policy.policy (search rules) in
     let same = same_policy c.args.document.now c.in-Ok.policy.policy (policy_seen c.args.form.now) is c.requires.form in
     let P : Policy → Type 0 = λ p. AreTyped p [] (sources p) c.in-Ok.policy.trees in
     let short = short_list c.args.document.now c.args.form.now c.in-Ok.policy.trees (spelled_policy c.args.document.now (policy_seen c.args.form.now) c.requires.form) (subst P same c.in-Ok.ensures.ok.typed) in
@@ -33,8 +34,14 @@ returns-in_ok-plans-in-Ok-clause-short c =
 
 pub returns-in_ok-plans-in-Ok-clause-held : goal.returns-in_ok-plans-in-Ok-clause-held
 returns-in_ok-plans-in-Ok-clause-held c small =
-    let is : policy_of c.args.document.now ≡ Some c.in-Ok.policy.policy = search rules in
+    let is = spelled_policy c.args.document.now c.in-Ok.policy.policy (search rules) in
     let same = same_policy c.args.document.now c.in-Ok.policy.policy (policy_seen c.args.form.now) is c.requires.form in
     let P : List Judged → Type 0 = λ js. AllByRecursion (λ j. IsVerified j.vars j.ops) js in
     may_hold c.args.document.now c.in-Ok.policy.policy c.in-Ok.policy.trees c.in_ok-plans-in-Ok.plans.items (c.requires.form ∙ ap (λ (p : Policy). Some p) (sym same))
     c.in-Ok.ensures.ok.typed c.in_ok-plans-in-Ok.ensures (subst P c.deref.ensures.value c.all_verified.ensures) (returns-in_ok-plans-in-Ok-clause-short c) small
+
+pub plans-requires : goal.plans-requires
+plans-requires c =
+    let few = few_sources c.args.document.now c.in-Ok.policy.policy (search rules) in
+    let among = variables_counted_too c.in-Ok.policy.policy in
+    record { few = omega (arith, few, among) }

@@ -24,3 +24,8 @@ returns-clause-damaged c = λ base held shows known is_damaged ws group is follo
     c.redo_writes.ensures.damaged base held shows
     (written_known c.args.core.now base (map write_of read.writes.items) c.args.bytes.now read.ensures.form read.ensures.writes known) is_damaged ws
     (group_recorded ws (map write_of read.writes.items) c.args.bytes.now group read.ensures.form is read.ensures.writes) follow
+
+pub returns-clause-plans : goal.returns-clause-plans
+returns-clause-plans c = λ told.
+    let read = c.in_ok-writes in
+    record { writes = map write_of read.writes.items; group = read.ensures.form; payload_is = read.ensures.writes; one = c.redo_writes.ensures.plans told }

@@ -13,6 +13,8 @@ use Rattle.expressions.specs.Specification.{Plans, plans_bytes, plans_seen, MayH
 use Rattle.recovery.specs.Beside.{Beside, spelled}
 use Rattle.recovery.specs.Shown.{plans_held}
 use Rattle.recovery.proofs.Histories.{put_of_recorded}
+use Rattle.planlist.specs.declared.reading.ReadPlansFault.TheVariants as ReadPlansFault
+use Rattle.recovery.proofs.OtherPlans.{other_of, never_told}
 use Rattle.recovery.proofs.redo.redo_put.Goals as goal
 
 pub returns-in_err-redo_put-clause-damaged : goal.returns-in_err-redo_put-clause-damaged
@@ -52,3 +54,42 @@ returns-clause-taken c = λ base held shows known.
         shows = after_mapped plans_held core.rules held w;
       },
     )
+
+pub returns-in_err-plans-clause-plans : goal.returns-in_err-plans-clause-plans
+returns-in_err-plans-clause-plans c = λ told.
+    let m = c.args.manifest.now in
+    let damaged : IsErrOf c.stored_plans.result ReadPlansFault.Damaged = search rules in
+    let resource : c.resource.result ≡ m.key.resource = c.resource.ensures.value ∙ ap (λ (k : Key). k.resource) c.key.ensures in
+    let json : c.json.result.now ≡ (document_in m.body).json = c.json.ensures ∙ sym (ap (λ b. (document_in b).json) c.document.ensures.body) in
+    other_of c.args.plans.now c.resource.result m.key.resource c.json.result.now (document_in m.body).json resource json (c.stored_plans.ensures.damaged damaged)
+
+pub returns-in_err-plans-clause-told : goal.returns-in_err-plans-clause-told
+returns-in_err-plans-clause-told c = λ other.
+    let m = c.args.manifest.now in
+    let resource : c.resource.result ≡ m.key.resource = c.resource.ensures.value ∙ ap (λ (k : Key). k.resource) c.key.ensures in
+    let json : c.json.result.now ≡ (document_in m.body).json = c.json.ensures ∙ sym (ap (λ b. (document_in b).json) c.document.ensures.body) in
+    let damaged : IsErrOf c.stored_plans.result ReadPlansFault.Damaged =
+    c.stored_plans.ensures.refused (other_of c.args.plans.now m.key.resource c.resource.result (document_in m.body).json c.json.result.now (sym resource) (sym json) other)
+    in
+    search rules
+
+pub returns-in_err-beside-clause-told : goal.returns-in_err-beside-clause-told
+returns-in_err-beside-clause-told c = λ other.
+    let m = c.args.manifest.now in
+    let resource : c.resource.result ≡ m.key.resource = c.resource.ensures.value ∙ ap (λ (k : Key). k.resource) c.key.ensures in
+    let json : c.json.result.now ≡ (document_in m.body).json = c.json.ensures ∙ sym (ap (λ b. (document_in b).json) c.document.ensures.body) in
+    absurd (never_told (c.in_ok-plans.ensures.refused (other_of c.args.plans.now m.key.resource c.resource.result (document_in m.body).json c.json.result.now (sym resource) (sym json) other)))
+
+pub returns-in_err-redo_put-clause-told : goal.returns-in_err-redo_put-clause-told
+returns-in_err-redo_put-clause-told c = λ other.
+    let m = c.args.manifest.now in
+    let resource : c.resource.result ≡ m.key.resource = c.resource.ensures.value ∙ ap (λ (k : Key). k.resource) c.key.ensures in
+    let json : c.json.result.now ≡ (document_in m.body).json = c.json.ensures ∙ sym (ap (λ b. (document_in b).json) c.document.ensures.body) in
+    absurd (never_told (c.in_ok-plans.ensures.refused (other_of c.args.plans.now m.key.resource c.resource.result (document_in m.body).json c.json.result.now (sym resource) (sym json) other)))
+
+pub returns-clause-told : goal.returns-clause-told
+returns-clause-told c = λ other.
+    let m = c.args.manifest.now in
+    let resource : c.resource.result ≡ m.key.resource = c.resource.ensures.value ∙ ap (λ (k : Key). k.resource) c.key.ensures in
+    let json : c.json.result.now ≡ (document_in m.body).json = c.json.ensures ∙ sym (ap (λ b. (document_in b).json) c.document.ensures.body) in
+    absurd (never_told (c.in_ok-plans.ensures.refused (other_of c.args.plans.now m.key.resource c.resource.result (document_in m.body).json c.json.result.now (sym resource) (sym json) other)))

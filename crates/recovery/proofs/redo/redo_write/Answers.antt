@@ -8,6 +8,7 @@ use Rattle.records.specs.declared.stored_write.StoredWrite.{StoredWrite}
 use Rattle.recovery.specs.Known.{written_key}
 use Rattle.recovery.specs.Written.{Write}
 use Rattle.recovery.proofs.Histories.{on_ok_to, recorded_delete, taken_as}
+use Rattle.recovery.specs.Faults.{PutsOtherPlans}
 use Rattle.recovery.proofs.redo.redo_write.Goals as goal
 
 pub returns-in-Put-clause-taken : goal.returns-in-Put-clause-taken
@@ -32,3 +33,21 @@ returns-in-Delete-clause-damaged c = λ base held shows known is_damaged w has i
     let Known : StoredWrite → Type 0 = λ w. IsKnown c.args.core.now base (written_key (write_of w)) in
     let May : Write → Type 0 = λ x. MayFollow c.args.core.now.rules (mapped plans_held held) x in
     c.redo_delete.ensures.damaged base held shows (subst Known c.in-Delete.is known) is_damaged (subst May (recorded_delete w c.in-Delete.key (is ∙ ap write_of c.in-Delete.is)) may)
+
+pub returns-in-Put-clause-plans : goal.returns-in-Put-clause-plans
+returns-in-Put-clause-plans c = λ told.
+    let Other : StoredWrite → Type 0 = λ w. PutsOtherPlans (write_of w) in
+    subst Other (sym c.in-Put.is) (c.redo_put.ensures.plans told)
+
+pub returns-in-Put-clause-told : goal.returns-in-Put-clause-told
+returns-in-Put-clause-told c = λ other.
+    let Other : StoredWrite → Type 0 = λ w. PutsOtherPlans (write_of w) in
+    c.redo_put.ensures.told (subst Other c.in-Put.is other)
+
+pub returns-in-Delete-clause-plans : goal.returns-in-Delete-clause-plans
+returns-in-Delete-clause-plans c = λ told. absurd (c.redo_delete.ensures.plans told)
+
+pub returns-in-Delete-clause-told : goal.returns-in-Delete-clause-told
+returns-in-Delete-clause-told c = λ other.
+    let Other : StoredWrite → Type 0 = λ w. PutsOtherPlans (write_of w) in
+    absurd (subst Other c.in-Delete.is other)

@@ -1,4 +1,4 @@
-use Rattle.std.proofs.Common.{rules, refl, ◌≡◌, ◌∙◌, ap, map, ◌∷◌, ◌⊎◌, inl, inr, []}
+use Rattle.std.proofs.Common.{rules, refl, ◌≡◌, ◌∙◌, ap, map, ◌∷◌, ◌++◌, ◌⊎◌, inl, inr, []}
 use Rattle.std.specs.Prelude.{IsErrOf}
 use Rattle.std.specs.Vec.Iter.{into_iter_items}
 use Rattle.requests.specs.Mapped.{mapped}
@@ -8,6 +8,7 @@ use Rattle.recovery.specs.Shown.{plans_held}
 use Rattle.recovery.specs.Known.{written_key}
 use Rattle.recovery.proofs.Histories.{taken_more, none_taken}
 use Rattle.recovery.proofs.Knowing.{next_known}
+use Rattle.recovery.proofs.OtherPlans.{next_of, one_done}
 use Rattle.recovery.proofs.redo.redo_writes.Goals as goal
 
 pub loop-write-init : goal.loop-write-init
@@ -16,6 +17,7 @@ loop-write-init c =
     record {
       rules_stay = refl;
       known = λ _ _ known. known;
+      parts = ([], ap (map write_of) gives);
       taken = λ base held shows knows. (held, shows, record { writes = []; plans = tt; parts = ap (map write_of) gives; follow = tt; shows = refl });
     }
 
@@ -45,6 +47,7 @@ loop-write-preserved c =
     record {
       rules_stay = c.redo_write.ensures.rules ∙ inv.rules_stay;
       known = λ base k known. c.redo_write.ensures.known base k (inv.known base k known);
+      parts = (inv.parts.0 ++ raw ∷ [], one_done inv.parts.0 left all raw rest inv.parts.1 step);
       taken = λ base held shows knows.
           let now = inv.taken base held shows knows in
           let known = inv.known base (written_key raw) (next_known c.args.core.now base c.args.core.now.rules (mapped plans_held held) (mapped plans_held now.0) all left raw rest now.2 step knows) in
@@ -55,3 +58,14 @@ loop-write-preserved c =
                 step one.2.plans one.2.same one.2.follows one.2.shows,
           );
     }
+
+pub returns-in_err-redo_write-clause-plans : goal.returns-in_err-redo_write-clause-plans
+returns-in_err-redo_write-clause-plans c = λ is.
+    let inv = c.loop-write.invariant in
+    let all = map write_of c.args.writes.items in
+    let left = map write_of (into_iter_items c.loop-write.write-iterator) in
+    let raw = write_of c.in-Some.write in
+    let rest = map write_of (into_iter_items c.next.new.self) in
+    let step : left ≡ raw ∷ rest = ap (map write_of) c.in-Some.ensures.steps.0 in
+    let told : IsErrOf c.redo_write.result RecoveryFault.Plans = search rules in
+    next_of inv.parts.0 left all raw rest inv.parts.1 step (c.redo_write.ensures.plans told)

@@ -1,6 +1,7 @@
-use Rattle.std.proofs.Common.{◌≡◌, List, map}
+use Rattle.std.proofs.Common.{◌≡◌, ◌++◌, ℕ, List, map}
 use Rattle.std.specs.Vec.Iter.{into_iter_items}
 use Rattle.names.specs.Key.{Key}
+use Rattle.requests.specs.History as plain
 use Rattle.requests.specs.Mapped.{mapped}
 use Rattle.requests.specs.declared.stored.Stored.{Stored}
 use Rattle.requests.specs.View.{View}
@@ -17,6 +18,7 @@ abbrev pub invariant-loop-write : goal.invariant-loop-write
 invariant-loop-write l = record {
   rules_stay : l.core.rules ≡ l.fn.core.rules;
   known : KnowsSame l.fn.core l.core;
+  parts : (done : List (plain.Write (List ℕ))) × (done ++ map write_of (into_iter_items l.write-iterator) ≡ map write_of l.fn.writes.items);
   taken : (base : List (Key × Stored Beside)) (held : View Beside) → Shows l.fn.core base held → KnowsEach l.fn.core base (map write_of l.fn.writes.items)
       → (now : View Beside) × Shows l.core base now
       × AreTaken l.fn.core.rules (mapped plans_held held) (mapped plans_held now) (map write_of l.fn.writes.items) (map write_of (into_iter_items l.write-iterator));

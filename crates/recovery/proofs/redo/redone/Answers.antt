@@ -6,7 +6,8 @@ use Rattle.requests.specs.Mapped.{mapped}
 use Rattle.recovery.specs.Shown.{plans_held}
 use Rattle.recovery.specs.Written.{IsWritten}
 use Rattle.recovery.proofs.Histories.{IsWritten-none, grown, stuck, map-at}
-use Rattle.recovery.proofs.Knowing.{known_at}
+use Rattle.recovery.proofs.Knowing.{known_at, contains_at}
+use Rattle.recovery.specs.Faults.{HasOtherPlans}
 use Rattle.recovery.proofs.redo.redone.Goals as goal
 
 abbrev items : Vec ℕ Global → List ℕ
@@ -72,3 +73,13 @@ returns-clause-found c = λ base held shows known.
       written = subst (IsWritten c.args.core.rules (mapped plans_held held) now.2.0) all now.2.1;
       left = now.2.2;
     }
+
+pub returns-in_err-redo-clause-plans : goal.returns-in_err-redo-clause-plans
+returns-in_err-redo-clause-plans c = λ is.
+    let told : IsErrOf c.redo.result RecoveryFault.Plans = search rules in
+    let x = c.payload-item.result in
+    let Has : List ℕ → Type 0 = λ bytes. HasOtherPlans bytes in (
+      x.items,
+      contains_at items c.args.payloads.now c.loop-payload.payload-index x (omega arith) c.payload-item.is,
+      subst Has c.deref.ensures.value (c.redo.ensures.plans told),
+    )

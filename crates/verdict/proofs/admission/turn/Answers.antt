@@ -1,5 +1,11 @@
 use Rattle.std.proofs.lemmas.Result.{IfOk-from_err}
+use Rattle.std.proofs.Common.{rules, ◌≡◌, sym, subst}
+use Rattle.policy.specs.Rules.{attempt_seen}
+use Rattle.policy.specs.Spec.{Binding, binding_seen}
+use Rattle.denials.specs.Seen.{denial_seen}
+use Rattle.verdict.specs.Spoiled.{AsksSpoiled}
 use Rattle.verdict.proofs.Faults.{same_fault, no_fault}
+use Rattle.verdict.proofs.Spoiling.{passed_on, decided_denies}
 use Rattle.verdict.proofs.admission.turn.Goals as goal
 
 pub returns-in_err-denial-clause-told : goal.returns-in_err-denial-clause-told
@@ -71,3 +77,20 @@ returns-in-None-clause-device g c = λ told. absurd (no_fault told)
 
 pub returns-in-None-clause-damaged : goal.returns-in-None-clause-damaged
 returns-in-None-clause-damaged g c = λ part told. absurd (no_fault told)
+
+pub returns-in_err-denial-clause-never_passed : goal.returns-in_err-denial-clause-never_passed
+returns-in_err-denial-clause-never_passed g c = λ all lends asks.
+    let is : c.named.inside.bound.now ≡ c.args.named.now.1 = search rules in
+    let Asks : Binding → Type 0 = λ b. AsksSpoiled all (attempt_seen c.args.attempt.now) b in
+    passed_on c.from_residual.ensures.1 c.in_err-denial.was (c.denial_by.ensures.never_passed all lends (subst Asks (sym is) asks))
+
+pub returns-in_ok-decided-in-Some-clause-denies : goal.returns-in_ok-decided-in-Some-clause-denies
+returns-in_ok-decided-in-Some-clause-denies g c = decided_denies c.in_ok-decided-in-Some.field-0 _ _ _ (binding_seen c.binding.result.now) (denial_seen c.in-Some.denial) c.in_ok-decided-in-Some.ensures
+
+pub returns-in_err-denial-clause-memory : goal.returns-in_err-denial-clause-memory
+returns-in_err-denial-clause-memory g c = λ told.
+    c.denial_by.ensures.memory (same_fault c.from_residual.ensures.1 c.in_err-denial.was told)
+
+pub returns-in_err-denial-clause-damage : goal.returns-in_err-denial-clause-damage
+returns-in_err-denial-clause-damage g c = λ part told.
+    c.denial_by.ensures.damage part (same_fault c.from_residual.ensures.1 c.in_err-denial.was told)

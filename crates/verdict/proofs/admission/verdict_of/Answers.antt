@@ -1,4 +1,4 @@
-use Rattle.std.proofs.Common.{rules, ◌≡◌, ◌+◌, map, drop, string_bytes, Option, sym, ap, ◌∙◌}
+use Rattle.std.proofs.Common.{rules, ◌≡◌, ◌+◌, map, drop, string_bytes, Option, refl, sym, ap, ◌∙◌}
 use Rattle.std.specs.Option.{option_map_or}
 use Rattle.std.proofs.lemmas.Result.{IfOk-from_err}
 use Rattle.policy.specs.Rules.{attempt_seen}
@@ -9,6 +9,7 @@ use Rattle.denials.specs.Seen.{verdict_seen}
 use Rattle.denials.specs.declared.verdict.Verdict as code_verdict
 use Rattle.verdict.proofs.Faults.{same_fault, no_fault, as_many, no_fewer, grown_after}
 use Rattle.verdict.proofs.Turns.{turn, begun, ended}
+use Rattle.verdict.proofs.Spoiling.{none_begun, none_more, none_at_all}
 use Rattle.verdict.proofs.admission.verdict_of.Goals as goal
 
 pub returns-in-Some-clause-found : goal.returns-in-Some-clause-found
@@ -46,6 +47,14 @@ loop-named-preserved g c =
       no_fewer (g.L.Lookup.failures c.args.lookup.now) (g.L.Lookup.failures c.loop-named.lookup) (g.L.Lookup.failures c.turn.new.lookup)
           c.loop-named.invariant.3 c.turn.ensures.counts,
       c.in_ok-verdict.ensures.told,
+      (let here : g.L.Lookup.unfailed c.loop-named.lookup c.turn.new.lookup = c.in_ok-verdict.ensures.steady in
+          let before : g.L.Lookup.unfailed c.args.lookup.now c.loop-named.lookup = c.loop-named.invariant.5 in
+          search rules),
+      λ all lends.
+          let goes : g.L.Lookup.goes_to c.args.lookup.now c.loop-named.lookup = c.loop-named.invariant.2 in
+          let still : g.L.Lookup.lends c.loop-named.lookup all = search rules in
+          none_more all w bs here c.named-item.result c.loop-named-test.true c.named-item.is (c.loop-named.invariant.6 all lends)
+          (λ asks. no_fault (c.in_ok-verdict.ensures.never_passed all still asks)),
     )
 
 pub loop-named-init : goal.loop-named-init
@@ -55,6 +64,8 @@ loop-named-init g c = (
   search rules,
   as_many (g.L.Lookup.failures c.args.lookup.now),
   tt,
+  search rules,
+  λ all lends. none_begun all (attempt_seen c.args.attempt.now) c.args.bindings.now,
 )
 
 pub returns-clause-found : goal.returns-clause-found
@@ -111,3 +122,45 @@ returns-in-Some-clause-device g c = λ told. absurd (no_fault told)
 
 pub returns-in-Some-clause-damaged : goal.returns-in-Some-clause-damaged
 returns-in-Some-clause-damaged g c = λ part told objects shows. no_fault told
+
+pub returns-clause-steady : goal.returns-clause-steady
+returns-clause-steady g c = c.loop-named.invariant.5
+
+pub returns-clause-memory : goal.returns-clause-memory
+returns-clause-memory g c = λ told. absurd (no_fault told)
+
+pub returns-clause-damage : goal.returns-clause-damage
+returns-clause-damage g c = λ part told. absurd (no_fault told)
+
+pub returns-clause-never_passed : goal.returns-clause-never_passed
+returns-clause-never_passed g c = λ all b lends has asks.
+    absurd (none_at_all all (attempt_seen c.args.attempt.now) c.args.bindings.now c.loop-named.named-index c.loop-named-test.false (c.loop-named.invariant.6 all lends) b has asks)
+
+pub returns-in_err-verdict-clause-memory : goal.returns-in_err-verdict-clause-memory
+returns-in_err-verdict-clause-memory g c = λ told.
+    let here : g.L.Lookup.unfailed c.loop-named.lookup c.turn.new.lookup = c.turn.ensures.memory (same_fault c.from_residual.ensures.1 c.in_err-verdict.was told) in
+    let before : g.L.Lookup.unfailed c.args.lookup.now c.loop-named.lookup = c.loop-named.invariant.5 in
+    search rules
+
+pub returns-in_err-verdict-clause-damage : goal.returns-in_err-verdict-clause-damage
+returns-in_err-verdict-clause-damage g c = λ part told.
+    c.turn.ensures.damage part (same_fault c.from_residual.ensures.1 c.in_err-verdict.was told)
+
+pub returns-in_err-verdict-clause-never_passed : goal.returns-in_err-verdict-clause-never_passed
+returns-in_err-verdict-clause-never_passed g c = λ all b lends has asks. IfOk-from_err c.from_residual.result _ c.from_residual.ensures.0
+
+pub returns-in-Some-clause-steady : goal.returns-in-Some-clause-steady
+returns-in-Some-clause-steady g c =
+    let here : g.L.Lookup.unfailed c.loop-named.lookup c.turn.new.lookup = c.in_ok-verdict.ensures.steady in
+    let before : g.L.Lookup.unfailed c.args.lookup.now c.loop-named.lookup = c.loop-named.invariant.5 in
+    search rules
+
+pub returns-in-Some-clause-memory : goal.returns-in-Some-clause-memory
+returns-in-Some-clause-memory g c = λ told. absurd (no_fault told)
+
+pub returns-in-Some-clause-damage : goal.returns-in-Some-clause-damage
+returns-in-Some-clause-damage g c = λ part told. absurd (no_fault told)
+
+pub returns-in-Some-clause-never_passed : goal.returns-in-Some-clause-never_passed
+returns-in-Some-clause-never_passed g c = λ all b lends has asks.
+    rw c.in-Some.is at c.in_ok-verdict.ensures.denies

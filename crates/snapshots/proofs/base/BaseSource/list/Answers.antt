@@ -1,4 +1,5 @@
 use Rattle.std.specs.Prelude.{◌≡◌, true, false, List, map}
+use Rattle.std.proofs.lemmas.Result.{IfOk-from_err}
 use Rattle.std.proofs.Common.{rules, arith, refl, sym, ap, ◌∙◌, Err, option_map}
 use Rattle.std.specs.List.{filter}
 use Rattle.names.specs.Key.{Key}
@@ -36,7 +37,9 @@ returns-in_ok-all_of-in-Ok g c =
       kept = λ objects. held_still g.M.FromDocument.made g.M.FromDocument.held c.args.self.now _ c.list.new.device c.list.new.self objects refl refl refl refl c.list.ensures.kept;
       goes = goes c.args.self.now _ c.list.new.device c.list.new.self refl refl refl refl refl c.list.ensures.root c.list.ensures.kept c.list.ensures.ran;
       counts = search rules;
+      steady = tt;
       device = grind arith;
+      memory = λ told. tt;
       damaged = grind arith;
     }
 
@@ -47,7 +50,9 @@ returns-in_err-all_of-in-Ok g c =
       kept = λ objects. held_still g.M.FromDocument.made g.M.FromDocument.held c.args.self.now _ c.list.new.device c.list.new.self objects refl refl refl refl c.list.ensures.kept;
       goes = goes c.args.self.now _ c.list.new.device c.list.new.self refl refl refl refl refl c.list.ensures.root c.list.ensures.kept c.list.ensures.ran;
       counts = search rules;
+      steady = IfOk-from_err c.from_residual.result _ c.from_residual.ensures.0;
       device = grind arith;
+      memory = λ told. tt;
       damaged = grind arith;
     }
 
