@@ -23,7 +23,7 @@ use Rattle.api.specs.declared.fault.ServeFault.{ServeFault}
 use Rattle.api.specs.declared.fault.ServeFault.TheVariants.{Read, Write as WriteFault, Device, Memory, Damaged, Failed}
 use Rattle.routes.specs.ReplyBytes.{reply_bytes, closing_bytes}
 use Rattle.objects.specs.Failing.{HasGrown}
-use Rattle.api.specs.Answers.{Answered, ShowsAt, AreRead, messages, writes_of, reply_of, all_writes, all_bytes, WhereSettled, HasApplied, Answers, WritesSome, MeetsFailure, Stops}
+use Rattle.api.specs.Answers.{Answered, ShowsAt, AreRead, messages, writes_of, reply_of, all_writes, all_bytes, WhereSettled, HasApplied, HasFailedIn, Answers, WritesSome, MeetsFailure, Stops}
 
 module _ (rules : Rules) where
   -- what is seen after some answers
@@ -154,6 +154,37 @@ module _ {D : Type 0} {g : Ghosts D} (rules : Rules) where
     moments = λ h is settled. leaves-idle rules store h [] (only_now settled.keeps) settled;
   }
 
+  -- some answers, and then the device fails
+  pub failed_then : (old mid new : Store D g) (v : View) (xs ys last : List Answered) → HasApplied rules old mid v xs
+      → HasFailedIn rules mid new (seen rules v xs) ys last → HasFailedIn rules old new v (xs ++ ys) last
+  failed_then old mid new v xs ys last before after =
+      let first : List Write = all_writes rules v xs in
+      let u : View = seen rules v xs in
+      let kept : first ++ all_writes rules u ys ≡ all_writes rules v (xs ++ ys) = sym (all_writes-append rules v xs ys) in
+      let all : first ++ all_writes rules u (ys ++ last) ≡ all_writes rules v ((xs ++ ys) ++ last) =
+      sym (all_writes-append rules v xs (ys ++ last)) ∙ ap (all_writes rules v) (sym (append_assoc xs ys last))
+      in
+      record {
+        some = after.some;
+        few = after.few;
+        tried = subst (λ b. AllByRecursion (λ a. a.is_served ≡ b) last) before.serving after.tried;
+        stopped = after.stopped;
+        failed = λ stopped.
+            let earlier = before.failed stopped in
+            let then_ = after.failed (before.serving ∙ stopped) in
+            (then_.0 ∙ earlier.0, none_then xs ys earlier.1 then_.1);
+        specified = subst AreRead (sym (append_assoc xs ys last)) (read_then xs (ys ++ last) before.specified after.specified);
+        admitted = subst (λ zs. AreAdmitted rules v (all_writes rules v zs)) (sym (append_assoc xs ys last))
+            (admitted_then rules v xs (ys ++ last) before.admitted after.admitted);
+        left = λ h is settled. subst (λ k. IsLeftAt rules new h k (all_writes rules v ((xs ++ ys) ++ last))) kept
+            (subst (IsLeftAt rules new h (first ++ all_writes rules u ys)) all
+            (left_after new h first (all_writes rules u ys) (all_writes rules u (ys ++ last))
+            (after.left (h ++ first) (seen_view rules v h first is) (before.settled h is settled))));
+        moments = λ h is settled. subst (LeavesSome rules old new h) all
+            (moments_then old mid new h first (all_writes rules u (ys ++ last)) (before.moments h is settled)
+            (after.moments (h ++ first) (seen_view rules v h first is) (before.settled h is settled)));
+      }
+
 -- ---- bytes and messages
 
 module _ (rules : Rules) where
@@ -198,44 +229,12 @@ module _ {O D : Type 0} {g : Ghosts D} (rules : Rules) (took : O → O → List 
       → Answers rules took o o store store v [] []
   answers_none o store v none shows only_now = record { answered = []; answers = refl; written = none; store = applied_none rules store v shows only_now }
 
-  -- the device failed at these messages, before which none is answered, now or before
-  pub fails_at : (failures : O → ℕ) (o p : O) (old new : Store D g) (v : View) (failing : List Answered) → 1 ≤ length failing → length failing ≤ group_limit
-      → AllByRecursion (λ (a : Answered). a.is_served ≡ serves old) failing
-      → (written : TookSome took o p (closing_bytes false StorageFailed)) → (written.rest ≡ []) ⊎ HasGrown (failures o) (failures p)
-      → serves new ≡ false → (serves old ≡ false → new ≡ old) → AreRead failing → AreAdmitted rules v (all_writes rules v failing)
-      → WhereSettled rules old v (λ h. IsLeftAt rules new h [] (all_writes rules v failing))
-      → WhereSettled rules old v (λ h. LeavesSome rules old new h (all_writes rules v failing))
-      → MeetsFailure rules took o p old new failures v (messages failing)
-  fails_at failures o p old new v failing some few tried written whole stopped failed read admitted left moments = record {
-    answered = [];
-    failing = failing;
-    some = some;
-    few = few;
-    tried = tried;
-    waiting = [];
-    split = sym (append-nil (messages failing));
-    closing = written.front;
-    unwritten = written.rest;
-    refusal = written.split;
-    whole = whole;
-    written = written.taken;
-    stopped = stopped;
-    failed = λ f. (failed f, refl);
-    specified = read;
-    admitted = admitted;
-    left = left;
-    moments = moments;
-  }
-
   -- further messages wait
   abbrev pub fails_before : (failures : O → ℕ) (o p : O) (old new : Store D g) (v : View) (ms more : List Message)
       → MeetsFailure rules took o p old new failures v ms → MeetsFailure rules took o p old new failures v (ms ++ more)
   fails_before failures o p old new v ms more stops = record {
     answered = stops.answered;
     failing = stops.failing;
-    some = stops.some;
-    few = stops.few;
-    tried = stops.tried;
     waiting = stops.waiting ++ more;
     split = ap (λ z. z ++ more) stops.split ∙ append_assoc (messages stops.answered) (messages stops.failing ++ stops.waiting) more
         ∙ ap (λ z. messages stops.answered ++ z) (append_assoc (messages stops.failing) stops.waiting more);
@@ -244,12 +243,7 @@ module _ {O D : Type 0} {g : Ghosts D} (rules : Rules) (took : O → O → List 
     refusal = stops.refusal;
     whole = stops.whole;
     written = stops.written;
-    stopped = stops.stopped;
-    failed = stops.failed;
-    specified = stops.specified;
-    admitted = stops.admitted;
-    left = stops.left;
-    moments = stops.moments;
+    store = stops.store;
   }
 
   pub stops_before : (failures : O → ℕ) (o p : O) (old new : Store D g) (v : View) (ms more : List Message) (fault : ServeFault)
@@ -319,19 +313,10 @@ module _ {O D : Type 0} {g : Ghosts D} (rules : Rules) (took : O → O → List 
   fails_then failures o q p later old mid new v ms ns before after =
       let xs : List Answered = before.answered in
       let ys : List Answered = after.answered in
-      let last : List Answered = after.failing in
-      let first : List Write = all_writes rules v xs in
       let u : View = seen rules v xs in
-      let kept : first ++ all_writes rules u ys ≡ all_writes rules v (xs ++ ys) = sym (all_writes-append rules v xs ys) in
-      let all : first ++ all_writes rules u (ys ++ last) ≡ all_writes rules v ((xs ++ ys) ++ last) =
-      sym (all_writes-append rules v xs (ys ++ last)) ∙ ap (all_writes rules v) (sym (append_assoc xs ys last))
-      in
       record {
         answered = xs ++ ys;
         failing = after.failing;
-        some = after.some;
-        few = after.few;
-        tried = subst (λ b. AllByRecursion (λ a. a.is_served ≡ b) after.failing) before.store.serving after.tried;
         waiting = after.waiting;
         split = split_then xs ms ns ys (messages after.failing ++ after.waiting) before.answers after.split;
         closing = after.closing;
@@ -340,21 +325,7 @@ module _ {O D : Type 0} {g : Ghosts D} (rules : Rules) (took : O → O → List 
         whole = ⊎_elim (λ none. inl none) (λ grown. inr (grown_after (failures o) (failures q) (failures p) later grown)) after.whole;
         written = subst (took o p) (bytes_then rules v xs ys after.closing)
             (took_then o q p (all_bytes rules v xs ++ []) (all_bytes rules u ys ++ after.closing) before.written after.written);
-        stopped = after.stopped;
-        failed = λ stopped.
-            let earlier = before.store.failed stopped in
-            let then_ = after.failed (before.store.serving ∙ stopped) in
-            (then_.0 ∙ earlier.0, none_then xs ys earlier.1 then_.1);
-        specified = subst AreRead (sym (append_assoc xs ys last)) (read_then xs (ys ++ last) before.store.specified after.specified);
-        admitted = subst (λ zs. AreAdmitted rules v (all_writes rules v zs)) (sym (append_assoc xs ys last))
-            (admitted_then rules v xs (ys ++ last) before.store.admitted after.admitted);
-        left = λ h is settled. subst (λ k. IsLeftAt rules new h k (all_writes rules v ((xs ++ ys) ++ last))) kept
-            (subst (IsLeftAt rules new h (first ++ all_writes rules u ys)) all
-            (left_after rules new h first (all_writes rules u ys) (all_writes rules u (ys ++ last))
-            (after.left (h ++ first) (seen_view rules v h first is) (before.store.settled h is settled))));
-        moments = λ h is settled. subst (LeavesSome rules old new h) all
-            (moments_then rules old mid new h first (all_writes rules u (ys ++ last)) (before.store.moments h is settled)
-            (after.moments (h ++ first) (seen_view rules v h first is) (before.store.settled h is settled)));
+        store = failed_then rules old mid new v xs ys after.failing before.store after.store;
       }
 
   pub stops_then : (failures : O → ℕ) (o q p : O) → failures o ≤ failures q → (old mid new : Store D g) (v : View) (ms ns : List Message) (fault : ServeFault)

@@ -30,9 +30,8 @@ use Rattle.api.specs.declared.fault.ServeFault.TheVariants.{Device, Damaged, Fai
 use Rattle.routes.specs.ReplyBytes.{reply_bytes, closing_bytes}
 use Rattle.routes.specs.AnswerBytes.{answers_bytes, CanAnswerAll}
 use Rattle.objects.specs.Failing.{HasGrown}
-use Rattle.api.specs.Answers.{Answered, served, asked_of, messages, AreRead, all_writes, all_bytes, ShowsAt, HasApplied, Answers, WritesSome, MeetsFailure, Stops}
+use Rattle.api.specs.Answers.{Answered, served, asked_of, messages, AreRead, all_writes, all_bytes, ShowsAt, HasApplied, HasFailedIn, Answers, WritesSome, MeetsFailure, Stops}
 use Rattle.api.proofs.Codes.{request_code}
-use Rattle.api.proofs.Folds.{fails_at, fails_before}
 
 -- ---- messages, and what was asked in the first of them
 
@@ -66,7 +65,7 @@ messages-served_as (m ∷ ms) [] = ap (λ (more : List Message). m ∷ more) (me
 messages-served_as (m ∷ ms) (x ∷ xs) = ap (λ (more : List Message). m ∷ more) (messages-served_as ms xs)
 
 -- what was asked in a message that was served
-same_asked : (m : Message) (x : Asked) → x.request ≡ asked m → asked_of (served m x.specification) ≡ x
+pub same_asked : (m : Message) (x : Asked) → x.request ≡ asked m → asked_of (served m x.specification) ≡ x
 same_asked m x is = let With : Request → Asked = λ q. record { request = q; specification = x.specification } in ap With (sym is)
 
 module _ (rules : Rules) where
@@ -185,13 +184,13 @@ front_allowed ms allows n count i m is routed below among =
 module _ {D : Type 0} {g : Ghosts D} (rules : Rules) (old new : Store D g) (v : View) (ms : List Message) (n count : ℕ) (given : List Reply)
     (routed : n ≤ length ms) (counted : length given ≤ length ms → length given ≤ count) (serving : ServesAt rules old v)
     (said : HasServed old new (take (length given) (map asked (take n ms))) given) where
-  replies_are : given ≡ replies rules v said.asked
+  pub replies_are : given ≡ replies rules v said.asked
   replies_are = (said.shown rules v serving).answered
 
   few_given : length given ≤ n
   few_given = few_asked said.asked ms (length given) n said.are.are (ap length replies_are ∙ length-replies rules v said.asked)
 
-  front_first : AskedFirst said.asked (take count ms)
+  pub front_first : AskedFirst said.asked (take count ms)
   front_first =
       front_asked said.asked ms (length given) n count said.are.are few_given (counted (omega (arith, few_given, routed)))
 
@@ -203,7 +202,7 @@ module _ {D : Type 0} {g : Ghosts D} (rules : Rules) (old new : Store D g) (v : 
     allowed = λ i m below some. front_allowed ms allows n count i m is routed below (omega (arith, some, few_given));
   }
 
-  front_applied : HasApplied rules old new v (served_as (take count ms) said.asked)
+  pub front_applied : HasApplied rules old new v (served_as (take count ms) said.asked)
   front_applied =
       applied_as rules old new v (take count ms) said.asked front_first serving.working said.are.read given (said.shown rules v serving) (said.settled rules)
 
@@ -234,14 +233,20 @@ module _ {D : Type 0} {g : Ghosts D} (rules : Rules) (old new : Store D g) (v : 
 
 -- ---- a device that fails
 
-module _ {O D : Type 0} {g : Ghosts D} (rules : Rules) (took : O → O → List ℕ → Type 0) (failures : O → ℕ) (o p : O) (old new : Store D g) (v : View)
-    (ms : List Message) (written : TookSome took o p (closing_bytes false StorageFailed)) (whole : (written.rest ≡ []) ⊎ HasGrown (failures o) (failures p)) where
+-- The device failed at the first of the messages, now or before.
+pub record FailsAtFirst {D : Type 0} {g : Ghosts D} (rules : Rules) (old new : Store D g) (v : View) (ms : List Message) : Type 0 where
+  pub failing : List Answered
+  pub waiting : List Message
+  pub split : ms ≡ messages failing ++ waiting
+  pub store : HasFailedIn rules old new v [] failing
+
+module _ {D : Type 0} {g : Ghosts D} (rules : Rules) (old new : Store D g) (v : View) (ms : List Message) where
   -- in these messages, before which none is answered
   failed_in : (front rest : List Message) (xs : List Asked) → ms ≡ front ++ rest → map (λ (x : Asked). x.request) xs ≡ map asked front → 1 ≤ length xs
       → length ms ≤ group_limit → AllByRecursion (λ (x : Asked). IsReadOf x.request x.specification) xs → serves old ≡ true → serves new ≡ false
       → AreAdmitted rules v (accepted rules v xs)
       → ((h : History) → IsSettledAt rules old h → IsLeftAt rules new h [] (added rules h xs) × LeavesSome rules old new h (added rules h xs))
-      → MeetsFailure rules took o p old new failures v ms
+      → FailsAtFirst rules old new v ms
   failed_in front rest xs split are some few read working stopped admitted left =
       let first : AskedFirst xs front = asked_first xs front [] (append-nil (map (λ (x : Asked). x.request) xs) ∙ are) in
       let failing : List Answered = served_as front xs in
@@ -249,18 +254,26 @@ module _ {O D : Type 0} {g : Ghosts D} (rules : Rules) (took : O → O → List 
       let sizes : length xs ≡ length front = sym (length-map xs (λ (x : Asked). x.request)) ∙ ap length are ∙ length-map front asked in
       let size : length failing ≡ length front = sym (length-map failing (λ (a : Answered). a.message)) ∙ ap length (messages-served_as front xs) in
       let within : length ms ≡ length front + length rest = ap length split ∙ length-append front rest in
-      let Fails : List Message → Type 0 = λ x. MeetsFailure rules took o p old new failures v x in
-      subst Fails (ap (λ (x : List Message). x ++ rest) (messages-served_as front xs) ∙ sym split)
-      (fails_before rules took failures o p old new v (messages failing) rest
-      (fails_at rules took failures o p old new v failing (omega (arith, some, sizes, size)) (omega (arith, few, size, within))
-      (subst (λ b. AllByRecursion (λ (a : Answered). a.is_served ≡ b) failing) (sym working) (all_served front xs (omega (arith, sizes)))) written whole stopped
-      (λ is. absurd (true≢false (sym working ∙ is))) (read-served_as front xs first read) (subst (AreAdmitted rules v) same admitted)
-      (λ h is s. subst (IsLeftAt rules new h []) (added_is rules old new v front xs first h is) (left h s).0)
-      (λ h is s. subst (LeavesSome rules old new h) (added_is rules old new v front xs first h is) (left h s).1)))
+      record {
+        failing = failing;
+        waiting = rest;
+        split = split ∙ ap (λ (x : List Message). x ++ rest) (sym (messages-served_as front xs));
+        store = record {
+          some = omega (arith, some, sizes, size);
+          few = omega (arith, few, size, within);
+          tried = subst (λ b. AllByRecursion (λ (a : Answered). a.is_served ≡ b) failing) (sym working) (all_served front xs (omega (arith, sizes)));
+          stopped = stopped;
+          failed = λ is. absurd (true≢false (sym working ∙ is));
+          specified = read-served_as front xs first read;
+          admitted = subst (AreAdmitted rules v) same admitted;
+          left = λ h is s. subst (IsLeftAt rules new h []) (added_is rules old new v front xs first h is) (left h s).0;
+          moments = λ h is s. subst (LeavesSome rules old new h) (added_is rules old new v front xs first h is) (left h s).1;
+        };
+      }
 
   -- it fails now
   front_fails : (n : ℕ) (given : List Reply) → length ms ≤ group_limit → serves old ≡ true → serves new ≡ false → ServesAt rules old v
-      → HasStopped old new (map asked (take n ms)) given → MeetsFailure rules took o p old new failures v ms
+      → HasStopped old new (map asked (take n ms)) given → FailsAtFirst rules old new v ms
   front_fails n given few working stopped serving at =
       let k : ℕ = length given + length at.failing in
       let xs : List Asked = at.asked ++ at.failing in
@@ -280,27 +293,61 @@ module _ {O D : Type 0} {g : Ghosts D} (rules : Rules) (took : O → O → List 
       }
 
   -- it had failed before
-  front_failed : 1 ≤ length ms → serves old ≡ false → new ≡ old → MeetsFailure rules took o p old new failures v ms
+  front_failed : 1 ≤ length ms → serves old ≡ false → new ≡ old → FailsAtFirst rules old new v ms
   front_failed some stopped same = on ms some
     where
-      on : (xs : List Message) → 1 ≤ length xs → MeetsFailure rules took o p old new failures v xs
+      on : (xs : List Message) → 1 ≤ length xs → FailsAtFirst rules old new v xs
       on [] none = absurd (omega arith)
-      on (m ∷ more) one =
-          fails_before rules took failures o p old new v (m ∷ []) more
-          (fails_at rules took failures o p old new v (refused m ∷ []) (omega arith) (omega arith) (sym stopped, tt) written whole (ap serves same ∙ stopped)
-          (λ is. same) ((λ is. absurd (true≢false (sym is))), tt) tt
-          (λ h is s. absurd (true≢false (sym s.working ∙ stopped))) (λ h is s. absurd (true≢false (sym s.working ∙ stopped))))
+      on (m ∷ more) one = record {
+        failing = refused m ∷ [];
+        waiting = more;
+        split = refl;
+        store = record {
+          some = omega arith;
+          few = omega arith;
+          tried = (sym stopped, tt);
+          stopped = ap serves same ∙ stopped;
+          failed = λ is. (same, refl);
+          specified = ((λ is. absurd (true≢false (sym is))), tt);
+          admitted = tt;
+          left = λ h is s. absurd (true≢false (sym s.working ∙ stopped));
+          moments = λ h is s. absurd (true≢false (sym s.working ∙ stopped));
+        };
+      }
 
-  -- how it stops the group
-  pub front_stops : (n : ℕ) (requests : List Request) (fault : ServeFault) → requests ≡ map asked (take n ms) → 1 ≤ length ms → length ms ≤ group_limit
+  -- which fault is told where the store answers none of the messages
+  pub front_stopped : (n : ℕ) (requests : List Request) (fault : ServeFault) → requests ≡ map asked (take n ms) → 1 ≤ length ms → length ms ≤ group_limit
       → ShowsAt rules old v → (fault ≡ Device → (given : List Reply) × HasStopped old new requests given)
       → (fault ≡ Device → (serves old ≡ true) × (serves new ≡ false)) → ((d : Damage) → fault ≡ Damaged d → ⊥) → (fault ≡ Failed → (serves old ≡ false) × (new ≡ old))
-      → (fault ≡ Device) ⊎ (fault ≡ Failed) ⊎ ((d : Damage) × (fault ≡ Damaged d)) → Stops rules took failures o p old new v ms fault
-  front_stops n requests fault are some few shows stopped stops damaged failed (inl now) =
+      → (fault ≡ Device) ⊎ (fault ≡ Failed) ⊎ ((d : Damage) × (fault ≡ Damaged d))
+      → ((fault ≡ Device) ⊎ (fault ≡ Failed)) × FailsAtFirst rules old new v ms
+  front_stopped n requests fault are some few shows stopped stops damaged failed (inl now) =
       let At : List Request → Type 0 = λ rs. HasStopped old new rs (stopped now).0 in
       let working : serves old ≡ true = (stops now).0 in
-      subst (Stops rules took failures o p old new v ms) (sym now)
-      (front_fails n (stopped now).0 few working (stops now).1 (shows working) (subst At are (stopped now).1))
-  front_stops n requests fault are some few shows stopped stops damaged failed (inr (inl before)) =
-      subst (Stops rules took failures o p old new v ms) (sym before) (front_failed some (failed before).0 (failed before).1)
-  front_stops n requests fault are some few shows stopped stops damaged failed (inr (inr found)) = absurd (damaged found.0 found.1)
+      (inl now, front_fails n (stopped now).0 few working (stops now).1 (shows working) (subst At are (stopped now).1))
+  front_stopped n requests fault are some few shows stopped stops damaged failed (inr (inl before)) =
+      (inr before, front_failed some (failed before).0 (failed before).1)
+  front_stopped n requests fault are some few shows stopped stops damaged failed (inr (inr found)) = absurd (damaged found.0 found.1)
+
+-- how it stops the group, with the refusal that is written
+pub front_stops : {O D : Type 0} {g : Ghosts D} (rules : Rules) (took : O → O → List ℕ → Type 0) (failures : O → ℕ) (o p : O) (old new : Store D g) (v : View)
+    (ms : List Message) (written : TookSome took o p (closing_bytes false StorageFailed)) → (written.rest ≡ []) ⊎ HasGrown (failures o) (failures p)
+    → (fault : ServeFault) → ((fault ≡ Device) ⊎ (fault ≡ Failed)) × FailsAtFirst rules old new v ms → Stops rules took failures o p old new v ms fault
+front_stops rules took failures o p old new v ms written whole fault stopped = on stopped.0
+  where
+    meets : MeetsFailure rules took o p old new failures v ms
+    meets = record {
+      answered = [];
+      failing = stopped.1.failing;
+      waiting = stopped.1.waiting;
+      split = stopped.1.split;
+      closing = written.front;
+      unwritten = written.rest;
+      refusal = written.split;
+      whole = whole;
+      written = written.taken;
+      store = stopped.1.store;
+    }
+    on : (fault ≡ Device) ⊎ (fault ≡ Failed) → Stops rules took failures o p old new v ms fault
+    on (inl is) = subst (Stops rules took failures o p old new v ms) (sym is) meets
+    on (inr is) = subst (Stops rules took failures o p old new v ms) (sym is) meets

@@ -264,9 +264,6 @@ module _ {I O D : Type 0} {g : Ghosts D} (rules : Rules) (gave : I → I → Lis
           holds = record {
             answered = all.answered;
             failing = all.failing;
-            some = all.some;
-            few = all.few;
-            tried = all.tried;
             waiting = all.waiting;
             progress = now;
             stream = subst (λ xs. IsCut (so_far.read ++ piece) xs now) all.split fails.cut;
@@ -275,12 +272,7 @@ module _ {I O D : Type 0} {g : Ghosts D} (rules : Rules) (gave : I → I → Lis
             refusal = all.refusal;
             whole = all.whole;
             text = refl;
-            stopped = all.stopped;
-            failed = all.failed;
-            specified = all.specified;
-            admitted = all.admitted;
-            left = all.left;
-            moments = all.moments;
+            store = all.store;
           };
         }
 

@@ -88,6 +88,20 @@ pub record HasApplied {D : Type 0} {g : Ghosts D} (rules : Rules) (old new : Sto
   pub settled : WhereSettled rules old v (λ h. IsSettledAt rules new (h ++ all_writes rules v answered))
   pub moments : WhereSettled rules old v (λ h. LeavesSome rules old new h (all_writes rules v answered))
 
+-- These messages were answered, and the device failed at others that stand in one record, now or before. What is found of a store that was
+-- settled has the writes that were answered, and perhaps those of the others, which were admitted too. The others were served but where the
+-- store had failed before; then none was answered, and the store is as it was.
+pub record HasFailedIn {D : Type 0} {g : Ghosts D} (rules : Rules) (old new : Store D g) (v : View) (answered failing : List Answered) : Type 0 where
+  pub some : 1 ≤ length failing
+  pub few : length failing ≤ group_limit
+  pub tried : AllByRecursion (λ a. a.is_served ≡ serves old) failing
+  pub stopped : serves new ≡ false
+  pub failed : serves old ≡ false → (new ≡ old) × (answered ≡ [])
+  pub specified : AreRead (answered ++ failing)
+  pub admitted : AreAdmitted rules v (all_writes rules v (answered ++ failing))
+  pub left : WhereSettled rules old v (λ h. IsLeftAt rules new h (all_writes rules v answered) (all_writes rules v (answered ++ failing)))
+  pub moments : WhereSettled rules old v (λ h. LeavesSome rules old new h (all_writes rules v (answered ++ failing)))
+
 module _ {O D : Type 0} {g : Ghosts D} (rules : Rules) (took : O → O → List ℕ → Type 0) (o p : O) (old new : Store D g) where
   -- The messages are answered, and after the replies closing bytes are written.
   pub record Answers (v : View) (ms : List Message) (closing : List ℕ) : Type 0 where
@@ -105,14 +119,10 @@ module _ {O D : Type 0} {g : Ghosts D} (rules : Rules) (took : O → O → List 
     pub store : HasApplied rules old new v answered
 
   -- The device failed at messages that stand in one record, now or before: those before them are answered, and then a refusal that closes
-  -- is written, the whole of it unless the output failed. What is found of a store that was settled has the writes that were answered, and
-  -- perhaps those of the messages, which were admitted too. The messages were served but where the store had failed before.
+  -- is written, the whole of it unless the output failed.
   pub record MeetsFailure (failures : O → ℕ) (v : View) (ms : List Message) : Type 0 where
     pub answered : List Answered
     pub failing : List Answered
-    pub some : 1 ≤ length failing
-    pub few : length failing ≤ group_limit
-    pub tried : AllByRecursion (λ a. a.is_served ≡ serves old) failing
     pub waiting : List Message
     pub split : ms ≡ messages answered ++ (messages failing ++ waiting)
     pub closing : List ℕ
@@ -120,12 +130,7 @@ module _ {O D : Type 0} {g : Ghosts D} (rules : Rules) (took : O → O → List 
     pub refusal : closing_bytes false StorageFailed ≡ closing ++ unwritten
     pub whole : (unwritten ≡ []) ⊎ HasGrown (failures o) (failures p)
     pub written : took o p (all_bytes rules v answered ++ closing)
-    pub stopped : serves new ≡ false
-    pub failed : serves old ≡ false → (new ≡ old) × (answered ≡ [])
-    pub specified : AreRead (answered ++ failing)
-    pub admitted : AreAdmitted rules v (all_writes rules v (answered ++ failing))
-    pub left : WhereSettled rules old v (λ h. IsLeftAt rules new h (all_writes rules v answered) (all_writes rules v (answered ++ failing)))
-    pub moments : WhereSettled rules old v (λ h. LeavesSome rules old new h (all_writes rules v (answered ++ failing)))
+    pub store : HasFailedIn rules old new v answered failing
 
 -- ---- why answering ends early
 

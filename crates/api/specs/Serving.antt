@@ -16,7 +16,7 @@ use Rattle.api.specs.declared.fault.ServeFault.{ServeFault}
 use Rattle.api.specs.declared.fault.ServeFault.TheVariants as ServeFaults
 use Rattle.routes.specs.ReplyBytes.{closing_bytes, end_bytes}
 use Rattle.objects.specs.Failing.{HasGrown}
-use Rattle.api.specs.Answers.{Answered, messages, AreRead, all_writes, all_bytes, WhereSettled, HasApplied}
+use Rattle.api.specs.Answers.{Answered, messages, all_bytes, HasApplied, HasFailedIn}
 
 -- The whole input was read and is this stream, or whatever follows what was read, the stream is this.
 abbrev pub Ends : (ended : Type 0) → (read : List ℕ) → List Message → End → Type 0
@@ -64,14 +64,10 @@ module _ {D : Type 0} {g : Ghosts D} (rules : Rules) (old new : Store D g) (v : 
     pub store : HasApplied rules old new v answered
 
   -- The device failed at messages that stand in one record, now or before: those before them are answered, and then a refusal that closes
-  -- is written, the whole of it unless the output failed. What is found of a store that was settled has the writes that were answered, and
-  -- perhaps those of the messages, which were admitted too. The messages were served but where the store had failed before.
+  -- is written, the whole of it unless the output failed.
   pub record HasFailed (output_old output_new : ℕ) : Type 0 where
     pub answered : List Answered
     pub failing : List Answered
-    pub some : 1 ≤ length failing
-    pub few : length failing ≤ group_limit
-    pub tried : AllByRecursion (λ a. a.is_served ≡ serves old) failing
     pub waiting : List Message
     pub progress : Progress
     pub stream : IsCut read (messages answered ++ (messages failing ++ waiting)) progress
@@ -80,12 +76,7 @@ module _ {D : Type 0} {g : Ghosts D} (rules : Rules) (old new : Store D g) (v : 
     pub refusal : closing_bytes false StorageFailed ≡ closing ++ unwritten
     pub whole : (unwritten ≡ []) ⊎ HasGrown output_old output_new
     pub text : written ≡ all_bytes rules v answered ++ closing
-    pub stopped : serves new ≡ false
-    pub failed : serves old ≡ false → (new ≡ old) × (answered ≡ [])
-    pub specified : AreRead (answered ++ failing)
-    pub admitted : AreAdmitted rules v (all_writes rules v (answered ++ failing))
-    pub left : WhereSettled rules old v (λ h. IsLeftAt rules new h (all_writes rules v answered) (all_writes rules v (answered ++ failing)))
-    pub moments : WhereSettled rules old v (λ h. LeavesSome rules old new h (all_writes rules v (answered ++ failing)))
+    pub store : HasFailedIn rules old new v answered failing
 
   -- Memory was refused to further bytes: the messages before them are answered, and then a refusal that closes is written.
   pub record HasLackedMemory : Type 0 where

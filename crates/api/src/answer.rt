@@ -20,8 +20,12 @@ use requests::{Reply, Request};
 use routes::{Routes, route_front, write_answers, write_storage_failed};
 use std::alloc::{AllocError, Global};
 
-// What the store replies to requests, up to the one to which memory was refused.
-fn replies_to<D: Device>(
+/// What the store replies to requests, up to the one to which memory was refused.
+///
+/// # Errors
+///
+/// `Device` where the store's device failed, `Failed` where it had failed before, and `Damaged` where what was read of it is damaged.
+pub fn replies_to<D: Device>(
     alloc: Global,
     requests: &[Request],
     store: &mut Store<D>,
@@ -51,8 +55,8 @@ fn replies_to<D: Device>(
     }
 }
 
-// How many messages are answered with so many replies: where there are more messages, memory was refused to the next one.
-fn answered_count(replies: usize, messages: usize) -> usize
+/// How many messages are answered with so many replies: where there are more messages, memory was refused to the next one.
+pub fn answered_count(replies: usize, messages: usize) -> usize
     requires { 1 ≤ messages }
     ensures one_more { result ≡ min (replies + 1) messages }
     ensures some { 1 ≤ result }

@@ -17,6 +17,7 @@ mod fault;
 mod laws;
 mod piece;
 
+pub use answer::{answered_count, replies_to};
 pub use connection::serve;
 pub use fault::ServeFault;
 pub use laws::answers_are_runs;

@@ -18,7 +18,7 @@ ghost use Rattle.api.specs.Piece.{Tells, Breaks, Steps, StepsWrong, Finishes, Fi
 
 use crate::answer::answer_all;
 use crate::fault::ServeFault;
-use cutter::{CutFault, Cutter};
+use cutter::{CutFault, Cutter, HeadRoom};
 use device::Device;
 use durable::Store;
 use httpmsg::{End, Input, Message, Output, Sheet};
@@ -43,6 +43,7 @@ pub(crate) enum Told {
 #[derive(Drop)]
 pub(crate) struct Connection {
     pub(crate) cutter: Cutter,
+    pub(crate) room: HeadRoom,
     pub(crate) sheet: Sheet,
     pub(crate) routes: Routes,
 }
@@ -53,7 +54,8 @@ impl Connection {
         ensures { IfOk result (λ connection. connection.cutter ≡ record { pending = []; end = None }) }
     {
         Ok(Connection {
-            cutter: Cutter::new(alloc)?,
+            cutter: Cutter::new(alloc),
+            room: HeadRoom::new(alloc)?,
             sheet: Sheet::new(alloc)?,
             routes: Routes::new(alloc)?,
         })
@@ -77,10 +79,11 @@ impl Connection {
     {
         let Connection {
             cutter,
+            room,
             sheet,
             routes,
         } = self;
-        match cutter.feed(alloc, piece) {
+        match cutter.feed(alloc, room, piece) {
             Ok(messages) => match answer_all(alloc, routes, &messages, output, sheet, store) {
                 Ok(()) => Ok(told_by(&messages, cutter)),
                 Err(fault) => Err(fault),
@@ -100,11 +103,12 @@ impl Connection {
     {
         let Connection {
             cutter,
+            room,
             mut sheet,
             routes,
         } = self;
-        drop(routes);
-        match cutter.finish() {
+        drop((room, routes));
+        match cutter.ending() {
             Ok(()) => Ok(End::Clean),
             Err(broken) => match write_fault(output, &mut sheet, broken) {
                 Ok(()) => Ok(End::Broken(broken)),

@@ -11,8 +11,11 @@ use httpmsg::{BrokenMessage, End, FIELD_ROOM, HEAD_LIMIT, Message, MessageFault,
 use std::alloc::{AllocError, Global};
 use std::marker::Model;
 
-// Moves what follows so many bytes to the front.
-fn remove_front(bytes: &mut Vec<u8>, count: usize)
+// How much room is kept where no byte is left.
+const KEPT_BYTES: usize = 8192;
+
+// Moves what follows so many bytes to the front. Where nothing follows, large room is given back.
+fn remove_front(alloc: Global, bytes: &mut Vec<u8>, count: usize)
     requires { count ≤ vec_len bytes.old }
     ensures { bytes.new.items ≡ drop count bytes.old.items }
 {
@@ -20,6 +23,10 @@ fn remove_front(bytes: &mut Vec<u8>, count: usize)
         return;
     }
     let len = bytes.len();
+    if count == len && bytes.capacity() > KEPT_BYTES {
+        *bytes = Vec::new(alloc);
+        return;
+    }
     bytes.copy_within(count..len, 0);
     bytes.truncate(len - count);
 }
@@ -104,12 +111,27 @@ fn after_end(alloc: Global, end: End) -> Result<Vec<Message>, CutFault>
     }
 }
 
-/// Cuts the bytes of a connection into messages, in pieces of any size.
+/// Room for the fields of one head, some 87 KB. A head needs it only while it is read, so cutters that are fed by turns share one.
+#[derive(Drop)]
+pub struct HeadRoom {
+    spans: Vec<HeaderSpan>,
+    ghost whole: { length spans.items ≡ 2731 },
+}
+
+impl HeadRoom {
+    /// The room. All its memory is taken here.
+    pub fn new(alloc: Global) -> Result<HeadRoom, AllocError> {
+        Ok(HeadRoom {
+            spans: vec![in alloc; EMPTY_HEADER_SPAN; FIELD_ROOM]?,
+        })
+    }
+}
+
+/// Cuts the bytes of a connection into messages, in pieces of any size. Of memory it holds the bytes that wait for their message's end.
 #[derive(Drop)]
 pub struct Cutter {
     pending: Vec<u8>,
     awaited: Awaited,
-    room: Vec<HeaderSpan>,
     end: Option<End>,
 }
 
@@ -118,34 +140,37 @@ impl Model for Cutter {
 
     ghost Value = { Progress };
 
-    ghost use Rattle.std.specs.Prelude.{◌≡◌, ◌<◌, None, length};
+    ghost use Rattle.std.specs.Prelude.{◌≡◌, None};
 
     ghost view = { λ c. record { pending = c.pending.items; end = c.end } };
 
     ghost use Rattle.cutter.specs.Awaited.{IsAwaited};
 
-    ghost invariant = { λ c. (length c.room.items ≡ 2731) × (c.end ≡ None → IsAwaited c.pending.items c.awaited) };
+    ghost invariant = { λ c. c.end ≡ None → IsAwaited c.pending.items c.awaited };
 }
 
 impl Cutter {
-    /// A cutter that was fed nothing. All the memory that a head needs is taken here.
-    pub fn new(alloc: Global) -> Result<Cutter, AllocError>
-        ensures { IfOk result (λ cutter. cutter ≡ record { pending = []; end = None }) }
+    /// A cutter that was fed nothing. It takes no memory.
+    pub fn new(alloc: Global) -> Cutter
+        ensures { result ≡ record { pending = []; end = None } }
     {
-        let room = vec![in alloc; EMPTY_HEADER_SPAN; FIELD_ROOM]?;
-        Ok(Cutter {
+        Cutter {
             pending: Vec::new(alloc),
             awaited: Awaited::Bytes(1),
-            room,
             end: None,
-        })
+        }
     }
 
     /// The whole messages that these further bytes give, oldest first.
     ///
     /// A fault of the stream is answered by the call after the messages before it, which may be fed nothing, and by
     /// every later one. After a message that closes nothing more is cut.
-    pub fn feed(&mut self, alloc: Global, bytes: &[u8]) -> Result<Vec<Message>, CutFault>
+    pub fn feed(
+        &mut self,
+        alloc: Global,
+        room: &mut HeadRoom,
+        bytes: &[u8],
+    ) -> Result<Vec<Message>, CutFault>
         ensures ok { (all : List ℕ) (ms : List MessageData) → IsCut all ms self.old
             → IfOk result (λ more. IsCut (all ++ bytes.now) (ms ++ more.items) self.new) }
         ensures broken { (all : List ℕ) (ms : List MessageData) → IsCut all ms self.old
@@ -167,9 +192,9 @@ impl Cutter {
             self.awaited = awaited;
             return Ok(Vec::new(alloc));
         }
-        match cut_all(alloc, &self.pending, &mut self.room) {
+        match cut_all(alloc, &self.pending, &mut room.spans) {
             Ok(run) => {
-                remove_front(&mut self.pending, run.at);
+                remove_front(alloc, &mut self.pending, run.at);
                 self.awaited = Awaited::next(&self.pending, run.awaited);
                 self.end = run.end;
                 told(run.messages, run.end)
@@ -189,9 +214,9 @@ impl Cutter {
     }
 
     /// The end of the stream, if no more bytes come: an error where it is a fault.
-    pub fn finish(self) -> Result<(), BrokenMessage>
-        ensures stream { (all : List ℕ) (ms : List MessageData) → IsCut all ms self → IsStream all ms (end_of self) }
-        ensures end { MatchResult result (λ _. (end_of self ≡ End.Clean) ⊎ (end_of self ≡ End.Closed)) (λ b. end_of self ≡ End.Broken b) }
+    pub fn ending(&self) -> Result<(), BrokenMessage>
+        ensures stream { (all : List ℕ) (ms : List MessageData) → IsCut all ms self.now → IsStream all ms (end_of self.now) }
+        ensures end { MatchResult result (λ _. (end_of self.now ≡ End.Clean) ⊎ (end_of self.now ≡ End.Closed)) (λ b. end_of self.now ≡ End.Broken b) }
     {
         match self.end {
             Some(End::Broken(broken)) => Err(broken),

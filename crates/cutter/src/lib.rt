@@ -1,9 +1,10 @@
 //! Messages cut out of a connection's bytes as they come.
 //!
 //! ```text
-//! let mut cutter = Cutter::new(alloc)?;
-//! for message in cutter.feed(alloc, piece)? { .. }      // as often as there is a piece
-//! cutter.finish()?;
+//! let mut room = HeadRoom::new(alloc)?;                         // one for all cutters
+//! let mut cutter = Cutter::new(alloc);
+//! for message in cutter.feed(alloc, &mut room, piece)? { .. }    // as often as there is a piece
+//! cutter.ending()?;
 //! ```
 //!
 //! The messages of all pieces are those of the stream that the pieces make, once each and in order. A fault is told as soon as the bytes
@@ -13,4 +14,4 @@
 
 mod cutting;
 
-pub use cutting::{CutFault, Cutter};
+pub use cutting::{CutFault, Cutter, HeadRoom};

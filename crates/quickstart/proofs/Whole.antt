@@ -184,7 +184,7 @@ module _ {D : Type 0} {g : Ghosts D} (rules : Rules) (old : D) (opened new : Sto
     device_fails : {read written : List ℕ} {m n : ℕ} → device_failed → (HasGrown m n → output_failed) → HasFailed rules opened new (view rules h) read written m n
         → HasEndedEarly rules g.disk old (device_of new) h device_failed output_failed read written
     device_fails {read} grown told failed =
-        let left = failed.left h refl settled in
+        let left = failed.store.left h refl settled in
         let replies : List ℕ = all_bytes rules (view rules h) failed.answered in
         record {
           answered = failed.answered;
@@ -196,16 +196,16 @@ module _ {D : Type 0} {g : Ghosts D} (rules : Rules) (old : D) (opened new : Sto
           progress = failed.progress;
           stream = failed.stream;
           closing = closing_bytes false StorageFailed;
-          closes = inr (grown, (failed.some, failed.few, refl));
+          closes = inr (grown, (failed.store.some, failed.store.few, refl));
           unwritten = failed.unwritten;
           text = ap (λ c. replies ++ c) failed.refusal ∙ (sym (append_assoc replies failed.closing failed.unwritten) ∙ ap (λ w. w ++ failed.unwritten) (sym failed.text));
           whole = ⊎_elim (λ all. inl all) (λ grown. inr (told grown)) failed.whole;
-          specified = failed.specified;
-          admitted = failed.admitted;
+          specified = failed.store.specified;
+          admitted = failed.store.admitted;
           keeps = left.keeps;
           found = left.read;
           left = left.left;
-          moments = moments_since _ (failed.moments h refl settled);
+          moments = moments_since _ (failed.store.moments h refl settled);
         }
 
   -- and how it ended

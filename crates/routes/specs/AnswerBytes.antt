@@ -1,5 +1,5 @@
 -- The bytes of the answers to several messages, and how they are written.
-use Rattle.std.specs.Prelude.{◌≡◌, ◌<◌, ℕ, List, [], ◌∷◌, ◌++◌, length, Option, None, option_map, slice_index_or, Result, OnOk}
+use Rattle.std.specs.Prelude.{◌≡◌, ◌<◌, ℕ, List, [], ◌∷◌, ◌++◌, length, Option, None, option_map, unwrap_or, slice_index_or, Result, OnOk}
 use Rattle.std.specs.Borrow.{Bor}
 use Rattle.std.specs.List.{AllByRecursion}
 use Rattle.http.specs.StatusCode.{IsStatusCode}
@@ -15,6 +15,10 @@ abbrev pub answers_bytes : List Message → List Reply → List ℕ
 answers_bytes [] replies = []
 answers_bytes (m ∷ more) [] = reply_bytes m (status OutOfMemory) ++ answers_bytes more []
 answers_bytes (m ∷ more) (r ∷ replies) = reply_bytes m r ++ answers_bytes more replies
+
+-- the bytes of the answer to one message: of its reply, or where there is none that memory was refused
+abbrev pub answer_bytes : Message → Option Reply → List ℕ
+answer_bytes m reply = reply_bytes m (unwrap_or reply (status OutOfMemory))
 
 -- The reply to a message has a status code, and beside it stand the methods that the message's path allows.
 abbrev pub CanAnswer : Message → Reply → Option (Bor (List ℕ)) → Type 0

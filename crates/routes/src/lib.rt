@@ -27,6 +27,8 @@ mod table;
 
 pub use bodies::fault_body;
 pub use front::{Front, route_front};
-pub use reply::{write_answers, write_fault, write_no_more, write_storage_failed};
+pub use reply::{
+    methods_at, write_answer, write_answers, write_fault, write_no_more, write_storage_failed,
+};
 pub use routes::{Routed, route};
 pub use table::Routes;

@@ -9,7 +9,7 @@ ghost use Rattle.httpmsg.specs.Response.{response_bytes};
 ghost use Rattle.httpmsg.specs.Sheet.{gathered};
 ghost use Rattle.httpmsg.specs.Stream.{is_head};
 ghost use Rattle.routes.specs.ReplyBytes.{refusal_of, response_of, allow_in, reply_bytes, closing_bytes, end_bytes};
-ghost use Rattle.routes.specs.AnswerBytes.{answers_bytes, CanAnswer, CanAnswerAll, PutsAfter};
+ghost use Rattle.routes.specs.AnswerBytes.{answer_bytes, answers_bytes, CanAnswer, CanAnswerAll, PutsAfter};
 
 use crate::bodies::fault_body;
 use httpmsg::{
@@ -125,8 +125,8 @@ fn put_answer<O: Output>(
     }
 }
 
-// The methods that stand at an index.
-fn methods_at(allows: &[Option<&'static str>], index: usize) -> Option<&'static str>
+/// Those of the methods that stand at an index, where some do.
+pub fn methods_at(allows: &[Option<&'static str>], index: usize) -> Option<&'static str>
     ensures { result ≡ slice_index_or allows.now index None }
 {
     allows.get(index).copied().flatten()
@@ -154,6 +154,24 @@ pub fn write_answers<O: Output>(
         }
     }
     write_all(output, sheet.bytes())
+}
+
+/// Writes the answer to one message, whose path allows these methods: its reply, or where there is none that memory was refused. It takes
+/// no memory.
+pub fn write_answer<O: Output>(
+    output: &mut O,
+    message: &Message,
+    reply: Option<&Reply>,
+    allow: Option<&'static str>,
+) -> Result<(), StreamFault>
+    ensures writes { IfSome reply.entry (λ r. CanAnswer message.now r.now allow.entry)
+        → Writes O.took output.old output.new (answer_bytes message.now (option_map (λ r. r.now) reply.entry)) result }
+    ensures cause { HasCause (O.failures output.old) (O.failures output.new) result }
+{
+    match reply {
+        Some(reply) => response_to(message, reply, allow).write(output),
+        None => out_of_memory(message).write(output),
+    }
 }
 
 /// Writes that memory was refused to further bytes, after which the connection ends.

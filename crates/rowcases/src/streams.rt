@@ -1,16 +1,17 @@
 //! The messages of a stream, what they ask for, and the words of their faults.
 
 use cases::Wrong;
-use cutter::Cutter;
+use cutter::{Cutter, HeadRoom};
 use httpmsg::{Message, MessageFault};
 use routes::{Routed, Routes, route};
 use std::alloc::Global;
 
 // The messages of a stream that ends between two of them.
 fn messages_of(alloc: Global, sent: &str) -> Result<Vec<Message>, Wrong> {
-    let mut cutter = Cutter::new(alloc)?;
-    let fed = cutter.feed(alloc, sent.as_bytes());
-    match (fed, cutter.finish()) {
+    let mut room = HeadRoom::new(alloc)?;
+    let mut cutter = Cutter::new(alloc);
+    let fed = cutter.feed(alloc, &mut room, sent.as_bytes());
+    match (fed, cutter.ending()) {
         (Ok(messages), Ok(())) => Ok(messages),
         _ => Err(Wrong::Told("the stream has a fault")),
     }

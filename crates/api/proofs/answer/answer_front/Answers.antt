@@ -14,7 +14,7 @@ use Rattle.routes.specs.AnswerBytes.{answers_bytes, CanAnswerAll}
 use Rattle.api.specs.declared.fault.ServeFault.TheVariants.{Write, Damaged}
 use Rattle.api.proofs.Causes.{apart, causes_none, causes_write, causes_stored}
 use Rattle.api.proofs.Folds.{took_some_of, took_whole}
-use Rattle.api.proofs.Groups.{front_can_answer, front_answers, front_writes_some, front_stops}
+use Rattle.api.proofs.Groups.{front_can_answer, front_answers, front_writes_some, front_stopped, front_stops}
 use Rattle.api.proofs.answer.answer_front.Given.{Over}
 use Rattle.api.proofs.answer.answer_front.Goals.{After-write_answers}
 use Rattle.api.proofs.answer.answer_front.Goals as goal
@@ -75,10 +75,11 @@ returns-clause-outcome g c rules v shows =
     (took_some_of g.O.Output.took c.args.output.now c.write_storage_failed.new.output (closing_bytes false StorageFailed) c.write_storage_failed.result c.write_storage_failed.ensures.writes)
     (took_whole g.O.Output.took c.args.output.now c.write_storage_failed.new.output (closing_bytes false StorageFailed) c.write_storage_failed.result
     (g.O.Output.failures c.args.output.now) (g.O.Output.failures c.write_storage_failed.new.output) c.write_storage_failed.ensures.writes c.write_storage_failed.ensures.cause)
-    (length c.route_front-front.result.requests.items) (map request_of c.deref.result.now) c.in-Err.fault
+    c.in-Err.fault
+    (front_stopped rules c.args.store.now c.replies_to.new.store v c.args.messages.now (length c.route_front-front.result.requests.items) (map request_of c.deref.result.now) c.in-Err.fault
     (ap (map request_of) c.deref.ensures.value ∙ c.route_front-front.ensures.requests) c.requires.some c.requires.few shows
     (λ is. c.in-Err.ensures.stopped (ap Err is)) (λ is. c.in-Err.ensures.stops (ap Err is))
-    (λ damage is. c.in-Err.ensures.damaged damage (ap Err is) rules v (shows (c.in-Err.ensures.damaged_stops damage (ap Err is)).0)) (λ is. c.in-Err.ensures.failed (ap Err is)) c.in-Err.ensures.refusal
+    (λ damage is. c.in-Err.ensures.damaged damage (ap Err is) rules v (shows (c.in-Err.ensures.damaged_stops damage (ap Err is)).0)) (λ is. c.in-Err.ensures.failed (ap Err is)) c.in-Err.ensures.refusal)
 
 pub returns-in-Ok-write_answers-clause-causes : goal.returns-in-Ok-write_answers-clause-causes
 returns-in-Ok-write_answers-clause-causes g c =

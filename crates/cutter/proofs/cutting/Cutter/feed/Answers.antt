@@ -29,7 +29,7 @@ still_awaited c =
     let size : length c.extend_from_slice.new.self.items ≡ c.len.result = search rules in
     let Here : List ℕ → Type 0 = λ x. IsAwaited x c.in-Some-after.awaited in
     subst Here (sym joined)
-    (c.in-Some-after.ensures c.self.inside.pending.items (sym (ap length joined) ∙ size) (c.self.invariant.1 c.in_default.is))
+    (c.in-Some-after.ensures c.self.inside.pending.items (sym (ap length joined) ∙ size) (c.self.invariant c.in_default.is))
 
 still_waits : (c : After-new) → Waits c.extend_from_slice.new.self.items × IsUnfinished c.extend_from_slice.new.self.items
 still_waits c =

@@ -1,0 +1,58 @@
+-- The answers to messages of several sessions, from what the store replied.
+use Rattle.std.proofs.Common.{◌≡◌, ◌≤◌, ◌∙◌, sym, ap, subst, ◌⊎◌, inl, inr, ℕ, List, [], length, map, take, get_or}
+use Rattle.device.specs.declared.device.Device.{Ghosts}
+use Rattle.requests.specs.Reply.{Reply}
+use Rattle.objects.specs.declared.format.Rules.{Rules}
+use Rattle.recovery.specs.Standing.{View}
+use Rattle.durable.specs.declared.store.Store.{Store}
+use Rattle.durable.specs.Settled.{ServesAt, HasServed}
+use Rattle.httpmsg.specs.Stream.{Message}
+use Rattle.routes.specs.Asked.{asked}
+use Rattle.api.specs.declared.fault.ServeFault.{ServeFault}
+use Rattle.api.specs.declared.fault.ServeFault.TheVariants.{Device, Failed}
+use Rattle.api.proofs.Groups.{FailsAtFirst, served_as, messages-served_as, replies_are, front_first, front_applied}
+use Rattle.sessions.specs.State.{State, GoesOnWith}
+use Rattle.sessions.specs.Turn.{answers_to, AllGain, Turned}
+use Rattle.sessions.specs.Refusing.{AllRefuse}
+use Rattle.sessions.specs.Stops.{TurnFails, TurnStops}
+use Rattle.sessions.proofs.Gaining.{gains_none}
+use Rattle.sessions.proofs.Turning.{bytes_of-served_as}
+
+-- each session gains the answers to its own messages
+pub front_turned : {D : Type 0} {g : Ghosts D} (rules : Rules) (old new : Store D g) (v : View) (ms : List Message) (n count : ℕ) (given : List Reply)
+    → (routed : n ≤ length ms) → (counted : length given ≤ length ms → length given ≤ count) → (serving : ServesAt rules old v)
+    → (said : HasServed old new (take (length given) (map asked (take n ms))) given) → (places : List ℕ) (before after : List State)
+    → AllGain before after (λ i. answers_to i places (take count ms) given) → Turned rules old new v places (take count ms) before after
+front_turned rules old new v ms n count given routed counted serving said places before after gains = record {
+  answered = served_as (take count ms) said.asked;
+  answers = messages-served_as (take count ms) said.asked;
+  given = λ i d below.
+      let Both : List ℕ → Type 0 = λ w. GoesOnWith (get_or before i d) (get_or after i d) w in
+      subst Both
+      (ap (answers_to i places (take count ms)) (replies_are rules old new v ms n count given routed counted serving said)
+      ∙ sym (bytes_of-served_as rules v i places (take count ms) said.asked (front_first rules old new v ms n count given routed counted serving said)))
+      (gains i d below);
+  store = front_applied rules old new v ms n count given routed counted serving said;
+}
+
+-- the device fails at the first of the messages
+pub front_refused : {D : Type 0} {g : Ghosts D} (rules : Rules) (old new : Store D g) (v : View) (places : List ℕ) (ms : List Message) (before after : List State)
+    (fault : ServeFault) → ((fault ≡ Device) ⊎ (fault ≡ Failed)) × FailsAtFirst rules old new v ms → AllRefuse places before after
+    → TurnStops rules old new v places ms before after fault
+front_refused rules old new v places ms before after fault stopped refused = on stopped.0
+  where
+    fails : TurnFails rules old new v places ms before after
+    fails = record {
+      answered = [];
+      failing = stopped.1.failing;
+      waiting = stopped.1.waiting;
+      split = stopped.1.split;
+      between = before;
+      given = λ i d below. gains_none (get_or before i d);
+      refused = refused;
+      store = stopped.1.store;
+    }
+
+    on : (fault ≡ Device) ⊎ (fault ≡ Failed) → TurnStops rules old new v places ms before after fault
+    on (inl is) = subst (TurnStops rules old new v places ms before after) (sym is) fails
+    on (inr is) = subst (TurnStops rules old new v places ms before after) (sym is) fails

@@ -1,0 +1,7 @@
+pub mod Writing
+pub mod Taking
+pub mod Gaining
+pub mod Refusals
+pub mod Turning
+pub mod Fronts
+pub mod Turns

@@ -1,0 +1,131 @@
+-- Turns, one after another.
+use Rattle.std.proofs.Common.{arith, ◌≡◌, ◌∙◌, sym, ap, refl, subst, ℕ, List, [], ◌∷◌, ◌++◌, length, take, drop, get_or}
+use Rattle.std.proofs.lemmas.List.{append-nil, append_assoc, length-map, length-append}
+use Rattle.device.specs.declared.device.Device.{Ghosts}
+use Rattle.objects.specs.declared.format.Rules.{Rules}
+use Rattle.recovery.specs.Standing.{View}
+use Rattle.durable.specs.declared.store.Store.{Store}
+use Rattle.durable.specs.Settled.{device_of}
+use Rattle.httpmsg.specs.Stream.{Message}
+use Rattle.api.specs.declared.fault.ServeFault.{ServeFault}
+use Rattle.api.specs.declared.fault.ServeFault.TheVariants.{Read, Write, Device, Memory, Damaged, Failed}
+use Rattle.api.specs.Answers.{Answered, messages, ShowsAt}
+use Rattle.api.proofs.Folds.{seen, split_then, failed_then, applied_none}
+use Rattle.sessions.specs.State.{State, GoesOnWith}
+use Rattle.sessions.specs.Turn.{bytes_of, Turned}
+use Rattle.sessions.specs.Refusing.{AllRefuse}
+use Rattle.sessions.specs.Stops.{TurnFails, TurnStops}
+use Rattle.sessions.proofs.Gaining.{gains_none, gains_then}
+use Rattle.sessions.proofs.Turning.{bytes_of-append, turned_then}
+
+take_both : (ps qs : List ℕ) (xs ys : List Answered) → length ps ≡ length xs → take (length (xs ++ ys)) (ps ++ qs) ≡ ps ++ take (length ys) qs
+take_both [] qs [] ys same = refl
+take_both [] qs (x ∷ xs) ys same = absurd (omega (arith, same))
+take_both (p ∷ ps) qs [] ys same = absurd (omega (arith, same))
+take_both (p ∷ ps) qs (x ∷ xs) ys same = ap (λ (z : List ℕ). p ∷ z) (take_both ps qs xs ys (omega (arith, same)))
+
+drop_both : (ps qs : List ℕ) (xs ys : List Answered) → length ps ≡ length xs → drop (length (xs ++ ys)) (ps ++ qs) ≡ drop (length ys) qs
+drop_both [] qs [] ys same = refl
+drop_both [] qs (x ∷ xs) ys same = absurd (omega (arith, same))
+drop_both (p ∷ ps) qs [] ys same = absurd (omega (arith, same))
+drop_both (p ∷ ps) qs (x ∷ xs) ys same = drop_both ps qs xs ys (omega (arith, same))
+
+module _ {D : Type 0} {g : Ghosts D} (rules : Rules) where
+  -- no message
+  turned_none : (store : Store D g) (v : View) (all : List State) → ShowsAt rules store v
+      → (g.disk.keeps (device_of store) → (c : List ℕ) → g.disk.since (device_of store) (g.disk.moment (device_of store)) c → g.disk.left (device_of store) c)
+      → Turned rules store store v [] [] all all
+  turned_none store v all shows only_now = record {
+    answered = [];
+    answers = refl;
+    given = λ i d below. gains_none (get_or all i d);
+    store = applied_none rules store v shows only_now;
+  }
+
+  -- a turn, and then the device fails
+  fails_then : (old mid new : Store D g) (v : View) (ps qs : List ℕ) (ms ns : List Message) (a b c : List State) → length ps ≡ length ms → length b ≡ length a
+      → (before : Turned rules old mid v ps ms a b) → TurnFails rules mid new (seen rules v before.answered) qs ns b c
+      → TurnFails rules old new v (ps ++ qs) (ms ++ ns) a c
+  fails_then old mid new v ps qs ms ns a b c same kept before after =
+      let xs : List Answered = before.answered in
+      let ys : List Answered = after.answered in
+      let sizes : length ps ≡ length xs = same ∙ sym (ap length before.answers) ∙ length-map xs (λ (z : Answered). z.message) in
+      record {
+        answered = xs ++ ys;
+        failing = after.failing;
+        waiting = after.waiting;
+        split = split_then xs ms ns ys (messages after.failing ++ after.waiting) before.answers after.split;
+        between = after.between;
+        given = λ i d below.
+            let Both : List ℕ → Type 0 = λ w. GoesOnWith (get_or a i d) (get_or after.between i d) w in
+            subst Both
+            (sym (ap (λ zs. bytes_of rules v i zs (xs ++ ys)) (take_both ps qs xs ys sizes) ∙ bytes_of-append rules v i ps (take (length ys) qs) xs ys sizes))
+            (gains_then (get_or a i d) (get_or b i d) (get_or after.between i d) (bytes_of rules v i ps xs) (bytes_of rules (seen rules v xs) i (take (length ys) qs) ys)
+            (before.given i d below) (after.given i d (omega (arith, kept, below))));
+        refused = subst (λ (zs : List ℕ). AllRefuse zs after.between c) (sym (drop_both ps qs xs ys sizes)) after.refused;
+        store = failed_then rules old mid new v xs ys after.failing before.store after.store;
+      }
+
+  stops_then : (old mid new : Store D g) (v : View) (ps qs : List ℕ) (ms ns : List Message) (a b c : List State) → length ps ≡ length ms → length b ≡ length a
+      → (fault : ServeFault) → (before : Turned rules old mid v ps ms a b) → TurnStops rules mid new (seen rules v before.answered) qs ns b c fault
+      → TurnStops rules old new v (ps ++ qs) (ms ++ ns) a c fault
+  stops_then old mid new v ps qs ms ns a b c same kept Read before after = after
+  stops_then old mid new v ps qs ms ns a b c same kept Write before after = after
+  stops_then old mid new v ps qs ms ns a b c same kept Device before after = fails_then old mid new v ps qs ms ns a b c same kept before after
+  stops_then old mid new v ps qs ms ns a b c same kept Memory before after = after
+  stops_then old mid new v ps qs ms ns a b c same kept (Damaged damage) before after = after
+  stops_then old mid new v ps qs ms ns a b c same kept Failed before after = fails_then old mid new v ps qs ms ns a b c same kept before after
+
+-- The messages before the rest are answered.
+pub record TurnedBefore {D : Type 0} {g : Ghosts D} (rules : Rules) (old new : Store D g) (v : View) (places left : List ℕ) (ms rest : List Message) (before after : List State) : Type 0 where
+  pub first : List ℕ
+  pub places_split : places ≡ first ++ left
+  pub front : List Message
+  pub split : ms ≡ front ++ rest
+  pub alike : length first ≡ length front
+  pub turned : Turned rules old new v first front before after
+
+module _ {D : Type 0} {g : Ghosts D} (rules : Rules) where
+  pub before_none : (store : Store D g) (v : View) (places : List ℕ) (ms : List Message) (all : List State) → ShowsAt rules store v
+      → (g.disk.keeps (device_of store) → (c : List ℕ) → g.disk.since (device_of store) (g.disk.moment (device_of store)) c → g.disk.left (device_of store) c)
+      → TurnedBefore rules store store v places places ms ms all all
+  before_none store v places ms all shows only_now = record {
+    first = [];
+    places_split = refl;
+    front = [];
+    split = refl;
+    alike = refl;
+    turned = turned_none rules store v all shows only_now;
+  }
+
+  -- some more of them
+  pub before_more : (old mid new : Store D g) (v : View) (places left next_places more_places : List ℕ) (ms rest next more : List Message) (a b c : List State)
+      → (before : TurnedBefore rules old mid v places left ms rest a b) → left ≡ next_places ++ more_places → rest ≡ next ++ more
+      → length next_places ≡ length next → length b ≡ length a
+      → Turned rules mid new (seen rules v before.turned.answered) next_places next b c → TurnedBefore rules old new v places more_places ms more a c
+  before_more old mid new v places left next_places more_places ms rest next more a b c before places_are are alike kept after = record {
+    first = before.first ++ next_places;
+    places_split = before.places_split ∙ ap (λ (x : List ℕ). before.first ++ x) places_are ∙ sym (append_assoc before.first next_places more_places);
+    front = before.front ++ next;
+    split = before.split ∙ ap (λ (x : List Message). before.front ++ x) are ∙ sym (append_assoc before.front next more);
+    alike = length-append before.first next_places ∙ omega (arith, before.alike, alike) ∙ sym (length-append before.front next);
+    turned = turned_then rules old mid new v before.first next_places before.front next a b c before.alike kept before.turned after;
+  }
+
+  -- all of them
+  pub before_all : (old new : Store D g) (v : View) (places left : List ℕ) (ms rest : List Message) (a b : List State)
+      → TurnedBefore rules old new v places left ms rest a b → left ≡ [] → rest ≡ [] → Turned rules old new v places ms a b
+  before_all old new v places left ms rest a b before no_places none =
+      subst (λ (x : List ℕ). Turned rules old new v x ms a b)
+      (sym (before.places_split ∙ ap (λ (x : List ℕ). before.first ++ x) no_places ∙ append-nil before.first))
+      (subst (λ (x : List Message). Turned rules old new v before.first x a b)
+      (sym (before.split ∙ ap (λ (x : List Message). before.front ++ x) none ∙ append-nil before.front)) before.turned)
+
+  -- or it stops at the rest
+  pub before_stops : (old mid new : Store D g) (v : View) (places left : List ℕ) (ms rest : List Message) (a b c : List State) (fault : ServeFault)
+      → (before : TurnedBefore rules old mid v places left ms rest a b) → length b ≡ length a
+      → TurnStops rules mid new (seen rules v before.turned.answered) left rest b c fault → TurnStops rules old new v places ms a c fault
+  before_stops old mid new v places left ms rest a b c fault before kept after =
+      subst (λ (x : List ℕ). TurnStops rules old new v x ms a c fault) (sym before.places_split)
+      (subst (λ (x : List Message). TurnStops rules old new v (before.first ++ left) x a c fault) (sym before.split)
+      (stops_then rules old mid new v before.first left before.front rest a b c before.alike kept fault before.turned after))

@@ -1,0 +1,59 @@
+-- What a batch takes of sessions.
+use Rattle.std.specs.Prelude.{◌≡◌, ℕ, ◌<◌, ◌≤◌, ◌⊎◌, List, [], ◌∷◌, ◌++◌, length, ◌==◌, if◌then◌else◌, slice_index_or}
+use Rattle.httpmsg.specs.Stream.{Message}
+use Rattle.records.specs.Payload.{group_limit}
+use Rattle.sessions.specs.declared.batch.Batch.{Batch}
+use Rattle.sessions.specs.State.{State}
+
+-- its messages, in the order in which they are answered
+abbrev pub held : Batch → List Message
+held b = b.messages.items
+
+-- and beside each the place of its session
+abbrev pub places_of : Batch → List ℕ
+places_of b = b.places.items
+
+-- the messages of the session at one place, where beside each stands the place of its session
+abbrev pub messages_of : ℕ → (places : List ℕ) → List Message → List Message
+messages_of i [] ms = []
+messages_of i (p ∷ ps) [] = []
+messages_of i (p ∷ ps) (m ∷ ms) = (if p == i then m ∷ [] else []) ++ messages_of i ps ms
+
+-- all of a session stays but the messages that wait
+pub record StaysBut (old new : State) : Type 0 where
+  pub unsent : new.unsent ≡ old.unsent
+  pub progress : new.progress ≡ old.progress
+  pub phase : new.phase ≡ old.phase
+
+-- the first message that waited in the session at this place is the last of the batch
+pub record TakesOne (place : ℕ) (old new : Batch) (before after : State) : Type 0 where
+  pub message : Message
+  pub waited : before.waiting ≡ message ∷ after.waiting
+  pub held : held new ≡ held old ++ message ∷ []
+  pub places : places_of new ≡ places_of old ++ place ∷ []
+
+-- none waited
+pub record TakesNone (old new : Batch) (before after : State) : Type 0 where
+  pub waited : before.waiting ≡ []
+  pub waits : after.waiting ≡ []
+  pub held : held new ≡ held old
+  pub places : places_of new ≡ places_of old
+
+-- there was no room
+pub record StaysFull (old new : Batch) (before after : State) : Type 0 where
+  pub full : group_limit ≤ length (held old)
+  pub same : new ≡ old
+  pub session : after ≡ before
+
+abbrev pub Takes : ℕ → (old new : Batch) → (before after : State) → Type 0
+Takes place old new before after = (TakesOne place old new before after ⊎ TakesNone old new before after ⊎ StaysFull old new before after) × StaysBut before after
+
+-- the messages of the session at a place: those that were taken, and those that wait there
+abbrev pub taken_and_waiting : ℕ → Batch → State → List Message
+taken_and_waiting i b s = messages_of i (places_of b) (held b) ++ s.waiting
+
+-- Of each session they are what they were, in their order, and all else of it stays.
+abbrev pub AllKept : (old new : Batch) → (before after : List State) → Type 0
+AllKept old new before after = (i : ℕ) (d : State) → i < length before
+    → (taken_and_waiting i new (slice_index_or after i d) ≡ taken_and_waiting i old (slice_index_or before i d))
+    × StaysBut (slice_index_or before i d) (slice_index_or after i d)
