@@ -2,3 +2,5 @@ pub mod Verbs
 pub mod FileInWords
 pub mod Tellings
 pub mod Showing
+pub mod Served
+pub mod Watching

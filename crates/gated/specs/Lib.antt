@@ -1,5 +1,6 @@
 pub mod Status
 pub mod Problem
 pub mod CommandLine
+pub mod Doing
 pub mod Telling
 pub mod Progress

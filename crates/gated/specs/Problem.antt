@@ -13,6 +13,8 @@ use Rattle.durable.specs.declared.fault.Fault.TheVariants as store_fault
 use Rattle.opening.specs.declared.new_store.CreateFault as store_create
 use Rattle.opening.specs.declared.new_store.CreateFault.TheVariants as store_create_fault
 use Rattle.httpmsg.specs.Flow.{TookSome}
+use Rattle.store.specs.declared.fault.AnswerFault as answer
+use Rattle.store.specs.declared.fault.AnswerFault.TheVariants as answer_fault
 use Rattle.gated.specs.declared.problem.Problem.{Problem}
 use Rattle.gated.specs.declared.problem.Problem.TheVariants as problem
 use Rattle.gated.specs.declared.status.Status.{Status}
@@ -91,3 +93,7 @@ of_serve serve_fault.Device = problem.DeviceFailed
 of_serve serve_fault.Memory = problem.OutOfMemory
 of_serve (serve_fault.Damaged d) = problem.Damaged d
 of_serve serve_fault.Failed = problem.DeviceFailed
+
+abbrev pub of_answer : answer.AnswerFault → Problem
+of_answer (answer_fault.Opening f) = of_store f
+of_answer (answer_fault.Serving f) = of_serve f

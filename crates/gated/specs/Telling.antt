@@ -1,5 +1,6 @@
 -- What the program tells on its output of a compaction, and of a check.
 use Rattle.std.specs.Prelude.{◌≡◌, ℕ, List, ◌++◌, ◌⊎◌, true, codes, decimal}
+use Rattle.device.specs.Disk.{Disk}
 use Rattle.durable.specs.declared.compacted.Checked.{Checked}
 use Rattle.durable.specs.declared.compacted.Compacted.{Compacted}
 use Rattle.durable.specs.declared.fault.Damage.{Damage}
@@ -8,7 +9,8 @@ use Rattle.gated.specs.declared.command.Verb.TheVariants as verb
 use Rattle.gated.specs.declared.problem.Problem.TheVariants as problem
 use Rattle.gated.specs.declared.status.Status.{Status}
 use Rattle.gated.specs.declared.status.Status.TheVariants as status
-use Rattle.gated.specs.CommandLine.{is_check}
+use Rattle.gated.specs.CommandLine.{is_check, file_of}
+use Rattle.gated.specs.Doing.{MadeStore, AnsweredAll, ServedAll, WroteAnew, FoundWhole, FoundDamaged}
 use Rattle.gated.specs.Problem.{text_of}
 
 -- of a generation that was written
@@ -23,24 +25,30 @@ checked_text c = codes "ok: format 1, revision " ++ decimal c.revision ++ codes 
 abbrev pub HasLine : {O : Type 0} (took : O → O → List ℕ → Type 0) (old new : O) → List ℕ → Type 0
 HasLine took old new text = took old new (text ++ codes "\n")
 
--- What is told where a verb was done.
-abbrev pub TellsOf : {O : Type 0} (took : O → O → List ℕ → Type 0) (old new : O) → Verb → Type 0
-TellsOf took old new (verb.Create file) = Unit {0}
-TellsOf took old new (verb.Replay file) = Unit {0}
-TellsOf took old new (verb.Serve file address connections idle_seconds) = Unit {0}
-TellsOf took old new (verb.Compact file) = (c : Compacted) × HasLine took old new (compacted_text c)
-TellsOf took old new (verb.Check file) = (c : Checked) × HasLine took old new (checked_text c)
+module _ {S D O : Type 0} (disk : Disk D) (made opened closed : S → List ℕ → D → Type 0) (took : O → O → List ℕ → Type 0) (storage : S) (output_old output_new : O) (file : List ℕ)
+    (result : Status) where
+  -- Damage was found and told of, and the program ends so.
+  pub record FindsDamage : Type 0 where
+    pub damage : Damage
+    pub found : FoundDamaged disk made opened closed storage file
+    pub line : HasLine took output_old output_new (text_of (problem.Damaged damage))
+    pub status : result ≡ status.NoStore
 
--- Damage was found and told of, and the program ends so.
-pub record FindsDamage {O : Type 0} (took : O → O → List ℕ → Type 0) (old new : O) (result : Status) : Type 0 where
-  pub damage : Damage
-  pub line : HasLine took old new (text_of (problem.Damaged damage))
-  pub status : result ≡ status.NoStore
+  -- So a check ends.
+  abbrev pub EndsCheck : Type 0
+  EndsCheck = ((result ≡ status.Success) × (c : Checked) × FoundWhole disk made opened closed storage file c × HasLine took output_old output_new (checked_text c)) ⊎ FindsDamage
 
--- So a check ends.
-abbrev pub EndsCheck : {O : Type 0} (took : O → O → List ℕ → Type 0) (old new : O) → Status → Type 0
-EndsCheck took old new result = ((result ≡ status.Success) × (c : Checked) × HasLine took old new (checked_text c)) ⊎ FindsDamage took old new result
+module _ {S D I O : Type 0} (disk : Disk D) (made opened closed : S → List ℕ → D → Type 0) (gave : I → I → List ℕ → Type 0) (took : O → O → List ℕ → Type 0) (ended : I → Type 0)
+    (storage : S) (input_old input_new : I) (output_old output_new : O) where
+  -- A verb was done: this became of the store behind its file, and this is told of it.
+  abbrev pub HasDone : Verb → Type 0
+  HasDone (verb.Create file) = MadeStore disk made opened closed storage file.now × (output_new ≡ output_old)
+  HasDone (verb.Replay file) = AnsweredAll disk made opened closed storage file.now gave took (ended input_new) input_old input_new output_old output_new
+  HasDone (verb.Serve file address connections idle_seconds) = ServedAll disk made opened closed storage file.now
+  HasDone (verb.Compact file) = (c : Compacted) × WroteAnew disk made opened closed storage file.now c × HasLine took output_old output_new (compacted_text c)
+  HasDone (verb.Check file) = (c : Checked) × FoundWhole disk made opened closed storage file.now c × HasLine took output_old output_new (checked_text c)
 
--- A verb was done and is told of, or it was that of a check that finds damage.
-abbrev pub IsDone : {O : Type 0} (took : O → O → List ℕ → Type 0) (old new : O) → Verb → Status → Type 0
-IsDone took old new v result = ((result ≡ status.Success) × TellsOf took old new v) ⊎ ((is_check v ≡ true) × FindsDamage took old new result)
+  -- A verb was done, or it was that of a check that finds damage.
+  abbrev pub IsDone : Verb → Status → Type 0
+  IsDone v result =
+      ((result ≡ status.Success) × HasDone v) ⊎ ((is_check v ≡ true) × FindsDamage disk made opened closed took storage output_old output_new (file_of v) result)

@@ -1,16 +1,17 @@
 //! Connections to an address, served one after the other.
 
-ghost use Rattle.std.specs.Prelude.{IsErrOf};
+ghost use Rattle.std.specs.Prelude.{IsErrOf, OnOk};
+ghost use Rattle.objects.specs.declared.format.Rules.{Rules};
+ghost use Rattle.recovery.specs.Standing.{View};
+ghost use Rattle.api.specs.Answers.{ShowsAt};
+ghost use Rattle.gated.specs.Doing.{HasServedSome};
 
 use crate::problem::Problem;
-use api::{ServeFault, serve};
-use device::Device;
-use durable::Store;
-use httpmsg::{End, Std};
 use std::alloc::Global;
 use std::io::Read;
 use std::net::{Shutdown, TcpListener, TcpStream};
 use std::time::Duration;
+use store::{Device, End, ServeFault, Std, Store, serve};
 
 // For how many reads, of how many bytes and how long, a connection that ends is read on.
 const DRAIN_READS: u32 = 32;
@@ -22,7 +23,7 @@ const DRAIN_SECONDS: u64 = 1;
 // Reads on and forgets: a socket that is closed with bytes that nobody read resets the connection, and the peer may then lose the
 // last reply. So a refused upload is taken to its end, within bounds.
 fn drain(stream: &TcpStream) {
-    // Of a failure nothing is to be told: the connection ends in any case.
+    // The connection ends in any case, so a failure is ignored.
     let _ = stream.shutdown(Shutdown::Write);
     let _ = stream.set_read_timeout(Some(Duration::from_secs(DRAIN_SECONDS)));
     let mut reader = stream;
@@ -42,42 +43,47 @@ fn serve_one<D: Device>(
     idle: Option<Duration>,
     store: &mut Store<D>,
 ) -> Result<(), Problem>
-    ensures { IsErrOf result Problem.StreamFailed → ⊥ }
+    ensures served { (rules : Rules) (v : View) → ShowsAt rules store.old v → OnOk result (HasServedSome rules store.old store.new v) }
+    ensures no_stream { IsErrOf result Problem.StreamFailed → ⊥ }
 {
     // A socket that refuses one of these is served all the same.
     let _ = stream.set_nodelay(true);
     let _ = stream.set_read_timeout(idle);
     let _ = stream.set_write_timeout(idle);
-    let served = serve(alloc, &mut Std::new(stream), &mut Std::new(stream), store);
-    match served {
-        Ok(End::Clean) | Err(ServeFault::Read | ServeFault::Write) => Ok(()),
-        Ok(_) => {
-            drain(stream);
+    let ended = serve(alloc, &mut Std::new(stream), &mut Std::new(stream), store);
+    match ended {
+        Ok(end) => {
+            if !matches!(end, End::Clean) {
+                drain(stream);
+            }
             Ok(())
         }
-        Err(fault) => {
-            drain(stream);
-            Err(Problem::from(fault))
-        }
+        Err(fault) => match fault {
+            ServeFault::Read => Ok(()),
+            ServeFault::Write => Ok(()),
+            other => {
+                drain(stream);
+                Err(Problem::from(other))
+            }
+        },
     }
 }
 
-/// Serves so many connections, one after the other.
+/// Serves this many connections, one after the other.
 pub(crate) fn serve_connections<D: Device>(
     alloc: Global,
     listener: &TcpListener,
     connections: u16,
     idle: Option<Duration>,
     store: &mut Store<D>,
-) -> Result<(), Problem> {
+) -> Result<(), Problem>
+    ensures served { (rules : Rules) (v : View) → ShowsAt rules store.old v → OnOk result (HasServedSome rules store.old store.new v) }
+{
     for stream in listener.incoming().take(usize::from(connections)) {
-        let done = match stream {
-            Ok(stream) => serve_one(alloc, &stream, idle, store),
-            Err(_) => Err(Problem::StreamFailed),
+        let Ok(stream) = stream else {
+            return Err(Problem::StreamFailed);
         };
-        if done.is_err() {
-            return done;
-        }
+        serve_one(alloc, &stream, idle, store)?;
     }
     Ok(())
 }

@@ -7,7 +7,7 @@
 //! ```
 //!
 //! It ends with status 0 on success, 2 for a command line that it does not know, and for help; 3 where there is no store, or a
-//! damaged one; 4 where a device, the input or the output failed; 5 where memory was wanting. Faults are told on standard error.
+//! damaged one; 4 where a device, the input or the output failed; 5 where memory was refused. Faults are told on standard error.
 #![tactic(auto)]
 
 mod command;
@@ -24,9 +24,9 @@ use crate::problem::tell;
 use crate::program::program;
 use crate::status::Status;
 use crate::words::words;
-use httpmsg::Std;
 use std::io::{IsTerminal, Stderr};
 use std::process::ExitCode;
+use store::{FileStorage, Std};
 
 // Where it is shown how far a compaction is: on standard error where that is a terminal, and nowhere else.
 fn terminal(runtime: &HostRuntime) -> Option<Std<Stderr>> {
@@ -47,6 +47,7 @@ fn run(runtime: &HostRuntime) -> Status {
     };
     match words(runtime) {
         Ok(words) => program(
+            &FileStorage::new(runtime),
             runtime,
             runtime.alloc(),
             &words,

@@ -2,15 +2,13 @@
 
 ghost use Rattle.std.specs.Prelude.{◌≡◌, codes, ◌++◌, OnOk, OnErr};
 ghost use Rattle.gated.specs.Telling.{HasLine};
-ghost use Rattle.gated.specs.Problem.{text_of, line_of, TellsAll, status_of, of_file_create, of_file_open, of_store_create, of_store, of_serve};
+ghost use Rattle.gated.specs.Problem.{text_of, line_of, TellsAll, status_of, of_file_create, of_file_open, of_store_create, of_store, of_serve, of_answer};
 ghost use Rattle.httpmsg.specs.Flow.{HasCause, Writes};
 
 use crate::status::Status;
-use api::ServeFault;
 use device::{CreateFault as FileCreateFault, OpenFault};
-use durable::{Damage, Fault};
-use httpmsg::{Output, StreamFault, write_all};
-use opening::CreateFault;
+use httpmsg::{StreamFault, write_all};
+use store::{AnswerFault, CreateFault, Damage, Fault, Output, ServeFault};
 
 /// Why the program did not do what it was asked.
 #[derive(Clone, Copy)]
@@ -121,12 +119,23 @@ impl From<ServeFault> for Problem {
     }
 }
 
+impl From<AnswerFault> for Problem {
+    ghost from_gives = { λ fault problem. problem ≡ of_answer fault };
+
+    fn from(fault: AnswerFault) -> Problem {
+        match fault {
+            AnswerFault::Opening(fault) => Problem::from(fault),
+            AnswerFault::Serving(fault) => Problem::from(fault),
+        }
+    }
+}
+
 /// Tells of a problem in a line, as far as it can be told, and gives the status to end with. It takes no memory.
 pub fn tell<E: Output>(problem: Problem, errors: &mut E) -> Status
     ensures status { result ≡ status_of problem }
     ensures line { TellsAll E.took E.failures errors.old errors.new (line_of problem) }
 {
-    // Nothing can be told of a failure to tell.
+    // If standard error fails there is nowhere to report it.
     let _ = write_line(errors, problem.text());
     problem.status()
 }

@@ -2,10 +2,14 @@
 
 ghost use Rattle.std.specs.Prelude.{◌≡◌, ◌≢◌, ◌⊎◌, map, IfOk, OnOk, OnErr, IsErrOf};
 ghost use Rattle.clap.specs.Words.{kind_of};
+ghost use Rattle.objects.specs.declared.format.Rules.{Rules};
+ghost use Rattle.recovery.specs.Standing.{View};
 ghost use Rattle.durable.specs.declared.compacted.Compacted.{Compacted as CompactedData};
 ghost use Rattle.durable.specs.declared.fault.Damage.{Damage};
+ghost use Rattle.api.specs.Answers.{ShowsAt};
 ghost use Rattle.gated.specs.declared.command.Verb.{Verb as VerbData};
 ghost use Rattle.gated.specs.CommandLine.{AskFor};
+ghost use Rattle.gated.specs.Doing.{AnsweredAll, FoundDamaged, FoundWhole, HasServedSome, IsOpened, MadeStore, ServedAll, WroteAnew};
 ghost use Rattle.gated.specs.Problem.{Tells};
 ghost use Rattle.gated.specs.Telling.{HasLine, EndsCheck, IsDone, checked_text, compacted_text};
 
@@ -14,69 +18,67 @@ use crate::listening::serve_connections;
 use crate::problem::{Problem, print, tell};
 use crate::progress::{Progress, Watched};
 use crate::status::Status;
-use api::serve;
 use clap::Error;
 use clap::error::ErrorKind;
-use device::{Device, FileDevice};
-use durable::{Checked, Compacted, Store};
-use httpmsg::{Input, Output, write_all};
-use opening::{create, open};
+use httpmsg::write_all;
 use std::alloc::Global;
 use std::convert::AsStr;
-use std::fs::File;
 use std::net::{Net, SocketAddr, TcpListener, TcpStream};
-use std::rt::Files;
 use std::time::Duration;
+use store::{
+    Checked, Compacted, Device, Input, Output, Storage, Store, answer, check as check_store,
+    compact as compact_store, create, open,
+};
 
-// Makes a store in a new file. No memory is taken, so none can be wanting once there is a file.
-fn create_store<R: Files<File = File>>(files: &R, file: &str) -> Result<(), Problem>
+// Makes a store in a new file. No memory is taken, so a file that was made holds a store unless its device failed.
+fn create_store<D: Device, S: Storage<D>>(storage: &S, file: &str) -> Result<(), Problem>
+    ensures made { OnOk result (MadeStore D.disk S.made S.opened S.closed storage.now file.now) }
     ensures no_such_store { IsErrOf result Problem.NoStore → ⊥ }
     ensures no_stream { IsErrOf result Problem.StreamFailed → ⊥ }
     ensures no_damage { (damage : Damage) → IsErrOf result (Problem.Damaged damage) → ⊥ }
 {
-    let mut device = FileDevice::create(files, file)?;
+    let mut device = storage.create(file)?;
     create(&mut device)?;
+    storage.close(file, device);
     Ok(())
 }
 
-// The store on a device.
-fn store_on<D: Device>(alloc: Global, device: D) -> Result<Store<D>, Problem>
+// The store in a file.
+fn open_store<D: Device, S: Storage<D>>(
+    storage: &S,
+    alloc: Global,
+    file: &str,
+) -> Result<Store<D>, Problem>
+    ensures opened { IfOk result (λ store. IsOpened S.opened storage.now file.now store) }
     ensures no_file_made { IsErrOf result Problem.FileExists → ⊥ }
     ensures no_stream { IsErrOf result Problem.StreamFailed → ⊥ }
 {
+    let device = storage.open(file)?;
     match open(alloc, device) {
         Ok(store) => Ok(store),
         Err((fault, _)) => Err(Problem::from(fault)),
     }
 }
 
-// The store in a file.
-fn open_store<R: Files<File = File>>(
-    files: &R,
-    alloc: Global,
-    file: &str,
-) -> Result<Store<FileDevice>, Problem>
-    ensures no_file_made { IsErrOf result Problem.FileExists → ⊥ }
-    ensures no_stream { IsErrOf result Problem.StreamFailed → ⊥ }
-{
-    store_on(alloc, FileDevice::open(files, file)?)
-}
-
 // Answers the requests of an input against the store in a file.
-fn replay<R: Files<File = File>, I: Input, O: Output>(
-    files: &R,
+fn replay<D: Device, S: Storage<D>, I: Input, O: Output>(
+    storage: &S,
     alloc: Global,
     file: &str,
     input: &mut I,
     output: &mut O,
 ) -> Result<(), Problem>
+    ensures answered { OnOk result (AnsweredAll D.disk S.made S.opened S.closed storage.now file.now I.gave O.took (I.has_ended input.new) input.old input.new output.old output.new) }
     ensures no_file_made { IsErrOf result Problem.FileExists → ⊥ }
 {
-    let mut store = open_store(files, alloc, file)?;
-    let served = serve(alloc, input, output, &mut store);
-    drop(store);
-    served?;
-    Ok(())
+    let device = storage.open(file)?;
+    match answer(alloc, device, input, output) {
+        Ok(device) => {
+            storage.close(file, device);
+            Ok(())
+        }
+        Err((fault, _)) => Err(Problem::from(fault)),
+    }
 }
 
 // Listens on an address, which is an IP address and a port.
@@ -90,16 +92,18 @@ fn listen<R: Net<Stream = TcpStream, Listener = TcpListener>>(
     }
 }
 
-// Listens, says so, and serves so many connections against a store.
-fn serve_store<R: Net<Stream = TcpStream, Listener = TcpListener>, O: Output>(
+// Listens, says so, and serves this many connections against a store.
+fn serve_store<D: Device, R: Net<Stream = TcpStream, Listener = TcpListener>, O: Output>(
     net: &R,
     alloc: Global,
     address: &str,
     connections: u16,
     idle_seconds: u32,
-    store: &mut Store<FileDevice>,
+    store: &mut Store<D>,
     output: &mut O,
-) -> Result<(), Problem> {
+) -> Result<(), Problem>
+    ensures served { (rules : Rules) (v : View) → ShowsAt rules store.old v → OnOk result (HasServedSome rules store.old store.new v) }
+{
     let listener = listen(net, address)?;
     if write_all(output, b"ready\n").is_err() {
         return Err(Problem::StreamFailed);
@@ -112,18 +116,26 @@ fn serve_store<R: Net<Stream = TcpStream, Listener = TcpListener>, O: Output>(
 }
 
 // The same against the store in a file.
-fn serve_file<R: Files<File = File> + Net<Stream = TcpStream, Listener = TcpListener>, O: Output>(
-    runtime: &R,
+fn serve_file<
+    D: Device,
+    S: Storage<D>,
+    R: Net<Stream = TcpStream, Listener = TcpListener>,
+    O: Output,
+>(
+    storage: &S,
+    net: &R,
     alloc: Global,
     file: &str,
     address: &str,
     connections: u16,
     idle_seconds: u32,
     output: &mut O,
-) -> Result<(), Problem> {
-    let mut store = open_store(runtime, alloc, file)?;
+) -> Result<(), Problem>
+    ensures served { OnOk result (ServedAll D.disk S.made S.opened S.closed storage.now file.now) }
+{
+    let mut store = open_store(storage, alloc, file)?;
     let served = serve_store(
-        runtime,
+        net,
         alloc,
         address,
         connections,
@@ -131,7 +143,7 @@ fn serve_file<R: Files<File = File> + Net<Stream = TcpStream, Listener = TcpList
         &mut store,
         output,
     );
-    drop(store);
+    storage.close(file, store.into_device());
     served
 }
 
@@ -156,46 +168,61 @@ fn print_compacted<O: Output>(
 }
 
 // Writes what the store in a file shows as its next generation. When it ends, so does the line of its progress.
-fn write_anew<R: Files<File = File>, P: Output + Drop>(
-    files: &R,
+fn write_anew<D: Device, S: Storage<D>, P: Output + Drop>(
+    storage: &S,
     alloc: Global,
     file: &str,
     progress: Option<P>,
 ) -> Result<Compacted, Problem>
+    ensures written { IfOk result (λ c. WroteAnew D.disk S.made S.opened S.closed storage.now file.now c) }
     ensures no_file_made { IsErrOf result Problem.FileExists → ⊥ }
     ensures no_stream { IsErrOf result Problem.StreamFailed → ⊥ }
 {
-    let device = FileDevice::open(files, file)?;
-    let mut store = store_on(alloc, Watched::new(device, Progress::new(alloc, progress)))?;
-    let written = store.compact(alloc);
-    drop(store);
-    Ok(written?)
+    let device = storage.open(file)?;
+    let watched = Watched::new(device, Progress::new(alloc, progress));
+    match compact_store(alloc, watched) {
+        Ok((compacted, watched)) => {
+            storage.close(file, watched.into_device());
+            Ok(compacted)
+        }
+        Err((fault, _)) => Err(Problem::from(fault)),
+    }
 }
 
 // Writes what the store in a file shows as its next generation, and tells of it on the output.
-fn compact<R: Files<File = File>, O: Output, P: Output + Drop>(
-    files: &R,
+fn compact<D: Device, S: Storage<D>, O: Output, P: Output + Drop>(
+    storage: &S,
     alloc: Global,
     file: &str,
     output: &mut O,
     progress: Option<P>,
 ) -> Result<(), Problem>
-    ensures line { OnOk result ((c : CompactedData) × HasLine O.took output.old output.new (compacted_text c)) }
+    ensures done { OnOk result ((c : CompactedData) × WroteAnew D.disk S.made S.opened S.closed storage.now file.now c × HasLine O.took output.old output.new (compacted_text c)) }
     ensures no_file_made { IsErrOf result Problem.FileExists → ⊥ }
 {
-    let compacted = write_anew(files, alloc, file, progress)?;
+    let compacted = write_anew(storage, alloc, file, progress)?;
     print_compacted(alloc, &compacted, output)
 }
 
 // What is found of the store in a file.
-fn look<R: Files<File = File>>(files: &R, alloc: Global, file: &str) -> Result<Checked, Problem>
+fn look<D: Device, S: Storage<D>>(
+    storage: &S,
+    alloc: Global,
+    file: &str,
+) -> Result<Checked, Problem>
+    ensures whole { IfOk result (λ c. FoundWhole D.disk S.made S.opened S.closed storage.now file.now c) }
+    ensures damaged { (damage : Damage) → IsErrOf result (Problem.Damaged damage) → FoundDamaged D.disk S.made S.opened S.closed storage.now file.now }
     ensures no_file_made { IsErrOf result Problem.FileExists → ⊥ }
     ensures no_stream { IsErrOf result Problem.StreamFailed → ⊥ }
 {
-    let mut store = open_store(files, alloc, file)?;
-    let checked = store.check(alloc);
-    drop(store);
-    Ok(checked?)
+    let device = storage.open(file)?;
+    match check_store(alloc, device) {
+        Ok((checked, device)) => {
+            storage.close(file, device);
+            Ok(checked)
+        }
+        Err((fault, _)) => Err(Problem::from(fault)),
+    }
 }
 
 // Tells of a store that is whole.
@@ -217,17 +244,17 @@ fn print_checked<O: Output>(alloc: Global, checked: &Checked, output: &mut O) ->
 }
 
 // Tells on the output whether the store in a file is whole, or what of it is damaged, and says how the program ends.
-fn check<R: Files<File = File>, O: Output>(
-    files: &R,
+fn check<D: Device, S: Storage<D>, O: Output>(
+    storage: &S,
     alloc: Global,
     file: &str,
     output: &mut O,
 ) -> Result<Status, Problem>
-    ensures ends { IfOk result (λ status. EndsCheck O.took output.old output.new status) }
+    ensures ends { IfOk result (λ status. EndsCheck D.disk S.made S.opened S.closed O.took storage.now output.old output.new file.now status) }
     ensures no_file_made { IsErrOf result Problem.FileExists → ⊥ }
     ensures no_damage { (damage : Damage) → IsErrOf result (Problem.Damaged damage) → ⊥ }
 {
-    match look(files, alloc, file) {
+    match look(storage, alloc, file) {
         Ok(checked) => {
             print_checked(alloc, &checked, output)?;
             Ok(Status::Success)
@@ -242,30 +269,34 @@ fn check<R: Files<File = File>, O: Output>(
 
 // Does what a verb asks for, and says how the program ends.
 fn done<
-    R: Files<File = File> + Net<Stream = TcpStream, Listener = TcpListener>,
+    D: Device,
+    S: Storage<D>,
+    R: Net<Stream = TcpStream, Listener = TcpListener>,
     I: Input,
     O: Output,
     P: Output + Drop,
 >(
-    runtime: &R,
+    storage: &S,
+    net: &R,
     alloc: Global,
     verb: Verb<'_>,
     input: &mut I,
     output: &mut O,
     progress: Option<P>,
 ) -> Result<Status, Problem>
-    ensures { IfOk result (λ status. IsDone O.took output.old output.new verb.entry status) }
+    ensures { IfOk result (λ status. IsDone D.disk S.made S.opened S.closed I.gave O.took I.has_ended storage.now input.old input.new output.old output.new verb.entry status) }
 {
     match verb {
-        Verb::Create { file } => create_store(runtime, file)?,
-        Verb::Replay { file } => replay(runtime, alloc, file, input, output)?,
+        Verb::Create { file } => create_store(storage, file)?,
+        Verb::Replay { file } => replay(storage, alloc, file, input, output)?,
         Verb::Serve {
             file,
             address,
             connections,
             idle_seconds,
         } => serve_file(
-            runtime,
+            storage,
+            net,
             alloc,
             file,
             address,
@@ -273,8 +304,8 @@ fn done<
             idle_seconds,
             output,
         )?,
-        Verb::Compact { file } => compact(runtime, alloc, file, output, progress)?,
-        Verb::Check { file } => return check(runtime, alloc, file, output),
+        Verb::Compact { file } => compact(storage, alloc, file, output, progress)?,
+        Verb::Check { file } => return check(storage, alloc, file, output),
     }
     Ok(Status::Success)
 }
@@ -290,7 +321,7 @@ fn refuse<E: Output>(alloc: Global, error: &Error, errors: &mut E) -> Status
     }
     match format!(in alloc; "{error}") {
         Ok(text) => {
-            // Nothing can be told of a failure to tell.
+            // If standard error fails there is nowhere to report it.
             let _ = write_all(errors, text.as_bytes());
             Status::Usage
         }
@@ -301,27 +332,32 @@ fn refuse<E: Output>(alloc: Global, error: &Error, errors: &mut E) -> Status
 /// Does what the words ask for, of which the first is the program's name, and says how the program ends. Nothing is told on `errors` where
 /// that was done, and where a check finds damage, which it tells on `output`; each other end is told on `errors`. A compaction shows on
 /// `progress`, if there is one, how far it is.
+///
+/// What was done is said of the device that the storage has under the file's name: what became of its history, and which bytes were read and written.
 pub fn program<
-    R: Files<File = File> + Net<Stream = TcpStream, Listener = TcpListener>,
-    S: AsStr,
+    D: Device,
+    S: Storage<D>,
+    R: Net<Stream = TcpStream, Listener = TcpListener>,
+    W: AsStr,
     I: Input,
     O: Output,
     E: Output,
     P: Output + Drop,
 >(
-    runtime: &R,
+    storage: &S,
+    net: &R,
     alloc: Global,
-    words: &[S],
+    words: &[W],
     input: &mut I,
     output: &mut O,
     errors: &mut E,
     progress: Option<P>,
 ) -> Status
-    ensures { ((errors.new ≡ errors.old) × (verb : VerbData) × AskFor (map S.text words.now) verb × IsDone O.took output.old output.new verb result)
+    ensures { ((errors.new ≡ errors.old) × (verb : VerbData) × AskFor (map W.text words.now) verb × IsDone D.disk S.made S.opened S.closed I.gave O.took I.has_ended storage.now input.old input.new output.old output.new verb result)
         ⊎ ((result ≢ Status.Success) × Tells E.took E.failures errors.old errors.new result) }
 {
     match command(alloc, words) {
-        Ok(verb) => match done(runtime, alloc, verb, input, output, progress) {
+        Ok(verb) => match done(storage, net, alloc, verb, input, output, progress) {
             Ok(status) => status,
             Err(problem) => tell(problem, errors),
         },

@@ -7,7 +7,7 @@ use device::{Device, DeviceFault};
 use httpmsg::{Output, write_all};
 use std::alloc::Global;
 
-// So many bytes are moved until the counts are shown anew.
+// How many bytes are moved until the counts are shown again.
 const STEP_BYTES: u64 = 1 << 22;
 
 const MEGABYTE: u64 = 1_000_000;
@@ -134,6 +134,15 @@ impl<D: Device, P: Output + Drop> Watched<D, P> {
         ensures { result ≡ record { device = device; progress = progress } }
     {
         Watched { device, progress }
+    }
+
+    /// The device inside. The line of the progress ends.
+    pub fn into_device(self) -> D
+        ensures { result ≡ self.device }
+    {
+        let Watched { device, progress } = self;
+        drop(progress);
+        device
     }
 }
 

@@ -5,21 +5,16 @@
 //! fails, which is told on standard error.
 #![tactic(auto)]
 
-mod answer;
-mod problem;
-
-use crate::answer::answer;
-use device::FileDevice;
-use httpmsg::{Std, write_all};
-use opening::create;
+use httpmsg::write_all;
 use std::fmt::Display;
 use std::process::ExitCode;
+use store::{FileStorage, Std, Storage, answer, create};
 
 const STORE: &str = "store.db";
 
 // Tells why the program ends here.
 fn failed<E: Display + Drop>(runtime: &HostRuntime, fault: E) -> ExitCode {
-    // Nothing can be told of a failure to tell, nor without memory.
+    // If standard error fails or memory is refused there is nowhere to report it.
     if let Ok(line) = format!(in runtime.alloc(); "quickstart: {fault}\n") {
         let _ = write_all(&mut Std::new(runtime.stderr()), line.as_bytes());
     }
@@ -27,7 +22,7 @@ fn failed<E: Display + Drop>(runtime: &HostRuntime, fault: E) -> ExitCode {
 }
 
 fn main(rt: HostRuntime) -> ExitCode {
-    let mut device = match FileDevice::create(&rt, STORE) {
+    let mut device = match FileStorage::new(&rt).create(STORE) {
         Ok(device) => device,
         Err(fault) => return failed(&rt, fault),
     };
@@ -38,6 +33,6 @@ fn main(rt: HostRuntime) -> ExitCode {
     let mut replies = Std::new(rt.stdout());
     match answer(rt.alloc(), device, &mut requests, &mut replies) {
         Ok(_) => ExitCode::from(0),
-        Err((problem, _)) => failed(&rt, problem),
+        Err((fault, _)) => failed(&rt, fault),
     }
 }

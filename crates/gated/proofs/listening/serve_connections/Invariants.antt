@@ -1,0 +1,8 @@
+use Rattle.objects.specs.declared.format.Rules.{Rules}
+use Rattle.recovery.specs.Standing.{View}
+use Rattle.api.specs.Answers.{ShowsAt}
+use Rattle.gated.specs.Doing.{HasServedSome}
+use Rattle.gated.proofs.listening.serve_connections.Given as goal
+
+abbrev pub invariant-loop-stream : goal.invariant-loop-stream
+invariant-loop-stream g l = (rules : Rules) (v : View) → ShowsAt rules l.fn.store v → HasServedSome rules l.fn.store l.store v

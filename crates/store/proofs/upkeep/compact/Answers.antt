@@ -1,0 +1,42 @@
+use Rattle.std.proofs.Common.{◌∙◌, ◌+◌, sym, subst, ap, Err, true≢false, ⊎_elim}
+use Rattle.roots.specs.declared.root.Root.{Root}
+use Rattle.store.specs.Upkeep.{IsWrittenAnew}
+use Rattle.store.proofs.Keeping.{kept_settled, kept_failed, same_root}
+use Rattle.store.proofs.upkeep.compact.Goals as goal
+
+pub returns-in-Err-clause-undamaged : goal.returns-in-Err-clause-undamaged
+returns-in-Err-clause-undamaged g c rules h holds damage is =
+    ⊎_elim (λ device. cc) (λ memory. cc) (c.in-Err.ensures.refusal rules h holds.keeps holds.read)
+
+pub returns-in-Ok-compact-clause-ok : goal.returns-in-Ok-compact-clause-ok
+returns-in-Ok-compact-clause-ok g c rules h holds =
+    let settled = c.in-Ok.ensures.settled rules h holds.keeps holds.read in
+    kept_settled rules c.args.device c.in-Ok.store c.compact.new.self h holds (c.in-Ok.ensures.any_moment holds.keeps) (c.compact.ensures.any_moment rules h settled)
+    (c.in-Ok-compact.ensures.settled rules h settled) c.into_device.result c.into_device.ensures
+
+pub returns-in-Ok-compact-clause-written : goal.returns-in-Ok-compact-clause-written
+returns-in-Ok-compact-clause-written g c rules h holds =
+    let settled = c.in-Ok.ensures.settled rules h holds.keeps holds.read in
+    let Told : g.row.D.Denot → Type 0 = λ d. IsWrittenAnew (g.D.Device.disk.content d) holds.read.root c.in-Ok-compact.compacted in
+    let same = same_root (g.D.Device.disk.content c.args.device) (g.D.Device.disk.content c.in-Ok.store.device) holds.read.root settled.read.root (c.in-Ok.ensures.content holds.keeps)
+    holds.read.counts settled.read.counts
+    in
+    subst Told (sym c.into_device.ensures) (record {
+      root = _;
+      counts = (c.in-Ok-compact.ensures.counts rules h settled).0;
+      next = c.in-Ok-compact.ensures.counted rules h settled ∙ ap (λ (r : Root). r.generation + 1) same;
+      told = c.in-Ok-compact.ensures.told;
+    })
+
+pub returns-in-Err-compact-clause-failed : goal.returns-in-Err-compact-clause-failed
+returns-in-Err-compact-clause-failed g c rules h holds =
+    let settled = c.in-Ok.ensures.settled rules h holds.keeps holds.read in
+    kept_failed rules c.args.device c.in-Ok.store c.compact.new.self h holds (c.in-Ok.ensures.any_moment holds.keeps) c.compact.result (c.compact.ensures.any_moment rules h settled)
+    (c.compact.ensures.device rules h settled) (λ is. (c.compact.ensures.memory rules h settled is).0) (λ damage is. c.compact.ensures.damaged damage is rules h settled)
+    (λ is. true≢false (sym c.in-Ok.ensures.serves ∙ c.compact.ensures.failed_only is)) c.in-Err-compact.fault c.in-Err-compact.is c.into_device-in-Err-compact.result
+    c.into_device-in-Err-compact.ensures
+
+pub returns-in-Err-compact-clause-undamaged : goal.returns-in-Err-compact-clause-undamaged
+returns-in-Err-compact-clause-undamaged g c rules h holds damage is =
+    let settled = c.in-Ok.ensures.settled rules h holds.keeps holds.read in
+    c.compact.ensures.damaged damage (c.in-Err-compact.is ∙ ap Err is) rules h settled

@@ -1,0 +1,31 @@
+-- A device whose store is kept: its history stays, at every moment, and what is told of it is so.
+use Rattle.std.specs.Prelude.{◌≡◌, ◌+◌, ℕ, List, length}
+use Rattle.device.specs.Disk.{Disk, LeavesOnly}
+use Rattle.objects.specs.declared.format.Rules.{Rules}
+use Rattle.requests.specs.View.{view}
+use Rattle.roots.specs.declared.root.Root.{Root}
+use Rattle.roots.specs.Root.{HoldsRoot}
+use Rattle.recovery.specs.Standing.{History}
+use Rattle.durable.specs.declared.compacted.Checked.{Checked}
+use Rattle.durable.specs.declared.compacted.Compacted.{Compacted}
+use Rattle.durable.specs.Compacted.{IsToldOf}
+use Rattle.durable.specs.Ready.{HoldsHistory}
+use Rattle.durable.specs.Stands.{StandsFor}
+
+-- A reader of the device finds the history, after a crash and without one, and so did a reader after a crash at each moment since old.
+pub record KeepsHistory {D : Type 0} (rules : Rules) (disk : Disk D) (old new : D) (h : History) : Type 0 where
+  pub holds : HoldsHistory rules disk new h
+  pub any_moment : LeavesOnly disk old new (λ c. StandsFor rules c h)
+
+-- The root that counts is of the generation after that of another one, and this is told of it.
+pub record IsWrittenAnew (content : List ℕ) (before : Root) (c : Compacted) : Type 0 where
+  pub root : Root
+  pub counts : HoldsRoot content root
+  pub next : root.generation ≡ before.generation + 1
+  pub told : IsToldOf root c
+
+-- This is told of a store that shows the view of the history, in the generation of a root.
+pub record IsToldOfHistory (rules : Rules) (h : History) (root : Root) (c : Checked) : Type 0 where
+  pub revision : c.revision ≡ (view rules h).revision
+  pub objects : c.objects ≡ length (view rules h).objects
+  pub generation : c.generation ≡ root.generation

@@ -1,0 +1,67 @@
+//! What is done with a whole store: it is written anew, and it is checked.
+
+ghost use Rattle.std.specs.Prelude.{◌≡◌, ◌≢◌, IfOk, IfErr};
+ghost use Rattle.device.specs.Disk.{HasFailed};
+ghost use Rattle.objects.specs.declared.format.Rules.{Rules};
+ghost use Rattle.recovery.specs.Standing.{History};
+ghost use Rattle.durable.specs.declared.fault.Damage.{Damage as DamageData};
+ghost use Rattle.durable.specs.declared.fault.Fault.TheVariants as FaultData;
+ghost use Rattle.durable.specs.Ready.{HoldsHistory};
+ghost use Rattle.store.specs.Upkeep.{KeepsHistory, IsWrittenAnew, IsToldOfHistory};
+
+use device::Device;
+use durable::{Checked, Compacted, Fault};
+use opening::open;
+use std::alloc::Global;
+
+/// Opens the store on a device, writes what it shows as the next generation, with an empty log, and gives the device back.
+///
+/// # Errors
+///
+/// `Device` only where the device failed in this call; `Memory`; `Exhausted` where there is no next generation; `Damaged`, of no device that holds a history. A
+/// device that holds a history holds it afterwards, whatever is answered.
+pub fn compact<D: Device>(alloc: Global, device: D) -> Result<(Compacted, D), (Fault, D)>
+    ensures ok { (rules : Rules) (h : History) → HoldsHistory rules D.disk device h → IfOk result (λ done. KeepsHistory rules D.disk device done.1 h) }
+    ensures written { (rules : Rules) (h : History) (holds : HoldsHistory rules D.disk device h)
+        → IfOk result (λ done. IsWrittenAnew (D.disk.content done.1) holds.read.root done.0) }
+    ensures failed { (rules : Rules) (h : History) → HoldsHistory rules D.disk device h → IfErr result (λ e. KeepsHistory rules D.disk device e.1 h) }
+    ensures undamaged { (rules : Rules) (h : History) → HoldsHistory rules D.disk device h
+        → IfErr result (λ e. (damage : DamageData) → e.0 ≢ FaultData.Damaged damage) }
+    ensures never_failed { IfErr result (λ e. e.0 ≢ FaultData.Failed) }
+    ensures cause { IfErr result (λ e. e.0 ≡ FaultData.Device → HasFailed D.disk device e.1) }
+{
+    let mut store = match open(alloc, device) {
+        Ok(store) => store,
+        Err((fault, device)) => return Err((fault, device)),
+    };
+    match store.compact(alloc) {
+        Ok(compacted) => Ok((compacted, store.into_device())),
+        Err(fault) => Err((fault, store.into_device())),
+    }
+}
+
+/// Opens the store on a device, reads all of it, compares each policy's plans with those of its expressions, and gives the device back. Nothing is written.
+///
+/// # Errors
+///
+/// `Device` only where the device failed in this call; `Memory`; `Damaged`, of no device that holds a history. A device that holds a history holds it
+/// afterwards, whatever is answered.
+pub fn check<D: Device>(alloc: Global, device: D) -> Result<(Checked, D), (Fault, D)>
+    ensures ok { (rules : Rules) (h : History) → HoldsHistory rules D.disk device h → IfOk result (λ done. KeepsHistory rules D.disk device done.1 h) }
+    ensures told { (rules : Rules) (h : History) (holds : HoldsHistory rules D.disk device h)
+        → IfOk result (λ done. IsToldOfHistory rules h holds.read.root done.0) }
+    ensures failed { (rules : Rules) (h : History) → HoldsHistory rules D.disk device h → IfErr result (λ e. KeepsHistory rules D.disk device e.1 h) }
+    ensures undamaged { (rules : Rules) (h : History) → HoldsHistory rules D.disk device h
+        → IfErr result (λ e. (damage : DamageData) → e.0 ≢ FaultData.Damaged damage) }
+    ensures never_failed { IfErr result (λ e. e.0 ≢ FaultData.Failed) }
+    ensures cause { IfErr result (λ e. e.0 ≡ FaultData.Device → HasFailed D.disk device e.1) }
+{
+    let mut store = match open(alloc, device) {
+        Ok(store) => store,
+        Err((fault, device)) => return Err((fault, device)),
+    };
+    match store.check(alloc) {
+        Ok(checked) => Ok((checked, store.into_device())),
+        Err(fault) => Err((fault, store.into_device())),
+    }
+}
