@@ -23,19 +23,25 @@ use httpmsg::{Input, Output, write_all};
 use opening::{create, open};
 use std::alloc::Global;
 use std::convert::AsStr;
-use std::fs::File;
+use std::fs::{File, remove_file};
 use std::net::{Net, SocketAddr, TcpListener, TcpStream};
 use std::rt::Files;
 use std::time::Duration;
 
-// Makes a store in a new file. No memory is taken, so none can be wanting once there is a file.
+// Makes a store in a new file. It allocates nothing, so it cannot run out of memory once there is a file. Where the store cannot be written, as on a full
+// disk, the file is removed.
 fn create_store<R: Files<File = File>>(files: &R, file: &str) -> Result<(), Problem>
     ensures no_such_store { IsErrOf result Problem.NoStore → ⊥ }
     ensures no_stream { IsErrOf result Problem.StreamFailed → ⊥ }
     ensures no_damage { (damage : Damage) → IsErrOf result (Problem.Damaged damage) → ⊥ }
 {
     let mut device = FileDevice::create(files, file)?;
-    create(&mut device)?;
+    let made = create(&mut device);
+    if made.is_err() {
+        // The file was made just now and is still locked. One that cannot be removed stays, and is no store.
+        let _ = remove_file(files, file);
+    }
+    made?;
     Ok(())
 }
 
