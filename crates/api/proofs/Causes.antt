@@ -154,7 +154,7 @@ causes_later o p q d e f s t u fault output device same causes = record {
 pub causes_retyped : {T S : Type 0} (o p d e : ℕ) (s t : Bool) (fault : ServeFault) → HasCauses {T = T} o p d e s t (Err fault) → HasCauses {T = S} o p d e s t (Err fault)
 causes_retyped o p d e s t fault causes = causes_later o o p d d e s s t fault (omega arith) (omega arith) refl causes
 
--- where the output alone may have failed, or memory was wanting
+-- where the output alone may have failed, or out of memory
 pub causes_output : {T : Type 0} (o p d : ℕ) (s : Bool) (r : Result T ServeFault) → o ≤ p → (IsErrOf r Write → HasGrown o p) → IfErr r (λ stop. (stop ≡ Memory) ⊎ (stop ≡ Write))
     → HasCauses o p d d s s r
 causes_output o p d s (Ok value) output cause only = causes_none o p d d s s value output (omega arith) refl
@@ -220,7 +220,7 @@ all_of {T} {S} i o p d e s t fault causes =
       goes_on = tt;
     }
 
--- where the end is told, or memory was wanting for more
+-- where the end is told, or out of memory for more
 pub all_end : {T : Type 0} (i j o p d e : ℕ) (s t : Bool) (r : Result T ServeFault) → i ≤ j → o ≤ p → d ≤ e → t ≡ s → (IsErrOf r Write → HasGrown o p)
     → IfErr r (λ stop. (stop ≡ Memory) ⊎ (stop ≡ Write)) → HasAllCauses i j o p d e s t r
 all_end i j o p d e s t (Ok value) input output device same cause only = all_none i j o p d e s t value input output device same

@@ -51,7 +51,7 @@ fn replies_to<D: Device>(
     }
 }
 
-// How many messages are answered with so many replies: where there are more messages, memory was refused to the next one.
+// How many messages are answered with this many replies: where there are more messages, memory was refused to the next one.
 fn answered_count(replies: usize, messages: usize) -> usize
     requires { 1 ≤ messages }
     ensures some { 1 ≤ result }

@@ -153,10 +153,10 @@ fn told_by(messages: &[Message], cutter: &Cutter) -> Told
     }
 }
 
-/// What is done after a piece.
+/// Next action of the connection loop.
 #[derive(Clone, Copy)]
 pub(crate) enum Step {
-    /// So many bytes of the buffer are the next piece.
+    /// This many bytes of the buffer are the next piece.
     Feed(usize),
     /// The input has ended.
     Finish,
@@ -164,7 +164,7 @@ pub(crate) enum Step {
     End(End),
 }
 
-/// Feeds so many bytes of the buffer, answers what they tell, and reads on where they told no message.
+/// Feeds this many bytes of the buffer, answers what they tell, and reads on where they told no message.
 pub(crate) fn next_step<I: Input, O: Output, D: Device>(
     alloc: Global,
     connection: &mut Connection,

@@ -11,7 +11,7 @@ use httpmsg::{BrokenMessage, End, FIELD_ROOM, HEAD_LIMIT, Message, MessageFault,
 use std::alloc::{AllocError, Global};
 use std::marker::Model;
 
-// Moves what follows so many bytes to the front.
+// Moves what follows this many bytes to the front.
 fn remove_front(bytes: &mut Vec<u8>, count: usize)
     requires { count ≤ vec_len bytes.old }
     ensures { bytes.new.items ≡ drop count bytes.old.items }
@@ -27,14 +27,14 @@ fn remove_front(bytes: &mut Vec<u8>, count: usize)
 /// What must come before more can be told of the bytes that are pending.
 #[derive(Clone, Copy)]
 pub(crate) enum Awaited {
-    /// So many bytes in all.
+    /// This many bytes in all.
     Bytes(usize),
     /// The next byte of the head that they begin, which is read up to here.
     Head(Place),
 }
 
 impl Awaited {
-    // What is awaited after these bytes, of which so many must be there.
+    // What is awaited after these bytes, of which this many must be there.
     fn next(bytes: &[u8], need: usize) -> Awaited
         ensures { Awaits bytes.now need → IsAwaited bytes.now result }
     {
@@ -47,7 +47,7 @@ impl Awaited {
         }
     }
 
-    // What is awaited once these bytes have come, so many with those before them, where they tell nothing.
+    // What is awaited once these bytes have come, this many with those before them, where they tell nothing.
     fn after(self, bytes: &[u8], len: usize) -> Option<Awaited>
         ensures { IfSome result (λ awaited. (pending : List ℕ) → length (pending ++ bytes.now) ≡ len → IsAwaited pending self
             → IsAwaited (pending ++ bytes.now) awaited) }

@@ -1,4 +1,4 @@
-//! Where objects are looked up.
+//! The lookup of objects before a write.
 
 ghost use Rattle.std.specs.Prelude.{◌≡◌, ◌≤◌, ℕ, List, map, option_map, Some, None, IfOk, IsErrOf, IsTrue};
 ghost use Rattle.std.specs.FinMap.{is_sorted};
@@ -47,8 +47,8 @@ pub struct Listed<'a> {
 
 /// Where objects are looked up, before a write.
 ///
-/// Policies and bindings are lent, for `'a`, and parameters are made, as they are shown. A look may read a device, and change what
-/// the lookup is made on: what it shows stays, and `goes_to` says what else its maker may know of it afterwards.
+/// Policies and bindings are lent, for `'a`, and parameters are made, as they are shown. A lookup may read a device and change
+/// its own state. What it shows stays the same. `goes_to` says what is known of its state afterwards.
 pub trait Lookup<'a> {
     /// It shows these objects. Nothing has to be known of their trees.
     ghost shows: { Self → Objects → Type 0 };
@@ -66,7 +66,7 @@ pub trait Lookup<'a> {
     ///
     /// # Errors
     ///
-    /// `Memory` where no memory is left, `Device` where the device failed, `Damaged` where what lies below is damaged, so that it shows nothing.
+    /// `Memory` when out of memory, `Device` where the device failed, `Damaged` where what lies below is damaged, so that it shows nothing.
     fn policy(&mut self, alloc: Global, key: &Key) -> Result<Option<Found<'a>>, LookupFault>
         requires { key.now.resource ≡ ValidatingAdmissionPolicy }
         ensures found { (objects : Objects) → shows self.old objects → IfOk result (λ o. option_map held_by o ≡ value_at key.now (all_held objects)) }

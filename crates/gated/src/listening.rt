@@ -62,7 +62,7 @@ fn serve_one<D: Device>(
     }
 }
 
-/// Serves so many connections, one after the other.
+/// Serves this many connections, one after the other.
 pub(crate) fn serve_connections<D: Device>(
     alloc: Global,
     listener: &TcpListener,

@@ -1,4 +1,4 @@
-//! What keeps the program from doing what it was asked.
+//! Problems of the program, their lines and their statuses.
 
 ghost use Rattle.std.specs.Prelude.{◌≡◌, codes, ◌++◌, OnOk, OnErr};
 ghost use Rattle.gated.specs.Telling.{HasLine};
@@ -126,7 +126,7 @@ pub fn tell<E: Output>(problem: Problem, errors: &mut E) -> Status
     ensures status { result ≡ status_of problem }
     ensures line { TellsAll E.took E.failures errors.old errors.new (line_of problem) }
 {
-    // Nothing can be told of a failure to tell.
+    // If standard error fails there is nowhere to report it.
     let _ = write_line(errors, problem.text());
     problem.status()
 }

@@ -1,4 +1,4 @@
-//! What the program does.
+//! The commands of the program.
 
 ghost use Rattle.std.specs.Prelude.{◌≡◌, ◌≢◌, ◌⊎◌, map, IfOk, OnOk, OnErr, IsErrOf};
 ghost use Rattle.clap.specs.Words.{kind_of};
@@ -96,7 +96,7 @@ fn listen<R: Net<Stream = TcpStream, Listener = TcpListener>>(
     }
 }
 
-// Listens, says so, and serves so many connections against a store.
+// Listens, says so, and serves this many connections against a store.
 fn serve_store<R: Net<Stream = TcpStream, Listener = TcpListener>, O: Output>(
     net: &R,
     alloc: Global,
@@ -296,7 +296,7 @@ fn refuse<E: Output>(alloc: Global, error: &Error, errors: &mut E) -> Status
     }
     match format!(in alloc; "{error}") {
         Ok(text) => {
-            // Nothing can be told of a failure to tell.
+            // If standard error fails there is nowhere to report it.
             let _ = write_all(errors, text.as_bytes());
             Status::Usage
         }

@@ -1,4 +1,4 @@
-//! How far a compaction is.
+//! The progress of a compaction.
 
 ghost use Rattle.std.specs.Prelude.{◌≡◌, ◌+◌, ◌-◌, ◌^◌, ◌<◌, min, false};
 ghost use Rattle.gated.specs.Progress.{Shows, progress_text, watched_disk};
@@ -7,7 +7,7 @@ use device::{Device, DeviceFault};
 use httpmsg::{Output, write_all};
 use std::alloc::Global;
 
-// So many bytes are moved until the counts are shown anew.
+// This many bytes are moved until the counts are shown anew.
 const STEP_BYTES: u64 = 1 << 22;
 
 const MEGABYTE: u64 = 1_000_000;

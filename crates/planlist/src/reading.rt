@@ -21,7 +21,7 @@ pub enum ReadPlansFault {
     /// No well-formed plans for these places have the bytes.
     #[error("damaged plans")]
     Damaged,
-    /// No memory is left.
+    /// Out of memory.
     #[error("out of memory")]
     Memory,
 }
@@ -46,7 +46,7 @@ impl<T: Drop> From<AllocFailed<T>> for ReadPlansFault {
     }
 }
 
-// The plan of this code, for a place with so many variables.
+// The plan of this code, for a place with this many variables.
 fn read_code(alloc: Global, variables: u16, code_bytes: &[u8]) -> Result<Verified, ReadPlansFault>
     ensures found { IfOk result (λ p. (p.vars ≡ variables) × IsVerified p.vars p.ops × (code p.ops ≡ code_bytes.now)) }
     ensures damaged { IsErrOf result fault.Damaged → (p : Judged) → IsFor variables p → code p.ops ≢ code_bytes.now }
@@ -58,7 +58,7 @@ fn read_code(alloc: Global, variables: u16, code_bytes: &[u8]) -> Result<Verifie
     }
 }
 
-// The plan that bytes begin with, for a place with so many variables, and what stands after it.
+// The plan that bytes begin with, for a place with this many variables, and what stands after it.
 fn read_plan(
     alloc: Global,
     variables: u16,
