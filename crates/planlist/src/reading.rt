@@ -114,8 +114,8 @@ fn split_count(bytes: &[u8]) -> Option<(u16, &[u8])>
 ///
 /// # Errors
 ///
-/// [`ReadPlansFault::Damaged`] where no well-formed plans for these places have the bytes, and [`ReadPlansFault::Memory`] where no
-/// memory is left.
+/// [`ReadPlansFault::Damaged`] where no well-formed plans for these places have the bytes, and [`ReadPlansFault::Memory`] when out of
+/// memory.
 pub fn read_plans(
     alloc: Global,
     places: &[u16],
