@@ -1,4 +1,4 @@
-/* Sends the messages of a file over one connection, so many at a time, each batch once the replies to the one before it are there, and
+/* Sends the messages of a file over one connection, this many at a time, each batch once the replies to the one before it are there, and
    says how many were answered a second. All messages have one length. */
 #define _GNU_SOURCE
 #include <arpa/inet.h>

@@ -1,4 +1,4 @@
-/* Writes a sector and syncs, so many times: what the disk alone takes for as many acknowledged writes. A store's write takes two such
+/* Writes a sector and syncs, this many times: what the disk alone takes for as many acknowledged writes. A store's write takes two such
    pairs. */
 #include <fcntl.h>
 #include <stdio.h>

@@ -158,7 +158,7 @@ causes_later o p q d e f s t u fault output device same causes = record {
 pub causes_retyped : {T S : Type 0} (o p d e : ℕ) (s t : Bool) (fault : ServeFault) → HasCauses {T = T} o p d e s t (Err fault) → HasCauses {T = S} o p d e s t (Err fault)
 causes_retyped o p d e s t fault causes = causes_later o o p d d e s s t fault (omega arith) (omega arith) refl causes
 
--- where the output alone may have failed, or memory was wanting
+-- where the output alone may have failed, or memory was refused
 pub causes_output : {T : Type 0} (o p d : ℕ) (s : Bool) (r : Result T ServeFault) → o ≤ p → OnOk r (p ≡ o) → (IsErrOf r Write → HasGrown o p) → IfErr r (λ stop. (stop ≡ Memory) ⊎ (stop ≡ Write))
     → HasCauses o p d d s s r
 causes_output o p d s (Ok value) output well cause only = causes_none o p d d s s value well (omega arith) refl
@@ -231,7 +231,7 @@ all_of {T} {S} i o p d e s t fault causes =
       output_well = tt;
     }
 
--- where the end is told, or memory was wanting for more
+-- where the end is told, or memory was refused for more
 pub all_end : {T : Type 0} (i j o p d e : ℕ) (s t : Bool) (r : Result T ServeFault) → j ≡ i → o ≤ p → OnOk r (p ≡ o) → d ≤ e → t ≡ s → (IsErrOf r Write → HasGrown o p)
     → IfErr r (λ stop. (stop ≡ Memory) ⊎ (stop ≡ Write)) → HasAllCauses i j o p d e s t r
 all_end i j o p d e s t (Ok value) input output well device same cause only = all_none i j o p d e s t value input well device same

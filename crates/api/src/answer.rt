@@ -55,7 +55,7 @@ pub fn replies_to<D: Device>(
     }
 }
 
-/// How many messages are answered with so many replies: where there are more messages, memory was refused to the next one.
+/// How many messages are answered with this many replies: where there are more messages, memory was refused to the next one.
 pub fn answered_count(replies: usize, messages: usize) -> usize
     requires { 1 ≤ messages }
     ensures one_more { result ≡ min (replies + 1) messages }

@@ -8,7 +8,7 @@
 //! From a store that is settled at a history, what `serve` writes are the replies of the model to the messages of the stream
 //! that was read, and then the reply of its end; the store is then settled after their accepted writes, and a crash at any
 //! moment leaves the history followed by some first ones of them. Each fault says what was read, what was written and what
-//! the store holds, and none is answered but where what it names failed.
+//! the store holds, and is returned only if what it names failed.
 #![tactic(auto)]
 
 mod answer;

@@ -161,10 +161,10 @@ fn told_by(messages: &[Message], cutter: &Cutter) -> Told
     }
 }
 
-/// What is done after a piece.
+/// Next action of the connection loop.
 #[derive(Clone, Copy)]
 pub(crate) enum Step {
-    /// So many bytes of the buffer are the next piece.
+    /// This many bytes of the buffer are the next piece.
     Feed(usize),
     /// The input has ended.
     Finish,
@@ -172,7 +172,7 @@ pub(crate) enum Step {
     End(End),
 }
 
-/// Feeds so many bytes of the buffer, answers what they tell, and reads on where they told no message. Nothing else reads, and at most
+/// Feeds this many bytes of the buffer, answers what they tell, and reads on where they told no message. Nothing else reads, and at most
 /// 8,192 bytes are read at once.
 pub(crate) fn next_step<I: Input, O: Output, D: Device>(
     alloc: Global,

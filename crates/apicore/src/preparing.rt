@@ -42,7 +42,7 @@ use std::alloc::Global;
 ///
 /// # Errors
 ///
-/// Those of the source, and `Memory` where no memory is left.
+/// Those of the source, and `Memory` when out of memory.
 pub fn prepare<S: Source<Beside>>(
     core: &mut Core,
     alloc: Global,

@@ -1,4 +1,4 @@
-//! How many comparisons hold.
+//! Counts of comparisons.
 
 use crate::wrong::Wrong;
 use std::alloc::Global;
@@ -11,7 +11,7 @@ pub struct Told {
     passed: u64,
     // the numbers of the lines, and why they fail
     failed: Vec<(u64, Wrong)>,
-    // whether memory was wanting for one of these
+    // whether one of these ran out of memory
     has_lost: bool,
 }
 

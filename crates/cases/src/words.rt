@@ -9,7 +9,7 @@ use std::fmt::Display;
 ///
 /// # Errors
 ///
-/// Want of memory.
+/// Out of memory.
 pub fn text(alloc: Global, text: &str) -> Result<String, Wrong> {
     Ok(String::from_str(alloc, text)?)
 }
@@ -18,7 +18,7 @@ pub fn text(alloc: Global, text: &str) -> Result<String, Wrong> {
 ///
 /// # Errors
 ///
-/// Want of memory.
+/// Out of memory.
 pub fn yes_or_no(alloc: Global, holds: bool) -> Result<String, Wrong> {
     text(alloc, if holds { "yes" } else { "no" })
 }
@@ -35,7 +35,7 @@ pub fn first_word(text: &str) -> (&str, &str) {
 ///
 /// # Errors
 ///
-/// Want of memory.
+/// Out of memory.
 pub fn numbered(alloc: Global, text: &str, mark: &str, number: u64) -> Result<String, Wrong> {
     let number = shown(alloc, &number)?;
     let numbered = text.replace(alloc, mark, number.as_str());
@@ -59,7 +59,7 @@ pub fn number(text: &str) -> Result<u64, Wrong> {
 ///
 /// # Errors
 ///
-/// Where a word is no byte, and want of memory.
+/// Where a word is no byte, or out of memory.
 pub fn push_bytes(bytes: &mut Vec<u8>, text: &str) -> Result<(), Wrong> {
     for word in text.split_whitespace() {
         match u8::from_str_radix(word, 16) {
@@ -74,7 +74,7 @@ pub fn push_bytes(bytes: &mut Vec<u8>, text: &str) -> Result<(), Wrong> {
 ///
 /// # Errors
 ///
-/// Want of memory.
+/// Out of memory.
 pub fn spelled(alloc: Global, bytes: &[u8]) -> Result<String, Wrong> {
     let mut text = TextBuilder::new(alloc);
     text.spell(bytes);
@@ -85,7 +85,7 @@ pub fn spelled(alloc: Global, bytes: &[u8]) -> Result<String, Wrong> {
 ///
 /// # Errors
 ///
-/// Want of memory.
+/// Out of memory.
 pub fn shown<T: Display>(alloc: Global, value: &T) -> Result<String, Wrong> {
     Ok(value.to_string(alloc)?)
 }

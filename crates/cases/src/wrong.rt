@@ -8,7 +8,7 @@ use std::fmt;
 /// Why a line fails.
 #[derive(Drop)]
 pub enum Wrong {
-    /// Memory was wanting.
+    /// Out of memory.
     Memory,
     /// What is against the line, or what does not hold.
     Told(&'static str),

@@ -17,7 +17,7 @@ fn is_copied(alloc: Global, plan: &Verified, bytes: &[u8]) -> bool {
     }
 }
 
-/// The instructions of the plan that bytes are, or their fault, for a place with so many variables and names up to one.
+/// The instructions of the plan that bytes are, or their fault, for a place with this many variables and names up to one.
 ///
 /// # Errors
 ///

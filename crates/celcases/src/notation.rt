@@ -1,4 +1,4 @@
-//! How rows write their texts.
+//! The notation of texts in rows.
 
 use crate::given::document;
 use crate::texts::put;
@@ -12,7 +12,7 @@ pub(crate) enum Notation {
     Plain,
     /// As JSON strings.
     Json,
-    /// With `COUNT PART` between backquotes for the part so many times, in which `#` is the number of the time, from 0.
+    /// With `COUNT PART` between backquotes for the part this many times, in which `#` is the number of the time, from 0.
     Repeated,
     /// The same, and blanks fill what is asked about up to 4096 bytes.
     Filled,

@@ -2,7 +2,7 @@
 
 use std::fmt::{Display, Write};
 
-/// Adds to the text. Where no memory is left, the text is too short, and the comparison fails.
+/// Adds to the text. When out of memory, the text is too short, and the comparison fails.
 pub(crate) fn put(out: &mut String, part: &str) {
     let _ = out.push_str(part);
 }

@@ -127,7 +127,7 @@ fn values_of(alloc: Global, outcomes: Vec<Outcome>) -> Result<Option<Vec<Value>>
 ///
 /// # Errors
 ///
-/// Where no memory is left.
+/// Out of memory.
 pub fn list_of(alloc: Global, outcomes: Vec<Outcome>) -> Result<Outcome, AllocError>
     ensures { IfOk result (λ o. outcome_of o ≡ list_of (outcomes_seen outcomes.items)) }
 {
@@ -204,7 +204,7 @@ fn put_entry(
 ///
 /// # Errors
 ///
-/// Where no memory is left.
+/// Out of memory.
 pub fn map_of(alloc: Global, outcomes: &Vec<(Outcome, Outcome)>) -> Result<Outcome, AllocError>
     ensures { IfOk result (λ o. outcome_of o ≡ map_of (outcome_pairs_seen outcomes.now.items)) }
 {
@@ -225,7 +225,7 @@ pub fn map_of(alloc: Global, outcomes: &Vec<(Outcome, Outcome)>) -> Result<Outco
 ///
 /// # Errors
 ///
-/// Where no memory is left.
+/// Out of memory.
 pub fn member_of(alloc: Global, name: &str, of: &Outcome) -> Result<Outcome, AllocError>
     ensures { IfOk result (λ o. outcome_of o ≡ with_value (member name.now) (outcome_of of.now)) }
 {
@@ -239,7 +239,7 @@ pub fn member_of(alloc: Global, name: &str, of: &Outcome) -> Result<Outcome, All
 ///
 /// # Errors
 ///
-/// Where no memory is left.
+/// Out of memory.
 pub fn has_member_of(alloc: Global, name: &str, of: &Outcome) -> Result<Outcome, AllocError>
     ensures { IfOk result (λ o. outcome_of o ≡ with_value (has_member name.now) (outcome_of of.now)) }
 {
@@ -253,7 +253,7 @@ pub fn has_member_of(alloc: Global, name: &str, of: &Outcome) -> Result<Outcome,
 ///
 /// # Errors
 ///
-/// Where no memory is left.
+/// Out of memory.
 pub fn index_of(of: &Outcome, index: &Outcome) -> Result<Outcome, AllocError>
     ensures { IfOk result (λ o. outcome_of o ≡ with_values indexed (outcome_of of.now) (outcome_of index.now)) }
 {

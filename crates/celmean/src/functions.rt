@@ -112,7 +112,7 @@ fn on_argument(alloc: Global, name: &str, argument: &Outcome) -> Result<Outcome,
 ///
 /// # Errors
 ///
-/// Where no memory is left.
+/// Out of memory.
 pub fn called(alloc: Global, name: &str, arguments: &Vec<Outcome>) -> Result<Outcome, AllocError>
     ensures { IfOk result (λ o. outcome_of o ≡ called name.now (outcomes_seen arguments.now.items)) }
 {

@@ -211,7 +211,7 @@ fn filtered(
 ///
 /// # Errors
 ///
-/// Where no memory is left.
+/// Out of memory.
 pub fn reduced(
     alloc: Global,
     kind: Macro,
@@ -256,7 +256,7 @@ pub fn list_items(outcome: &Outcome) -> Option<&Vec<Value>>
 ///
 /// # Errors
 ///
-/// Where no memory is left.
+/// Out of memory.
 pub fn range_of(alloc: Global, outcome: &Outcome) -> Result<Option<Vec<Value>>, AllocError>
     ensures { IfOk result (λ o. option_map (λ v. values_seen v.items) o ≡ range_of (outcome_of outcome.now)) }
 {

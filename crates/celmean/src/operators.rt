@@ -91,7 +91,7 @@ fn on_outcomes(operator: Operator, left: &Outcome, right: &Outcome) -> Result<Ou
 ///
 /// # Errors
 ///
-/// Where no memory is left.
+/// Out of memory.
 pub fn infixed(operator: Operator, left: &Outcome, right: &Outcome) -> Result<Outcome, AllocError>
     ensures { IfOk result (λ o. outcome_of o ≡ infixed operator (outcome_of left.now) (outcome_of right.now)) }
 {

@@ -1,4 +1,4 @@
-//! How values are ordered.
+//! The order of values.
 
 ghost use Rattle.std.specs.Prelude.{◌≡◌, ℕ, pos, int_lt};
 ghost use Rattle.celmean.specs.Order.{less, key_rank, key_before, text_before};

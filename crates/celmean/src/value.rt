@@ -41,7 +41,7 @@ impl Value {
     ///
     /// # Errors
     ///
-    /// Where no memory is left.
+    /// Out of memory.
     pub fn list(alloc: Global, items: Vec<Value>) -> Result<Value, AllocError>
         ensures { IfOk result (λ v. value_of v ≡ Sequence (sequence (values_seen items.items))) }
     {
@@ -52,7 +52,7 @@ impl Value {
     ///
     /// # Errors
     ///
-    /// Where no memory is left.
+    /// Out of memory.
     pub fn map(alloc: Global, entries: Vec<(Value, Value)>) -> Result<Value, AllocError>
         ensures { IfOk result (λ v. value_of v ≡ Mapping (mapping (entries_seen entries.items))) }
     {

@@ -28,7 +28,7 @@ pub of_err : {X : Type 0} {R Q : ParseFault → Type 0} (P : X → Type 0) (r : 
 of_err P (Ok x) h f = tt
 of_err P (Err e) h f = f e h
 
--- that no memory is left says nothing of the tokens
+-- out of memory says nothing of the tokens
 pub of_memory : {X : Type 0} (P : X → Type 0) (Q : Type 0) (r : Result X ParseFault) → MatchResult r P (λ e. e ≡ fault.Memory) → IfErr r (λ e. Refuses e Q)
 of_memory P Q (Ok x) h = tt
 of_memory P Q (Err e) h = rw h tt

@@ -98,7 +98,7 @@ pub record ReadEntries (i : List Terminal) (ps : Pairs) (r : List Terminal) : Ty
 abbrev pub HasNoEntries : List Terminal → Type 0
 HasNoEntries i = (qs : Pairs) (s : List Terminal) → Entries i qs s → ⊥
 
--- a refusal while reading: no tree, or no memory
+-- a refusal while reading: no tree, or out of memory
 abbrev pub Refuses : ParseFault → Type 0 → Type 0
 Refuses fault.NotInGrammar P = P
 Refuses fault.Memory P = Unit {0}

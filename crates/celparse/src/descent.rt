@@ -165,7 +165,7 @@ fn with_entry(
 ///
 /// # Errors
 ///
-/// [`ParseFault::NotInGrammar`] where no tree is spelled so, [`ParseFault::Memory`] where no memory is left.
+/// [`ParseFault::NotInGrammar`] where no tree is spelled so, [`ParseFault::Memory`] when out of memory.
 #[cycle(expression)]
 pub fn expression<'a, 'b>(
     alloc: Global,

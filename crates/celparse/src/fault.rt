@@ -9,7 +9,7 @@ use std::alloc::{AllocError, AllocFailed};
 pub enum ParseFault {
     /// The tokens spell no tree.
     NotInGrammar,
-    /// No memory is left.
+    /// Out of memory.
     Memory,
 }
 

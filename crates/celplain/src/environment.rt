@@ -1,4 +1,4 @@
-//! What names stand for.
+//! Names and their values.
 
 ghost use Rattle.std.specs.Prelude.{◌≡◌, ◌∷◌, IfOk};
 ghost use Rattle.celmean.specs.Meaning.{bound};

@@ -24,7 +24,7 @@ use std::alloc::{AllocError, Global};
 ///
 /// # Errors
 ///
-/// Where no memory is left.
+/// Out of memory.
 #[cycle(evaluate)]
 pub fn evaluate(
     alloc: Global,

@@ -58,7 +58,7 @@ IsNoParse ws = (t : Expr) → IsParse ws t → ⊥
 abbrev pub IsParseAlone : List Terminal → Expr → Type 0
 IsParseAlone ws t = (u : Expr) → IsParse ws u → u ≡ t
 
--- what holds where it is not memory that is wanting
+-- what holds unless out of memory
 abbrev pub UnlessMemory : ReadFault → Type 0 → Type 0
 UnlessMemory fault.TooLong P = P
 UnlessMemory fault.TooDeep P = P

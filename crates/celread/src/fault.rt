@@ -18,7 +18,7 @@ pub enum ReadFault {
     /// The text has no tokens, or its tokens spell no tree.
     #[error("expression not in the grammar")]
     NotInGrammar,
-    /// No memory is left.
+    /// Out of memory.
     #[error("out of memory")]
     Memory,
 }

@@ -1,4 +1,4 @@
-//! How deep brackets and macros may nest.
+//! Limits on the depth of brackets and macros.
 
 ghost use Rattle.std.specs.Prelude.{◌≡◌, ◌≤◌};
 ghost use Rattle.celtokens.specs.Seen.{terminal, terminals};

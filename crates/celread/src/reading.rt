@@ -43,7 +43,7 @@ fn parse(alloc: Global, tokens: &[Token<'_>]) -> Result<Box<Tree>, ReadFault>
 ///
 /// The first that applies: [`ReadFault::TooLong`] for a text of more than 4096 bytes, [`ReadFault::NotInGrammar`] for one without
 /// tokens, [`ReadFault::TooDeep`] for more than 32 open brackets, [`ReadFault::NotInGrammar`] where the tokens spell no tree,
-/// [`ReadFault::TooDeep`] for macros that nest three deep. [`ReadFault::Memory`] where no memory is left.
+/// [`ReadFault::TooDeep`] for macros that nest three deep. [`ReadFault::Memory`] when out of memory.
 pub fn read(alloc: Global, text: &str) -> Result<Box<Tree>, ReadFault>
     ensures tree { IfOk result (λ t. IsReadAs text.now (view t.value)) }
     ensures small { IfOk result (λ t. nodes (view t.value) + text_bytes (view t.value) ≤ length text.now) }

@@ -1,4 +1,4 @@
-//! What stands in front of the tokens that are left (CEL language definition, "Syntax").
+//! The next of the tokens that are left (CEL language definition, "Syntax").
 
 ghost use Rattle.std.specs.Prelude.{◌≡◌, ◌<◌, ◌∷◌, [], true, false, length, Some, IfSome, MatchOption, option_map};
 ghost use Rattle.celtokens.specs.Seen.{terminal, terminals};

@@ -1,4 +1,4 @@
-//! What a character can begin.
+//! Classes of characters, by the tokens that they begin.
 
 ghost use Rattle.std.specs.Prelude.{◌≡◌};
 ghost use Rattle.celtokens.specs.Class.{class, is_quote, first_quote};

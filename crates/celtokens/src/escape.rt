@@ -1,4 +1,4 @@
-//! What stands after a backslash in a string.
+//! Escapes in strings.
 
 ghost use Rattle.std.specs.Prelude.{◌≡◌, ◌≤◌, ◌<◌, length, option_map, IfSome};
 ghost use Rattle.celtokens.specs.Escape.{code_point, named, hex_len, escape};

@@ -12,7 +12,7 @@ use std::alloc::{AllocError, Global};
 ///
 /// # Errors
 ///
-/// Only where no memory is left.
+/// Only when out of memory.
 pub fn characters(alloc: Global, text: &str) -> Result<Vec<char>, AllocError>
     ensures { IfOk result (λ v. v.items ≡ chars text.now) }
 {
@@ -24,7 +24,7 @@ pub fn characters(alloc: Global, text: &str) -> Result<Vec<char>, AllocError>
 ///
 /// # Errors
 ///
-/// Only where no memory is left.
+/// Only when out of memory.
 pub fn tokens<'a>(alloc: Global, chars: &'a [char]) -> Result<Option<Vec<Token<'a>>>, AllocError>
     ensures { IfOk result (λ o. MatchOption o (HasNoTokens chars.now) (λ v. Lexes chars.now (terminals v.items))) }
 {

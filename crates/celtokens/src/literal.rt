@@ -35,7 +35,7 @@ fn negative(digits: Number<'_>) -> Option<i64>
 ///
 /// # Errors
 ///
-/// [`AllocError`] where no memory is left.
+/// [`AllocError`] when out of memory.
 pub fn text_of(alloc: Global, chars: &[char]) -> Result<String, AllocError>
     ensures { IfOk result (λ s. string_bytes s ≡ encode_utf8_all chars.now) }
 {
@@ -95,7 +95,7 @@ fn negative_literal<'a, 'b>(tokens: &'b [Token<'a>]) -> Option<(i64, &'b [Token<
 ///
 /// # Errors
 ///
-/// [`AllocError`] where no memory is left.
+/// [`AllocError`] when out of memory.
 pub fn literal_at<'a, 'b>(
     alloc: Global,
     tokens: &'b [Token<'a>],

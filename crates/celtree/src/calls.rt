@@ -1,4 +1,4 @@
-//! Which calls are macros, and which have no tree.
+//! Macros, and calls that have no tree.
 
 ghost use Rattle.std.specs.Prelude.{◌≡◌, ◌≢◌, ◌∷◌, [], length, option_map, string_bytes, IfOk, MatchOption};
 ghost use Rattle.celtree.specs.Calls.{macro_named, selection, variable, has_of, macro_of_three, macro_over, call_of, method_of};
@@ -210,7 +210,7 @@ fn has(alloc: Global, arguments: Vec<Tree>) -> Result<Option<Box<Tree>>, AllocEr
 ///
 /// # Errors
 ///
-/// [`AllocError`] where no memory is left.
+/// [`AllocError`] when out of memory.
 pub fn call(
     alloc: Global,
     name: String,
@@ -235,7 +235,7 @@ pub fn call(
 ///
 /// # Errors
 ///
-/// [`AllocError`] where no memory is left.
+/// [`AllocError`] when out of memory.
 pub fn method(
     alloc: Global,
     of: Box<Tree>,

@@ -1,4 +1,4 @@
-//! Which tree the variables of a policy stand after.
+//! The name before the variables of a policy.
 
 ghost use Rattle.std.specs.Prelude.{◌≡◌};
 ghost use Rattle.celtree.specs.Variables.{is_variables};

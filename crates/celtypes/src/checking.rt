@@ -274,7 +274,7 @@ fn typed_values(
 ///
 /// # Errors
 ///
-/// [`TypeFault::NoType`] where the tree has no type, [`TypeFault::Memory`] where no memory is left.
+/// [`TypeFault::NoType`] where the tree has no type, [`TypeFault::Memory`] when out of memory.
 pub fn check(alloc: Global, tree: &Tree, env: &Env<'_>) -> Result<CelType, TypeFault>
     ensures found { IfOk result (λ t. HasType (declared env.now) (view tree.now) (type_seen t)) }
     ensures none { IfErr result (λ e. e ≡ fault.NoType → HasNoType (declared env.now) (view tree.now)) }

@@ -11,7 +11,7 @@ pub enum TypeFault {
     /// The expression has no type.
     #[error("expression without a type")]
     NoType,
-    /// No memory is left.
+    /// Out of memory.
     #[error("out of memory")]
     Memory,
 }

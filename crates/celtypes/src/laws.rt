@@ -1,4 +1,4 @@
-//! What the definitions promise.
+//! Laws of types.
 
 ghost use Rattle.celtypes.specs.Typing.{HasOneTypeAtMost};
 

@@ -1,4 +1,4 @@
-//! What operators and functions take and give.
+//! The types of operators and functions.
 
 ghost use Rattle.std.specs.Prelude.{◌≡◌, option_map, option_and_then, IfOk};
 ghost use Rattle.celtypes.specs.Computed.{given, fits_bool, fits_int, fits_uint, fits_string, fits_number, fits_convertible, fits_key, are_keys, fits_sized, fits_ordered, list_sum, dyn_sum, sum_type, dyn_number, number_type, compares, has_items, item_type, index_type, field_type, presence_type, prefix_type, infix_type};

@@ -1,4 +1,4 @@
-//! What names stand for.
+//! Names and their types.
 
 ghost use Rattle.std.specs.Prelude.{◌≡◌, ◌∷◌, option_map, IfOk};
 ghost use Rattle.celtypes.specs.Seen.{type_seen, locals_seen, variables_seen, scope_seen};

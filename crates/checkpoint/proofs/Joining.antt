@@ -94,7 +94,7 @@ some_entries [] none some = absurd (omega arith)
 some_entries ([] ∷ pages) none some = absurd (none.0 refl)
 some_entries ((entry ∷ page) ∷ pages) none some = omega arith
 
--- so many pages as first keys
+-- this many pages as first keys
 index_length : (index : Index) (pages : List (List Entry)) → IsIndexed index pages → length index.first_keys.items ≡ length pages
 index_length index pages indexed =
     let Key : Vec ℕ Global → List ℕ = λ key. key.items in

@@ -18,7 +18,7 @@ abbrev pub AllFit : List Entry → Type 0
 AllFit [] = Unit {0}
 AllFit (entry ∷ entries) = (room_of (entry ∷ []) ≤ 32768) × AllFit entries
 
--- The keys of the entries that begin a page, behind a page that has so many free bytes.
+-- The keys of the entries that begin a page, behind a page that has this many free bytes.
 abbrev pub keys_from : ℕ → List Entry → List (List ℕ)
 keys_from free [] = []
 keys_from free (entry ∷ entries) =

@@ -5,7 +5,7 @@ use Rattle.gatelog.specs.Record.{part}
 use Rattle.pages.specs.Page.{Entry, bytes_cmp, entries_in, IsSound}
 use Rattle.roots.specs.declared.root.Root.{Root}
 
--- The pages that stand from a sector on, so many of them: for each, the entries that its bytes stand for. A page has 64 sectors.
+-- The pages that stand from a sector on, this many of them: for each, the entries that its bytes stand for. A page has 64 sectors.
 abbrev pub pages_at : ℕ → ℕ → List ℕ → List (List Entry)
 pages_at first zero content = []
 pages_at first (suc count) content = entries_in (part (512 * first) 32768 content) ∷ pages_at (first + 64) count content

@@ -27,7 +27,7 @@ pub enum EntriesFault {
     Damaged,
     /// An entry fits no page.
     TooLong,
-    /// There was no memory.
+    /// Out of memory.
     Memory,
 }
 
@@ -70,7 +70,7 @@ pub trait Entries {
     /// The entry that it stands at.
     ghost here: { Self → Entry };
 
-    /// The walk has at most so many entries before it, whatever the device holds.
+    /// The walk has at most this many entries before it, whatever the device holds.
     ghost most: { Self → ℕ };
 
     /// A walk looks at the byte of the device's content that stands at this offset.
@@ -121,7 +121,7 @@ pub trait Entries {
         → ((k : ℕ) → reads source k → slice_index new k ≡ slice_index old k) → ahead source old entries → ahead source new entries };
 }
 
-// What of so many free bytes a cell and its slot leave, if they fit.
+// What of this many free bytes a cell and its slot leave, if they fit.
 fn room_left(free: usize, key: &[u8], cell: &[u8]) -> Option<usize>
     ensures some { IfSome result (λ left. left + (6 + length key.now + length cell.now) ≡ free) }
     ensures none { IfNone result (free < 6 + length key.now + length cell.now) }

@@ -1,4 +1,4 @@
-//! What the entries of pages are told to.
+//! The trait that takes the entries of pages.
 
 ghost use Rattle.std.specs.Prelude.{◌≡◌, Bool, true, false, List, [], ◌∷◌, ◌++◌, OnOk, IfOk, IsErrOf};
 ghost use Rattle.pages.specs.Page.{Entry};
@@ -12,7 +12,7 @@ use std::alloc::{AllocError, AllocFailed, Global};
 pub enum ReadFault {
     /// The reader refuses the entry.
     Entry,
-    /// There was no memory.
+    /// Out of memory.
     Memory,
 }
 

@@ -27,7 +27,7 @@ pub enum ScanFault {
     Page,
     /// The reader refused an entry, and all pages are whole.
     Entry,
-    /// There was no memory.
+    /// Out of memory.
     Memory,
 }
 

@@ -29,7 +29,7 @@ pub enum WriteFault {
     Damaged,
     /// An entry fits no page.
     TooLong,
-    /// There was no memory.
+    /// Out of memory.
     Memory,
     /// The generation in use is the last one that a root can tell, 2^64 - 1.
     Exhausted,

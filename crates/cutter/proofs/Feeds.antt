@@ -16,7 +16,7 @@ use Rattle.cutter.specs.declared.cutting.Awaited.{Awaited}
 use Rattle.cutter.specs.declared.cutting.Awaited.TheVariants.{Bytes, Head}
 use Rattle.cutter.specs.Awaited.{IsAwaited}
 
--- whatever is awaited is so many bytes
+-- whatever is awaited is this many bytes
 pub awaited_bytes : (bytes : List ℕ) (a : Awaited) → IsAwaited bytes a → (need : ℕ) × Awaits bytes need
 awaited_bytes bytes (Bytes need) awaits = (need, awaits)
 awaited_bytes bytes (Head place) (few, at) =

@@ -5,7 +5,7 @@ use Rattle.httpmsg.specs.Place.{IsAt}
 use Rattle.cutter.specs.declared.cutting.Awaited.{Awaited}
 use Rattle.cutter.specs.declared.cutting.Awaited.TheVariants.{Bytes, Head}
 
--- what is awaited after these bytes: so many in all, or the next one of a head that they begin
+-- what is awaited after these bytes: this many in all, or the next one of a head that they begin
 abbrev pub IsAwaited : List ℕ → Awaited → Type 0
 IsAwaited bytes (Bytes need) = Awaits bytes need
 IsAwaited bytes (Head place) = (length bytes < 8192) × IsAt place bytes

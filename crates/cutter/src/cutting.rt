@@ -14,7 +14,7 @@ use std::marker::Model;
 // How much room is kept where no byte is left.
 const KEPT_BYTES: usize = 8192;
 
-// Moves what follows so many bytes to the front. Where nothing follows, large room is given back.
+// Moves what follows this many bytes to the front. Where nothing follows, large room is given back.
 fn remove_front(alloc: Global, bytes: &mut Vec<u8>, count: usize)
     requires { count ≤ vec_len bytes.old }
     ensures { bytes.new.items ≡ drop count bytes.old.items }
@@ -34,14 +34,14 @@ fn remove_front(alloc: Global, bytes: &mut Vec<u8>, count: usize)
 /// What must come before more can be told of the bytes that are pending.
 #[derive(Clone, Copy)]
 pub(crate) enum Awaited {
-    /// So many bytes in all.
+    /// This many bytes in all.
     Bytes(usize),
     /// The next byte of the head that they begin, which is read up to here.
     Head(Place),
 }
 
 impl Awaited {
-    // What is awaited after these bytes, of which so many must be there.
+    // What is awaited after these bytes, of which this many must be there.
     fn next(bytes: &[u8], need: usize) -> Awaited
         ensures { Awaits bytes.now need → IsAwaited bytes.now result }
     {
@@ -54,7 +54,7 @@ impl Awaited {
         }
     }
 
-    // What is awaited once these bytes have come, so many with those before them, where they tell nothing.
+    // What is awaited once these bytes have come, this many with those before them, where they tell nothing.
     fn after(self, bytes: &[u8], len: usize) -> Option<Awaited>
         ensures { IfSome result (λ awaited. (pending : List ℕ) → length (pending ++ bytes.now) ≡ len → IsAwaited pending self
             → IsAwaited (pending ++ bytes.now) awaited) }

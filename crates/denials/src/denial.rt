@@ -38,7 +38,7 @@ pub fn failure(policy: FailurePolicy, message: String) -> Option<Denial>
 ///
 /// # Errors
 ///
-/// Where no memory is left.
+/// Out of memory.
 pub fn told(
     alloc: Global,
     policy: FailurePolicy,

@@ -1,4 +1,4 @@
-//! What a denial says.
+//! The message of a denial.
 
 ghost use Rattle.std.specs.Prelude.{◌≡◌, ◌++◌, option_map, string_bytes, IfOk};
 ghost use Rattle.std.specs.List.{list_all, list_any};

@@ -1,4 +1,4 @@
-//! What denials come to.
+//! The verdict that denials come to.
 
 ghost use Rattle.std.specs.Prelude.{◌≡◌, IfOk};
 ghost use Rattle.denials.specs.Seen.{denial_seen, decision_seen};
@@ -39,7 +39,7 @@ pub enum Decision {
 ///
 /// # Errors
 ///
-/// Where no memory is left.
+/// Out of memory.
 pub fn decide(
     alloc: Global,
     policy: &str,

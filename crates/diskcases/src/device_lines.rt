@@ -6,7 +6,7 @@ use cases::{Wrong, first_word, number};
 use device::{Device, DeviceFault, MemDevice, Pick};
 use std::alloc::Global;
 
-/// `device ROOM`: an empty device with room for so many sectors.
+/// `device ROOM`: an empty device with room for this many sectors.
 pub fn new_device(alloc: Global, device: &mut MemDevice, line: &mut Line<'_>) {
     match MemDevice::new(alloc, line.number()) {
         Ok(empty) => {
@@ -135,7 +135,7 @@ pub fn counts(device: &MemDevice, line: &mut Line<'_>) {
 ///
 /// # Errors
 ///
-/// Where a word is none of these, and want of memory.
+/// Where a word is none of these, or out of memory.
 pub fn crash_words(line: &str, picks: &mut Vec<Pick>) -> Result<u64, Wrong> {
     let (length, words) = first_word(line);
     for word in words.split_whitespace() {

@@ -8,7 +8,7 @@ use crate::root_lines::push_root;
 use device::{Device, MemDevice};
 use roots::{Root, clear_slot, counted_root, install, next_root, place};
 
-/// `place START LAST PAGES`: where so many pages go while a generation that begins at `START`, and whose log ends with the gate `LAST`, is in
+/// `place START LAST PAGES`: where this many pages go while a generation that begins at `START`, and whose log ends with the gate `LAST`, is in
 /// use.
 pub fn place_of(line: &mut Line<'_>) {
     let (start, last_gate, pages) = (line.number(), line.number(), line.pages());
@@ -50,7 +50,7 @@ fn next_of(device: &mut MemDevice, line: &mut Line<'_>) -> Option<(Root, Root)>
     }
 }
 
-/// `next LAST PAGES REVISION`: the root of the next generation, of so many pages and this revision, or `exhausted`.
+/// `next LAST PAGES REVISION`: the root of the next generation, of this many pages and this revision, or `exhausted`.
 pub fn next(device: &mut MemDevice, line: &mut Line<'_>) {
     if let Some((_, next)) = next_of(device, line) {
         push_root(line, &next);

@@ -102,7 +102,7 @@ impl LogLines {
 
 const PART: usize = 1 << 20;
 
-/// `filled PARTS BYTES`: a payload of so many parts of a mebibyte, to which so many bytes are added.
+/// `filled PARTS BYTES`: a payload of this many parts of a mebibyte, to which this many bytes are added.
 pub fn filled(alloc: Global, line: &mut Line<'_>) {
     let (parts, rest) = (line.number(), line.number());
     let (Ok(part), Ok(mut body)) = (vec![in alloc; 7u8; PART], Body::new(alloc)) else {

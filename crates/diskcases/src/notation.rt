@@ -18,7 +18,7 @@ pub fn byte(word: &str) -> Result<u8, Wrong> {
     }
 }
 
-// Adds bytes in hex, or `BYTES xN`, so many times those bytes.
+// Adds bytes in hex, or `BYTES xN`, this many times those bytes.
 fn add_bytes(payload: &mut Vec<u8>, part: &str) -> Result<(), Wrong> {
     let (hex, times) = match part.split_once(" x") {
         Some(both) => both,

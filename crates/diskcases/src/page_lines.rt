@@ -17,7 +17,7 @@ pub(crate) fn fill(alloc: Global, page: &mut PageBuilder, line: &mut Line<'_>) {
     }
 }
 
-/// `page FRONT BACK CELLS`: so many of the page's first bytes, and so many of its last.
+/// `page FRONT BACK CELLS`: this many of the page's first bytes, and this many of its last.
 pub fn page(alloc: Global, page: &mut PageBuilder, line: &mut Line<'_>) {
     let (front, back) = (line.number() as usize, line.number() as usize);
     fill(alloc, page, line);
@@ -49,7 +49,7 @@ pub fn page_with(alloc: Global, page: &mut PageBuilder, line: &mut Line<'_>) {
     }
 }
 
-/// `page-room BYTES CELLS`: whether the page has room for a further cell with a key of one byte and a value of so many.
+/// `page-room BYTES CELLS`: whether the page has room for a further cell with a key of one byte and a value of this many.
 pub fn page_room(alloc: Global, page: &mut PageBuilder, line: &mut Line<'_>) {
     let size = line.number() as usize;
     fill(alloc, page, line);

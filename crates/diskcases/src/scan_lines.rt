@@ -61,7 +61,7 @@ pub(crate) fn push_entries(line: &mut Line<'_>, entries: &[Entry]) {
     }
 }
 
-/// The root of so many pages from a sector on, which lie on the device.
+/// The root of this many pages from a sector on, which lie on the device.
 pub(crate) fn root_at(
     device: &mut MemDevice,
     first: u64,
@@ -108,7 +108,7 @@ pub(crate) fn read_pages<R: Reader>(
     }
 }
 
-/// `scan FIRST PAGES REFUSED`: the entries of so many pages from a sector on, as they are told to a reader that refuses one key, and the
+/// `scan FIRST PAGES REFUSED`: the entries of this many pages from a sector on, as they are told to a reader that refuses one key, and the
 /// first key of each page.
 pub fn scan_pages(alloc: Global, device: &mut MemDevice, line: &mut Line<'_>) {
     let (first, pages) = (line.number(), line.pages());

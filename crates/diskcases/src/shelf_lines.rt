@@ -77,7 +77,7 @@ fn ask(alloc: Global, shelf: &mut Shelf, device: &mut MemDevice, line: &mut Line
     }
 }
 
-// The shelf of so many pages from a sector on, which are read before, each once.
+// The shelf of this many pages from a sector on, which are read before, each once.
 fn shelf_at(
     alloc: Global,
     device: &mut MemDevice,
@@ -105,7 +105,7 @@ fn shelf_at(
     }
 }
 
-/// `shelf FIRST PAGES QUESTION ; ..`: the answers of the shelf of so many pages from a sector on, which are read before, each once.
+/// `shelf FIRST PAGES QUESTION ; ..`: the answers of the shelf of this many pages from a sector on, which are read before, each once.
 pub fn shelf(alloc: Global, device: &mut MemDevice, line: &mut Line<'_>) {
     let (first, pages) = (line.number(), line.pages());
     let Some(mut shelf) = shelf_at(alloc, device, first, pages, line) else {

@@ -21,7 +21,7 @@ pub enum ReadFault {
     /// A number has a fraction or an exponent, is `-0`, or does not fit 64 signed bits.
     #[error("a number that is not whole or does not fit 64 bits")]
     Number,
-    /// There was no memory to read them.
+    /// Out of memory while reading them.
     #[error("out of memory")]
     Memory,
 }
@@ -31,7 +31,7 @@ pub struct Doc {
     value: Value,
 }
 
-// Written out, so that other crates call it: what is derived is made again in each of them.
+// Hand-written: derived drop glue is proved again in each crate.
 impl Drop for Doc {
     fn drop(self) {
         let Doc { value: _ } = self;

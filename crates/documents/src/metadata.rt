@@ -7,7 +7,7 @@ use names::{Resource, check_name, check_namespace};
 use serde_json::{Map, Value};
 use std::alloc::AllocError;
 
-/// A copy of the metadata of an object's JSON, `null` if it has none. `AllocError` where there is no memory for it.
+/// A copy of the metadata of an object's JSON, `null` if it has none. `AllocError` when out of memory.
 pub fn metadata_copy(document: &Doc) -> Result<Doc, AllocError>
     ensures { IfOk result (λ d. d ≡ metadata_of document.now) }
 {

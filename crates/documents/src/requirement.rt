@@ -1,4 +1,4 @@
-//! What a selector asks.
+//! A requirement of a label selector.
 
 /// What one part of a selector asks of the labels of an object. The first text is the key of a label.
 #[derive(Drop)]

@@ -1,4 +1,4 @@
-//! Whether an object meets what a selector asks.
+//! Whether an object meets a label selector.
 
 ghost use Rattle.std.specs.Prelude.{◌≡◌, map, string_bytes, option_map};
 ghost use Rattle.serde_json.specs.View.{view};

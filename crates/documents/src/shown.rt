@@ -7,14 +7,14 @@ use crate::stored::Document;
 use std::alloc::{AllocError, Global};
 
 /// The object as it is shown: the stored document with the revision of its last write as `metadata.resourceVersion`.
-/// `AllocError` where there is no memory for it.
+/// `AllocError` when out of memory.
 pub fn shown_document(alloc: Global, document: &Document, revision: u64) -> Result<Doc, AllocError>
     ensures { IfOk result (λ d. d ≡ shown document.now revision) }
 {
     shown_from(alloc, document.clone()?, revision)
 }
 
-/// The object as it is shown, made of the stored document itself. `AllocError` where there is no memory for it.
+/// The object as it is shown, made of the stored document itself. `AllocError` when out of memory.
 pub fn shown_from(alloc: Global, document: Document, revision: u64) -> Result<Doc, AllocError>
     ensures { IfOk result (λ d. d ≡ shown document revision) }
 {

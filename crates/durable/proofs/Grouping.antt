@@ -379,7 +379,7 @@ pub fault_is : {T : Type 0} (r : Result T Fault) (fault : Fault) → result_err 
 fault_is (Ok x) fault is = cc
 fault_is (Err e) fault is = let same : e ≡ fault = cc in ap Err same
 
--- a store that serves on met no fault but want of memory
+-- a store that serves on met no fault but out of memory
 pub only_memory : (fault : Fault) (working : Bool) → working ≡ true → MayBeMet fault → (fault ≡ Faults.Device → working ≡ false)
     → ((d : Damage) → fault ≡ Faults.Damaged d → working ≡ false) → fault ≡ Faults.Memory
 only_memory fault working serves (inl device) stops damaged = absurd (true≢false (sym serves ∙ stops device))

@@ -185,7 +185,7 @@ answered_then {D} {g} rules old mid new v done more given answers so_far next = 
 
 -- ---- the requests of a slice
 
--- so many first ones of a list are its front, where that has as many
+-- this many first ones of a list are its front, where that has as many
 pub first_of : {A : Type 0} (all front back : List A) (n : ℕ) → all ≡ front ++ back → n ≡ length front → take n all ≡ front
 first_of all front back n split is = ap (take n) split ∙ ap (λ k. take k (front ++ back)) is ∙ take-append_seam front back
 

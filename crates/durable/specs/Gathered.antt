@@ -111,7 +111,7 @@ pub record HasAnswered {D : Type 0} {g : Ghosts D} (old new : Store D g) (reques
   pub served : (stop ≡ None) ⊎ (stop ≡ Some Faults.Memory) → HasServed old new (take (length more) requests) more
   pub stopped : stop ≡ Some Faults.Device → (stopped : HasStopped old new requests more) × (length more + length stopped.failing ≤ length requests)
 
--- A group of so many requests has met this fault or none, and its replies stand after others. The store serves on unless its device fails, or damage is
+-- A group of this many requests has met this fault or none, and its replies stand after others. The store serves on unless its device fails, or damage is
 -- found. That is only where no view is shown, and nothing is written then.
 pub record HasMet {D : Type 0} {g : Ghosts D} (old new : Store D g) (asked : ℕ) (before now : Vec Reply Global) (stop : Option Fault) : Type 0 where
   pub damaged : (damage : Damage) → stop ≡ Some (Faults.Damaged damage) → (rules : Rules) (v : View) → ServesAt rules old v → ⊥

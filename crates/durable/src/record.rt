@@ -33,7 +33,7 @@ pub(crate) fn gather(
     };
     match add(alloc, group, write) {
         Ok(()) => Ok(()),
-        // Texts within the limit are never too long for a record, so memory was wanting.
+        // Texts within the limit are never too long for a record, so the cause is out of memory.
         Err(_) => Err(Fault::Memory),
     }
 }
@@ -51,7 +51,7 @@ fn add(alloc: Global, group: &mut Group, write: &PreparedWrite<Beside>) -> Resul
         PreparedWrite::Put(put) => {
             let plans = match plans_bytes(alloc, put.key().resource(), put.beside().plans()) {
                 Ok(plans) => plans,
-                // Plans that may be held are never too long, so memory was wanting.
+                // Plans that may be held are never too long, so the cause is out of memory.
                 Err(_) => return Err(LogFault::Memory),
             };
             group.put(alloc, put.key(), put.text(), &plans)

@@ -18,7 +18,7 @@ use recovery::{Core, has_own_plans};
 use requests::{Reply, Request};
 use std::alloc::Global;
 
-// Whether nothing was written where this is told.
+// Whether this fault guarantees that nothing was written.
 fn changed_nothing(fault: WriteFault) -> bool
     ensures { IsTrue result ↔ ((fault ≡ WriteFault.Memory) ⊎ (fault ≡ WriteFault.Exhausted)) }
 {
@@ -451,7 +451,7 @@ impl<D: Device> Store<D> {
         fault
     }
 
-    // The fault of a look. Unless memory was wanting the store serves no more.
+    // Maps a lookup fault. All faults but `Memory` stop the store.
     fn met(&mut self, fault: LookupFault) -> Fault
         requires serves { serves self.old ≡ true }
         ensures fault { result ≡ of_lookup_fault fault }

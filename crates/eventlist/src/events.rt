@@ -11,7 +11,7 @@ use std::alloc::{AllocError, Global};
 ///
 /// # Errors
 ///
-/// Where there was no memory.
+/// Out of memory.
 pub fn add_events(
     alloc: Global,
     entries: &mut Vec<(Vec<u8>, Vec<u8>)>,

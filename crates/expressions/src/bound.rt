@@ -37,7 +37,7 @@ impl Bound {
     ///
     /// # Errors
     ///
-    /// Where no memory is left.
+    /// Out of memory.
     pub fn of(alloc: Global, document: &Json) -> Result<Option<Bound>, AllocError>
         ensures { IfOk result (λ o. o ≡ binding_of (view document.now)) }
     {

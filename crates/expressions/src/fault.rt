@@ -14,7 +14,7 @@ pub enum PolicyFault {
     /// The first expression that is not read, or has not a type that it must have: its text.
     #[error("bad expression: {0}")]
     BadExpression(String),
-    /// No memory is left.
+    /// Out of memory.
     #[error("out of memory")]
     Memory,
 }

@@ -1,4 +1,4 @@
-//! What policies promise as they are stored.
+//! Laws of policies as they are stored.
 
 ghost use Rattle.expressions.specs.Laws.{OneStoredList, ExpressionsFitTheText};
 

@@ -1,4 +1,4 @@
-//! Where objects are looked up.
+//! The lookup of objects before a write.
 
 ghost use Rattle.std.specs.Prelude.{◌≡◌, ◌≤◌, ℕ, List, map, option_map, Some, None, IfOk, OnOk, IsErrOf, IsTrue};
 ghost use Rattle.std.specs.FinMap.{is_sorted};
@@ -47,8 +47,8 @@ pub struct Listed<'a> {
 
 /// Where objects are looked up, before a write.
 ///
-/// Policies and bindings are lent from memory, for `'a`, and parameters are made, as they are shown. A look may read a device, and change what
-/// the lookup is made on: what it shows and lends stays, and `goes_to` says what else its maker may know of it afterwards.
+/// Policies and bindings are lent from memory, for `'a`, and parameters are made, as they are shown. A lookup may read a device and change
+/// its own state. What it shows and lends stays the same. `goes_to` says what is known of its state afterwards.
 pub trait Lookup<'a> {
     /// It shows these objects. Nothing has to be known of their trees.
     ghost shows: { Self → Objects → Type 0 };

@@ -1,4 +1,4 @@
-//! How many variables each expression of a policy may name.
+//! The number of variables that each expression of a policy may name.
 
 ghost use Rattle.std.specs.Prelude.{◌≡◌, ◌++◌, ◌≤◌, length, map, nat_le, if◌then◌else◌, Some, None, IfOk, IfSome, option_map};
 ghost use Rattle.std.specs.List.{flat_map};

@@ -86,7 +86,7 @@ fn of_binding(alloc: Global, document: &Doc) -> Result<Specification, AllocError
 ///
 /// # Errors
 ///
-/// Where no memory is left.
+/// Out of memory.
 #[tactic(auto, using(crate::proofs::Standing::config_map, crate::proofs::Standing::node, crate::proofs::Standing::pod, crate::proofs::Standing::service, crate::proofs::Standing::deployment))]
 pub fn specification_of(
     alloc: Global,

@@ -47,7 +47,7 @@ fn copied(alloc: Global, bytes: &[u8]) -> Result<Vec<u8>, AllocError>
 ///
 /// # Errors
 ///
-/// [`WritePlansFault::TooLong`] where a number has no room in its bytes, and [`WritePlansFault::Memory`] where no memory is left.
+/// [`WritePlansFault::TooLong`] where a number has no room in its bytes, and [`WritePlansFault::Memory`] when out of memory.
 pub fn plans_bytes(
     alloc: Global,
     resource: Resource,
@@ -113,7 +113,7 @@ fn no_plans(alloc: Global, bytes: &[u8]) -> Result<StoredPlans, ReadPlansFault>
 ///
 /// # Errors
 ///
-/// [`ReadPlansFault::Damaged`] where an object that is no policy has bytes, and [`ReadPlansFault::Memory`] where no memory is left.
+/// [`ReadPlansFault::Damaged`] where an object that is no policy has bytes, and [`ReadPlansFault::Memory`] when out of memory.
 pub fn stored_plans(
     alloc: Global,
     resource: Resource,

@@ -51,7 +51,7 @@ impl TypedPolicy {
     /// [`PolicyFault::BadSpec`] where the document has not the form of a policy, or spells one with more than 65535
     /// expressions. [`PolicyFault::BadExpression`] with the text of the
     /// first expression that spells no tree, or has no type as it must: match conditions and validations are truth values, message
-    /// expressions are strings, and variables are of any type. [`PolicyFault::Memory`] where no memory is left.
+    /// expressions are strings, and variables are of any type. [`PolicyFault::Memory`] when out of memory.
     pub fn read(alloc: Global, document: &Json) -> Result<TypedPolicy, PolicyFault>
         ensures ok { IfOk result (λ p. IsPolicy (view document.now) p.policy p.trees) }
         // The expressions spell no other trees.
@@ -78,7 +78,7 @@ impl TypedPolicy {
     ///
     /// # Errors
     ///
-    /// Where no memory is left.
+    /// Out of memory.
     pub fn plans(&self, alloc: Global) -> Result<Vec<Verified>, AllocError>
         requires few { length self.now.policy.variables ≤ 65535 }
         ensures { IfOk result (λ v. v.items ≡ plans_of self.now.policy self.now.trees) }

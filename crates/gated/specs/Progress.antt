@@ -15,7 +15,7 @@ watched_disk disk = record {
   keeps = λ w. disk.keeps w.device;
 }
 
--- the line, from its begin on, of so many bytes; a megabyte has 1,000,000
+-- the line, from its begin on, of this many bytes; a megabyte has 1,000,000
 abbrev pub progress_text : ℕ → ℕ → List ℕ
 progress_text read written = codes "\rgated: " ++ decimal (read / 1000000) ++ codes " MB read, " ++ decimal (written / 1000000) ++ codes " MB written"
 

@@ -22,7 +22,7 @@ pub enum Verb<'a> {
     Replay {
         file: &'a str,
     },
-    /// Serve so many connections to an address, each of which is closed where it sends nothing for so many seconds, or never (0).
+    /// Serve this many connections to an address, each of which is closed where it sends nothing for this many seconds, or never (0).
     Serve {
         file: &'a str,
         address: &'a str,
@@ -198,7 +198,7 @@ fn verb_among<'a>(matches: &ArgMatches<'a>) -> Option<Verb<'a>>
 ///
 /// # Errors
 ///
-/// `clap`'s refusal, whose text tells of the usage; its kind is `OutOfMemory` where memory was wanting.
+/// `clap`'s refusal, whose text tells of the usage; its kind is `OutOfMemory` when out of memory.
 pub fn command<'a, S: AsStr>(alloc: Global, words: &'a [S]) -> Result<Verb<'a>, Error>
     ensures asked { IfOk result (AskFor (map S.text words.entry.now)) }
     ensures file { IfOk result (λ verb. Contains (map S.text words.entry.now) (file_of verb)) }

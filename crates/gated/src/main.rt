@@ -7,7 +7,7 @@
 //! ```
 //!
 //! It ends with status 0 on success, 2 for a command line that it does not know, and for help; 3 where there is no store, or a
-//! damaged one; 4 where a device, the input or the output failed; 5 where memory was refused. Faults are told on standard error.
+//! damaged one; 4 where a device, the input or the output failed; 5 when out of memory. Faults are told on standard error.
 #![tactic(auto)]
 
 mod command;

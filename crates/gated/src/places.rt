@@ -1,4 +1,4 @@
-//! The places of the standard input, output and errors.
+//! File descriptors 0, 1 and 2: standard input, output and errors.
 
 ghost use Rattle.std.specs.Prelude.{◌≡◌, ◌≢◌, Some, None, IfOk, IfErr, OnErr};
 ghost use Rattle.std.specs.IoError.{error_kind};
@@ -9,7 +9,7 @@ use std::io;
 use std::io::ErrorKind;
 use std::rt::Files;
 
-// A file in which nothing is found and nothing is kept.
+// The null device: reads end at once, writes are dropped.
 const NOTHING: &str = "/dev/null";
 
 // Opens it, to be read.
@@ -35,13 +35,14 @@ fn kept<F: Drop>(opened: io::Result<F>) -> Result<Option<F>, Problem>
     }
 }
 
-/// Takes the places of those of the three that are closed, for as long as what is answered lives. A file that is opened takes the first
-/// place that is free: where the output is closed, the file of a store would take its place, and replies would be written over its header. Reading from a
-/// place that is taken so ends at once, and writing to it fails.
+/// Opens the null device on each of file descriptors 0, 1 and 2 that is closed. Keep what is returned alive: the descriptors close with it.
+///
+/// Without this, the file of a store would get the lowest free descriptor. With standard output closed that is 1, and replies would be written over
+/// the store's header. Reading from such a descriptor ends at once, and writing to it fails.
 ///
 /// # Errors
 ///
-/// Where there was no memory.
+/// Out of memory.
 pub fn take_places<R: Files<File = File>>(files: &R) -> Result<Option<(File, File, File)>, Problem>
     ensures { OnErr result (result ≡ Err Problem.OutOfMemory) }
 {

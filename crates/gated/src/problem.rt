@@ -1,4 +1,4 @@
-//! What keeps the program from doing what it was asked.
+//! Problems of the program, their lines and their statuses.
 
 ghost use Rattle.std.specs.Prelude.{◌≡◌, codes, ◌++◌, OnOk, OnErr};
 ghost use Rattle.gated.specs.Telling.{HasLine};

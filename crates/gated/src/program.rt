@@ -1,4 +1,4 @@
-//! What the program does.
+//! The commands of the program.
 
 ghost use Rattle.std.specs.Prelude.{◌≡◌, ◌≢◌, ◌⊎◌, map, IfOk, OnOk, OnErr, IsErrOf};
 ghost use Rattle.clap.specs.Words.{kind_of};
@@ -30,7 +30,8 @@ use store::{
     compact as compact_store, create, open,
 };
 
-// Makes a store in a new file. No memory is taken, so a file that was made holds a store unless its device failed.
+// Makes a store in a new file. It allocates nothing, so it cannot run out of memory once there is a file. Where the store cannot be written, as on a
+// full disk, the file is removed.
 fn create_store<D: Device, S: Storage<D>>(storage: &S, file: &str) -> Result<(), Problem>
     ensures made { OnOk result (MadeStore D.disk S.made S.opened S.closed storage.now file.now) }
     ensures no_such_store { IsErrOf result Problem.NoStore → ⊥ }
@@ -38,9 +39,17 @@ fn create_store<D: Device, S: Storage<D>>(storage: &S, file: &str) -> Result<(),
     ensures no_damage { (damage : Damage) → IsErrOf result (Problem.Damaged damage) → ⊥ }
 {
     let mut device = storage.create(file)?;
-    create(&mut device)?;
-    storage.close(file, device);
-    Ok(())
+    match create(&mut device) {
+        Ok(()) => {
+            storage.close(file, device);
+            Ok(())
+        }
+        Err(fault) => {
+            storage.discard(file);
+            drop(device);
+            Err(Problem::from(fault))
+        }
+    }
 }
 
 // The store in a file.

@@ -1,4 +1,4 @@
-//! How far a compaction is.
+//! The progress of a compaction.
 
 ghost use Rattle.std.specs.Prelude.{◌≡◌, ◌+◌, ◌-◌, ◌^◌, ◌<◌, min, false};
 ghost use Rattle.gated.specs.Progress.{Shows, progress_text, watched_disk};

@@ -40,7 +40,7 @@ fn words_of(alloc: Global, read: io::Result<Args>) -> Result<Vec<String>, Proble
 ///
 /// # Errors
 ///
-/// Where there was no memory.
+/// Out of memory.
 pub fn words<R: Env + Alloc<A = Global>>(runtime: &R) -> Result<Vec<String>, Problem>
     ensures { OnErr result (result ≡ Err Problem.OutOfMemory) }
 {

@@ -88,7 +88,7 @@ impl<P> Model for Holdings<P> {
 }
 
 impl<P: Drop> Holdings<P> {
-    /// Nothing is held yet of a store at a revision, of which no event is known and so many objects lie below.
+    /// Nothing is held yet of a store at a revision, of which no event is known and this many objects lie below.
     pub fn over(
         alloc: Global,
         rules: Rules,
@@ -109,7 +109,7 @@ impl<P: Drop> Holdings<P> {
         })
     }
 
-    /// Holds what stands under a key, or that nothing does, as it is already. It makes no event, and no revision.
+    /// Caches an object that lies below, or its absence. It makes no event, and the revision stays.
     pub fn hold(
         &mut self,
         alloc: Global,
@@ -131,7 +131,7 @@ impl<P: Drop> Holdings<P> {
     ///
     /// # Errors
     ///
-    /// Where there was no memory. What is shown stays.
+    /// Out of memory. What is shown stays.
     pub fn restore(&mut self, alloc: Global, key: &Key, stored: Stored<P>) -> Result<(), AllocError>
         ensures rules { self.new.rules ≡ self.old.rules }
         ensures shows { (base : List (KeyData × StoredData P)) (v : View P) → Shows self.old base v → exists v key.now ≡ false
@@ -256,7 +256,7 @@ impl<P: Drop> Holdings<P> {
     ///
     /// # Errors
     ///
-    /// Where there was no memory.
+    /// Out of memory.
     pub fn list<'a>(
         &'a self,
         alloc: Global,
@@ -275,7 +275,7 @@ impl<P: Drop> Holdings<P> {
     ///
     /// # Errors
     ///
-    /// Where there was no memory.
+    /// Out of memory.
     pub fn held(
         &self,
         alloc: Global,
@@ -291,7 +291,7 @@ impl<P: Drop> Holdings<P> {
     ///
     /// # Errors
     ///
-    /// Where there was no memory.
+    /// Out of memory.
     pub fn objects<'a>(
         &'a self,
         alloc: Global,
@@ -306,7 +306,7 @@ impl<P: Drop> Holdings<P> {
     ///
     /// # Errors
     ///
-    /// Where there was no memory.
+    /// Out of memory.
     pub fn listed(
         &self,
         alloc: Global,
@@ -339,7 +339,7 @@ impl<P: Drop> Holdings<P> {
     ///
     /// # Errors
     ///
-    /// Where there was no memory.
+    /// Out of memory.
     pub fn told(
         &self,
         alloc: Global,
@@ -374,7 +374,7 @@ impl<P: Drop> Holdings<P> {
     ///
     /// # Errors
     ///
-    /// Where there was no memory. What is shown stays.
+    /// Out of memory. What is shown stays.
     pub fn prepare_put(
         &mut self,
         alloc: Global,
@@ -418,7 +418,7 @@ impl<P: Drop> Holdings<P> {
     ///
     /// # Errors
     ///
-    /// Where there was no memory. What is shown stays.
+    /// Out of memory. What is shown stays.
     pub fn prepare_deletion(
         &mut self,
         alloc: Global,

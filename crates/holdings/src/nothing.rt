@@ -1,4 +1,4 @@
-//! Where nothing lies below.
+//! A source without objects.
 
 ghost use Rattle.std.specs.Prelude.{◌≡◌, []};
 

@@ -24,7 +24,7 @@ pub enum RedoFault {
     /// The write may not follow what is stored.
     #[error("a write that may not follow")]
     NotAllowed,
-    /// There was no memory to take it.
+    /// Out of memory while taking it.
     #[error("out of memory")]
     Memory,
 }

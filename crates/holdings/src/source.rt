@@ -1,4 +1,4 @@
-//! Where objects lie below.
+//! The trait of the objects that lie below memory.
 
 ghost use Rattle.std.specs.Prelude.{◌≡◌, ◌≤◌, ℕ, List, option_map, IfOk, OnOk, IsErrOf};
 ghost use Rattle.std.specs.List.{filter};

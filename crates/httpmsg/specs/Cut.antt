@@ -15,14 +15,14 @@ IsLeast bytes need =
     ((b : LacksBody bytes) × (need ≡ length (print_request b.head) + content_length (head_of b.head)))
     ⊎ ((LacksBody bytes → ⊥) × (need ≡ length bytes + 1))
 
--- these bytes, and all that go on from them and are fewer than so many, give no message and no fault
+-- these bytes, and all that go on from them and are fewer than this many, give no message and no fault
 pub record Awaits (bytes : List ℕ) (need : ℕ) : Type 0 where
   pub short : length bytes < need
   pub few : need ≤ 24576
   pub stays : (more : List ℕ) → length (bytes ++ more) < need → Waits (bytes ++ more) × IsUnfinished (bytes ++ more)
   pub least : IsLeast bytes need
 
--- the bytes begin with a message of so many bytes, or with none before so many are there, or end the stream whatever follows
+-- the bytes begin with a message of this many bytes, or with none before this many are there, or end the stream whatever follows
 abbrev pub IsNext : List ℕ → Next → Type 0
 IsNext bytes (Whole m len) = (0 < len) × (len ≤ length bytes) × Takes bytes m (drop len bytes)
 IsNext bytes (Unfinished need) = Awaits bytes need

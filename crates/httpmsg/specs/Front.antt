@@ -6,7 +6,7 @@ use Rattle.httpmsg.specs.declared.front.Front.TheVariants.{Whole, Unfinished, Ne
 use Rattle.httpmsg.specs.Head.{head_of}
 use Rattle.httpmsg.specs.Stream.{BeginsWith}
 
--- a head of so many bytes begins the bytes, or none does yet, or none ever will
+-- a head of this many bytes begins the bytes, or none does yet, or none ever will
 abbrev pub IsFront : List ℕ → Front → Type 0
 IsFront bytes (Whole view len) =
     (len ≤ length bytes) × ((h : RequestHead) × BeginsWith bytes h (drop len bytes) × (view ≡ head_of h))

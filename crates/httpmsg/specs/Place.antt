@@ -24,7 +24,7 @@ IsValue text = (value : List ℕ) × (rest : List ℕ) × (text ≡ value ++ res
 abbrev pub IsWord : (ℕ → Type 0) → ℕ → (List ℕ → Type 0) → List ℕ → Type 0
 IsWord Byte stop Next text = (word : List ℕ) × (rest : List ℕ) × (text ≡ word ++ stop ∷ rest) × All Byte word × Next rest
 
--- it is a version after so many of its bytes, and the end of its line
+-- it is a version after this many of its bytes, and the end of its line
 abbrev pub IsVersion : ℕ → List ℕ → Type 0
 IsVersion count text =
     (minor : ℕ) × (rest : List ℕ) × (text ≡ drop count (codes "HTTP/1.") ++ (48 + minor) ∷ rest) × (minor ≤ 1) × IsLineEnd rest

@@ -38,7 +38,7 @@ fn next_message(alloc: Global, bytes: &[u8], room: &mut [HeaderSpan]) -> Result<
     }
 }
 
-// The message that a head of so many bytes begins.
+// The message that a head of this many bytes begins.
 fn first_message(
     alloc: Global,
     bytes: &[u8],

@@ -1,4 +1,4 @@
-//! What a request's head says, read where it lies.
+//! The head of a request, read where it lies.
 
 ghost use Rattle.std.specs.Prelude.{◌≡◌, ℕ, ◌+◌, ◌<◌, ◌≤◌, ◌↔◌, List, length, map, reverse, All, IsTrue, codes, Option, IfSome, is_some, find, count_by, None, not, nat_lt, ◌&&◌, min, ◌^◌, option_map, position, ◌==◌, ◌++◌, ◌∷◌, [], take, drop, slice_index};
 ghost use Rattle.std.specs.List.{list_any, starts_with};

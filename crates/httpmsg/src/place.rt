@@ -15,7 +15,7 @@ pub enum Place {
     InMethod,
     BeforeTarget,
     InTarget,
-    /// After so many bytes of [`VERSION`].
+    /// After this many bytes of [`VERSION`].
     InVersion(usize),
     AfterVersion,
     /// After the CR of a line.

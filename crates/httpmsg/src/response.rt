@@ -171,7 +171,7 @@ impl<'r> Response<'r> {
         Response { closes, ..self }
     }
 
-    /// With its fields alone, as a reply to HEAD has, or with its body.
+    /// Omits the body, as for HEAD, or keeps it.
     pub fn leaving_body_out(self, without_body: bool) -> Response<'r>
         ensures { result ≡ record self.entry { without_body = without_body } }
     {

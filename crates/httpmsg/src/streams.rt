@@ -1,4 +1,4 @@
-//! What bytes are read from and written to, with their bytes and failures told.
+//! Inputs and outputs, with the bytes and the failures that they tell.
 
 ghost use Rattle.std.specs.Prelude.{◌≡◌, ℕ, ◌<◌, ◌≤◌, List, [], ◌++◌, length, take, ◌≢◌, IfOk, IfErr, OnErr};
 ghost use Rattle.std.specs.IoError.{error_kind};
@@ -29,7 +29,7 @@ pub trait Input {
     /// How often it has failed.
     ghost failures: { Self → ℕ };
 
-    /// Fills a front of the buffer with further bytes: with none only at the end, or where the buffer is empty.
+    /// Reads at least one byte into the front of the buffer; 0 only at the end, or for an empty buffer.
     fn read(&mut self, buffer: &mut [u8]) -> Result<usize, StreamFault>
         ensures count { IfOk result (λ n. n ≤ length buffer.new) }
         ensures gives { IfOk result (λ n. gave self.old self.new (take n buffer.new)) }

@@ -73,7 +73,7 @@ pub record Stands (at : ℕ) (t : Table) (b : Body) : Type 0 where
   pub ends : t.end ≡ b.end
   pub heights : (place : ℕ) → at ≤ place → known_at place t ≡ all_told place height.Never b.awaited
 
--- The open bodies, each in the one around it, in a plan of so many instructions.
+-- The open bodies, each in the one around it, in a plan of this many instructions.
 abbrev pub Nested : ℕ → ℕ → Table → List Table → Body → List Body → Type 0
 Nested at count t [] b [] = Stands at t b × (t.end ≡ count)
 Nested at count t [] b (c ∷ cs) = ⊥

@@ -9,7 +9,7 @@ abbrev pub ◌>>=◌ : {A B : Type 0} → Result A CodeFault → (A → Result B
 (Ok x) >>= f = f x
 (Err e) >>= f = Err e
 
--- An error is the one that is expected, unless no memory is left.
+-- An error is the one that is expected, unless out of memory.
 abbrev pub Fails : {Y : Type 0} → CodeFault → Result Y CodeFault → Type 0
 Fails fault.Truncated expected = expected ≡ Err fault.Truncated
 Fails fault.BadOperand expected = expected ≡ Err fault.BadOperand
@@ -20,7 +20,7 @@ Fails fault.BadName expected = expected ≡ Err fault.BadName
 Fails fault.BadStack expected = expected ≡ Err fault.BadStack
 Fails fault.Memory expected = Unit {0}
 
--- What a function returned, seen by view, is what is expected, unless no memory is left.
+-- What a function returned, seen by view, is what is expected, unless out of memory.
 abbrev pub Gives : {X Y : Type 0} → (X → Y) → Result X CodeFault → Result Y CodeFault → Type 0
 Gives view (Ok x) expected = expected ≡ Ok (view x)
 Gives view (Err e) expected = Fails e expected

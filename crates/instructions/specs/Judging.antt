@@ -55,7 +55,7 @@ targets (Jump target) = target ∷ []
 targets (Over m end) = end ∷ []
 targets op = []
 
--- Control comes to a place, with so many outcomes on the stack of its body.
+-- Control comes to a place, with this many outcomes on the stack of its body.
 pub record Arrival : Type 0 where
   pub place : ℕ
   pub height : ℕ
@@ -163,6 +163,6 @@ judge vars at (op ∷ ops) body others = step vars at op ops body others >>= λ 
 abbrev pub whole : List Op → Body
 whole ops = record { end = length ops; awaited = record { place = 0; height = 0 } ∷ [] }
 
--- `Ok`, or the first fault, of a plan in a place with so many variables.
+-- `Ok`, or the first fault, of a plan in a place with this many variables.
 unfoldable pub first_fault : ℕ → List Op → Result (Unit {0}) CodeFault
 first_fault vars ops = judge vars 0 ops (whole ops) []

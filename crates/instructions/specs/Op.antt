@@ -19,7 +19,7 @@ pub data Op : Type 0 where
   PushSlot : Slot → Op
   TakeField TakeHas : (name : List ℕ) → Op
   TakeIndex : Op
-  -- so many items, and so many pairs of a key and a value
+  -- this many items, and this many pairs of a key and a value
   TakeItems TakePairs : (count : ℕ) → Op
   TakeUnary : Prefix → Op
   TakeBinary : Binary → Op

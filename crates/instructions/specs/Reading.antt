@@ -34,7 +34,7 @@ number_at w bytes =
 abbrev pub text_of : List ℕ → Result (List ℕ) CodeFault
 text_of bytes = if is_utf8 bytes then Ok bytes else Err fault.TextNotUtf8
 
--- So many bytes of text, and the bytes after them.
+-- This many bytes of text, and the bytes after them.
 abbrev pub text_of_length : ℕ → List ℕ → Result (List ℕ × List ℕ) CodeFault
 text_of_length n bytes = if nat_lt (length bytes) n then Err fault.Truncated else (text_of (take n bytes) >>= λ text. Ok (text, drop n bytes))
 

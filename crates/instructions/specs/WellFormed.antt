@@ -40,7 +40,7 @@ pub record StandsAt (code : List Op) (c : Control) (op : Op) : Type 0 where
   pub inside : c.place < c.end
   pub here : slice_get code c.place ≡ Some op
 
--- A plan in a place with so many variables is well formed.
+-- A plan in a place with this many variables is well formed.
 pub record IsWellFormed (vars : ℕ) (code : List Op) : Type 0 where
   -- A target lies ahead, and not past the end of the body.
   pub forward : (c : Control) (op : Op) (target : ℕ) → StandsAt code c op → Among target (targets op) → (c.place < target) × (target ≤ c.end)

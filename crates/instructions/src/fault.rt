@@ -29,7 +29,7 @@ pub enum CodeFault {
     /// An operand is missing, an instruction is never reached or with two heights of the stack, or an end has not one outcome.
     #[error("bad stack")]
     BadStack,
-    /// No memory is left.
+    /// Out of memory.
     #[error("out of memory")]
     Memory,
 }

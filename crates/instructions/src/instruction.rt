@@ -99,9 +99,9 @@ pub enum Instruction {
     Has(String),
     /// Takes a list or a map and an index.
     Index,
-    /// Takes so many items and puts their list.
+    /// Takes this many items and puts their list.
     List(u16),
-    /// Takes so many keys and values and puts their map.
+    /// Takes this many keys and values and puts their map.
     Map(u16),
     /// Takes the operand of `!` or `-`.
     Unary(Prefix),

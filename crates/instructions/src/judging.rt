@@ -1,4 +1,4 @@
-//! Whether instructions are a well-formed plan.
+//! Well-formed plans, and the first fault of the others.
 
 ghost use Rattle.std.specs.Prelude.{
   ◌≡◌,
@@ -266,11 +266,11 @@ fn finish(at: usize, body: Body, outer: &mut Vec<Body>) -> Result<(), CodeFault>
     }
 }
 
-/// Whether the instructions are a well-formed plan in a place with so many variables: `Ok`, or the first fault.
+/// Whether the instructions are a well-formed plan in a place with this many variables: `Ok`, or the first fault.
 ///
 /// The instructions are judged in order, each for its targets ([`CodeFault::BadJump`]), its name ([`CodeFault::BadName`]) and its
 /// stack ([`CodeFault::BadStack`]); the end of a body is judged before the instruction after it, and the end of the plan last.
-/// [`CodeFault::Memory`]: no memory is left for the tables.
+/// [`CodeFault::Memory`]: out of memory for the tables.
 pub fn check(alloc: Global, vars: u16, code: &[Instruction]) -> Result<(), CodeFault>
     ensures { Gives (λ _. tt) result (first_fault vars (ops_of code.now)) }
 {

@@ -1,4 +1,4 @@
-//! What the definitions promise.
+//! Laws of plans.
 
 ghost use Rattle.instructions.specs.WellFormed.{SoundWhereWellFormed};
 

@@ -187,7 +187,7 @@ fn encode_all(alloc: Global, instructions: &[Instruction]) -> Result<Vec<u8>, Al
     Ok(out)
 }
 
-/// The one spelling of a plan in bytes: how many instructions it has, and each of them. Errors: no memory is left.
+/// The one spelling of a plan in bytes: how many instructions it has, and each of them. Errors: out of memory.
 pub fn encode(alloc: Global, plan: &Plan) -> Result<Vec<u8>, AllocError>
     requires { HaveRoom (plan_ops plan.now) }
     ensures { IfOk result (λ b. b.items ≡ code (plan_ops plan.now)) }

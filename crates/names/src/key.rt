@@ -15,7 +15,7 @@ use std::marker::Model;
 pub enum KeyFault {
     /// What was given is no key.
     NoKey,
-    /// Memory was wanting.
+    /// Out of memory.
     Memory,
 }
 
@@ -59,7 +59,7 @@ pub struct Key {
     name: String,
 }
 
-// Written out, so that other crates call it: what is derived is made again in each of them.
+// Hand-written: derived drop glue is proved again in each crate.
 impl Drop for Key {
     fn drop(self) {
         let Key {

@@ -31,7 +31,7 @@ module _ {X : Type 0} where
   abbrev pub AllAbove : Key → List (Key × X) → Type 0
   AllAbove key entries = AllByRecursion (λ entry. key_cmp key entry.0 ≡ Less) entries
 
--- So many changes are below the key, and no other.
+-- This many changes are below the key, and no other.
 pub record IsSplitAt {X : Type 0} (key : Key) (changes : List (Key × Option X)) (count : ℕ) : Type 0 where
   pub below : AllByRecursion (λ change. key_cmp change.0 key ≡ Less) (take count changes)
   pub after : NoneBelow key (drop count changes)

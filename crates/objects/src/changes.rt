@@ -44,7 +44,7 @@ impl<T> Model for Changes<T> {
 }
 
 impl<T: Drop> Changes<T> {
-    /// No changes yet, over so many entries. Takes no memory.
+    /// No changes yet, over this many entries. Takes no memory.
     pub fn over(alloc: Global, count: usize) -> Changes<T>
         ensures leaves { (base : List (KeyData × T)) → IsTrue (is_sorted key_cmp base) → length base ≡ count → Leaves result base base }
         ensures none { result.made ≡ [] }
@@ -77,7 +77,7 @@ impl<T: Drop> Changes<T> {
         self.made.get(key)
     }
 
-    /// Takes memory for so many more keys, if it is not there yet.
+    /// Takes memory for this many more keys, if it is not there yet.
     pub fn reserve(&mut self, additional: usize) -> Result<(), AllocError>
         ensures room { OnOk result (additional ≤ self.new.room) }
         ensures made { self.new.made ≡ self.old.made }
@@ -111,7 +111,7 @@ impl<T: Drop> Changes<T> {
     ///
     /// # Errors
     ///
-    /// Where there was no memory.
+    /// Out of memory.
     pub fn list<'a>(
         &'a self,
         alloc: Global,
@@ -135,7 +135,7 @@ impl<T: Drop> Changes<T> {
     ///
     /// # Errors
     ///
-    /// Where there was no memory.
+    /// Out of memory.
     pub fn left<'a>(
         &'a self,
         alloc: Global,

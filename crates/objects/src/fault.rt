@@ -24,7 +24,7 @@ pub enum LookupFault {
     /// This part of what was read is damaged.
     #[error("damaged store")]
     Damaged(Part),
-    /// No memory is left.
+    /// Out of memory.
     #[error("out of memory")]
     Memory,
 }

@@ -1,4 +1,4 @@
-//! What is promised of changes over entries.
+//! Laws of changes over entries.
 
 ghost use Rattle.objects.specs.Laws.{FoundOver, ChangeIsOneMore, ListedOver, SameIsNothing, ChangeCounts, FoundWhereCovered, ListedWhereCovered};
 

@@ -81,7 +81,7 @@ fn push_entry<'a, T>(
 ///
 /// # Errors
 ///
-/// Where there was no memory.
+/// Out of memory.
 pub fn merged<'a, T>(
     alloc: Global,
     changes: &[&'a Entry<Option<T>>],

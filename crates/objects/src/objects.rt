@@ -105,7 +105,7 @@ impl<T> Objects<T> {
         self.entries.is_empty()
     }
 
-    /// Takes memory for so many more keys, if it is not there yet.
+    /// Takes memory for this many more keys, if it is not there yet.
     pub fn reserve(&mut self, additional: usize) -> Result<(), AllocError>
         ensures ok { OnOk result (additional ≤ self.new.room) }
         ensures entries { self.new.entries ≡ self.old.entries }

@@ -59,7 +59,7 @@ admitted_first : (rules : Rules) (v : View) (ws us : List Write) → AreAdmitted
 admitted_first rules v [] us all = tt
 admitted_first rules v (w ∷ ws) us all = (all.0, admitted_first rules (after rules v w) ws us all.1)
 
--- a fault that is neither want of memory nor damage is the device's
+-- a fault that is neither out of memory nor damage is the device's
 device_only : (x : Fault) → (Some x ≡ Some Faults.Memory → ⊥) → ((d : Damage) → Some x ≡ Some (Faults.Damaged d) → ⊥) → MayBeMet x → x ≡ Faults.Device
 device_only x not_memory not_damaged (inl is) = is
 device_only x not_memory not_damaged (inr (inl is)) = absurd (not_memory (ap Some is))
@@ -126,7 +126,7 @@ module _ {D : Type 0} {g : Ghosts D} (rules : Rules) (old mid new : Store D g) (
           stands = found.stands;
         }
 
-    -- whatever ended the run, but want of memory
+    -- whatever ended the run, except out of memory
     pub episode_leaves : (fault : Option Fault) → (fault ≡ Some Faults.Memory → ⊥) → ((d : Damage) → fault ≡ Some (Faults.Damaged d) → ⊥) → IfSome fault MayBeMet
         → (fault ≡ None → HasServed old mid (requests_of e) f.replies.items)
         → (fault ≡ Some Faults.Device → HasStopped old mid (requests_of e) f.replies.items) → EpisodeLeaves rules h e f c

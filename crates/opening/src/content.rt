@@ -1,4 +1,4 @@
-//! What is found on a device that is opened.
+//! The content of a device that is opened.
 
 ghost use Rattle.std.specs.Prelude.{◌≡◌, ◌≢◌, ◌<◌, ◌≤◌, ◌*◌, ◌^◌, [], false, ℕ, List, length, map, Contains, IfOk, OnOk, OnErr, IsErrOf, Err};
 ghost use Rattle.device.specs.Disk.{Only, HasFailed};

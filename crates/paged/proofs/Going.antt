@@ -58,6 +58,6 @@ module _ {D : Type 0} {g : Ghosts D} (start end : Base D Bare g) (old now : D) (
       let To : D → Type 0 = λ d. HasFailed g.disk start.device.now d in
       subst From from (subst To to grown)
 
--- where memory was wanting no other fault is told
+-- when out of memory no other fault is told
 pub no_want : {A P : Type 0} (r : Result A LookupFault) → IsErrAnd r (λ e. e ≡ Memory) → (fault : LookupFault) → (fault ≡ Memory → ⊥) → IsErrOf r fault → P
 no_want r want fault other told = absurd (other (err_is r (λ e. e ≡ Memory) fault want told))

@@ -11,7 +11,7 @@ use recovery::Beside;
 use snapshots::{Below, FromDocument};
 use std::alloc::{AllocError, Global};
 
-/// Beside a document that lies in a page stands what it spells, and no plans. Policies and bindings do not lie in pages: they are held in memory.
+/// For objects in pages: what the document spells, without plans. Policies and bindings are held in memory, and not looked up in pages.
 #[derive(Drop)]
 pub struct Bare;
 

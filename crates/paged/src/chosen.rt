@@ -1,4 +1,4 @@
-//! What of a checkpoint is held in memory from an opening on.
+//! Which objects of a checkpoint an opening keeps in memory: policies, bindings, and those that the log writes.
 
 ghost use Rattle.std.specs.Prelude.{◌≡◌, ◌∷◌, true, Contains, IfOk};
 ghost use Rattle.names.specs.Key.{Key as KeyData, key_bytes};

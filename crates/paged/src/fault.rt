@@ -15,7 +15,7 @@ pub enum ReadFault {
     Entry,
     /// An object that is no policy has plans.
     Plans,
-    /// There was no memory.
+    /// Out of memory.
     Memory,
 }
 

@@ -45,14 +45,14 @@ use shelf::Shelf;
 use snapshots::{Sieve, SnapshotFault, Stock, restored};
 use std::alloc::Global;
 
-// How many of so many objects lie below, where these entries were kept: all but the policies and the bindings.
+// How many of this many objects lie below, where these entries were kept: all but the policies and the bindings.
 fn count_below(kept: &[Entry], objects: u64) -> usize
     ensures { result ≡ objects - rules_among kept.now }
 {
     (objects as usize).saturating_sub(rules_among(kept))
 }
 
-// What is held of a checkpoint at a revision, of which these entries were kept, and which has so many objects.
+// What is held of a checkpoint at a revision, of which these entries were kept, and which has this many objects.
 fn core_of(
     alloc: Global,
     rules: Rules,

@@ -26,7 +26,7 @@ impl Display for Full {
     }
 }
 
-// Whether so many free bytes have room for a slot and a cell.
+// Whether this many free bytes have room for a slot and a cell.
 fn is_enough(free: usize, key: &[u8], cell: &[u8]) -> bool
     ensures { IsTrue result ↔ (6 + length key.now + length cell.now ≤ free) }
 {

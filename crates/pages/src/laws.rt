@@ -1,4 +1,4 @@
-//! What pages promise.
+//! Laws of pages.
 
 ghost use Rattle.pages.specs.Laws.{OneList, OnePage};
 

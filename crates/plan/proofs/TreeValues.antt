@@ -21,7 +21,7 @@ no_items_left xs i h = subst (λ (zs : List Tree). HaveValues (views zs)) (sym (
 pub no_pairs_left : (xs : List (Tree × Tree)) (i : ℕ) → length xs ≤ i → PairsHaveValues (pair_views (drop i xs))
 no_pairs_left xs i h = subst (λ (zs : List (Tree × Tree)). PairsHaveValues (pair_views zs)) (sym (drop_all i xs h)) tt
 
--- a fact stands whether or not memory is left
+-- a fact stands, out of memory or not
 pub on_ok : {X Y : Type 0} (r : Result X Y) (P : Type 0) → P → OnOk r P
 on_ok (Ok x) P p = p
 on_ok (Err e) P p = tt

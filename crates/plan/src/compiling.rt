@@ -398,7 +398,7 @@ fn code_of_pair(
 ///
 /// # Errors
 ///
-/// Where no memory is left.
+/// Out of memory.
 pub fn compile(alloc: Global, tree: &Tree, env: &Env<'_>) -> Result<Plan, AllocError>
     requires typed { HasSomeType (declared env.now) (view tree.now) }
     requires small { IsSmall (view tree.now) }

@@ -1,4 +1,4 @@
-//! What the definitions promise.
+//! Laws of compiled code.
 
 ghost use Rattle.plan.specs.Correct.{RunsAsMeant};
 

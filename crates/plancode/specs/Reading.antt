@@ -9,7 +9,7 @@ use Rattle.instructions.specs.Faults.{◌>>=◌}
 use Rattle.instructions.specs.Judging.{first_fault}
 use Rattle.instructions.specs.Reading.{number_at, op_at}
 
--- So many instructions, and the bytes after them.
+-- This many instructions, and the bytes after them.
 unfoldable pub ops_at : Name → ℕ → List ℕ → Result (List Op × List ℕ) CodeFault
 ops_at greatest zero bytes = Ok ([], bytes)
 ops_at greatest (suc n) bytes = op_at greatest bytes >>= λ first. ops_at greatest n first.1 >>= λ others. Ok (first.0 ∷ others.0, others.1)
@@ -17,10 +17,10 @@ ops_at greatest (suc n) bytes = op_at greatest bytes >>= λ first. ops_at greate
 abbrev pub nothing_after : List Op × List ℕ → Result (List Op) CodeFault
 nothing_after x = if length x.1 == 0 then Ok x.0 else Err fault.TrailingBytes
 
--- The number of instructions, so many instructions, and nothing after them.
+-- The number of instructions, this many instructions, and nothing after them.
 unfoldable pub plan_of : Name → List ℕ → Result (List Op) CodeFault
 plan_of greatest bytes = number_at w16 bytes >>= λ n. ops_at greatest n.0 n.1 >>= λ x. nothing_after x
 
--- The well-formed plan that bytes spell, or the first fault, in a place with so many variables and with the declared names up to this one.
+-- The well-formed plan that bytes spell, or the first fault, in a place with this many variables and with the declared names up to this one.
 unfoldable pub decoded : ℕ → Name → List ℕ → Result (List Op) CodeFault
 decoded vars greatest bytes = plan_of greatest bytes >>= λ ops. first_fault vars ops >>= λ _. Ok ops

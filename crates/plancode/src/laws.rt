@@ -1,4 +1,4 @@
-//! What the bytes of plans promise.
+//! Laws of the bytes of plans.
 
 ghost use Rattle.plancode.specs.Laws.{OneSpelling, DecodesItsCode, FirstFaults};
 

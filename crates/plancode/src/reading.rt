@@ -8,7 +8,7 @@ ghost use Rattle.plancode.specs.Reading.{ops_at, plan_of};
 use instructions::{CodeFault, Instruction, Name, instruction_at, short_at};
 use std::alloc::Global;
 
-// So many instructions, and the bytes after them.
+// This many instructions, and the bytes after them.
 fn instructions(
     alloc: Global,
     count: u16,

@@ -14,13 +14,13 @@ use instructions::{CodeFault, Instruction, Name, Plan, check};
 use std::alloc::{AllocError, Global};
 use std::marker::Model;
 
-/// A well-formed plan, for a place with so many variables.
+/// A well-formed plan, for a place with this many variables.
 pub struct Verified {
     vars: u16,
     plan: Vec<Instruction>,
 }
 
-// Written out, so that other crates call it: what is derived is made again in each of them.
+// Hand-written: derived drop glue is proved again in each crate.
 impl Drop for Verified {
     fn drop(self) {
         let Verified { vars: _, plan: _ } = self;
@@ -90,7 +90,7 @@ fn decode_all(alloc: Global, bytes: &[u8], vars: u16, greatest: Name) -> Result<
     Ok(Verified { vars, plan })
 }
 
-/// The well-formed plan that the bytes spell, for a place with so many variables, and with the declared names up to one: all of them up to
+/// The well-formed plan that the bytes spell, for a place with this many variables, and with the declared names up to one: all of them up to
 /// [`Name::Params`], and without parameters up to [`Name::Request`].
 ///
 /// The bytes are read front to back: [`CodeFault::Truncated`], [`CodeFault::BadOperand`], a name that is not declared among them, and [`CodeFault::TextNotUtf8`] are told in

@@ -23,7 +23,7 @@ pub record HaveNumbers (plans : List Judged) : Type 0 where
   pub count : length plans < 2 ^ 16
   pub sizes : AllByRecursion IsShort plans
 
--- a well-formed plan for a place with so many variables, whose number of bytes has room
+-- a well-formed plan for a place with this many variables, whose number of bytes has room
 pub record IsFor (variables : ℕ) (p : Judged) : Type 0 where
   pub place : p.vars ≡ variables
   pub verified : IsVerified p.vars p.ops

@@ -1,4 +1,4 @@
-//! What lists of plans promise.
+//! Laws of lists of plans.
 
 ghost use Rattle.planlist.specs.Laws.{OneList};
 

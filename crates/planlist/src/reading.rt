@@ -21,7 +21,7 @@ pub enum ReadPlansFault {
     /// No well-formed plans for these places have the bytes.
     #[error("damaged plans")]
     Damaged,
-    /// No memory is left.
+    /// Out of memory.
     #[error("out of memory")]
     Memory,
 }
@@ -65,7 +65,7 @@ impl From<CodeFault> for ReadPlansFault {
     }
 }
 
-// The plan of this code, for a place with so many variables.
+// The plan of this code, for a place with this many variables.
 fn read_code(alloc: Global, variables: u16, code_bytes: &[u8]) -> Result<Verified, ReadPlansFault>
     ensures found { IfOk result (λ p. (p.vars ≡ variables) × IsVerified p.vars p.ops × (code p.ops ≡ code_bytes.now)) }
     ensures damaged { IsErrOf result fault.Damaged → (p : Judged) → IsFor variables p → code p.ops ≢ code_bytes.now }
@@ -73,7 +73,7 @@ fn read_code(alloc: Global, variables: u16, code_bytes: &[u8]) -> Result<Verifie
     Ok(decode(alloc, code_bytes, variables, Name::Params)?)
 }
 
-// The plan that bytes begin with, for a place with so many variables, and what stands after it.
+// The plan that bytes begin with, for a place with this many variables, and what stands after it.
 fn read_plan(
     alloc: Global,
     variables: u16,
@@ -129,8 +129,8 @@ fn split_count(bytes: &[u8]) -> Option<(u16, &[u8])>
 ///
 /// # Errors
 ///
-/// [`ReadPlansFault::Damaged`] where no well-formed plans for these places have the bytes, and [`ReadPlansFault::Memory`] where no
-/// memory is left.
+/// [`ReadPlansFault::Damaged`] where no well-formed plans for these places have the bytes, and [`ReadPlansFault::Memory`] when out of
+/// memory.
 pub fn read_plans(
     alloc: Global,
     places: &[u16],

@@ -16,7 +16,7 @@ pub enum WritePlansFault {
     /// There are more than 65535 plans, or one has more than 4294967295 bytes.
     #[error("too many plans, or one that is too long")]
     TooLong,
-    /// No memory is left.
+    /// Out of memory.
     #[error("out of memory")]
     Memory,
 }
@@ -64,7 +64,7 @@ fn add_plan(alloc: Global, bytes: &mut Vec<u8>, plan: &Verified) -> Result<(), W
 ///
 /// # Errors
 ///
-/// [`WritePlansFault::TooLong`] where a number has no room in its bytes, and [`WritePlansFault::Memory`] where no memory is left.
+/// [`WritePlansFault::TooLong`] where a number has no room in its bytes, and [`WritePlansFault::Memory`] when out of memory.
 pub fn write_plans(alloc: Global, plans: &[Verified]) -> Result<Vec<u8>, WritePlansFault>
     ensures bytes { IfOk result (λ v. v.items ≡ list_bytes plans.now) }
     // They are read again for the same places.

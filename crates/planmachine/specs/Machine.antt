@@ -120,7 +120,7 @@ abbrev pub step_if : World → Option Op → Next → Next
 step_if w None next at stop items os = []
 step_if w (Some op) next at stop items os = step w op next at stop items os
 
--- at most so many instructions, and the stack where the code or a macro's body ends
+-- at most this many instructions, and the stack where the code or a macro's body ends
 abbrev pub exec : World → List Op → ℕ → Next
 exec w code zero at stop items os = []
 exec w code (suc n) at stop items os = if nat_lt at stop then step_if w (slice_get code at) (exec w code n) at stop items os else os

@@ -27,11 +27,11 @@ vars m = length m.bindings.variables.now
 abbrev pub depth : Machine → ℕ
 depth m = length (items_of m)
 
--- what comes of so many instructions more
+-- what comes of this many instructions more
 abbrev pub next_of : Machine → ℕ → Next
 next_of m steps = exec (world m) (ops m) steps
 
--- Control can come to a place of the code, in a body with this end and in so many macros, with so many outcomes on the body's stack.
+-- Control can come to a place of the code, in a body with this end and in this many macros, with this many outcomes on the body's stack.
 pub record ComesTo (code : List Op) (at stop depth height : ℕ) : Type 0 where
   pub outer : List ℕ
   pub comes : Comes code (record { place = at; end = stop; outer = outer; height = height })
@@ -55,7 +55,7 @@ pub record Begins (vars : ℕ) (code : List Op) (first end depth : ℕ) : Type 0
 abbrev pub IsReady : Machine → Type 0
 IsReady m = IsWellFormed (vars m) (ops m)
 
--- It can be at a place, in a body with this end, with so many outcomes on the body's stack; it can stand at an instruction; and a
+-- It can be at a place, in a body with this end, with this many outcomes on the body's stack; it can stand at an instruction; and a
 -- macro's body can begin.
 abbrev pub IsAt : Machine → (at stop height : ℕ) → Type 0
 IsAt m at stop height = ComesTo (ops m) at stop (depth m) height
@@ -66,6 +66,6 @@ IsAtOp m op at stop height = Stands (vars m) (ops m) op at stop (depth m) height
 abbrev pub BeginsBody : Machine → (first end : ℕ) → Type 0
 BeginsBody m first end = Begins (vars m) (ops m) first end (depth m)
 
--- An instruction at a place may lead to another, with so many outcomes on the stack before it and so many after it.
+-- An instruction at a place may lead to another, with this many outcomes on the stack before it and this many after it.
 abbrev pub Leads : Op → (at to before after : ℕ) → Type 0
 Leads op at to before after = Among (record { place = to; height = after }) (arrivals op at before)

@@ -1,4 +1,4 @@
-//! What the names of an expression stand for.
+//! The values of the names in an expression.
 
 ghost use Rattle.std.specs.Prelude.{◌≡◌, ◌+◌, ◌<◌, [], ◌∷◌, ◌++◌, length, slice_get, Some, IfOk};
 ghost use Rattle.celmean.specs.Seen.{value_of, outcome_of, outcomes_seen};

@@ -165,7 +165,7 @@ fn advance_from<'a>(
     Ok(at + 1)
 }
 
-// One instruction: where it leads, with so many steps for the bodies of macros.
+// One instruction: where it leads, with this many steps for the bodies of macros.
 #[cycle(execute)]
 fn run_instruction<'a>(
     alloc: Global,
@@ -351,7 +351,7 @@ fn step_at<'a>(
     run_instruction(alloc, machine, &machine.code[at], steps, at, stop, stack)
 }
 
-// Runs the instructions from a place up to the one where the code or the body of a macro ends. Each leads ahead, so that so many steps
+// Runs the instructions from a place up to the one where the code or the body of a macro ends. Each leads ahead, so that this many steps
 // are enough.
 #[cycle(execute)]
 fn execute<'a>(
@@ -385,7 +385,7 @@ fn execute<'a>(
 ///
 /// # Errors
 ///
-/// Where no memory is left.
+/// Out of memory.
 pub fn run(alloc: Global, plan: &Verified, bindings: &Bindings<'_>) -> Result<Outcome, AllocError>
     // As many variables are bound as the plan was verified for.
     requires bound { length bindings.now.variables.now ≡ plan.now.vars }

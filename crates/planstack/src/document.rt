@@ -14,7 +14,7 @@ use std::alloc::{AllocError, Global};
 ///
 /// # Errors
 ///
-/// Where no memory is left.
+/// Out of memory.
 #[cycle(value)]
 pub fn value_of(alloc: Global, json: &Json) -> Result<Value, AllocError>
     ensures { IfOk result (λ v. value_of v ≡ json_value (view json.now)) }

@@ -1,4 +1,4 @@
-//! What the stack of the machine holds.
+//! The outcomes on the stack of the machine.
 
 ghost use Rattle.std.specs.Prelude.{◌≡◌, option_map, IfOk};
 ghost use Rattle.serde_json.specs.View.{view};

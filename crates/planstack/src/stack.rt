@@ -80,7 +80,7 @@ pub fn take_top(alloc: Global, stack: &mut Vec<Held<'_>>) -> Result<Outcome, All
     into_outcome(alloc, pop(stack))
 }
 
-/// Takes so many of the topmost outcomes, the topmost first.
+/// Takes this many of the topmost outcomes, the topmost first.
 pub(crate) fn take_topmost(
     alloc: Global,
     count: usize,
@@ -98,7 +98,7 @@ pub(crate) fn take_topmost(
     Ok(outcomes)
 }
 
-/// Takes so many of the topmost outcomes, in the order in which they were put.
+/// Takes this many of the topmost outcomes, in the order in which they were put.
 pub(crate) fn take_many(
     alloc: Global,
     count: usize,

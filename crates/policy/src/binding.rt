@@ -32,7 +32,7 @@ pub struct Binding {
     pub param_ref: Option<ParamRef>,
 }
 
-// Written out, so that other crates call it: what is derived is made again in each of them.
+// Hand-written: derived drop glue is proved again in each crate.
 impl Drop for Binding {
     fn drop(self) {
         let Binding {
@@ -49,7 +49,7 @@ impl Binding {
     ///
     /// # Errors
     ///
-    /// Where no memory is left.
+    /// Out of memory.
     pub fn of(alloc: Global, document: &Json) -> Result<Option<Binding>, AllocError>
         ensures { IfOk result (λ o. option_map binding_seen o ≡ binding_of (view document.now)) }
     {

@@ -16,7 +16,7 @@ use std::alloc::{AllocError, AllocFailed, Global};
 pub enum FormFault {
     /// The document has not the form.
     BadForm,
-    /// Memory was wanting.
+    /// Out of memory.
     Memory,
 }
 

@@ -1,4 +1,4 @@
-//! What rules ask of a write.
+//! The match rules of policies and bindings.
 
 ghost use Rattle.std.specs.Prelude.{◌≡◌};
 ghost use Rattle.policy.specs.MatchRules.{no_rules};

@@ -37,7 +37,7 @@ pub struct Policy {
     pub validations: Vec<Validation>,
 }
 
-// Written out, so that other crates call it: what is derived is made again in each of them.
+// Hand-written: derived drop glue is proved again in each crate.
 impl Drop for Policy {
     fn drop(self) {
         let Policy {
@@ -57,7 +57,7 @@ impl Policy {
     ///
     /// # Errors
     ///
-    /// Where no memory is left.
+    /// Out of memory.
     pub fn of(alloc: Global, document: &Json) -> Result<Option<Policy>, AllocError>
         ensures { IfOk result (λ o. option_map policy_seen o ≡ policy_of (view document.now)) }
     {

@@ -56,7 +56,7 @@ next_object (y ∷ xs) x more (o ∷ os) rest bytes key can other same =
 few_pieces : (bytes : List ℕ) → length bytes ≤ 2 ^ 30 → div_ceil (length bytes) 16384 ≤ 65536
 few_pieces bytes small = omega (arith, small, (div_ceil_times (length bytes) 16384 (omega arith)).1)
 
--- and no more bytes stand in so many
+-- and no more bytes stand in this many
 pub few_bytes : (bytes : List ℕ) → div_ceil (length bytes) 16384 ≤ 65536 → length bytes ≤ 2 ^ 30
 few_bytes bytes few = omega (arith, few, (div_ceil_times (length bytes) 16384 (omega arith)).0)
 

@@ -11,7 +11,7 @@ use std::fmt::{Display, Formatter};
 pub enum EntryFault {
     /// Nothing that is well formed has this entry.
     Damaged,
-    /// There was no memory to read it.
+    /// Out of memory while reading it.
     Memory,
 }
 

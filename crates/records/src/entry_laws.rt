@@ -1,4 +1,4 @@
-//! What entries promise.
+//! Laws of entries.
 
 ghost use Rattle.records.specs.EntryLaws.{AtMostOneObject, AtMostOneEvent, AtMostOneView, EntriesAscend, EntriesFitPages, HistoriesAreHoldable};
 

@@ -107,7 +107,7 @@ fn read_told(alloc: Global, bytes: &[u8]) -> Result<(Key, Document), EntryFault>
 ///
 /// # Errors
 ///
-/// `Damaged` where no well-formed event has this entry, and `Memory` where there was no memory to read it.
+/// `Damaged` where no well-formed event has this entry, and `Memory` when out of memory.
 pub fn read_event(alloc: Global, key: &[u8], cell: &[u8]) -> Result<Event<Document>, EntryFault>
     ensures entry { IfOk result (λ e. event_entry e ≡ (key.now, cell.now)) }
     ensures form { IfOk result IsStorableEvent }

@@ -1,4 +1,4 @@
-//! What entries keep of a view.
+//! The view that entries keep.
 
 use documents::Document;
 use objects::Event;

@@ -57,7 +57,7 @@ pub fn object_entry(
 ///
 /// # Errors
 ///
-/// `Damaged` where no well-formed object has this entry, and `Memory` where there was no memory to read it.
+/// `Damaged` where no well-formed object has this entry, and `Memory` when out of memory.
 pub fn read_object(alloc: Global, key: &[u8], cell: &[u8]) -> Result<StoredObject, EntryFault>
     ensures entry { IfOk result (λ o. object_entry o.manifest.key (document_in o.manifest.body) o.revision ≡ (key.now, cell.now)) }
     ensures form { IfOk result (λ o. IsStorableObject o.manifest.key (document_in o.manifest.body) o.revision) }

@@ -78,7 +78,7 @@ fn may_follow(plans: &[u8], cell: &[u8]) -> bool
 ///
 /// # Errors
 ///
-/// `Damaged` where no plans have these pieces one after the other, and `Memory` where there was no memory to read it. The bytes
+/// `Damaged` where no plans have these pieces one after the other, and `Memory` when out of memory. The bytes
 /// stay as they were.
 pub fn read_piece(
     alloc: Global,

@@ -177,7 +177,7 @@ fn are_numbered(events: &[Event<Document>], revision: u64) -> bool
 ///
 /// # Errors
 ///
-/// `Damaged` where no view that can be held has these entries and this revision, and `Memory` where there was no memory to read it.
+/// `Damaged` where no view that can be held has these entries and this revision, and `Memory` when out of memory.
 pub fn read_view(alloc: Global, entries: &[Entry], revision: u64) -> Result<KeptView, EntryFault>
     ensures entries { IfOk result (λ v. entries_of bytes_beside v ≡ entries.now) }
     ensures revision { IfOk result (λ v. v.revision ≡ revision) }

@@ -31,7 +31,7 @@ fn split_count(payload: &[u8]) -> Option<(u16, &[u8])>
     Some((count, &payload[2..]))
 }
 
-// So many writes, whose bytes these are, and no others.
+// This many writes, whose bytes these are, and no others.
 fn read_each(alloc: Global, count: u16, bytes: &[u8]) -> Result<Vec<StoredWrite<'_>>, RecordFault>
     ensures writes { IfOk result (λ ws. flat_map write_bytes (map write_of ws.items) ≡ bytes.now) }
     ensures count { IfOk result (λ ws. length (map write_of ws.items) ≡ count) }

@@ -31,7 +31,7 @@ module _ {S : Type 0} (holds : S → Base → Type 0) (goes_to : S → S → Typ
     damaged = λ part told. looked.damaged part (same (Damaged part) told);
   }
 
-  -- after looks that failed not, where nothing but memory is wanting
+  -- after lookups that did not fail, or failed only by out of memory
   pub looked_after : {A : Type 0} (before after : S) (result : Result A LookupFault) → ((base : Base) → holds before base → holds after base) → goes_to before after
       → failures before ≤ failures after → unfailed before after → OnErr result (IsErrOf result Memory) → HasLooked holds goes_to failures unfailed core before after result
   looked_after before after (Ok x) kept goes counts steady memory = record {

@@ -1,4 +1,4 @@
-//! What a write attempts, as policies are asked of it.
+//! The attempt of a write, as policies are asked about it.
 
 ghost use Rattle.std.specs.Prelude.{◌≡◌, option_map, if◌then◌else◌, Some, is_some};
 ghost use Rattle.serde_json.specs.View.{view};

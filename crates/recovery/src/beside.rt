@@ -1,4 +1,4 @@
-//! What stands beside a document in the core.
+//! The decoded policy and binding beside each document.
 
 ghost use Rattle.std.specs.Prelude.{◌≡◌, IfOk};
 ghost use Rattle.expressions.specs.Specification.{plans_seen};
@@ -19,7 +19,7 @@ pub struct Beside {
     bound: Option<Bound>,
 }
 
-// Written out, so that other crates call it: what is derived is made again in each of them.
+// Hand-written: derived drop glue is proved again in each crate.
 impl Drop for Beside {
     fn drop(self) {
         let Beside {
@@ -49,7 +49,7 @@ impl Beside {
     ///
     /// # Errors
     ///
-    /// Where no memory is left.
+    /// Out of memory.
     pub fn of(alloc: Global, document: &Doc, plans: StoredPlans) -> Result<Beside, AllocError>
         ensures { IfOk result (λ b. b ≡ spelled document.now (plans_seen plans)) }
     {

@@ -1,4 +1,4 @@
-//! Whether plans are those of the expressions beside which they stand.
+//! Checks whether plans are those of their expressions.
 
 ghost use Rattle.std.specs.Prelude.{◌≡◌, List, Some, false, IsTrue, IfOk};
 ghost use Rattle.std.specs.List.{AllByRecursion};
@@ -35,7 +35,7 @@ fn have_same_bytes(
         plans_bytes(alloc, resource, own),
     ) {
         (Ok(held), Ok(own)) => Ok(held.as_slice() == own.as_slice()),
-        // Plans that may be held are never too long, so memory was wanting.
+        // Plans that may be held are never too long, so the cause is out of memory.
         _ => Err(AllocError),
     }
 }
@@ -74,7 +74,7 @@ fn puts_own(alloc: Global, change: &Entry<Option<Stored<Beside>>>) -> Result<boo
 ///
 /// # Errors
 ///
-/// Where there was no memory.
+/// Out of memory.
 pub fn has_own_plans(alloc: Global, core: &Core) -> Result<bool, AllocError>
     ensures yes { (base : List (KeyData × StoredData BesideData)) (held : Held BesideData) → Shows core.now base held → AllByRecursion HasOwnPlans base
         → IfOk result (λ has. IsTrue has → AllByRecursion HasOwnPlans held.objects) }

@@ -14,7 +14,7 @@ pub enum RecoveryFault {
     Damaged,
     /// An object that is no policy has plans.
     Plans,
-    /// There was no memory to take them.
+    /// Out of memory while taking them.
     Memory,
 }
 

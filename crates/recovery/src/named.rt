@@ -15,7 +15,7 @@ use std::alloc::{AllocError, Global};
 ///
 /// # Errors
 ///
-/// Where no memory is left.
+/// Out of memory.
 pub(crate) fn key_wanted(
     alloc: Global,
     resource: Resource,
@@ -38,7 +38,7 @@ pub(crate) fn key_wanted(
 ///
 /// # Errors
 ///
-/// Where no memory is left.
+/// Out of memory.
 pub(crate) fn found_documents(alloc: Global, found: Option<Found>) -> Result<Vec<Doc>, AllocError>
     ensures { IfOk result (λ v. v.items ≡ cons_option (option_map shown_found found) []) }
 {

@@ -34,7 +34,7 @@ fn reply_of(alloc: Global, found: Option<Found>) -> Result<Reply, AllocError>
 ///
 /// # Errors
 ///
-/// Those of the source, and `Memory` where no memory is left.
+/// Those of the source, and `Memory` when out of memory.
 pub fn shown<S: Source<Beside>>(
     core: &Core,
     alloc: Global,
@@ -53,7 +53,7 @@ pub fn shown<S: Source<Beside>>(
 ///
 /// # Errors
 ///
-/// Those of the source, and `Memory` where no memory is left.
+/// Those of the source, and `Memory` when out of memory.
 pub fn listed<S: Source<Beside>>(
     core: &Core,
     alloc: Global,

@@ -1,4 +1,4 @@
-//! The core over a source, as objects are looked up in them.
+//! Policies' lookup over the store: memory first, then pages.
 
 ghost use Rattle.std.specs.Prelude.{◌≡◌, List, map, Some, IfOk};
 ghost use Rattle.std.specs.List.{filter};

@@ -1,4 +1,4 @@
-//! What stands in the document that a request asks to be stored.
+//! What the document of a request spells.
 
 ghost use Rattle.std.specs.Prelude.{◌≡◌, IfOk};
 ghost use Rattle.celtree.specs.Tree.{Expr};
@@ -14,7 +14,7 @@ use std::alloc::{AllocError, Global};
 ///
 /// # Errors
 ///
-/// Where no memory is left.
+/// Out of memory.
 #[tactic(auto, using(crate::proofs::Read::found_of))]
 pub fn specified(alloc: Global, manifest: &Manifest) -> Result<Specification, AllocError>
     ensures { IfOk result (λ found. (s : SpecificationOf Expr) × IsRead manifest.now.key.resource (document_in manifest.now.body).json s

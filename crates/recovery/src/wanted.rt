@@ -51,7 +51,7 @@ fn if_wanted(alloc: Global, wanted: &Wanted, listed: &Listed<'_>) -> Result<Opti
 ///
 /// # Errors
 ///
-/// Where no memory is left.
+/// Out of memory.
 pub fn wanted_among(
     alloc: Global,
     wanted: &Wanted,

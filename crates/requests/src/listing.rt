@@ -63,7 +63,7 @@ fn add_shown<P: Drop>(
     }
 }
 
-// Adds the members of the list with these items. Apart from `list_of`, so that no document has to be let go where one fails.
+// Adds the members of the list with these items. Separate from `list_of`, so that no destructor is live at `?` (cheaper proof).
 fn put_list(
     document: &mut Doc,
     alloc: Global,

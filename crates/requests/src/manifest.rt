@@ -24,7 +24,7 @@ pub enum BodyFault {
     /// The body, or the path that it is sent to, is refused.
     #[error("{}", .0.message())]
     Refused(Refusal),
-    /// There was no memory to read it.
+    /// Out of memory while reading it.
     #[error("out of memory")]
     Memory,
 }

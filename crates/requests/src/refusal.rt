@@ -64,7 +64,7 @@ pub enum Refusal {
     TooManyObjects,
     /// The store has reached the greatest revision.
     RevisionExhausted,
-    /// There was no memory to answer.
+    /// Out of memory while answering.
     OutOfMemory,
     /// The storage failed.
     StorageFailed,

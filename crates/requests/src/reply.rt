@@ -52,7 +52,7 @@ impl Reply {
         })
     }
 
-    /// The body of the reply where memory is wanting. Takes no memory.
+    /// The body of the reply when out of memory. Takes no memory.
     pub fn out_of_memory_body() -> &'static str
         ensures { result.now ≡ (status Refusal.OutOfMemory).body }
     {
@@ -141,7 +141,7 @@ pub(crate) fn put_text(
     document.put(alloc, name, Doc::from(text))
 }
 
-// Adds the members of the `Status` of a refusal. Apart from `status_document`, so that no document has to be let go where one fails.
+// Adds the members of the `Status` of a refusal. Separate from `status_document`, so that no destructor is live at `?` (cheaper proof).
 fn put_status(
     document: &mut Doc,
     alloc: Global,

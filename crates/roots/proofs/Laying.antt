@@ -8,7 +8,7 @@ use Rattle.roots.specs.declared.root.Root.{Root}
 use Rattle.roots.specs.Root.{IsHeader, IsRoot}
 use Rattle.roots.specs.NewStore.{new_header, root_fields}
 
--- so many bytes: fields, and zeros behind them
+-- this many bytes: fields, and zeros behind them
 pub record LaidIn (size : ℕ) (fields bytes : List ℕ) : Type 0 where
   pub inside : length fields ≤ size
   pub is : bytes ≡ fields ++ replicate (size - length fields) 0

@@ -13,7 +13,7 @@ pub record HasAt (at : ℕ) (bytes content : List ℕ) : Type 0 where
   pub inside : at + length bytes ≤ length content
   pub each : (k : ℕ) → k < length bytes → slice_index content (at + k) ≡ slice_index bytes k
 
--- Where a generation of so many pages begins, while another is in use that begins at `start` and whose log ends with the gate `last`:
+-- Where a generation of this many pages begins, while another is in use that begins at `start` and whose log ends with the gate `last`:
 -- at sector 8 where the pages and one gate fit before that one, and else behind its log.
 pub record IsPlace (start last pages place : ℕ) : Type 0 where
   pub front : 8 + 64 * pages + 1 ≤ start → place ≡ 8
@@ -66,7 +66,7 @@ pub record IsStaged {D : Type 0} (disk : Disk D) (start device : D) (current : R
   pub size : length pages ≡ 32768 * next.pages
   pub there : HasAt (512 * next.first) pages (disk.content device)
 
--- What the writing of a root and of its generation leaves: all but the root's sector, and so many bytes from an offset on.
+-- What the writing of a root and of its generation leaves: all but the root's sector, and this many bytes from an offset on.
 pub record Spares (slot : Slot) (first size : ℕ) (old new : List ℕ) : Type 0 where
   pub apart : (k : ℕ) → (k < 512 * root_sector slot) ⊎ (512 * root_sector slot + 512 ≤ k) → (k < first) ⊎ (first + size ≤ k)
       → slice_index new k ≡ slice_index old k

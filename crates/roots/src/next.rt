@@ -1,4 +1,4 @@
-//! Where the next generation of a store goes.
+//! The place of the next generation.
 
 ghost use Rattle.std.specs.Prelude.{◌≡◌, ◌<◌, ◌≤◌, ◌+◌, ◌-◌, ◌*◌, ◌^◌, ◌↔◌, IfOk, IsErr};
 ghost use Rattle.roots.specs.Root.{log_start};
@@ -10,7 +10,7 @@ use crate::root::Root;
 #[derive(Clone, Copy)]
 pub struct Exhausted;
 
-/// The first sector of a generation of so many pages, of 64 sectors each, while another is in use that begins at the sector `start` and
+/// The first sector of a generation of this many pages, of 64 sectors each, while another is in use that begins at the sector `start` and
 /// whose log ends with the gate in the sector `last_gate`: sector 8 where the pages and one gate fit before that one, and else the sector
 /// behind its log.
 pub fn place(start: u64, last_gate: u64, pages: u32) -> u64
@@ -24,7 +24,7 @@ pub fn place(start: u64, last_gate: u64, pages: u32) -> u64
     }
 }
 
-/// The root of the next generation, of so many pages and for this revision, while `current` counts and its log ends with the gate in the
+/// The root of the next generation, of this many pages and for this revision, while `current` counts and its log ends with the gate in the
 /// sector `last_gate`. It is in the other slot, and its pages and first gate lie off the generation in use. Nothing is written.
 ///
 /// # Errors

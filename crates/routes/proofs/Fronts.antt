@@ -22,7 +22,7 @@ one_more {A} {B} {C} f g routed new one messages i message below is same now bef
     ∙ ap (λ (x : C). map g (take i messages) ++ x ∷ []) (same ∙ ap g is)
     ∙ sym (ap (map g) (take_more messages i message below) ∙ map_push g (take i messages) (get_or messages i message))
 
--- so what is said of the first so many messages is said of as many as were routed
+-- so what is said of the first this many messages is said of as many as were routed
 pub up_to : {A B C : Type 0} (f : A → C) (g : B → C) (n k : ℕ) (routed : List A) (messages : List B) → n ≡ k → map f routed ≡ map g (take n messages)
     → map f routed ≡ map g (take k messages)
 up_to f g n k routed messages same is = is ∙ ap (λ (m : ℕ). map g (take m messages)) same

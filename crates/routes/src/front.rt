@@ -1,4 +1,4 @@
-//! What the first messages of a group ask.
+//! The requests of the first messages of a group.
 
 ghost use Rattle.std.specs.Prelude.{◌≡◌, ◌<◌, ◌≤◌, ◌++◌, [], ◌∷◌, length, map, take, option_map, IfOk};
 ghost use Rattle.std.specs.Vec.{vec_len, vec_capacity};
@@ -17,7 +17,7 @@ use std::alloc::{AllocError, Global};
 pub struct Front {
     /// What they ask.
     pub requests: Vec<Request>,
-    /// The methods that the path of each allows, where its own is none of them.
+    /// The methods that the path of each allows, if the request's method is not among them.
     pub allows: Vec<Option<&'static str>>,
 }
 
@@ -33,7 +33,7 @@ impl Front {
         }
     }
 
-    // No message, with room for so many.
+    // No message, with room for this many.
     fn with_capacity(alloc: Global, count: usize) -> Result<Front, AllocError>
         ensures requests { IfOk result (λ front. front.requests.items ≡ []) }
         ensures allows { IfOk result (λ front. front.allows.items ≡ []) }

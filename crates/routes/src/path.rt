@@ -1,4 +1,4 @@
-//! What the target of a request is made of.
+//! The parts of a request's target.
 
 ghost use Rattle.std.specs.Prelude.{◌≡◌, ◌||◌, map, IfOk, Some, None, option_map, codes, string_bytes, if◌then◌else◌};
 ghost use Rattle.std.specs.Str.{bytes_eq};

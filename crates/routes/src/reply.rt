@@ -52,7 +52,7 @@ fn listing<'r>(response: Response<'r>, allow: Option<&'r str>) -> Response<'r>
     }
 }
 
-// The response of a reply to a message whose path allows these methods, where its own is none of them.
+// The response of a reply to a message. `allow` has the methods of its path, if the request's method is not among them.
 fn response_to<'r>(message: &Message, reply: &'r Reply, allow: Option<&'static str>) -> Response<'r>
     ensures { CanAnswer message.now reply.now allow.entry
         → result ≡ response_of (allow_in message.now reply.now) (is_head message.now.method) message.now.closes reply.now }

@@ -76,7 +76,7 @@ pub struct Routes {
     ghost answers: { AnswersTable router },
 }
 
-// Adds the path of each resource that is served. Apart from `router_of_resources`, so that no table has to be let go where one fails.
+// Adds the path of each resource that is served. Separate from `router_of_resources`, so that no destructor is live at `?` (cheaper proof).
 fn add_resources(router: &mut Router<Resource>) -> Result<(), InsertError>
     requires empty { router.old ≡ [] }
     ensures { OnOk result (AnswersTable router.new) }

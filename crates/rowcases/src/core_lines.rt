@@ -32,7 +32,7 @@ fn rules_of(line: &mut Line<'_>) -> Rules {
     }
 }
 
-// So many payloads, in whose spelling a number of six digits, from 100001 on, stands for `%`.
+// This many payloads, in whose spelling a number of six digits, from 100001 on, stands for `%`.
 fn numbered_log(alloc: Global, count: u64, spelled: &str, line: &mut Line<'_>) -> Vec<Vec<u8>> {
     let mut log = Vec::new(alloc);
     for number in 1..=count {

@@ -54,8 +54,8 @@ pub fn read_hex(alloc: Global, text: &str) -> Result<String, Wrong> {
     read(alloc, bytes.as_slice())
 }
 
-/// `nested N`: so many lists, one in another; `string N`: a string of so many characters. `the same`, where the text of these four
-/// parts, of which the two in the middle stand so many times each, is read and written as it is.
+/// `nested N`: this many lists, one in another; `string N`: a string of this many characters. `the same`, where the text of these four
+/// parts, of which the two in the middle stand this many times each, is read and written as it is.
 pub fn repeated(
     alloc: Global,
     text: &str,

@@ -137,7 +137,7 @@ impl<S: Service> Exchange<S> {
         }
     }
 
-    // `times N METHOD ..`: so many of these, in which `%` stands for their number; the last answer.
+    // `times N METHOD ..`: this many of these, in which `%` stands for their number; the last answer.
     fn times(&mut self, alloc: Global, rest: &str) -> Result<String, Wrong> {
         let (count, question) = first_word(rest);
         let mut answer = String::new(alloc);

@@ -32,7 +32,7 @@ pub fn parted<'a>(text: &'a str, separator: &str) -> (&'a str, &'a str) {
     }
 }
 
-/// Adds a piece so many times.
+/// Adds a piece this many times.
 pub fn push_times(made: &mut TextBuilder, times: u64, piece: &str) {
     for _ in 0..times {
         made.push(piece);

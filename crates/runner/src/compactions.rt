@@ -20,7 +20,7 @@ fn compact(place: &mut Place) {
     place.note(is_compacted, "the store is not compacted");
 }
 
-// A new store with these writes, compacted so many times, and what it shows.
+// A new store with these writes, compacted this many times, and what it shows.
 fn begun(alloc: Global, writes: &[String], times: u64, looks: &mut Vec<String>) -> Place {
     let mut place = Place::new(alloc, ROOM_SECTORS);
     place.open();
@@ -54,7 +54,7 @@ fn fails(place: &mut Place) -> bool {
     is_open
 }
 
-/// One stop and one crash, of the device of a store that is opened and compacted, with these writes and so many compactions before.
+/// One stop and one crash, of the device of a store that is opened and compacted, with these writes and this many compactions before.
 pub fn compaction_stopped(
     alloc: Global,
     writes: &[String],

@@ -1,4 +1,4 @@
-//! How a connection ended, as lines have it.
+//! Words for how a connection ended.
 
 use api::ServeFault;
 use cases::{TextBuilder, Wrong};

@@ -11,7 +11,7 @@ pub fn push_look(place: &mut Place, looks: &mut Vec<String>) {
     place.note(is_pushed, "out of memory");
 }
 
-/// Whether this was shown after so many.
+/// Whether this was shown after this many.
 pub fn is_look(looks: &[String], at: usize, found: &str) -> bool {
     match looks.get(at) {
         Some(look) => look.as_str() == found,
@@ -19,7 +19,7 @@ pub fn is_look(looks: &[String], at: usize, found: &str) -> bool {
     }
 }
 
-/// Opens the store, and asks that what is shown is what so many left, or the other number of them: which of the two.
+/// Opens the store, and asks that what is shown is what this many left, or the other number of them: which of the two.
 pub fn leaves(
     place: &mut Place,
     looks: &[String],
@@ -35,7 +35,7 @@ pub fn leaves(
     count
 }
 
-/// Crashes, and asks that what is shown is what so many left, or the other number of them, and the same after a second crash.
+/// Crashes, and asks that what is shown is what this many left, or the other number of them, and the same after a second crash.
 pub fn crash_leaves(place: &mut Place, looks: &[String], counts: [usize; 2], stop: Stop<'_>) {
     place.crash(stop.picks, stop.length);
     let count = leaves(

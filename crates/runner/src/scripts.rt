@@ -139,7 +139,7 @@ fn is_as_before(alloc: Global, place: &mut Place, words: &[String]) -> Result<()
     )
 }
 
-/// `apply STEP`: takes the last of these steps by a call of the store, and gives what is told of it. Where that is want of memory, a store that is
+/// `apply STEP`: takes the last of these steps by a call of the store, and gives what is told of it. Where that is out of memory, a store that is
 /// open must show what the steps before left, and the step is taken once more.
 pub fn applied(alloc: Global, place: &mut Place, words: &[String]) -> Result<String, Wrong> {
     let (before, last) = words.split_at(words.len().saturating_sub(1));

@@ -10,7 +10,7 @@ use std::io::{Read, Write};
 // Room for a store of which there are many.
 const ROOM_SECTORS: u64 = 24;
 
-/// Gives at most so many bytes at its first call, and so many at each later one, and fails at a call; 0 asks for none.
+/// Gives at most this many bytes at its first call, and this many at each later one, and fails at a call; 0 asks for none.
 #[derive(Drop)]
 pub struct Parted<'a> {
     rest: &'a [u8],
@@ -45,7 +45,7 @@ impl<'a> Read for Parted<'a> {
     }
 }
 
-/// Takes at most so many bytes a call, and fails at a call; 0 asks for none.
+/// Takes at most this many bytes a call, and fails at a call; 0 asks for none.
 #[derive(Drop)]
 pub struct Taker {
     pub taken: Vec<u8>,
@@ -131,7 +131,7 @@ pub fn readers(alloc: Global, sent: &str, line: &str) -> Result<String, Wrong> {
     short(alloc, answer.as_str())
 }
 
-// Asks that a writer that takes a byte a call, and fails after so many, takes the front of the replies, and that the connection ends so.
+// Asks that a writer that takes a byte a call, and fails after this many, takes the front of the replies, and that the connection ends so.
 fn is_written(alloc: Global, sent: &str, replies: &str, count: usize) -> Result<(), Wrong> {
     let reader = Parted::new(sent, usize::MAX, usize::MAX, 0);
     let writer = Taker::new(alloc, 1, (count as u64).saturating_add(1));

@@ -1,4 +1,4 @@
-//! What a case did is done again on new stores, with a stop or a failure at each of some calls of the device.
+//! Repeats a case on new stores, with a stop or a failure at each of some calls of the device.
 
 use crate::compactions::{compaction_failed, compaction_stopped};
 use crate::scripts::{PROBE, push_script_looks, script_failed, script_stopped};
@@ -9,7 +9,7 @@ use device::Pick;
 use opening::Episode;
 use std::alloc::{AllocError, Global};
 
-// No crash of these devices leaves so many sectors open.
+// No crash of these devices leaves this many sectors open.
 const MOST_PICKS: usize = 80;
 
 // One call more than the probe takes with the compaction that follows.
@@ -38,7 +38,7 @@ enum Kind {
     Stops,
     // `group-stops A B`: the same of all writes in one run: what is found is what was told, or all of the next group.
     GroupStops,
-    // `compaction-stops A B TIMES`: opens and compacts a new store with these writes, which was compacted so many times before, with such stops: all
+    // `compaction-stops A B TIMES`: opens and compacts a new store with these writes, which was compacted this many times before, with such stops: all
     // that was shown before is found, after a second crash too, and after a compaction that follows. Each of the calls must be one of the opening or
     // of the compaction.
     CompactionStops(u64),
@@ -46,7 +46,7 @@ enum Kind {
     // compaction must, and then the store is neither compacted nor checked any more.
     CompactionFailures(u64),
     // `script-stops A B ALONE`: takes the steps of this case on a new store, with a stop at each call from the A-th to the B-th, an opening's first
-    // being 1, and crashes: the sectors that may change become all alike, or one of the first so many alone, as they were or not, with the least and
+    // being 1, and crashes: the sectors that may change become all alike, or one of the first this many alone, as they were or not, with the least and
     // the greatest length. How often a step met the stop; what is found must be what was told, or that and the step, after a second crash too, and a
     // further stop must leave that, or one write more.
     ScriptStops(u64),

@@ -16,7 +16,7 @@ use Rattle.shelf.proofs.Finding.{front_below, some_at, parted}
 pub beginning-append : (prefix : List ℕ) (a b : List Entry) → beginning prefix (a ++ b) ≡ beginning prefix a ++ beginning prefix b
 beginning-append prefix a b = filter-append (λ (entry : Entry). begins prefix entry.0) a b
 
--- so many pages, from one on
+-- this many pages, from one on
 abbrev pub pages_from : (pages : List (List Entry)) (start count : ℕ) → List (List Entry)
 pages_from pages start count = take count (drop start pages)
 

@@ -48,7 +48,7 @@ HoldsAsBefore disk shelf old new =
     × (take (512 * log_start (root_of shelf)) (disk.content new) ≡ take (512 * log_start (root_of shelf)) (disk.content old))
 
 module _ {D : Type 0} (disk : Disk D) (shelf : Shelf) (old new : D) where
-  -- so many pages, from a sector on
+  -- this many pages, from a sector on
   pages_stay : (count : ℕ) → (root_of shelf).first + 64 * count ≤ log_start (root_of shelf) → (0 < count → HoldsAsBefore disk shelf old new)
       → pages_at (root_of shelf).first count (disk.content new) ≡ pages_at (root_of shelf).first count (disk.content old)
   pages_stay zero fits holds = refl

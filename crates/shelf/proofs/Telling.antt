@@ -35,7 +35,7 @@ told_by (Ok x) f passed = tt
 told_by (Err e) ReadFault.Entry passed = inl (ap (λ x. Err x) passed)
 told_by (Err e) ReadFault.Memory passed = inr (ap (λ x. Err x) passed)
 
--- where memory was wanting no other fault is told
+-- when out of memory no other fault is told
 pub no_want : {T : Type 0} (r : Result T Fault) (fault : Fault) → (fault ≡ ShelfFault.Memory → ⊥) → IsErrAnd r (λ e. e ≡ ShelfFault.Memory) → IsErrOf r fault → ⊥
 no_want (Ok x) fault other passed is = passed
 no_want (Err e) fault other passed is = other (sym (err_same is) ∙ passed)

@@ -12,7 +12,7 @@ is_at_or_below key first = not (is_lt (bytes_cmp key first))
 abbrev pub may_begin : (prefix first : List ℕ) → Bool
 may_begin prefix first = is_at_or_below prefix first || begins prefix first
 
--- So many first keys pass the test, and come before those that fail it.
+-- This many first keys pass the test, and come before those that fail it.
 pub record IsSplit (test : List ℕ → Bool) (firsts : List (List ℕ)) (count : ℕ) : Type 0 where
   pub before : (k : ℕ) → k < count → k < length firsts → test (get_or firsts k []) ≡ true
   pub behind : (k : ℕ) → count ≤ k → k < length firsts → test (get_or firsts k []) ≡ false

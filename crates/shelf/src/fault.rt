@@ -14,7 +14,7 @@ pub enum ShelfFault {
     Page,
     /// The reader refused an entry.
     Entry,
-    /// There was no memory.
+    /// Out of memory.
     Memory,
 }
 

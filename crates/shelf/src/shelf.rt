@@ -65,11 +65,11 @@ impl Shelf {
     ghost use Rattle.shelf.specs.Places.{IsSplit};
     ghost use Rattle.shelf.specs.Shelf.{root_of, firsts_of, pages_of, Has, Shelves, IsBrought};
 
-    /// The shelf of a root's pages, with the first key of each. None of them lies in memory, for which there is room. The device is there to speak of it.
+    /// The shelf of a root's pages, with the first key of each. None of them is in memory yet. Only the contract uses `device`.
     ///
     /// # Errors
     ///
-    /// Where there was no memory.
+    /// Out of memory.
     pub fn new<D: Device>(
         alloc: Global,
         device: &D,
@@ -95,8 +95,8 @@ impl Shelf {
         }
     }
 
-    /// The pages of another root, with the first key of each, in place of those that it has. None of them lies in memory. This takes no memory. The
-    /// device is there to speak of it.
+    /// The pages of another root, with the first key of each, in place of those that it has. None of them is in memory yet. This allocates nothing.
+    /// Only the contract uses `device`.
     pub fn start_over<D: Device>(&mut self, device: &D, root: Root, first_keys: Vec<Vec<u8>>)
         requires small { log_start root < 2 ^ 54 }
         requires counted { length first_keys.items ≡ root.pages }
@@ -210,7 +210,7 @@ impl Shelf {
         Ok(Some(count - 1))
     }
 
-    /// What stands under a key whose page was brought into memory. Takes no memory. The device is there to speak of it.
+    /// What stands under a key whose page was brought into memory. Allocates nothing. Only the contract uses `device`.
     pub fn cell<D: Device>(&self, device: &D, place: Option<u32>, key: &[u8]) -> Option<&[u8]>
         requires { IsBrought self.now key.now place }
         ensures { (entries : List Entry) → Shelves D.disk device.now self.now entries

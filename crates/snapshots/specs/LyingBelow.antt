@@ -33,7 +33,7 @@ module _ {P : Type 0} (lies : Resource → Bool) where
   abbrev pub HasThoseBelow : List (Key × Stored P) → (base : List (Key × Stored P)) → Type 0
   HasThoseBelow objects base = AllByRecursion (λ o. value_at o.0 base ≡ below_at o) objects
 
--- These may be the objects that lie below where those others are kept: they are so many, their keys ascend, and of the kept ones they have each that
+-- These may be the objects that lie below where those others are kept: they are this many, their keys ascend, and of the kept ones they have each that
 -- lies below, and none of the others.
 pub record MayLieBelow {P : Type 0} (lies : Resource → Bool) (kept : List (Key × Stored P)) (number : ℕ) (base : List (Key × Stored P)) : Type 0 where
   pub ascend : IsTrue (is_sorted key_cmp base)

@@ -50,7 +50,7 @@ pub record AreHeldOf (os : List (Key × Stored Beside)) (kept : List (Key × Sto
 
 -- ---- what is shown
 
--- so many objects as lie below, and the revision before the events of a view that entries keep
+-- as many objects as lie below, and the revision before the events of a view that entries keep
 abbrev pub without_events : List (Key × Stored Beside) → View (List ℕ) → View Beside
 without_events base kept = record { objects = base; revision = kept.revision - length kept.events; events = [] }
 
@@ -82,7 +82,7 @@ pub record AreRestored (lies : Resource → Bool) (old new : State Beside) (kept
   pub shows : (base : List (Key × Stored Beside)) (v : View Beside) → Shows old base v → HasThoseBelow lies objects base
       → Shows new base (with_objects v (merged (puts_of objects) base))
 
--- A view may be held after a checkpoint that has these entries and this revision, and over each list of so many objects that may lie below what is
+-- A view may be held after a checkpoint that has these entries and this revision, and over each list of this many objects that may lie below what is
 -- kept it is shown, with what those that are kept leave of it.
 pub record IsRestored (rules : Rules) (lies : Resource → Bool) (all : List Entry) (count number : ℕ) (core : State Beside) : Type 0 where
   pub kept : View Beside

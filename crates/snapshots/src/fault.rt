@@ -11,7 +11,7 @@ pub enum SnapshotFault {
     Entry,
     /// An object that is no policy has plans.
     Plans,
-    /// There was no memory.
+    /// Out of memory.
     Memory,
 }
 

@@ -1,4 +1,4 @@
-//! What is promised of checkpoints.
+//! Laws of checkpoints.
 
 ghost use Rattle.snapshots.specs.Laws.{AtMostOneView, HistoriesAreKept, EntriesAscend, EntriesFit};
 

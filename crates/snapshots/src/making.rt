@@ -20,7 +20,7 @@ pub trait FromDocument<P> {
     ///
     /// # Errors
     ///
-    /// Want of memory.
+    /// Out of memory.
     fn make(&self, alloc: Global, document: &Document) -> Result<P, AllocError>
         ensures { IfOk result (λ beside. beside ≡ made self.now document.now) };
 

@@ -1,4 +1,4 @@
-//! What is held once a checkpoint is written.
+//! The core after a checkpoint was written.
 
 ghost use Rattle.std.specs.Prelude.{◌≡◌, IfOk};
 ghost use Rattle.requests.specs.View.{View};

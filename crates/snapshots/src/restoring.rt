@@ -148,7 +148,7 @@ fn has_last_events(rules: Rules, view: &KeptView) -> bool
     }
 }
 
-// Nothing is held yet, over so many objects that lie below, at the revision before the first event of a view: its keys ascend, and it has the events
+// Nothing is held yet, over this many objects that lie below, at the revision before the first event of a view: its keys ascend, and it has the events
 // of its last writes.
 fn core_without_events(
     alloc: Global,
@@ -172,8 +172,8 @@ fn core_without_events(
     Ok(Holdings::over(alloc, rules, first, count)?)
 }
 
-/// The core that shows what a checkpoint keeps, at a revision, over those of its objects that lie below, which are so many. It holds what these entries
-/// keep: all of it, or the part of it that is chosen, with each object that does not lie below. It knows each object that is chosen.
+/// The core that shows what a checkpoint keeps, at a revision, over those of its objects that lie below, given how many objects lie in the pages.
+/// It holds what these entries keep: all of it, or the part of it that is chosen, with each object that does not lie below. It knows each object that is chosen.
 ///
 /// # Errors
 ///

@@ -1,4 +1,4 @@
-//! What of a checkpoint's entries is held in memory from an opening on.
+//! Which checkpoint entries an opening keeps in memory.
 
 ghost use Rattle.std.specs.Prelude.{◌≡◌, ℕ, ◌+◌, ◌<◌, ◌^◌, ◌++◌, ◌∷◌, Bool, List, [], OnOk};
 ghost use Rattle.snapshots.specs.Sieve.{is_object, is_kept, kept_of, objects_among};

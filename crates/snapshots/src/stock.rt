@@ -79,8 +79,8 @@ impl Stock {
         }
     }
 
-    /// The objects in the pages of another root, with the first key of each page, in place of those that it has. None of them was found yet. Takes no
-    /// memory. The device is there to speak of it.
+    /// The objects in the pages of another root, with the first key of each page, in place of those that it has. None of them was found yet.
+    /// Allocates nothing. Only the contract uses `device`.
     pub fn start_over<D: Device>(
         &mut self,
         alloc: Global,
@@ -116,7 +116,7 @@ impl Stock {
         self.found_bytes = 0;
     }
 
-    // Lets go of the objects that were found, where one more, whose cell has so many bytes, has no place among them.
+    // Lets go of the objects that were found, where one more, whose cell has this many bytes, has no place among them.
     fn make_place(&mut self, alloc: Global, cell_bytes: usize)
         ensures shelf { self.new.shelf ≡ self.old.shelf }
         ensures found { (objects : List (KeyData × StockedData)) → AreAmong self.old.found.entries objects → AreAmong self.new.found.entries objects }
@@ -127,7 +127,7 @@ impl Stock {
         self.forget(alloc);
     }
 
-    // Keeps an object that was found, whose cell has so many bytes.
+    // Keeps an object that was found, whose cell has this many bytes.
     fn keep(
         &mut self,
         alloc: Global,

@@ -11,7 +11,7 @@ pub enum StockFault {
     Device,
     /// What stands where a page is to stand is damaged, or an entry with an object's key is of no object.
     Damaged,
-    /// There was no memory.
+    /// Out of memory.
     Memory,
 }
 

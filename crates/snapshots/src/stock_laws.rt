@@ -1,4 +1,4 @@
-//! What is promised of objects in pages.
+//! Laws of objects in pages.
 
 ghost use Rattle.snapshots.specs.StockLaws.{ViewsHoldObjects, KeptAreOfAView};
 

@@ -56,7 +56,7 @@ fn bytes_of(alloc: Global, held: &Lent<'_, Stored<Beside>>) -> Result<Vec<u8>, A
     let plans = held.value.beside.plans();
     match plans_bytes(alloc, held.key.resource(), plans) {
         Ok(bytes) if bytes.len() <= MOST_PLAN_BYTES => Ok(bytes),
-        // Plans that may be held are never too many, so memory was wanting.
+        // Plans that may be held are never too many, so the cause is out of memory.
         _ => Err(AllocError),
     }
 }
@@ -117,7 +117,7 @@ fn pairs_of(
 ///
 /// # Errors
 ///
-/// Where there was no memory.
+/// Out of memory.
 pub fn entries_in(
     alloc: Global,
     core: &Core,
@@ -168,7 +168,7 @@ fn as_entries(alloc: Global, pairs: Vec<(Vec<u8>, Vec<u8>)>) -> Result<Vec<Entry
 ///
 /// # Errors
 ///
-/// Where there was no memory.
+/// Out of memory.
 pub(crate) fn kept_in<B: Below>(
     alloc: Global,
     core: &Core,

@@ -20,7 +20,7 @@ use std::alloc::Global;
 /// # Errors
 ///
 /// `Opening` where no store was opened: nothing was read or written then. `Serving` where one was. Each tells what failed in this call: the input, the output
-/// or the device, memory that was wanting, or what was read of the device, which was damaged. Of a device that holds a history damage is never told; it then
+/// or the device, out of memory, or what was read of the device, which was damaged. Of a device that holds a history damage is never told; it then
 /// holds each write of the requests that were answered, and perhaps some of those at which it failed.
 pub fn answer<D: Device, I: Input, O: Output>(
     alloc: Global,

@@ -3,7 +3,7 @@
 ghost use Rattle.std.specs.Prelude.{ℕ, List, IfOk};
 
 use device::{CreateFault, Device, FileDevice, OpenFault};
-use std::fs::File;
+use std::fs::{File, remove_file};
 use std::rt::Files;
 
 /// Where devices are found by name, as files are in a file system.
@@ -27,6 +27,9 @@ pub trait Storage<D: Device> {
     /// The device under a name.
     fn open(&self, name: &str) -> Result<D, OpenFault>
         ensures opened { IfOk result (λ device. opened self.now name.now device) };
+
+    /// Removes the name of a device that was made just now and holds nothing. One that cannot be removed stays.
+    fn discard(&self, name: &str);
 
     /// Gives the device under a name back, after which nobody calls it.
     fn close(&self, name: &str, device: D)
@@ -63,6 +66,11 @@ impl<'a, R: Files<File = File>> Storage<FileDevice> for FileStorage<'a, R> {
 
     fn open(&self, name: &str) -> Result<FileDevice, OpenFault> {
         FileDevice::open(self.files, name)
+    }
+
+    fn discard(&self, name: &str) {
+        // The file is still locked, so nobody else has begun a store in it.
+        let _ = remove_file(self.files, name);
     }
 
     fn close(&self, _name: &str, device: FileDevice) {

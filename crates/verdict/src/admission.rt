@@ -230,7 +230,7 @@ fn verdict_of<'a, L: Lookup<'a>>(
 ///
 /// # Errors
 ///
-/// Those of the lookup, `Damaged` with the plans of a policy that is asked and whose plans are spoiled, and `Memory` where no memory is left.
+/// Those of the lookup, `Damaged` with the plans of a policy that is asked and whose plans are spoiled, and `Memory` when out of memory.
 pub fn admit<'a, L: Lookup<'a>>(
     alloc: Global,
     lookup: &mut L,

@@ -1,4 +1,4 @@
-//! What match conditions say.
+//! The answers of match conditions.
 
 /// What the match conditions of a policy say together.
 #[derive(Clone, Copy)]

@@ -1,4 +1,4 @@
-//! What the definitions promise.
+//! Laws of verdicts.
 
 ghost use Rattle.verdict.specs.Laws.{BindingsAscend};
 

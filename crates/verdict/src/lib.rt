@@ -14,7 +14,7 @@
 //!
 //! What a policy says of a write is evaluated by the plans of its expressions. `specs/Denials.antt` says it by what its expressions mean, and
 //! `specs/Environment.antt` what they see of the write. Where the plans are those of the policy's expressions, each with a type (`specs/Ready.antt`),
-//! [`conditions`] and [`evaluate`] answer exactly that. They answer whatever the plans are, and fail where no memory is left alone.
+//! [`conditions`] and [`evaluate`] answer exactly that. They answer whatever the plans are, and fail only when out of memory.
 //! [`request_document`] is the document `request` that expressions see of a write (`specs/Request.antt`), and [`denial_text`] and [`warning`] are what is
 //! told of a denial (`specs/Texts.antt`).
 //!

@@ -1,4 +1,4 @@
-//! What plans give.
+//! The outcomes of plans.
 
 ghost use Rattle.std.specs.Prelude.{◌≡◌, [], drop, take, IfOk};
 ghost use Rattle.serde_json.specs.View.{view};

@@ -89,7 +89,7 @@ fn put_members(
 ///
 /// # Errors
 ///
-/// Where no memory is left.
+/// Out of memory.
 pub fn request_document(alloc: Global, attempt: &Attempt<'_>) -> Result<Json, AllocError>
     ensures { IfOk result (λ d. view d ≡ request_of (attempt_seen attempt.now)) }
 {

@@ -1,4 +1,4 @@
-//! What the names of expressions stand for.
+//! The values of the names in a policy's expressions.
 
 ghost use Rattle.std.specs.Prelude.{◌≡◌, option_map};
 ghost use Rattle.serde_json.specs.Data.{null};

@@ -10,7 +10,7 @@ use std::alloc::{AllocError, Global};
 ///
 /// # Errors
 ///
-/// Where no memory is left.
+/// Out of memory.
 pub fn denial_text(
     alloc: Global,
     policy: &str,
@@ -63,7 +63,7 @@ fn quoted(alloc: Global, characters: &[char]) -> Result<String, AllocError>
     Ok(text)
 }
 
-// The first characters, so many at most.
+// The first characters, this many at most.
 #[tactic(auto, using(crate::proofs::Parts::all_taken))]
 fn first(characters: &[char], count: usize) -> &[char]
     ensures { result.now ≡ take count characters.now }
@@ -76,7 +76,7 @@ fn first(characters: &[char], count: usize) -> &[char]
     }
 }
 
-// The first characters of the text, so many at most before quotes and backslashes are escaped.
+// The first characters of the text, this many at most before quotes and backslashes are escaped.
 #[tactic(auto, using(crate::proofs::Parts::taken_first))]
 fn quoted_front(alloc: Global, text: &str, count: usize) -> Result<String, AllocError>
     ensures { IfOk result (λ s. string_bytes s ≡ flat_map escaped (take count (map printable (chars text.now)))) }
@@ -102,7 +102,7 @@ fn warning_text(
 ///
 /// # Errors
 ///
-/// Where no memory is left.
+/// Out of memory.
 pub fn warning(
     alloc: Global,
     policy: &str,

@@ -58,7 +58,7 @@ fn conditions_by<'p>(
 ///
 /// # Errors
 ///
-/// Where no memory is left.
+/// Out of memory.
 pub fn conditions<'p>(
     alloc: Global,
     policy: &'p Policy,

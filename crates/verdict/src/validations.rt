@@ -139,7 +139,7 @@ fn evaluate_by(
 ///
 /// # Errors
 ///
-/// Where no memory is left.
+/// Out of memory.
 pub fn evaluate(
     alloc: Global,
     policy: &Policy,

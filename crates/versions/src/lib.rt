@@ -17,7 +17,7 @@ use std::alloc::{AllocError, Global};
 ///
 /// # Errors
 ///
-/// Where no memory is left for the revision's text.
+/// Out of memory for the revision's text.
 pub fn is_text_of(alloc: Global, text: &str, revision: u64) -> Result<bool, AllocError>
     ensures { IfOk result (λ b. b ≡ is_text_of revision text.now) }
 {
