@@ -1,5 +1,5 @@
 -- What a call names as the cause of its fault, and what it leaves where it met none.
-use Rattle.std.proofs.Common.{arith, ◌≡◌, ◌∙◌, refl, sym, ap, subst, ◌≤◌, ◌⊎◌, inl, inr, ℕ, Bool, true, false, Option, Some, None, IfSome, Result, Ok, Err, IfErr, IsErrOf}
+use Rattle.std.proofs.Common.{arith, ◌≡◌, ◌∙◌, refl, sym, ap, subst, ◌≤◌, ◌⊎◌, inl, inr, ℕ, Bool, true, false, Option, Some, None, IfSome, Result, Ok, Err, IfErr, OnOk, IsErrOf, List, [], ◌++◌}
 use Rattle.objects.specs.Failing.{HasGrown}
 use Rattle.httpmsg.specs.declared.head.BrokenMessage.{BrokenMessage}
 use Rattle.cutter.specs.declared.cutting.CutFault.TheVariants as Cuts
@@ -10,7 +10,7 @@ use Rattle.durable.specs.Faults.{MayBeMet}
 use Rattle.durable.proofs.Renewing.{never_failed}
 use Rattle.api.specs.declared.fault.ServeFault.{ServeFault}
 use Rattle.api.specs.declared.fault.ServeFault.TheVariants.{Read, Write, Device, Memory, Damaged, Failed}
-use Rattle.api.specs.Answers.{HasCauses}
+use Rattle.api.specs.Answers.{HasCauses, RefusesLast}
 use Rattle.api.specs.Serving.{HasAllCauses}
 use Rattle.api.proofs.Folds.{grown_after}
 
@@ -97,9 +97,9 @@ met_failed stop met is = let Met : Option Fault → Type 0 = λ o. IfSome o MayB
 
 module _ {T : Type 0} (o p d e : ℕ) (s t : Bool) where
   -- where no fault is met
-  pub causes_none : (value : T) → o ≤ p → d ≤ e → t ≡ s → HasCauses o p d e s t (Ok value)
+  pub causes_none : (value : T) → p ≡ o → d ≤ e → t ≡ s → HasCauses o p d e s t (Ok value)
   causes_none value output device same = record {
-    output_later = output;
+    output_later = omega (arith, output);
     device_later = device;
     write = λ is. absurd (no_fault is);
     device = λ is. absurd (no_fault is);
@@ -107,6 +107,7 @@ module _ {T : Type 0} (o p d e : ℕ) (s t : Bool) where
     damaged = λ damage is. absurd (no_fault is);
     failed = λ is. absurd (no_fault is);
     goes_on = same;
+    output_well = output;
   }
 
   -- where the output failed
@@ -120,6 +121,7 @@ module _ {T : Type 0} (o p d e : ℕ) (s t : Bool) where
     damaged = λ damage is. cc;
     failed = λ is. cc;
     goes_on = tt;
+    output_well = tt;
   }
 
   -- where the store told its own fault
@@ -135,6 +137,7 @@ module _ {T : Type 0} (o p d e : ℕ) (s t : Bool) where
     damaged = λ damage is. damaged damage (err_same is);
     failed = λ is. failed (err_same is);
     goes_on = tt;
+    output_well = tt;
   }
 
 -- a fault that an earlier call told, seen from before it
@@ -149,16 +152,17 @@ causes_later o p q d e f s t u fault output device same causes = record {
   damaged = λ damage is. let found = causes.damaged damage (ap (λ x. Err x) (err_same is)) in (sym same ∙ found.0, found.1);
   failed = λ is. sym same ∙ causes.failed (ap (λ x. Err x) (err_same is));
   goes_on = tt;
+  output_well = tt;
 }
 
 pub causes_retyped : {T S : Type 0} (o p d e : ℕ) (s t : Bool) (fault : ServeFault) → HasCauses {T = T} o p d e s t (Err fault) → HasCauses {T = S} o p d e s t (Err fault)
 causes_retyped o p d e s t fault causes = causes_later o o p d d e s s t fault (omega arith) (omega arith) refl causes
 
 -- where the output alone may have failed, or memory was wanting
-pub causes_output : {T : Type 0} (o p d : ℕ) (s : Bool) (r : Result T ServeFault) → o ≤ p → (IsErrOf r Write → HasGrown o p) → IfErr r (λ stop. (stop ≡ Memory) ⊎ (stop ≡ Write))
+pub causes_output : {T : Type 0} (o p d : ℕ) (s : Bool) (r : Result T ServeFault) → o ≤ p → OnOk r (p ≡ o) → (IsErrOf r Write → HasGrown o p) → IfErr r (λ stop. (stop ≡ Memory) ⊎ (stop ≡ Write))
     → HasCauses o p d d s s r
-causes_output o p d s (Ok value) output cause only = causes_none o p d d s s value output (omega arith) refl
-causes_output {T} o p d s (Err fault) output cause (inl is) =
+causes_output o p d s (Ok value) output well cause only = causes_none o p d d s s value well (omega arith) refl
+causes_output {T} o p d s (Err fault) output well cause (inl is) =
     let At : ServeFault → Type 0 = λ f. HasCauses {T = T} o p d d s s (Err f) in
     subst At (sym is) (record {
       output_later = output;
@@ -169,18 +173,19 @@ causes_output {T} o p d s (Err fault) output cause (inl is) =
       damaged = λ damage is. cc;
       failed = λ is. cc;
       goes_on = tt;
+      output_well = tt;
     })
-causes_output {T} o p d s (Err fault) output cause (inr is) =
+causes_output {T} o p d s (Err fault) output well cause (inr is) =
     let At : ServeFault → Type 0 = λ f. HasCauses {T = T} o p d d s s (Err f) in
     subst At (sym is) (causes_write o p d d s s output (omega arith) (cause (ap (λ x. Err x) is)))
 
 -- ---- with the input
 
 module _ {T : Type 0} (i j o p d e : ℕ) (s t : Bool) where
-  pub all_none : (value : T) → i ≤ j → o ≤ p → d ≤ e → t ≡ s → HasAllCauses i j o p d e s t (Ok value)
+  pub all_none : (value : T) → j ≡ i → p ≡ o → d ≤ e → t ≡ s → HasAllCauses i j o p d e s t (Ok value)
   all_none value input output device same = record {
-    input_later = input;
-    output_later = output;
+    input_later = omega (arith, input);
+    output_later = omega (arith, output);
     device_later = device;
     read = λ is. absurd (no_fault is);
     write = λ is. absurd (no_fault is);
@@ -188,6 +193,8 @@ module _ {T : Type 0} (i j o p d e : ℕ) (s t : Bool) where
     damaged = λ damage is. absurd (no_fault is);
     failed = λ is. absurd (no_fault is);
     goes_on = same;
+    input_well = λ other. input;
+    output_well = output;
   }
 
   -- where the input failed
@@ -202,6 +209,8 @@ module _ {T : Type 0} (i j o p d e : ℕ) (s t : Bool) where
     damaged = λ damage is. cc;
     failed = λ is. cc;
     goes_on = tt;
+    input_well = λ other. absurd (other refl);
+    output_well = tt;
   }
 
 -- where nothing more was read
@@ -218,16 +227,18 @@ all_of {T} {S} i o p d e s t fault causes =
       damaged = here.damaged;
       failed = here.failed;
       goes_on = tt;
+      input_well = λ other. refl;
+      output_well = tt;
     }
 
 -- where the end is told, or memory was wanting for more
-pub all_end : {T : Type 0} (i j o p d e : ℕ) (s t : Bool) (r : Result T ServeFault) → i ≤ j → o ≤ p → d ≤ e → t ≡ s → (IsErrOf r Write → HasGrown o p)
+pub all_end : {T : Type 0} (i j o p d e : ℕ) (s t : Bool) (r : Result T ServeFault) → j ≡ i → o ≤ p → OnOk r (p ≡ o) → d ≤ e → t ≡ s → (IsErrOf r Write → HasGrown o p)
     → IfErr r (λ stop. (stop ≡ Memory) ⊎ (stop ≡ Write)) → HasAllCauses i j o p d e s t r
-all_end i j o p d e s t (Ok value) input output device same cause only = all_none i j o p d e s t value input output device same
-all_end {T} i j o p d e s t (Err fault) input output device same cause (inl is) =
+all_end i j o p d e s t (Ok value) input output well device same cause only = all_none i j o p d e s t value input well device same
+all_end {T} i j o p d e s t (Err fault) input output well device same cause (inl is) =
     let At : ServeFault → Type 0 = λ f. HasAllCauses {T = T} i j o p d e s t (Err f) in
     subst At (sym is) (record {
-      input_later = input;
+      input_later = omega (arith, input);
       output_later = output;
       device_later = device;
       read = λ is. cc;
@@ -236,11 +247,13 @@ all_end {T} i j o p d e s t (Err fault) input output device same cause (inl is) 
       damaged = λ damage is. cc;
       failed = λ is. cc;
       goes_on = tt;
+      input_well = λ other. input;
+      output_well = tt;
     })
-all_end {T} i j o p d e s t (Err fault) input output device same cause (inr is) =
+all_end {T} i j o p d e s t (Err fault) input output well device same cause (inr is) =
     let At : ServeFault → Type 0 = λ f. HasAllCauses {T = T} i j o p d e s t (Err f) in
     subst At (sym is) (record {
-      input_later = input;
+      input_later = omega (arith, input);
       output_later = output;
       device_later = device;
       read = λ is. cc;
@@ -249,8 +262,38 @@ all_end {T} i j o p d e s t (Err fault) input output device same cause (inr is) 
       damaged = λ damage is. cc;
       failed = λ is. cc;
       goes_on = tt;
+      input_well = λ other. input;
+      output_well = tt;
     })
 
 pub write_alone : {T : Type 0} (r : Result T ServeFault) → IfErr r (λ fault. fault ≡ Write) → IfErr r (λ stop. (stop ≡ Memory) ⊎ (stop ≡ Write))
 write_alone (Ok value) only = tt
 write_alone (Err fault) only = inr only
+
+-- ---- a refusal that is written last
+
+-- what was written before it is seen from an earlier state
+pub refuses_later : {O : Type 0} (took : O → O → List ℕ → Type 0) (failures : O → ℕ) (o q p : O) → failures o ≤ failures q → RefusesLast took failures q p
+    → RefusesLast took failures o p
+refuses_later took failures o q p later last = record {
+  before = last.before;
+  later = omega (arith, later, last.later);
+  closing = last.closing;
+  unwritten = last.unwritten;
+  refusal = last.refusal;
+  whole = last.whole;
+  written = last.written;
+}
+
+-- it is that of a call that is passed on
+pub refuses_passed : {O T S : Type 0} (took : O → O → List ℕ → Type 0) (failures : O → ℕ) (o q p : O) (fault : ServeFault) → failures o ≤ failures q
+    → ((damage : Damage) → IsErrOf {T = T} (Err fault) (Damaged damage) → RefusesLast took failures q p)
+    → (damage : Damage) → IsErrOf {T = S} (Err fault) (Damaged damage) → RefusesLast took failures o p
+refuses_passed took failures o q p fault later told damage is = refuses_later took failures o q p later (told damage (ap Err (err_same is)))
+
+-- the output's fault and want of memory are no damage
+pub no_damage_told : {T P : Type 0} (r : Result T ServeFault) → IfErr r (λ stop. (stop ≡ Memory) ⊎ (stop ≡ Write)) → (damage : Damage)
+    → IsErrOf r (Damaged damage) → P
+no_damage_told (Ok value) only damage is = absurd (no_fault is)
+no_damage_told (Err fault) (inl memory) damage is = let same : Memory ≡ Damaged damage = sym memory ∙ err_same is in cc
+no_damage_told (Err fault) (inr write) damage is = let same : Write ≡ Damaged damage = sym write ∙ err_same is in cc

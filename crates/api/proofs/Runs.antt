@@ -380,16 +380,18 @@ retyped : {T S : Type 0} (fault other : ServeFault) → IsErrOf {T = S} (Err fau
 retyped fault other is = let same : fault ≡ other = cc in ap Err same
 
 -- the causes of a fault, seen from an earlier state
-pub causes_err : {T S : Type 0} (i j k o p q d e f : ℕ) (s t u : Bool) (fault : ServeFault) → i ≤ j → o ≤ p → d ≤ e → t ≡ s
+pub causes_err : {T S : Type 0} (i j k o p q d e f : ℕ) (s t u : Bool) (fault : ServeFault) → j ≡ i → o ≤ p → d ≤ e → t ≡ s
     → HasAllCauses {T = T} j k p q e f t u (Err fault) → HasAllCauses {T = S} i k o q d f s u (Err fault)
 causes_err i j k o p q d e f s t u fault input output device same all = record {
   input_later = omega (arith, input, all.input_later);
   output_later = omega (arith, output, all.output_later);
   device_later = omega (arith, device, all.device_later);
-  read = λ is. grown_after i j k input (all.read (retyped fault Read is));
+  read = λ is. grown_after i j k (omega (arith, input)) (all.read (retyped fault Read is));
   write = λ is. grown_after o p q output (all.write (retyped fault Write is));
   device = λ is. grown_after d e f device (all.device (retyped fault Device is));
   damaged = λ damage is. let found = all.damaged damage (retyped fault (Damaged damage) is) in (sym same ∙ found.0, found.1);
   failed = λ is. sym same ∙ all.failed (retyped fault Failed is);
   goes_on = tt;
+  input_well = λ other. all.input_well (λ is. other (retyped fault Read is)) ∙ input;
+  output_well = tt;
 }

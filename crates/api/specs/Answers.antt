@@ -144,8 +144,19 @@ Stops rules took failures o p old new v ms ServeFaults.Memory = ⊥
 Stops rules took failures o p old new v ms (ServeFaults.Damaged damage) = ⊥
 Stops rules took failures o p old new v ms ServeFaults.Failed = MeetsFailure rules took o p old new failures v ms
 
+-- A refusal that closes is written behind all else, the whole of it unless the output failed.
+pub record RefusesLast {O : Type 0} (took : O → O → List ℕ → Type 0) (failures : O → ℕ) (o p : O) : Type 0 where
+  -- the output after what was written before
+  pub before : O
+  pub later : failures o ≤ failures before
+  pub closing : List ℕ
+  pub unwritten : List ℕ
+  pub refusal : closing_bytes false StorageFailed ≡ closing ++ unwritten
+  pub whole : (unwritten ≡ []) ⊎ HasGrown (failures before) (failures p)
+  pub written : took before p closing
+
 -- The output's and the device's fault are answered only where theirs grew, `Damaged` only where the store stopped, and `Failed` only where it had
--- stopped before.
+-- stopped before. Where no fault is answered the output did not fail.
 pub record HasCauses {T : Type 0} (output_old output_new device_old device_new : ℕ) (serves_old serves_new : Bool) (result : Result T ServeFault) : Type 0 where
   pub output_later : output_old ≤ output_new
   pub device_later : device_old ≤ device_new
@@ -155,3 +166,4 @@ pub record HasCauses {T : Type 0} (output_old output_new device_old device_new :
   pub damaged : (damage : Damage) → IsErrOf result (ServeFaults.Damaged damage) → (serves_old ≡ true) × (serves_new ≡ false)
   pub failed : IsErrOf result ServeFaults.Failed → serves_old ≡ false
   pub goes_on : OnOk result (serves_new ≡ serves_old)
+  pub output_well : OnOk result (output_new ≡ output_old)

@@ -1,5 +1,5 @@
 -- What serving a connection leaves: the bytes read and written, and the store.
-use Rattle.std.specs.Prelude.{◌≡◌, ℕ, ◌≤◌, ◌⊎◌, List, [], ◌++◌, length, Bool, true, false, None, Result, IsErrOf, OnOk}
+use Rattle.std.specs.Prelude.{◌≡◌, ◌≢◌, ℕ, ◌≤◌, ◌⊎◌, List, [], ◌++◌, length, Bool, true, false, None, Result, Err, IsErrOf, OnOk}
 use Rattle.std.specs.List.{AllByRecursion}
 use Rattle.device.specs.declared.device.Device.{Ghosts}
 use Rattle.requests.specs.declared.refusal.Refusal.TheVariants.{OutOfMemory, StorageFailed}
@@ -107,7 +107,8 @@ pub record Exchanged {I O : Type 0} (gave : I → I → List ℕ → Type 0) (to
   pub took_them : took output_old output_new written
   pub holds : Holds read written
 
--- Each fault of a connection is answered only where what it names failed, and `Damaged` only where the store stopped.
+-- Each fault of a connection is answered only where what it names failed, and `Damaged` only where the store stopped. The input failed only where
+-- `Read` is answered, and where no fault is the output did not fail.
 pub record HasAllCauses {T : Type 0} (input_old input_new output_old output_new device_old device_new : ℕ) (serves_old serves_new : Bool) (result : Result T ServeFault) : Type 0 where
   pub input_later : input_old ≤ input_new
   pub output_later : output_old ≤ output_new
@@ -118,3 +119,5 @@ pub record HasAllCauses {T : Type 0} (input_old input_new output_old output_new 
   pub damaged : (damage : Damage) → IsErrOf result (ServeFaults.Damaged damage) → (serves_old ≡ true) × (serves_new ≡ false)
   pub failed : IsErrOf result ServeFaults.Failed → serves_old ≡ false
   pub goes_on : OnOk result (serves_new ≡ serves_old)
+  pub input_well : result ≢ Err ServeFaults.Read → input_new ≡ input_old
+  pub output_well : OnOk result (output_new ≡ output_old)

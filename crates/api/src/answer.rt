@@ -1,6 +1,6 @@
 //! Messages, answered in groups: the writes of a group stand in one record of the store, and its replies go out together.
 
-ghost use Rattle.std.specs.Prelude.{◌≡◌, ◌≤◌, ◌⊎◌, [], List, length, map, take, true, false, IfOk, OnOk, IfErr, IsErrOf, MatchResult};
+ghost use Rattle.std.specs.Prelude.{◌≡◌, ◌≤◌, ◌⊎◌, ◌+◌, [], List, length, min, map, take, true, false, IfOk, OnOk, IfErr, IsErrOf, MatchResult};
 ghost use Rattle.requests.specs.RequestOf.{request_of};
 ghost use Rattle.objects.specs.declared.format.Rules.{Rules};
 ghost use Rattle.records.specs.Payload.{group_limit};
@@ -9,7 +9,7 @@ ghost use Rattle.requests.specs.Reply.{Reply as ReplyData};
 ghost use Rattle.device.specs.Disk.{HasFailed};
 ghost use Rattle.durable.specs.declared.fault.Damage.{Damage};
 ghost use Rattle.durable.specs.Settled.{device_of, serves, ServesAt, HasServed, HasStopped};
-ghost use Rattle.api.specs.Answers.{ShowsAt, Answers, Stops, HasCauses};
+ghost use Rattle.api.specs.Answers.{ShowsAt, Answers, Stops, RefusesLast, HasCauses};
 
 use crate::fault::ServeFault;
 use device::Device;
@@ -58,6 +58,7 @@ pub fn replies_to<D: Device>(
 /// How many messages are answered with so many replies: where there are more messages, memory was refused to the next one.
 pub fn answered_count(replies: usize, messages: usize) -> usize
     requires { 1 ≤ messages }
+    ensures one_more { result ≡ min (replies + 1) messages }
     ensures some { 1 ≤ result }
     ensures few { result ≤ messages }
     ensures replies { replies ≤ messages → replies ≤ result }
@@ -84,6 +85,7 @@ fn answer_front<O: Output, D: Device>(
     ensures outcome { (rules : Rules) (v : View) → ShowsAt rules store.old v → MatchResult result
         (λ count. Answers rules O.took output.old output.new store.old store.new v (take count messages.now) [])
         (Stops rules O.took O.failures output.old output.new store.old store.new v messages.now) }
+    ensures damage_told { (damage : Damage) → IsErrOf result (ServeFault.Damaged damage) → RefusesLast O.took O.failures output.old output.new }
     ensures causes { HasCauses (O.failures output.old) (O.failures output.new) (D.disk.failures (device_of store.old))
         (D.disk.failures (device_of store.new)) (serves store.old) (serves store.new) result }
 {
@@ -117,6 +119,7 @@ fn answer_group<O: Output, D: Device>(
     ensures outcome { (rules : Rules) (v : View) → ShowsAt rules store.old v → MatchResult result
         (λ _. Answers rules O.took output.old output.new store.old store.new v messages.now [])
         (Stops rules O.took O.failures output.old output.new store.old store.new v messages.now) }
+    ensures damage_told { (damage : Damage) → IsErrOf result (ServeFault.Damaged damage) → RefusesLast O.took O.failures output.old output.new }
     ensures causes { HasCauses (O.failures output.old) (O.failures output.new) (D.disk.failures (device_of store.old))
         (D.disk.failures (device_of store.new)) (serves store.old) (serves store.new) result }
 {
@@ -128,6 +131,13 @@ fn answer_group<O: Output, D: Device>(
         }
     }
     Ok(())
+}
+
+// How many of the messages that wait are a group, whose writes stand in one record: as many as a record holds writes, and else all.
+fn group_size(waiting: usize) -> usize
+    ensures { result ≡ min waiting group_limit }
+{
+    waiting.min(GROUP_LIMIT)
 }
 
 /// Answers messages, in groups of as many as a record holds writes.
@@ -142,12 +152,13 @@ pub(crate) fn answer_all<O: Output, D: Device>(
     ensures outcome { (rules : Rules) (v : View) → ShowsAt rules store.old v → MatchResult result
         (λ _. Answers rules O.took output.old output.new store.old store.new v messages.now [])
         (Stops rules O.took O.failures output.old output.new store.old store.new v messages.now) }
+    ensures damage_told { (damage : Damage) → IsErrOf result (ServeFault.Damaged damage) → RefusesLast O.took O.failures output.old output.new }
     ensures causes { HasCauses (O.failures output.old) (O.failures output.new) (D.disk.failures (device_of store.old))
         (D.disk.failures (device_of store.new)) (serves store.old) (serves store.new) result }
 {
     let mut rest = messages;
     while !rest.is_empty() {
-        let (group, more) = rest.split_at(rest.len().min(GROUP_LIMIT));
+        let (group, more) = rest.split_at(group_size(rest.len()));
         match answer_group(alloc, routes, group, output, sheet, store) {
             Ok(()) => rest = more,
             Err(fault) => return Err(fault),

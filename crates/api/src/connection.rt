@@ -1,12 +1,12 @@
 //! A connection, served.
 
-ghost use Rattle.std.specs.Prelude.{◌≡◌, ◌≢◌, ◌<◌, ◌⊎◌, [], length, true, false, None, IfOk, IsErrOf, MatchResult};
+ghost use Rattle.std.specs.Prelude.{◌≡◌, ◌≢◌, ◌<◌, ◌⊎◌, [], length, true, false, None, IfOk, OnOk, IsErrOf, MatchResult};
 ghost use Rattle.objects.specs.declared.format.Rules.{Rules};
 ghost use Rattle.recovery.specs.Standing.{View};
 ghost use Rattle.durable.specs.Settled.{device_of, serves};
 ghost use Rattle.durable.specs.declared.fault.Damage.{Damage as DamageData};
 ghost use Rattle.objects.specs.Failing.{HasGrown};
-ghost use Rattle.api.specs.Answers.{ShowsAt};
+ghost use Rattle.api.specs.Answers.{ShowsAt, RefusesLast};
 ghost use Rattle.api.specs.Serving.{HasEnded, HasReadSome, HasWrittenSome, HasFailed, HasLackedMemory, HasStopped, HasAllCauses, Exchanged};
 
 use crate::fault::ServeFault;
@@ -21,7 +21,7 @@ use std::alloc::{AllocError, Global};
 const BUFFER_BYTES: usize = 8192;
 
 fn new_buffer(alloc: Global) -> Result<Vec<u8>, AllocError>
-    ensures { IfOk result (λ buffer. 0 < length buffer.items) }
+    ensures { IfOk result (λ buffer. length buffer.items ≡ 8192) }
 {
     vec![in alloc; 0; BUFFER_BYTES]
 }
@@ -36,12 +36,13 @@ fn serve_pieces<I: Input, O: Output, D: Device>(
     store: &mut Store<D>,
 ) -> Result<End, ServeFault>
     requires fresh { connection.cutter ≡ record { pending = []; end = None } }
-    requires buffer { 0 < length buffer.old }
+    requires buffer { length buffer.old ≡ 8192 }
     ensures outcome { (rules : Rules) (v : View) → ShowsAt rules store.old v → MatchResult result
         (λ end. Exchanged I.gave O.took input.old input.new output.old output.new
         (λ read written. HasEnded rules store.old store.new v read written (I.has_ended input.new) end))
         (λ fault. Exchanged I.gave O.took input.old input.new output.old output.new
         (HasStopped rules store.old store.new v (O.failures output.old) (O.failures output.new) fault)) }
+    ensures damage_told { (damage : DamageData) → IsErrOf result (ServeFault.Damaged damage) → RefusesLast O.took O.failures output.old output.new }
     ensures causes { HasAllCauses (I.failures input.old) (I.failures input.new) (O.failures output.old) (O.failures output.new)
         (D.disk.failures (device_of store.old)) (D.disk.failures (device_of store.new)) (serves store.old) (serves store.new) result }
 {
@@ -105,7 +106,15 @@ pub fn serve<I: Input, O: Output, D: Device>(
     ensures never_damaged { (rules : Rules) (v : View) → ShowsAt rules store.old v → (damage : DamageData) → result ≢ Err (ServeFault.Damaged damage) }
     ensures damaged { (damage : DamageData) → IsErrOf result (ServeFault.Damaged damage) → (serves store.old ≡ true) × (serves store.new ≡ false) }
 
+    // It is told: the last that is written is that the storage failed.
+    ensures damage_told { (damage : DamageData) → IsErrOf result (ServeFault.Damaged damage) → RefusesLast O.took O.failures output.old output.new }
+
     ensures failed { IsErrOf result ServeFault.Failed → serves store.old ≡ false }
+
+    // An input that failed is not read on, and where the stream was served to its end no reply failed.
+    ensures read_well { result ≢ Err ServeFault.Read → I.failures input.new ≡ I.failures input.old }
+    ensures write_well { OnOk result (O.failures output.new ≡ O.failures output.old) }
+
     ensures read_cause { IsErrOf result ServeFault.Read → HasGrown (I.failures input.old) (I.failures input.new) }
     ensures write_cause { IsErrOf result ServeFault.Write → HasGrown (O.failures output.old) (O.failures output.new) }
     ensures device_cause { IsErrOf result ServeFault.Device
@@ -121,7 +130,7 @@ pub fn serve<I: Input, O: Output, D: Device>(
 // All that serving a connection needs memory for.
 fn tools(alloc: Global) -> Result<(Connection, Vec<u8>), AllocError>
     ensures fresh { IfOk result (λ tools. tools.0.cutter ≡ record { pending = []; end = None }) }
-    ensures buffer { IfOk result (λ tools. 0 < length tools.1.items) }
+    ensures buffer { IfOk result (λ tools. length tools.1.items ≡ 8192) }
 {
     Ok((Connection::new(alloc)?, new_buffer(alloc)?))
 }

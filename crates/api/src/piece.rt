@@ -1,16 +1,17 @@
 //! Pieces of an input, and its end.
 
-ghost use Rattle.std.specs.Prelude.{◌≡◌, ◌≢◌, ◌<◌, ◌≤◌, ◌⊎◌, ℕ, List, [], length, take, false, Some, None, IfOk, IfErr, IsErrOf, MatchResult};
+ghost use Rattle.std.specs.Prelude.{◌≡◌, ◌≢◌, ◌<◌, ◌≤◌, ◌⊎◌, ℕ, List, [], length, take, false, Some, None, IfOk, OnOk, IfErr, IsErrOf, MatchResult};
 ghost use Rattle.requests.specs.declared.refusal.Refusal.TheVariants as refusal;
 ghost use Rattle.objects.specs.declared.format.Rules.{Rules};
 ghost use Rattle.recovery.specs.Standing.{View};
 ghost use Rattle.durable.specs.Settled.{device_of, serves};
+ghost use Rattle.durable.specs.declared.fault.Damage.{Damage as DamageData};
 ghost use Rattle.httpmsg.specs.declared.head.BrokenMessage.{BrokenMessage as BrokenData};
 ghost use Rattle.httpmsg.specs.Flow.{TookSome};
 ghost use Rattle.httpmsg.specs.Stream.{Message as MessageData, IsCut};
 ghost use Rattle.httpmsg.specs.declared.head.End.{End as EndData};
 ghost use Rattle.objects.specs.Failing.{HasGrown};
-ghost use Rattle.api.specs.Answers.{ShowsAt, HasCauses};
+ghost use Rattle.api.specs.Answers.{ShowsAt, RefusesLast, HasCauses};
 ghost use Rattle.routes.specs.ReplyBytes.{closing_bytes, end_bytes};
 ghost use Rattle.api.specs.Serving.{HasAllCauses};
 ghost use Rattle.api.specs.Piece.{Tells, Breaks, Steps, StepsWrong, Finishes, FinishesInPart};
@@ -72,6 +73,7 @@ impl Connection {
             → MatchResult result
             (Tells rules O.took O.failures output.old output.new store.old store.new v read ms self.old.cutter piece.now self.new.cutter)
             (Breaks rules O.took O.failures output.old output.new store.old store.new v read ms self.old.cutter piece.now self.new.cutter) }
+        ensures damage_told { (damage : DamageData) → IsErrOf result (ServeFault.Damaged damage) → RefusesLast O.took O.failures output.old output.new }
         ensures causes { HasCauses (O.failures output.old) (O.failures output.new) (D.disk.failures (device_of store.old))
             (D.disk.failures (device_of store.new)) (serves store.old) (serves store.new) result }
     {
@@ -95,6 +97,7 @@ impl Connection {
         ensures outcome { (read : List ℕ) (ms : List MessageData) → IsCut read ms self.cutter → self.cutter.end ≡ None → MatchResult result
             (Finishes O.took output.old output.new read ms) (FinishesInPart O.took output.old output.new read ms) }
         ensures later { O.failures output.old ≤ O.failures output.new }
+        ensures well { OnOk result (O.failures output.new ≡ O.failures output.old) }
         ensures cause { IsErrOf result ServeFault.Write → HasGrown (O.failures output.old) (O.failures output.new) }
         ensures only { IfErr result (λ fault. fault ≡ ServeFault.Write) }
     {
@@ -128,6 +131,7 @@ fn answer_fault<O: Output>(
         (λ stop. ((stop ≡ ServeFault.Memory) × O.took output.old output.new (closing_bytes false refusal.OutOfMemory))
         ⊎ ((stop ≡ ServeFault.Write) × TookSome O.took output.old output.new (closing_bytes false refusal.OutOfMemory))) }
     ensures later { O.failures output.old ≤ O.failures output.new }
+    ensures well { OnOk result (O.failures output.new ≡ O.failures output.old) }
     ensures cause { IsErrOf result ServeFault.Write → HasGrown (O.failures output.old) (O.failures output.new) }
     ensures only { IfErr result (λ stop. (stop ≡ ServeFault.Memory) ⊎ (stop ≡ ServeFault.Write)) }
 {
@@ -168,7 +172,8 @@ pub(crate) enum Step {
     End(End),
 }
 
-/// Feeds so many bytes of the buffer, answers what they tell, and reads on where they told no message.
+/// Feeds so many bytes of the buffer, answers what they tell, and reads on where they told no message. Nothing else reads, and at most
+/// 8,192 bytes are read at once.
 pub(crate) fn next_step<I: Input, O: Output, D: Device>(
     alloc: Global,
     connection: &mut Connection,
@@ -180,6 +185,7 @@ pub(crate) fn next_step<I: Input, O: Output, D: Device>(
 ) -> Result<Step, ServeFault>
     requires count { count ≤ length buffer.old }
     requires room { 0 < length buffer.old }
+    requires most { length buffer.old ≤ 8192 }
     ensures outcome { (rules : Rules) (v : View) (read : List ℕ) (ms : List MessageData) → ShowsAt rules store.old v → IsCut read ms connection.old.cutter
         → MatchResult result
         (Steps rules I.gave O.took O.failures input.old input.new output.old output.new store.old store.new v read ms connection.old.cutter (take count buffer.old) connection.new.cutter
@@ -187,6 +193,7 @@ pub(crate) fn next_step<I: Input, O: Output, D: Device>(
         (StepsWrong rules I.gave O.took O.failures input.old input.new output.old output.new store.old store.new v read ms connection.old.cutter (take count buffer.old)
         connection.new.cutter) }
     ensures fits { (n : ℕ) → result ≡ Ok (Step.Feed n) → n ≤ length buffer.new }
+    ensures damage_told { (damage : DamageData) → IsErrOf result (ServeFault.Damaged damage) → RefusesLast O.took O.failures output.old output.new }
     ensures causes { HasAllCauses (I.failures input.old) (I.failures input.new) (O.failures output.old) (O.failures output.new)
         (D.disk.failures (device_of store.old)) (D.disk.failures (device_of store.new)) (serves store.old) (serves store.new) result }
 {

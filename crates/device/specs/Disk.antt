@@ -1,5 +1,5 @@
 -- A disk as the code above it sees it: what reads give, what a crash may leave, and when.
-use Rattle.std.specs.Prelude.{◌≡◌, ◌<◌, ◌≤◌, ◌-◌, ◌^◌, ◌⊎◌, ℕ, List, Result, IsErr}
+use Rattle.std.specs.Prelude.{◌≡◌, ◌<◌, ◌≤◌, ◌-◌, ◌^◌, ◌⊎◌, ℕ, List, Result, IsOk, IsErr}
 
 -- What is known of a disk whose state is a D. Contents are lists of bytes.
 pub record Disk (D : Type 0) : Type 1 where
@@ -31,7 +31,8 @@ Only content outcomes = (c : List ℕ) → outcomes c → c ≡ content
 abbrev pub HasFailed : {D : Type 0} → Disk D → D → D → Type 0
 HasFailed disk old new = (disk.failures old < disk.failures new) ⊎ (disk.failures new ≡ 2 ^ 64 - 1)
 
--- An error is answered only where the disk failed.
+-- An error is answered only where the disk failed, and where none is, it did not.
 pub record HasCause {D T E : Type 0} (disk : Disk D) (old new : D) (result : Result T E) : Type 0 where
   pub later : disk.failures old ≤ disk.failures new
   pub failed : IsErr result → HasFailed disk old new
+  pub well : IsOk result → disk.failures new ≡ disk.failures old

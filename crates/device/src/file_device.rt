@@ -1,5 +1,6 @@
-ghost use Rattle.std.specs.Prelude.{◌≡◌, IfOk};
+ghost use Rattle.std.specs.Prelude.{◌≡◌, true, IfOk};
 ghost use Rattle.device.specs.Faults.{create_fault, open_fault};
+ghost use Rattle.std.specs.Fs.{new_options, with_read, with_write, with_create_new};
 ghost use Rattle.std.specs.IoError.{error_kind};
 
 use crate::host_file::HostFile;
@@ -87,6 +88,24 @@ impl From<io::Error> for OpenFault {
     }
 }
 
+// How a file is made that is not there. A file that is there is left alone, and the call fails.
+fn making_a_file() -> OpenOptions
+    ensures { result ≡ with_create_new (with_write (with_read new_options true) true) true }
+{
+    let mut options = OpenOptions::new();
+    options.read(true).write(true).create_new(true);
+    options
+}
+
+// How a file is opened that is there: as it is, with none made.
+fn opening_a_file() -> OpenOptions
+    ensures { result ≡ with_write (with_read new_options true) true }
+{
+    let mut options = OpenOptions::new();
+    options.read(true).write(true);
+    options
+}
+
 // Syncs the folder that a file lies in, so that a crash does not take its name away.
 fn sync_folder<R: Files<File = File>>(files: &R, path: &str) -> io::Result<()> {
     let folder = match Path::new(path).parent() {
@@ -117,11 +136,7 @@ impl SectorFile<HostFile> {
     pub fn create<R: Files<File = File>>(files: &R, path: &str) -> Result<FileDevice, CreateFault>
         ensures { IfOk result (λ device. (sector_disk host_disk).failures device ≡ 0) }
     {
-        let file = OpenOptions::new()
-            .read(true)
-            .write(true)
-            .create_new(true)
-            .open(files, path)?;
+        let file = making_a_file().open(files, path)?;
         file.sync_all()?;
         sync_folder(files, path)?;
         Ok(locked(file)?)
@@ -131,7 +146,7 @@ impl SectorFile<HostFile> {
     pub fn open<R: Files<File = File>>(files: &R, path: &str) -> Result<FileDevice, OpenFault>
         ensures { IfOk result (λ device. (sector_disk host_disk).failures device ≡ 0) }
     {
-        let file = OpenOptions::new().read(true).write(true).open(files, path)?;
+        let file = opening_a_file().open(files, path)?;
         Ok(locked(file)?)
     }
 }

@@ -31,6 +31,7 @@ impl HostFile {
     fn counted<T: Drop>(&mut self, answer: io::Result<T>) -> Result<T, DeviceFault>
         ensures value { IfOk result (λ value. answer ≡ Ok value) }
         ensures later { self.old.failures ≤ self.new.failures }
+        ensures well { IsOk result → self.new.failures ≡ self.old.failures }
         ensures cause { IsErr result → (self.old.failures < self.new.failures) ⊎ (self.new.failures ≡ 2 ^ 64 - 1) }
     {
         match answer {

@@ -1,7 +1,7 @@
 -- The pages of a generation stay while their bytes stay.
 use Rattle.std.proofs.Common.{arith, refl, ◌≡◌, ◌∙◌, sym, ap, subst, ◌≤◌, ◌+◌, ◌*◌, ◌∷◌, ℕ, zero, suc, List, length}
-use Rattle.gatelog.specs.Record.{part}
-use Rattle.gatelog.proofs.Parts.{Agree, part-agree}
+use Rattle.gatelog.specs.Record.{part, Agree}
+use Rattle.gatelog.proofs.Parts.{part-agree}
 use Rattle.pages.specs.Page.{Entry, entries_in, IsSound}
 use Rattle.roots.specs.declared.root.Root.{Root}
 use Rattle.roots.specs.Root.{log_start}

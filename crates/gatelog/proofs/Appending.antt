@@ -7,9 +7,9 @@ use Rattle.device.specs.Step.{Holds, Torn}
 use Rattle.device.specs.Run.{Ran, Stands}
 use Rattle.device.proofs.Steps.{torn_holds, torn-bytes, length-holds}
 use Rattle.device.proofs.Runs.{stands_now, stands_then, stands_synced, stands_weaker}
-use Rattle.gatelog.specs.Record.{part, sectors, IsRecord}
+use Rattle.gatelog.specs.Record.{part, sectors, IsRecord, Agree}
 use Rattle.gatelog.specs.Log.{IsOpen, IsClosed, HoldsLog, IsBeforeOrAfter}
-use Rattle.gatelog.proofs.Parts.{Agree, agree-take, reaches-take, get-part}
+use Rattle.gatelog.proofs.Parts.{agree-take, reaches-take, get-part}
 use Rattle.gatelog.proofs.Logs.{inside, HoldsLog-agree, HoldsLog-stays, HoldsLog-longer, IsStaged}
 
 -- the contents while an append goes on, before it: they agree up to the end of the closed gate

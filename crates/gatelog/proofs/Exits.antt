@@ -1,7 +1,7 @@
 -- What an exit of a `?` answers.
-use Rattle.std.proofs.Common.{arith, refl, ap, ◌≡◌, ◌≤◌, ◌⊎◌, ℕ, List, Result, Ok, Err, inl, inr}
+use Rattle.std.proofs.Common.{arith, refl, sym, ap, ◌≡◌, ◌≤◌, ◌⊎◌, ℕ, List, Result, Ok, Err, inl, inr, true≢false}
 use Rattle.std.specs.Prelude.{⊤, OnErr, IsErrOf}
-use Rattle.std.specs.Result.{IsErrAnd, is_err}
+use Rattle.std.specs.Result.{IsOk, IsErr, IsErrAnd, is_err}
 use Rattle.device.specs.Disk.{Disk, HasFailed, HasCause}
 use Rattle.device.specs.Step.{Same}
 use Rattle.device.specs.Run.{Ran}
@@ -61,6 +61,11 @@ never_too_long {result = Err y} (inr damaged) told =
 -- an error of the device has its cause
 pub has_failed : {D T E : Type 0} {disk : Disk D} {old new : D} {result : Result T E} {fault : E} → HasCause disk old new result → result ≡ Err fault → HasFailed disk old new
 has_failed cause was = cause.failed (ap is_err was)
+
+-- what is an error is no success
+pub ok_and_err : {T E P : Type 0} (result : Result T E) → IsErr result → IsOk result → P
+ok_and_err (Ok x) err ok = absurd (true≢false (sym err))
+ok_and_err (Err y) err ok = absurd (true≢false (sym ok))
 
 -- and so it has after calls that went before
 pub failed_after : {D : Type 0} (disk : Disk D) (old mid new : D) → disk.failures old ≤ disk.failures mid → HasFailed disk mid new → HasFailed disk old new

@@ -1,8 +1,8 @@
 -- Logs that stay, and logs that grow.
 use Rattle.std.proofs.Common.{arith, refl, ◌≡◌, ◌∙◌, sym, subst, ◌≤◌, ◌+◌, ◌*◌, ◌++◌, ℕ, List, [], ◌∷◌, length, slice_index}
-use Rattle.gatelog.specs.Record.{part, sectors, IsRecord}
+use Rattle.gatelog.specs.Record.{part, sectors, IsRecord, Agree}
 use Rattle.gatelog.specs.Log.{IsOpen, IsClosed, HoldsLog}
-use Rattle.gatelog.proofs.Parts.{Agree, part-agree}
+use Rattle.gatelog.proofs.Parts.{part-agree}
 
 -- a log lies inside of its content
 pub inside : (payloads : List (List ℕ)) (gate last : ℕ) (c : List ℕ) → HoldsLog gate payloads last c → (gate ≤ last) × (512 * last + 512 ≤ length c)

@@ -4,11 +4,7 @@ use Rattle.std.proofs.lemmas.List.{length-take, length-drop, get_or-take, get_or
 use Rattle.std.proofs.lemmas.Bool.{cases_lt}
 use Rattle.byteorder.specs.Endian.{big_number}
 use Rattle.byteorder.specs.Numbers.{big_from-take}
-use Rattle.gatelog.specs.Record.{part, sectors, IsRecord}
-
--- Two contents agree from one offset to another.
-abbrev pub Agree : ℕ → ℕ → List ℕ → List ℕ → Type 0
-Agree from to old new = (k : ℕ) → from ≤ k → k < to → slice_index new k ≡ slice_index old k
+use Rattle.gatelog.specs.Record.{part, Agree, sectors, IsRecord}
 
 pub length-part : (at n : ℕ) (c : List ℕ) → at + n ≤ length c → length (part at n c) ≡ n
 length-part at n c inside = omega (arith, length-take n (drop at c), length-drop at c)

@@ -1,10 +1,14 @@
 -- A record's body, as it is read.
-use Rattle.std.specs.Prelude.{◌≡◌, ◌≤◌, ◌+◌, ◌*◌, ◌/◌, ℕ, List, length, take, drop, slice_index}
+use Rattle.std.specs.Prelude.{◌≡◌, ◌<◌, ◌≤◌, ◌+◌, ◌*◌, ◌/◌, ℕ, List, length, take, drop, slice_index}
 use Rattle.byteorder.specs.Endian.{big_number}
 
 -- The bytes of a content in a range.
 abbrev pub part : ℕ → ℕ → List ℕ → List ℕ
 part at count content = take count (drop at content)
+
+-- Two contents agree from one offset to another.
+abbrev pub Agree : ℕ → ℕ → List ℕ → List ℕ → Type 0
+Agree from to old new = (k : ℕ) → from ≤ k → k < to → slice_index new k ≡ slice_index old k
 
 -- The number of sectors of the body of a payload of this many bytes: four bytes more, rounded up.
 abbrev pub body_sectors : ℕ → ℕ

@@ -1,10 +1,11 @@
 -- What a run of calls on an input or an output did, and why a call fails.
-use Rattle.std.specs.Prelude.{◌≡◌, ℕ, ◌^◌, ◌-◌, ◌<◌, ◌≤◌, ◌⊎◌, List, ◌++◌, IsErr, Result, MatchResult}
+use Rattle.std.specs.Prelude.{◌≡◌, ℕ, ◌^◌, ◌-◌, ◌<◌, ◌≤◌, ◌⊎◌, List, ◌++◌, IsOk, IsErr, Result, MatchResult}
 
--- a call fails only where the failures of what it calls grew, or can grow no more
+-- a call fails only where the failures of what it calls grew, or can grow no more; where it does not fail, they are as many as before
 pub record HasCause {T E : Type 0} (before now : ℕ) (result : Result T E) : Type 0 where
   pub later : before ≤ now
   pub failed : IsErr result → (before < now) ⊎ (now ≡ 2 ^ 64 - 1)
+  pub well : IsOk result → now ≡ before
 
 -- a beginning of the bytes was taken
 pub record TookSome {S : Type 0} (took : S → S → List ℕ → Type 0) (old new : S) (bytes : List ℕ) : Type 0 where

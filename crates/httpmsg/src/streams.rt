@@ -1,10 +1,12 @@
 //! What bytes are read from and written to, with their bytes and failures told.
 
-ghost use Rattle.std.specs.Prelude.{◌≡◌, ℕ, ◌<◌, ◌≤◌, List, [], ◌++◌, length, take, IfOk, OnErr};
+ghost use Rattle.std.specs.Prelude.{◌≡◌, ℕ, ◌<◌, ◌≤◌, List, [], ◌++◌, length, take, ◌≢◌, IfOk, IfErr, OnErr};
+ghost use Rattle.std.specs.IoError.{error_kind};
+ghost use Rattle.std.specs.Io.KnownBytes.{Consumes, Appends, IsAtEnd};
 ghost use Rattle.httpmsg.specs.Flow.{HasCause, Writes};
 
-use std::fmt;
-use std::io::{Read, Write};
+use std::io::{ErrorKind, Read, Write};
+use std::{fmt, io};
 
 /// Why a call of an [`Input`] or an [`Output`] fails.
 #[derive(Clone, Copy)]
@@ -103,9 +105,50 @@ impl<T> Std<T> {
     }
 }
 
-impl<T: Read> Input for Std<T> {
-    ghost use Rattle.std.specs.Io.KnownBytes.{Consumes, IsAtEnd};
+// One read, tried again where a signal interrupts it.
+fn read_uninterrupted<T: Read>(reader: &mut T, buffer: &mut [u8]) -> io::Result<usize>
+    ensures count { IfOk result (λ n. n ≤ length buffer.new) }
+    ensures gives { IfOk result (λ n. Consumes (T.remaining reader.old) (T.remaining reader.new) (take n buffer.new)) }
+    ensures ends { IfOk result (λ n. n ≡ 0 → 0 < length buffer.new → IsAtEnd (T.remaining reader.new)) }
+    ensures nothing { OnErr result (Consumes (T.remaining reader.old) (T.remaining reader.new) []) }
+    ensures tried_again { IfErr result (λ error. error_kind error ≢ ErrorKind.Interrupted) }
+{
+    for _ in 0..u64::MAX {
+        match reader.read(buffer) {
+            Ok(count) => return Ok(count),
+            Err(error) => {
+                if error.kind() != ErrorKind::Interrupted {
+                    return Err(error);
+                }
+            }
+        }
+    }
+    // No reader is interrupted that often.
+    Err(ErrorKind::TimedOut.into())
+}
 
+// One write, tried again where a signal interrupts it.
+fn write_uninterrupted<T: Write>(writer: &mut T, bytes: &[u8]) -> io::Result<usize>
+    ensures count { IfOk result (λ n. n ≤ length bytes.now) }
+    ensures takes { IfOk result (λ n. Appends (T.contents writer.old) (T.contents writer.new) (take n bytes.now)) }
+    ensures nothing { OnErr result (Appends (T.contents writer.old) (T.contents writer.new) []) }
+    ensures tried_again { IfErr result (λ error. error_kind error ≢ ErrorKind.Interrupted) }
+{
+    for _ in 0..u64::MAX {
+        match writer.write(bytes) {
+            Ok(count) => return Ok(count),
+            Err(error) => {
+                if error.kind() != ErrorKind::Interrupted {
+                    return Err(error);
+                }
+            }
+        }
+    }
+    // No writer is interrupted that often.
+    Err(ErrorKind::TimedOut.into())
+}
+
+impl<T: Read> Input for Std<T> {
     ghost gave = { λ old new bytes. Consumes (T.remaining old.inner) (T.remaining new.inner) bytes };
 
     ghost has_ended = { λ s. IsAtEnd (T.remaining s.inner) };
@@ -120,7 +163,7 @@ impl<T: Read> Input for Std<T> {
         consumes_then (T.remaining old.inner) (T.remaining mid.inner) (T.remaining new.inner) front back first second };
 
     fn read(&mut self, buffer: &mut [u8]) -> Result<usize, StreamFault> {
-        match self.inner.read(buffer) {
+        match read_uninterrupted(&mut self.inner, buffer) {
             Ok(count) => Ok(count),
             Err(_) => {
                 self.failures = self.failures.saturating_add(1);
@@ -131,8 +174,6 @@ impl<T: Read> Input for Std<T> {
 }
 
 impl<T: Write> Output for Std<T> {
-    ghost use Rattle.std.specs.Io.KnownBytes.{Appends};
-
     ghost took = { λ old new bytes. Appends (T.contents old.inner) (T.contents new.inner) bytes };
 
     ghost failures = { λ s. s.failures };
@@ -145,7 +186,7 @@ impl<T: Write> Output for Std<T> {
         appends_then (T.contents old.inner) (T.contents mid.inner) (T.contents new.inner) front back first second };
 
     fn write(&mut self, bytes: &[u8]) -> Result<usize, StreamFault> {
-        match self.inner.write(bytes) {
+        match write_uninterrupted(&mut self.inner, bytes) {
             Ok(count) if count > 0 => Ok(count),
             _ => {
                 self.failures = self.failures.saturating_add(1);

@@ -4,8 +4,8 @@ use Rattle.std.proofs.lemmas.Bool.{cases_eq}
 use Rattle.device.specs.Step.{Torn, Cut}
 use Rattle.device.proofs.Steps.{torn-bytes}
 use Rattle.gatelog.specs.Log.{IsOpen}
-use Rattle.gatelog.specs.Record.{part}
-use Rattle.gatelog.proofs.Parts.{Agree, part-agree, agree-take, reaches-take}
+use Rattle.gatelog.specs.Record.{part, Agree}
+use Rattle.gatelog.proofs.Parts.{part-agree, agree-take, reaches-take}
 use Rattle.roots.specs.declared.root.Slot.{Slot}
 use Rattle.roots.specs.declared.root.Slot.TheVariants.{A, B}
 use Rattle.roots.specs.declared.root.Root.{Root}

@@ -3,7 +3,7 @@ use Rattle.std.specs.Prelude.{◌≡◌, ◌<◌, ◌≤◌, ◌+◌, ◌*◌, �
 use Rattle.device.specs.Disk.{Disk}
 use Rattle.device.specs.Run.{Stands}
 use Rattle.gatelog.specs.Log.{IsOpen}
-use Rattle.gatelog.proofs.Parts.{Agree}
+use Rattle.gatelog.specs.Record.{Agree}
 use Rattle.roots.specs.declared.root.Slot.{Slot}
 use Rattle.roots.specs.declared.root.Root.{Root}
 use Rattle.roots.specs.Root.{root_sector, gate_sector, other, log_start, HoldsRoot}

@@ -1,6 +1,6 @@
 //! The steps by which a new generation of a store becomes the one that counts.
 
-ghost use Rattle.std.specs.Prelude.{◌≡◌, ◌<◌, ◌≤◌, ◌+◌, ◌*◌, ◌^◌, ◌↔◌, ℕ, List, length, max, replicate, slice_index, IsTrue, IfOk, OnOk};
+ghost use Rattle.std.specs.Prelude.{◌≡◌, ◌<◌, ◌≤◌, ◌+◌, ◌*◌, ◌^◌, ◌↔◌, ℕ, List, ◌∷◌, length, max, replicate, slice_index, IsTrue, IfOk, OnOk};
 ghost use Rattle.device.specs.Disk.{Only, HasCause};
 ghost use Rattle.device.specs.Step.{Holds, Same, Torn, Cut};
 ghost use Rattle.device.specs.Run.{Ran, Stands};
@@ -26,17 +26,27 @@ fn reads_open<D: Device>(device: &mut D, slot: Slot) -> Result<bool, DeviceFault
     Ok(gate[0] == OPEN)
 }
 
+// A gate with this first byte: zeros follow it.
+fn gate_of(first_byte: u8) -> [u8; 512]
+    ensures bytes { result ≡ first_byte ∷ replicate 511 0 }
+    ensures size { length result ≡ 512 }
+{
+    let mut gate = [0; SECTOR];
+    gate[0] = first_byte;
+    gate
+}
+
 // Writes a gate, and syncs.
 fn write_gate<D: Device>(device: &mut D, slot: Slot, first_byte: u8) -> Result<(), DeviceFault>
     requires { D.disk.keeps device.old → 8 * 512 ≤ length (D.disk.content device.old) }
-    ensures written { D.disk.keeps device.old → OnOk result (slice_index (D.disk.content device.new) (512 * gate_sector slot) ≡ first_byte) }
+    ensures written { D.disk.keeps device.old → OnOk result
+        (Holds (D.disk.content device.old) (512 * gate_sector slot) (first_byte ∷ replicate 511 0) (D.disk.content device.new)) }
+    ensures first { D.disk.keeps device.old → OnOk result (slice_index (D.disk.content device.new) (512 * gate_sector slot) ≡ first_byte) }
     ensures durable { D.disk.keeps device.old → OnOk result (Only (D.disk.content device.new) (D.disk.left device.new)) }
     ensures ran { Ran D.disk device.old device.new (Torn (512 * gate_sector slot) 512) }
     ensures cause { HasCause D.disk device.old device.new result }
 {
-    let mut gate = [0; SECTOR];
-    gate[0] = first_byte;
-    write_through(device, slot.gate_sector() as u64, &gate)
+    write_through(device, slot.gate_sector() as u64, &gate_of(first_byte))
 }
 
 // Closes the gate of a slot where it reads open, and syncs. A gate that reads closed is not touched.

@@ -4,8 +4,8 @@ use Rattle.std.proofs.lemmas.List.{length-take}
 use Rattle.device.specs.Disk.{Disk}
 use Rattle.device.specs.Run.{Ran}
 use Rattle.device.specs.Step.{Same}
-use Rattle.gatelog.specs.Record.{part}
-use Rattle.gatelog.proofs.Parts.{Agree, part-agree, agree-take}
+use Rattle.gatelog.specs.Record.{part, Agree}
+use Rattle.gatelog.proofs.Parts.{part-agree, agree-take}
 use Rattle.pages.specs.Page.{Entry, entries_in, IsSound}
 use Rattle.roots.specs.Root.{log_start}
 use Rattle.checkpoint.specs.Pages.{pages_at, joined, AreSound, IsIndex}

@@ -11,7 +11,8 @@ use Rattle.httpmsg.specs.Stream.{Message}
 use Rattle.routes.specs.Asked.{asked}
 use Rattle.routes.specs.ReplyBytes.{closing_bytes}
 use Rattle.routes.specs.AnswerBytes.{answers_bytes, CanAnswerAll}
-use Rattle.api.proofs.Causes.{causes_none, causes_write, causes_stored}
+use Rattle.api.specs.declared.fault.ServeFault.TheVariants.{Write, Damaged}
+use Rattle.api.proofs.Causes.{apart, causes_none, causes_write, causes_stored}
 use Rattle.api.proofs.Folds.{took_some_of, took_whole}
 use Rattle.api.proofs.Groups.{front_can_answer, front_answers, front_writes_some, front_stopped, front_stops}
 use Rattle.api.proofs.answer.answer_front.Given.{Over}
@@ -82,7 +83,7 @@ returns-clause-outcome g c rules v shows =
 
 pub returns-in-Ok-write_answers-clause-causes : goal.returns-in-Ok-write_answers-clause-causes
 returns-in-Ok-write_answers-clause-causes g c =
-    causes_none _ _ _ _ _ _ c.answered_count-count.result c.write_answers.ensures.cause.later c.replies_to.ensures.count c.in-Ok.ensures.goes_on
+    causes_none _ _ _ _ _ _ c.answered_count-count.result (c.in-Ok-write_answers.ensures.cause.well refl) c.replies_to.ensures.count c.in-Ok.ensures.goes_on
 
 pub returns-in-Ok-clause-causes : goal.returns-in-Ok-clause-causes
 returns-in-Ok-clause-causes g c =
@@ -92,3 +93,24 @@ pub returns-clause-causes : goal.returns-clause-causes
 returns-clause-causes g c =
     causes_stored _ _ _ _ _ _ c.in-Err.fault c.in-Err.ensures.refusal c.write_storage_failed.ensures.cause.later c.replies_to.ensures.count
     (λ is. c.in-Err.ensures.cause (ap Err is)) (λ damage is. c.in-Err.ensures.damaged_stops damage (ap Err is)) (λ is. (c.in-Err.ensures.failed (ap Err is)).0)
+
+pub returns-in-Ok-clause-damage_told : goal.returns-in-Ok-clause-damage_told
+returns-in-Ok-clause-damage_told g c damage is = apart Write (Damaged damage) (λ is. cc) is
+
+pub returns-clause-damage_told : goal.returns-clause-damage_told
+returns-clause-damage_told g c damage is =
+    let took = g.O.Output.took in
+    let last =
+    took_some_of took c.args.output.now c.write_storage_failed.new.output (closing_bytes false StorageFailed) c.write_storage_failed.result c.write_storage_failed.ensures.writes
+    in
+    record {
+      before = c.args.output.now;
+      later = omega arith;
+      closing = last.front;
+      unwritten = last.rest;
+      refusal = last.split;
+      whole = took_whole took c.args.output.now c.write_storage_failed.new.output (closing_bytes false StorageFailed) c.write_storage_failed.result
+          (g.O.Output.failures c.args.output.now) (g.O.Output.failures c.write_storage_failed.new.output) c.write_storage_failed.ensures.writes
+          c.write_storage_failed.ensures.cause;
+      written = last.taken;
+    }

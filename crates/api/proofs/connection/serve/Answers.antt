@@ -40,6 +40,15 @@ returns-clause-write_cause g c = c.serve_pieces.ensures.causes.write
 pub returns-clause-device_cause : goal.returns-clause-device_cause
 returns-clause-device_cause g c = c.serve_pieces.ensures.causes.device
 
+pub returns-clause-damage_told : goal.returns-clause-damage_told
+returns-clause-damage_told g c = c.serve_pieces.ensures.damage_told
+
+pub returns-clause-read_well : goal.returns-clause-read_well
+returns-clause-read_well g c = c.serve_pieces.ensures.causes.input_well
+
+pub returns-clause-write_well : goal.returns-clause-write_well
+returns-clause-write_well g c = c.serve_pieces.ensures.causes.output_well
+
 pub returns-in-Err : goal.returns-in-Err
 returns-in-Err g c = record {
   ended = λ rules v shows. tt;
@@ -49,7 +58,10 @@ returns-in-Err g c = record {
   memory = λ rules v shows is. inl (refl, refl, refl);
   never_damaged = λ rules v shows damage is. apart Memory (Damaged damage) (λ is. cc) is;
   damaged = λ damage is. apart Memory (Damaged damage) (λ is. cc) is;
+  damage_told = λ damage is. apart Memory (Damaged damage) (λ is. cc) is;
   failed = λ is. apart Memory Failed (λ is. cc) is;
+  read_well = λ other. refl;
+  write_well = tt;
   read_cause = λ is. apart Memory Read (λ is. cc) is;
   write_cause = λ is. apart Memory Write (λ is. cc) is;
   device_cause = λ is. apart Memory Device (λ is. cc) is;

@@ -19,6 +19,7 @@ returns-in-Ok g c =
       broken = λ b is. subst Said (cut_broken (sym was ∙ is)) (refl, c.in-Ok.ensures.writes);
       memory = λ is. broken_memory c.in-Broken.broken (sym was ∙ is);
       later = c.write_fault.ensures.cause.later;
+      well = c.in-Ok.ensures.cause.well refl;
       cause = λ is. absurd (no_fault is);
       only = tt;
     }
@@ -31,6 +32,7 @@ returns-in-Err g c =
       broken = λ b is. (refl, subst Said (cut_broken (sym was ∙ is)) c.in-Err.ensures.writes);
       memory = λ is. broken_memory c.in-Broken.broken (sym was ∙ is);
       later = c.write_fault.ensures.cause.later;
+      well = tt;
       cause = λ is. c.in-Err.ensures.cause.failed refl;
       only = inr refl;
     }
@@ -42,6 +44,7 @@ returns-in-Ok-write_no_more g c =
       broken = λ b is. memory_broken b (sym was ∙ is);
       memory = λ is. inl (refl, c.in-Ok-write_no_more.ensures.writes);
       later = c.write_no_more.ensures.cause.later;
+      well = tt;
       cause = λ is. apart Memory Write (λ is. cc) is;
       only = inl refl;
     }
@@ -53,6 +56,7 @@ returns-in-Err-write_no_more g c =
       broken = λ b is. memory_broken b (sym was ∙ is);
       memory = λ is. inr (refl, c.in-Err-write_no_more.ensures.writes);
       later = c.write_no_more.ensures.cause.later;
+      well = tt;
       cause = λ is. c.in-Err-write_no_more.ensures.cause.failed refl;
       only = inr refl;
     }

@@ -1,7 +1,8 @@
 use Rattle.std.proofs.Common.{arith, subst, inl, inr, take, refl, ℕ}
 use Rattle.api.specs.declared.piece.Told.{Told}
+use Rattle.api.specs.declared.fault.ServeFault.TheVariants.{Read, Damaged}
 use Rattle.api.specs.Piece.{Tells}
-use Rattle.api.proofs.Causes.{all_none, all_read, all_of}
+use Rattle.api.proofs.Causes.{no_fault, apart, all_none, all_read, all_of, refuses_passed}
 use Rattle.api.proofs.piece.next_step.Goals as goal
 
 pub returns-in-Ok-Messages-clause-outcome : goal.returns-in-Ok-Messages-clause-outcome
@@ -63,12 +64,12 @@ returns-in-Err-read-clause-outcome g c rules v read ms shows cut =
 pub returns-in-Ok-Messages-clause-causes : goal.returns-in-Ok-Messages-clause-causes
 returns-in-Ok-Messages-clause-causes g c =
     let causes = c.in-Ok-Messages.ensures.causes in
-    all_none _ _ _ _ _ _ _ _ _ (omega arith) causes.output_later causes.device_later causes.goes_on
+    all_none _ _ _ _ _ _ _ _ _ refl causes.output_well causes.device_later causes.goes_on
 
 pub returns-in-Ok-Ends-clause-causes : goal.returns-in-Ok-Ends-clause-causes
 returns-in-Ok-Ends-clause-causes g c =
     let causes = c.in-Ok-Ends.ensures.causes in
-    all_none _ _ _ _ _ _ _ _ _ (omega arith) causes.output_later causes.device_later causes.goes_on
+    all_none _ _ _ _ _ _ _ _ _ refl causes.output_well causes.device_later causes.goes_on
 
 pub returns-in-Err-clause-causes : goal.returns-in-Err-clause-causes
 returns-in-Err-clause-causes g c = all_of _ _ _ _ _ _ _ c.in-Err.fault c.in-Err.ensures.causes
@@ -76,15 +77,35 @@ returns-in-Err-clause-causes g c = all_of _ _ _ _ _ _ _ c.in-Err.fault c.in-Err.
 pub returns-in-Ok-eq0-clause-causes : goal.returns-in-Ok-eq0-clause-causes
 returns-in-Ok-eq0-clause-causes g c =
     let causes = c.in-Ok-Nothing.ensures.causes in
-    all_none _ _ _ _ _ _ _ _ _ c.in-Ok-eq0.ensures.cause.later causes.output_later causes.device_later causes.goes_on
+    all_none _ _ _ _ _ _ _ _ _ (c.in-Ok-eq0.ensures.cause.well refl) causes.output_well causes.device_later causes.goes_on
 
 pub returns-in-Ok-clause-causes : goal.returns-in-Ok-clause-causes
 returns-in-Ok-clause-causes g c =
     let causes = c.in-Ok-Nothing.ensures.causes in
-    all_none _ _ _ _ _ _ _ _ _ c.in-Ok.ensures.cause.later causes.output_later causes.device_later causes.goes_on
+    all_none _ _ _ _ _ _ _ _ _ (c.in-Ok.ensures.cause.well refl) causes.output_well causes.device_later causes.goes_on
 
 pub returns-in-Err-read-clause-causes : goal.returns-in-Err-read-clause-causes
 returns-in-Err-read-clause-causes g c =
     let causes = c.in-Ok-Nothing.ensures.causes in
     let read = c.in-Err-read.ensures.cause in
     all_read _ _ _ _ _ _ _ _ read.later causes.output_later causes.device_later (read.failed refl)
+
+pub returns-in-Ok-Messages-clause-damage_told : goal.returns-in-Ok-Messages-clause-damage_told
+returns-in-Ok-Messages-clause-damage_told g c damage is = absurd (no_fault is)
+
+pub returns-in-Ok-Ends-clause-damage_told : goal.returns-in-Ok-Ends-clause-damage_told
+returns-in-Ok-Ends-clause-damage_told g c damage is = absurd (no_fault is)
+
+pub returns-in-Ok-eq0-clause-damage_told : goal.returns-in-Ok-eq0-clause-damage_told
+returns-in-Ok-eq0-clause-damage_told g c damage is = absurd (no_fault is)
+
+pub returns-in-Ok-clause-damage_told : goal.returns-in-Ok-clause-damage_told
+returns-in-Ok-clause-damage_told g c damage is = absurd (no_fault is)
+
+pub returns-in-Err-clause-damage_told : goal.returns-in-Err-clause-damage_told
+returns-in-Err-clause-damage_told g c =
+    refuses_passed g.O.Output.took g.O.Output.failures c.args.output.now c.args.output.now c.take_piece.new.output c.in-Err.fault (omega arith)
+    c.in-Err.ensures.damage_told
+
+pub returns-in-Err-read-clause-damage_told : goal.returns-in-Err-read-clause-damage_told
+returns-in-Err-read-clause-damage_told g c damage is = apart Read (Damaged damage) (λ is. cc) is

@@ -1,4 +1,4 @@
-use Rattle.std.proofs.Common.{◌≡◌, ℕ, List, ap, ◌∙◌, subst, get_or, arith}
+use Rattle.std.proofs.Common.{◌≡◌, ℕ, List, ap, ◌∙◌, subst, get_or, refl}
 use Rattle.std.specs.String.{string_bytes}
 use Rattle.httpmsg.specs.Flow.{TookSome}
 use Rattle.httpmsg.specs.Response.{warning_line}
@@ -26,5 +26,5 @@ loop-warning-preserved g c =
       piece_more g.O.Output.took g.met.O.Output.took_none g.met.O.Output.took_then (λ w. warning_line (string_bytes w)) c.args.warnings.now
           c.loop-warning.warning-index c.warning-item.result c.args.output.now c.loop-warning.output c.write_warning.new.output
           c.loop-warning-test.true c.loop-warning.invariant.0 (subst Taken line_is c.in-Ok.ensures.writes),
-      omega (arith, c.loop-warning.invariant.1, c.in-Ok.ensures.cause.later),
+      c.in-Ok.ensures.cause.well refl ∙ c.loop-warning.invariant.1,
     )

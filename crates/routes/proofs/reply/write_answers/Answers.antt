@@ -1,4 +1,4 @@
-use Rattle.std.proofs.Common.{arith, ℕ, suc, List, ap, sym, subst, take, drop}
+use Rattle.std.proofs.Common.{◌∙◌, refl, ℕ, suc, List, ap, sym, subst, take, drop}
 use Rattle.std.proofs.lemmas.List.{take_all}
 use Rattle.httpmsg.specs.Sheet.{gathered}
 use Rattle.httpmsg.proofs.Flows.{HasTaken}
@@ -35,7 +35,7 @@ loop-index-preserved g c = record {
       (held_more g.O.Output.took g.met.O.Output.took_none g.met.O.Output.took_then c.args.output.now c.loop-index.output c.put_answer.new.output
       (answers_bytes (take i ms) rs) (gathered c.loop-index.sheet) (gathered c.put_answer.new.sheet) (bytes_at ms rs i m below is c.get.result c.get.ensures.lookup)
       c.in-Ok.field-0 (c.loop-index.invariant.writes can) (c.in-Ok.ensures.puts here));
-  later = omega (arith, c.loop-index.invariant.later, c.in-Ok.ensures.cause.later);
+  same = c.in-Ok.ensures.cause.well refl ∙ c.loop-index.invariant.same;
 }
 
 pub returns-clause-writes : goal.returns-clause-writes

@@ -1,4 +1,4 @@
-use Rattle.std.proofs.Common.{◌≤◌, take}
+use Rattle.std.proofs.Common.{◌≡◌, take}
 use Rattle.httpmsg.specs.Sheet.{gathered}
 use Rattle.httpmsg.proofs.Flows.{HasTaken}
 use Rattle.routes.specs.AnswerBytes.{answers_bytes, CanAnswerAll}
@@ -8,5 +8,5 @@ abbrev pub invariant-loop-index : goal.invariant-loop-index
 invariant-loop-index g l = record {
   writes : CanAnswerAll l.messages l.replies l.allows
       → HasTaken g.O.Output.took l.fn.output l.output (answers_bytes (take l.index l.messages) l.replies) (gathered l.sheet);
-  later : g.O.Output.failures l.fn.output ≤ g.O.Output.failures l.output;
+  same : g.O.Output.failures l.output ≡ g.O.Output.failures l.fn.output;
 }

@@ -1,7 +1,7 @@
-use Rattle.std.proofs.Common.{[], ◌∙◌, ap, sym, subst, List, Err}
+use Rattle.std.proofs.Common.{arith, [], ◌∙◌, ap, sym, subst, List, Err}
 use Rattle.httpmsg.specs.Stream.{Message}
 use Rattle.api.specs.Answers.{Answers, Stops}
-use Rattle.api.proofs.Causes.{causes_none, causes_retyped, causes_output}
+use Rattle.api.proofs.Causes.{no_fault, causes_none, causes_retyped, causes_output, refuses_passed, no_damage_told}
 use Rattle.api.proofs.Tellings.{tells_by, breaks_by, unfed}
 use Rattle.api.proofs.piece.Connection.take_piece.Goals as goal
 
@@ -43,10 +43,21 @@ returns-clause-outcome g c rules v read ms shows cut =
 pub returns-in-Ok-answer_all-clause-causes : goal.returns-in-Ok-answer_all-clause-causes
 returns-in-Ok-answer_all-clause-causes g c =
     let causes = c.in-Ok-answer_all.ensures.causes in
-    causes_none _ _ _ _ _ _ c.told_by.result causes.output_later causes.device_later causes.goes_on
+    causes_none _ _ _ _ _ _ c.told_by.result causes.output_well causes.device_later causes.goes_on
 
 pub returns-in-Ok-clause-causes : goal.returns-in-Ok-clause-causes
 returns-in-Ok-clause-causes g c = causes_retyped _ _ _ _ _ _ c.in-Err-answer_all.fault c.in-Err-answer_all.ensures.causes
 
 pub returns-clause-causes : goal.returns-clause-causes
-returns-clause-causes g c = causes_output _ _ _ _ c.answer_fault.result c.answer_fault.ensures.later c.answer_fault.ensures.cause c.answer_fault.ensures.only
+returns-clause-causes g c = causes_output _ _ _ _ c.answer_fault.result c.answer_fault.ensures.later c.answer_fault.ensures.well c.answer_fault.ensures.cause c.answer_fault.ensures.only
+
+pub returns-in-Ok-answer_all-clause-damage_told : goal.returns-in-Ok-answer_all-clause-damage_told
+returns-in-Ok-answer_all-clause-damage_told g c damage is = absurd (no_fault is)
+
+pub returns-in-Ok-clause-damage_told : goal.returns-in-Ok-clause-damage_told
+returns-in-Ok-clause-damage_told g c =
+    refuses_passed g.O.Output.took g.O.Output.failures c.args.output.now c.args.output.now c.answer_all.new.output c.in-Err-answer_all.fault (omega arith)
+    c.in-Err-answer_all.ensures.damage_told
+
+pub returns-clause-damage_told : goal.returns-clause-damage_told
+returns-clause-damage_told g c damage is = no_damage_told c.answer_fault.result c.answer_fault.ensures.only damage is

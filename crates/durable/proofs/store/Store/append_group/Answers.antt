@@ -29,7 +29,7 @@ returns-in-None g c =
       serves = c.requires.serves;
       some = tt;
       refusal = tt;
-      cause = record { later = omega arith; failed = λ is. absurd (true≢false (sym is)) };
+      cause = record { later = omega arith; failed = λ is. absurd (true≢false (sym is)); well = λ is. refl };
     }
 
 pub returns-in-Some : goal.returns-in-Some

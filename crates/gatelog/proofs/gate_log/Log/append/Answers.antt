@@ -3,7 +3,7 @@ use Rattle.std.specs.Prelude.{Bool, true, false, not}
 use Rattle.gatelog.specs.Log.{HoldsLog}
 use Rattle.gatelog.specs.Payload.{payload_of}
 use Rattle.gatelog.specs.Record.{sectors}
-use Rattle.gatelog.proofs.Exits.{has_failed}
+use Rattle.gatelog.proofs.Exits.{has_failed, ok_and_err}
 use Rattle.gatelog.proofs.gate_log.Log.append.Goals as goal
 
 -- what has failed is not settled
@@ -39,6 +39,7 @@ pub returns-in_err-write_record-clause-cause : goal.returns-in_err-write_record-
 returns-in_err-write_record-clause-cause g c = λ works. record {
   later = c.write_record.ensures.cause.later;
   failed = λ is. has_failed c.write_record.ensures.cause c.in_err-write_record.was;
+  well = ok_and_err c.from_residual-in_err-write_record.result c.from_residual-in_err-write_record.ensures.0;
 }
 
 pub returns-clause-ok : goal.returns-clause-ok
