@@ -44,8 +44,7 @@ fn refuse_all(sheet: &mut Sheet, places: &[usize], sessions: &mut [Session])
     requires { All (λ place. place < length sessions.old) places.now }
     ensures { AllRefuse places.now sessions.old sessions.new }
 {
-    for (index, place) in places.iter().enumerate() {
-        let _ = index;
+    for place in places {
         sessions[*place].refuse(sheet);
     }
 }
