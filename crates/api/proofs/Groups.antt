@@ -348,6 +348,7 @@ front_stops rules took failures o p old new v ms written whole fault stopped = o
       written = written.taken;
       store = stopped.1.store;
     }
+
     on : (fault ≡ Device) ⊎ (fault ≡ Failed) → Stops rules took failures o p old new v ms fault
     on (inl is) = subst (Stops rules took failures o p old new v ms) (sym is) meets
     on (inr is) = subst (Stops rules took failures o p old new v ms) (sym is) meets
