@@ -1,5 +1,5 @@
 -- What a call names as the cause of its fault, and what it leaves where it met none.
-use Rattle.std.proofs.Common.{arith, ◌≡◌, ◌∙◌, refl, sym, ap, subst, ◌≤◌, ◌⊎◌, inl, inr, ℕ, Bool, true, false, Option, Some, None, IfSome, Result, Ok, Err, IfErr, OnOk, IsErrOf, List, [], ◌++◌}
+use Rattle.std.proofs.Common.{arith, ◌≡◌, ◌∙◌, refl, sym, ap, subst, ◌≤◌, ◌⊎◌, inl, inr, ℕ, Bool, true, false, Option, Some, None, IfSome, Result, Ok, Err, IfErr, OnOk, IsErrOf, List}
 use Rattle.objects.specs.Failing.{HasGrown}
 use Rattle.httpmsg.specs.declared.head.BrokenMessage.{BrokenMessage}
 use Rattle.cutter.specs.declared.cutting.CutFault.TheVariants as Cuts

@@ -1,12 +1,10 @@
 -- Answers, one after another.
-use Rattle.std.proofs.Common.{arith, ◌≡◌, ◌≤◌, ◌⊎◌, inl, inr, ⊎_elim, ℕ, List, [], ◌∷◌, ◌++◌, length, refl, ap, sym, ◌∙◌, append_assoc, subst, false, Result, Ok, Err}
+use Rattle.std.proofs.Common.{arith, ◌≡◌, ◌≤◌, ◌⊎◌, inl, inr, ⊎_elim, ℕ, List, [], ◌∷◌, ◌++◌, refl, ap, sym, ◌∙◌, append_assoc, subst, Result, Ok, Err}
 use Rattle.std.proofs.lemmas.List.{append-nil, map-append}
 use Rattle.std.specs.List.{AllByRecursion}
 use Rattle.device.specs.declared.device.Device.{Ghosts}
 use Rattle.device.proofs.Moments.{followed_by}
-use Rattle.requests.specs.declared.refusal.Refusal.TheVariants.{StorageFailed}
 use Rattle.objects.specs.declared.format.Rules.{Rules}
-use Rattle.records.specs.Payload.{group_limit}
 use Rattle.recovery.specs.Standing.{Write, History, View}
 use Rattle.apicore.specs.Admitted.{AreAdmitted}
 use Rattle.apicore.proofs.Admitting.{AreAdmitted-append}
@@ -14,16 +12,16 @@ use Rattle.requests.specs.View.{view, after_all}
 use Rattle.requests.proofs.ViewLemmas.{after_all-append}
 use Rattle.durable.specs.declared.store.Store.{Store}
 use Rattle.durable.specs.Stands.{StandsFor}
-use Rattle.durable.specs.Settled.{device_of, serves, IsFound, IsSettledAt, IsLeftAt, LeavesSome}
+use Rattle.durable.specs.Settled.{device_of, IsFound, IsSettledAt, IsLeftAt, LeavesSome}
 use Rattle.durable.proofs.Answering.{view-after}
 use Rattle.durable.proofs.Findings.{leaves-idle}
 use Rattle.httpmsg.specs.Flow.{HasCause, TookSome, Writes}
 use Rattle.httpmsg.specs.Stream.{Message}
 use Rattle.api.specs.declared.fault.ServeFault.{ServeFault}
 use Rattle.api.specs.declared.fault.ServeFault.TheVariants.{Read, Write as WriteFault, Device, Memory, Damaged, Failed}
-use Rattle.routes.specs.ReplyBytes.{reply_bytes, closing_bytes}
+use Rattle.routes.specs.ReplyBytes.{reply_bytes}
 use Rattle.objects.specs.Failing.{HasGrown}
-use Rattle.api.specs.Answers.{Answered, ShowsAt, AreRead, messages, writes_of, reply_of, all_writes, all_bytes, WhereSettled, HasApplied, HasFailedIn, Answers, WritesSome, MeetsFailure, Stops}
+use Rattle.api.specs.Answers.{Answered, ShowsAt, AreRead, messages, writes_of, reply_of, all_writes, all_bytes, HasApplied, HasFailedIn, Answers, WritesSome, MeetsFailure, Stops}
 
 module _ (rules : Rules) where
   -- what is seen after some answers

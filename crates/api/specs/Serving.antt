@@ -1,15 +1,11 @@
 -- What serving a connection leaves: the bytes read and written, and the store.
-use Rattle.std.specs.Prelude.{◌≡◌, ◌≢◌, ℕ, ◌≤◌, ◌⊎◌, List, [], ◌++◌, length, Bool, true, false, None, Result, Err, IsErrOf, OnOk}
-use Rattle.std.specs.List.{AllByRecursion}
+use Rattle.std.specs.Prelude.{◌≡◌, ◌≢◌, ℕ, ◌≤◌, ◌⊎◌, List, [], ◌++◌, Bool, true, false, None, Result, Err, IsErrOf, OnOk}
 use Rattle.device.specs.declared.device.Device.{Ghosts}
 use Rattle.requests.specs.declared.refusal.Refusal.TheVariants.{OutOfMemory, StorageFailed}
-use Rattle.records.specs.Payload.{group_limit}
 use Rattle.recovery.specs.Standing.{View}
-use Rattle.apicore.specs.Admitted.{AreAdmitted}
 use Rattle.objects.specs.declared.format.Rules.{Rules}
 use Rattle.durable.specs.declared.fault.Damage.{Damage}
 use Rattle.durable.specs.declared.store.Store.{Store}
-use Rattle.durable.specs.Settled.{serves, IsLeftAt, LeavesSome}
 use Rattle.httpmsg.specs.declared.head.End.{End}
 use Rattle.httpmsg.specs.Stream.{Message, IsStream, Progress, IsCut}
 use Rattle.api.specs.declared.fault.ServeFault.{ServeFault}
