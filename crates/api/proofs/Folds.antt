@@ -4,7 +4,7 @@ use Rattle.std.proofs.lemmas.List.{append-nil, map-append}
 use Rattle.std.specs.List.{AllByRecursion}
 use Rattle.device.specs.declared.device.Device.{Ghosts}
 use Rattle.device.proofs.Moments.{followed_by}
-use Rattle.objects.specs.declared.format.Rules.{Rules}
+use Rattle.names.specs.declared.format.Rules.{Rules}
 use Rattle.recovery.specs.Standing.{Write, History, View}
 use Rattle.apicore.specs.Admitted.{AreAdmitted}
 use Rattle.apicore.proofs.Admitting.{AreAdmitted-append}

@@ -8,7 +8,7 @@ use Rattle.device.specs.declared.device.Device.{Ghosts}
 use Rattle.http.specs.StatusCode.{IsStatusCode}
 use Rattle.requests.specs.declared.refusal.Refusal.TheVariants.{OutOfMemory, StorageFailed}
 use Rattle.requests.specs.Request.{Request}
-use Rattle.objects.specs.declared.format.Rules.{Rules}
+use Rattle.names.specs.declared.format.Rules.{Rules}
 use Rattle.records.specs.Payload.{group_limit}
 use Rattle.expressions.specs.Specification.{sound}
 use Rattle.recovery.specs.Standing.{Write, History, View}

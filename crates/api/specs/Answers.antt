@@ -15,7 +15,7 @@ use Rattle.apicore.specs.Prepared.{IsReadOf}
 use Rattle.requests.specs.View.{view, after_all}
 use Rattle.durable.specs.declared.fault.Damage.{Damage}
 use Rattle.durable.specs.declared.store.Store.{Store}
-use Rattle.objects.specs.declared.format.Rules.{Rules}
+use Rattle.names.specs.declared.format.Rules.{Rules}
 use Rattle.durable.specs.Settled.{serves, ServesAt, IsSettledAt, IsLeftAt, LeavesSome}
 use Rattle.httpmsg.specs.Flow.{TookSome}
 use Rattle.httpmsg.specs.Stream.{Message}

@@ -2,7 +2,7 @@
 
 ghost use Rattle.std.specs.Prelude.{◌≡◌, ◌≤◌, ◌⊎◌, ◌+◌, [], List, length, min, map, take, true, false, IfOk, OnOk, IfErr, IsErrOf, MatchResult};
 ghost use Rattle.requests.specs.RequestOf.{request_of};
-ghost use Rattle.objects.specs.declared.format.Rules.{Rules};
+ghost use Rattle.names.specs.declared.format.Rules.{Rules};
 ghost use Rattle.records.specs.Payload.{group_limit};
 ghost use Rattle.recovery.specs.Standing.{View};
 ghost use Rattle.requests.specs.Reply.{Reply as ReplyData};

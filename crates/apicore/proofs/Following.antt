@@ -1,6 +1,6 @@
 -- What requests write may follow.
 use Rattle.std.proofs.Common.{◌≡◌, ◌≤◌, ◌^◌, List, [], ◌∷◌, ◌++◌, Bool, true, false, cond, map, is_some, IsTrue, not, refl, sym, ap, subst, ◌∙◌, append_assoc}
-use Rattle.objects.specs.declared.format.Rules.{Rules}
+use Rattle.names.specs.declared.format.Rules.{Rules}
 use Rattle.names.specs.Key.{is_key}
 use Rattle.requests.specs.declared.refusal.Refusal.TheVariants.{AlreadyExists, NotFound, VersionNotCurrent, BadSpec}
 use Rattle.requests.specs.Codes.{document_in}

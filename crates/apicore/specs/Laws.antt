@@ -1,6 +1,6 @@
 -- Laws of steps.
 use Rattle.std.specs.Prelude.{◌≡◌, ◌≤◌, ◌^◌, List, ◌∷◌}
-use Rattle.objects.specs.declared.format.Rules.{Rules}
+use Rattle.names.specs.declared.format.Rules.{Rules}
 use Rattle.requests.specs.Request.{RequestHasForm}
 use Rattle.requests.specs.View as seen
 use Rattle.requests.specs.View.{view, after_all}

@@ -1,7 +1,7 @@
 -- A step of a request that has all its memory.
 use Rattle.std.specs.Prelude.{◌≡◌, List, map}
 use Rattle.celtree.specs.Tree.{Expr}
-use Rattle.objects.specs.declared.format.Rules.{Rules}
+use Rattle.names.specs.declared.format.Rules.{Rules}
 use Rattle.names.specs.Key.{Key}
 use Rattle.requests.specs.Codes.{document_in}
 use Rattle.requests.specs.Request.{Request, get, list, watch, create, replace, delete, refused}

@@ -2,7 +2,7 @@
 use Rattle.std.proofs.Common.{◌≡◌, ◌∙◌, length}
 use Rattle.std.proofs.lemmas.List.{length-map}
 use Rattle.device.specs.declared.device.Device.{Ghosts}
-use Rattle.objects.specs.declared.format.Rules.{Rules}
+use Rattle.names.specs.declared.format.Rules.{Rules}
 use Rattle.requests.specs.View as seen
 use Rattle.requests.specs.View.{view}
 use Rattle.recovery.specs.Beside.{Beside}

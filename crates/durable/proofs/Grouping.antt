@@ -9,7 +9,7 @@ use Rattle.device.specs.Run.{Ran, Stands}
 use Rattle.device.specs.Step.{Same}
 use Rattle.device.proofs.Moments.{followed_by}
 use Rattle.device.proofs.Runs.{stands_now}
-use Rattle.objects.specs.declared.format.Rules.{Rules}
+use Rattle.names.specs.declared.format.Rules.{Rules}
 use Rattle.requests.specs.Request.{Request}
 use Rattle.requests.specs.History as plain
 use Rattle.requests.specs.Reply.{Reply}

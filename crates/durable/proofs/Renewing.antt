@@ -5,7 +5,7 @@ use Rattle.device.specs.Disk.{Disk, HasFailed}
 use Rattle.device.specs.Run.{Ran, Stands}
 use Rattle.device.specs.Step.{Same}
 use Rattle.device.proofs.Moments.{followed_by}
-use Rattle.objects.specs.declared.format.Rules.{Rules}
+use Rattle.names.specs.declared.format.Rules.{Rules}
 use Rattle.requests.specs.View.{view}
 use Rattle.holdings.specs.Holdings.{State, Shows}
 use Rattle.snapshots.specs.Keeping.{IsKeepable}

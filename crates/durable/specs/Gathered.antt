@@ -7,7 +7,7 @@ use Rattle.device.specs.declared.device.Device.{Ghosts}
 use Rattle.device.specs.Disk.{HasFailed}
 use Rattle.device.specs.Run.{Ran}
 use Rattle.device.specs.Step.{Same}
-use Rattle.objects.specs.declared.format.Rules.{Rules}
+use Rattle.names.specs.declared.format.Rules.{Rules}
 use Rattle.requests.specs.Request.{Request}
 use Rattle.requests.specs.History as plain
 use Rattle.requests.specs.Mapped.{mapped_write}

@@ -60,7 +60,7 @@ impl<D: Device> Store<D> {
     ghost use Rattle.gatelog.specs.Payload.{payload_of};
     ghost use Rattle.std.specs.Vec.{vec_capacity};
     ghost use Rattle.roots.specs.Root.{log_start, HoldsRoot};
-    ghost use Rattle.objects.specs.declared.format.Rules.{Rules};
+    ghost use Rattle.names.specs.declared.format.Rules.{Rules};
     ghost use Rattle.requests.specs.Request.{RequestHasForm};
     ghost use Rattle.requests.specs.RequestOf.{request_of};
     ghost use Rattle.requests.specs.View as seen;
@@ -622,7 +622,7 @@ impl<D: Device> Store<D> {
 
 impl Store<MemDevice> {
     ghost use Rattle.device.specs.Memory.{memory};
-    ghost use Rattle.objects.specs.declared.format.Rules.{Rules};
+    ghost use Rattle.names.specs.declared.format.Rules.{Rules};
     ghost use Rattle.recovery.specs.Standing.{History};
     ghost use Rattle.durable.specs.Settled.{device_of, IsSettledAt};
 

@@ -3,7 +3,7 @@ use Rattle.std.proofs.Common.{◌≡◌, ◌∙◌, ap, sym, subst, refl, ℕ, L
 use Rattle.device.specs.declared.device.Device.{Ghosts}
 use Rattle.device.specs.Disk.{Disk, LeavesOnly}
 use Rattle.device.proofs.Moments.{followed_by}
-use Rattle.objects.specs.declared.format.Rules.{Rules}
+use Rattle.names.specs.declared.format.Rules.{Rules}
 use Rattle.requests.specs.View.{view, after_all}
 use Rattle.recovery.specs.Standing.{History, View, Write}
 use Rattle.durable.specs.declared.store.Store.{Store}

@@ -1,7 +1,7 @@
 //! Connections to an address, served one after the other.
 
 ghost use Rattle.std.specs.Prelude.{IsErrOf, OnOk};
-ghost use Rattle.objects.specs.declared.format.Rules.{Rules};
+ghost use Rattle.names.specs.declared.format.Rules.{Rules};
 ghost use Rattle.recovery.specs.Standing.{View};
 ghost use Rattle.api.specs.Answers.{ShowsAt};
 ghost use Rattle.gated.specs.Doing.{HasServedSome};

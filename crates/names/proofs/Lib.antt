@@ -1,3 +1,4 @@
+pub mod Formats
 pub mod KeyBytes
 pub mod KeyOrder
 pub mod NameBytes

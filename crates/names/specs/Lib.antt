@@ -1,3 +1,4 @@
+pub mod Format
 pub mod Key
 pub mod KeyLaws
 pub mod KeyParts

@@ -1,5 +1,5 @@
 //! The names of stored objects: the table of resources, well-formed names and namespaces, and keys with
-//! their order and their bytes.
+//! their order and their bytes. A [`Format`] of the store's file fixes its [`Rules`].
 //!
 //! ```text
 //! let key = Key::new(alloc, Resource::ConfigMap, "default", "settings")?;
@@ -13,10 +13,12 @@
 //! one, likewise.
 #![tactic(auto)]
 
+mod format;
 mod key;
 mod name;
 mod resource;
 
+pub use format::{Format, Rules, numbers_are_small};
 pub use key::{Key, KeyFault};
 pub use name::{check_name, check_namespace};
 pub use resource::{Resource, ResourceTable, Scope};

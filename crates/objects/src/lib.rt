@@ -15,7 +15,7 @@
 //! `get`, `put`, `remove` and `list` of [`Objects`] answer and do what they do on a list of keys and values that
 //! ascends by key. Memory is taken by `reserve` for the places and by `Entry::new` for an entry, so
 //! that `put` and `remove`, which can then not fail, take none. To `put` among many objects moves one
-//! handle for each, and no key or value. A [`Format`] of the store's file fixes its [`Rules`].
+//! handle for each, and no key or value.
 //!
 //! [`Changes`] are a map by key, whose values are what was put, or nothing where the key was removed. Over entries they leave a list in which a key has what was
 //! put last, or nothing where it was removed last, and else what it had ([`found_over`]); one more change is a change of that list ([`change_is_one_more`]), which tells how
@@ -32,7 +32,6 @@ mod changes;
 mod entry;
 mod event;
 mod fault;
-mod format;
 mod laws;
 mod lent;
 mod merging;
@@ -43,7 +42,6 @@ pub use changes::Changes;
 pub use entry::Entry;
 pub use event::{Change, Event};
 pub use fault::{LookupFault, Part};
-pub use format::{Format, Rules};
 pub use laws::{
     change_counts, change_is_one_more, found_over, found_where_covered, listed_over,
     listed_where_covered, same_is_nothing,

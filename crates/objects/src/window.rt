@@ -45,7 +45,7 @@ impl<D> Model for Window<D> {
 
 impl<D: Drop> Window<D> {
     ghost use Rattle.objects.specs.Window.{IsWindowOf, event_at, with_event, events_above};
-    ghost use Rattle.objects.specs.declared.format.Rules.{Rules as RulesData};
+    ghost use Rattle.names.specs.declared.format.Rules.{Rules as RulesData};
     ghost use Rattle.objects.specs.declared.event.Event.{Event as EventData};
 
     /// The window of an empty store, with room for as many events as the rules keep.

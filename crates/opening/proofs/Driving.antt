@@ -3,7 +3,7 @@ use Rattle.std.proofs.Common.{suc, arith, ◌≡◌, ◌∙◌, sym, ap, subst, 
 use Rattle.std.proofs.lemmas.List.{append-nil, append_assoc, take_all, length-map}
 use Rattle.std.specs.List.{AllByRecursion}
 use Rattle.device.specs.declared.device.Device.{Ghosts}
-use Rattle.objects.specs.declared.format.Rules.{Rules}
+use Rattle.names.specs.declared.format.Rules.{Rules}
 use Rattle.requests.specs.View.{view, after, after_all}
 use Rattle.apicore.specs.Prepared.{IsReadOf}
 use Rattle.recovery.specs.Standing.{Write, History, View}

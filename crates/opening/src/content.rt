@@ -6,7 +6,7 @@ ghost use Rattle.device.specs.Step.{Same};
 ghost use Rattle.device.specs.Run.{Ran};
 ghost use Rattle.gatelog.specs.Log.{HoldsLog};
 ghost use Rattle.roots.specs.Root.{log_start};
-ghost use Rattle.objects.specs.declared.format.Rules.{Rules};
+ghost use Rattle.names.specs.declared.format.Rules.{Rules};
 ghost use Rattle.names.specs.Key.{Key as KeyData};
 ghost use Rattle.recovery.specs.Standing.{History, IsHistory, with_plans};
 ghost use Rattle.recovery.specs.Known.{Writes};
@@ -28,8 +28,7 @@ ghost use Rattle.durable.specs.Stands.{HoldsBase};
 use device::Device;
 use durable::{Damage, Fault};
 use gatelog::Log;
-use names::Key;
-use objects::{Format, Rules};
+use names::{Format, Key, Rules};
 use paged::Paged;
 use recovery::{RecoveryFault, written_keys};
 use roots::{Root, synced_root};
@@ -47,7 +46,7 @@ pub(crate) struct Opened {
 fn rules() -> Rules
     ensures { result ≡ first_rules }
 {
-    Format::First.rules()
+    Format::First.rules(0)
 }
 
 // The keys that a log with these payloads writes. Where some payload is that of no writes there are none: it is told where the writes are taken.

@@ -3,7 +3,7 @@
 ghost use Rattle.std.specs.Prelude.{◌≡◌};
 ghost use Rattle.paged.specs.Paged.{root_of};
 
-use objects::Rules;
+use names::Rules;
 use recovery::Core;
 use roots::Root;
 use snapshots::Stock;

@@ -3,7 +3,7 @@
 ghost use Rattle.std.specs.Prelude.{◌≡◌, ◌≢◌, ◌≤◌, ◌<◌, ◌-◌, ◌^◌, ◌++◌, ◌∷◌, ◌↔◌, [], false, ℕ, List, map, drop, length, IsTrue, IfOk, IsErrOf};
 ghost use Rattle.std.specs.FinMap.{is_sorted};
 ghost use Rattle.std.specs.List.{AllByRecursion};
-ghost use Rattle.objects.specs.declared.format.Rules.{Rules};
+ghost use Rattle.names.specs.declared.format.Rules.{Rules};
 ghost use Rattle.names.specs.Key.{Key as KeyData, key_cmp};
 ghost use Rattle.objects.specs.declared.event.Event.{Event as EventData};
 ghost use Rattle.objects.specs.Window.{AreNumberedFrom};

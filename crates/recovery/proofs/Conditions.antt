@@ -1,7 +1,7 @@
 -- What requests ask for may follow, where none of their own conditions refuses it.
 use Rattle.std.proofs.Common.{◌≡◌, ◌≤◌, ◌<◌, ◌⊎◌, ◌^◌, ℕ, List, [], ◌∷◌, length, Bool, true, false, nat_lt, nat_le, cond, Some, is_some, IsTrue, not, inl, inr, refl, arith}
 use Rattle.documents.specs.Json.{text}
-use Rattle.objects.specs.declared.format.Rules.{Rules}
+use Rattle.names.specs.declared.format.Rules.{Rules}
 use Rattle.names.specs.declared.resource.Resource.{Resource}
 use Rattle.names.specs.Key.{Key}
 use Rattle.documents.specs.Document.{Document}

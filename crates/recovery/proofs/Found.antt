@@ -1,7 +1,7 @@
 -- What was found of an object, and the conditions for the object at its key.
 use Rattle.std.proofs.Common.{◌≡◌, ◌∙◌, ap, refl, ℕ, ◌<◌, nat_le, List, [], ◌∷◌, length, Bool, true, false, cond, not, ◌&&◌, ◌==◌, option_map, Option, Some, None, is_some, arith}
 use Rattle.std.specs.Option.{option_map_or}
-use Rattle.objects.specs.declared.format.Rules.{Rules}
+use Rattle.names.specs.declared.format.Rules.{Rules}
 use Rattle.names.specs.Key.{Key}
 use Rattle.documents.specs.Document.{Document}
 use Rattle.requests.specs.declared.refusal.Refusal.TheVariants.{NotFound, VersionNotCurrent, RevisionExhausted}

@@ -2,7 +2,7 @@
 use Rattle.std.specs.Prelude.{ℕ, List, [], ◌∷◌, ◌++◌, length, map, Bool, true, false, not, ◌&&◌, ◌==◌, if◌then◌else◌, Option, Some, None}
 use Rattle.std.specs.Option.{option_map_or}
 use Rattle.celtree.specs.Tree.{Expr}
-use Rattle.objects.specs.declared.format.Rules.{Rules}
+use Rattle.names.specs.declared.format.Rules.{Rules}
 use Rattle.names.specs.Key.{Key}
 use Rattle.documents.specs.Document.{Document}
 use Rattle.requests.specs.Codes.{document_in}

@@ -5,7 +5,7 @@ use Rattle.std.specs.Option.{option_map_or}
 use Rattle.std.specs.Ordering.{eq_by_cmp}
 use Rattle.circular_buffer.specs.Buffer.{keep_last}
 use Rattle.serde_json.specs.Data.{null}
-use Rattle.objects.specs.declared.format.Rules.{Rules}
+use Rattle.names.specs.declared.format.Rules.{Rules}
 use Rattle.names.specs.Key.{Key, key_cmp}
 use Rattle.objects.specs.Objects.{value_at, with_value, without_key}
 use Rattle.std.specs.FinMap.Entries.{by_order}

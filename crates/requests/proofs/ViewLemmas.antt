@@ -10,7 +10,7 @@ use Rattle.std.specs.FinMap.Entries.{find-put, find-where_key}
 use Rattle.objects.proofs.Edits.{sorted-with_value, sorted-without_key}
 use Rattle.circular_buffer.specs.Buffer.{keep_last}
 use Rattle.objects.specs.declared.event.Event.{Event}
-use Rattle.objects.specs.declared.format.Rules.{Rules}
+use Rattle.names.specs.declared.format.Rules.{Rules}
 use Rattle.names.specs.Key.{Key, key_cmp}
 use Rattle.names.specs.KeyLaws.{key_cmp_total}
 use Rattle.documents.specs.Document.{Document}

@@ -4,7 +4,7 @@ use Rattle.std.specs.Option.{option_map_or}
 use Rattle.circular_buffer.specs.Buffer.{keep_last}
 use Rattle.serde_json.specs.Data.{null}
 use Rattle.documents.specs.Json.{text}
-use Rattle.objects.specs.declared.format.Rules.{Rules}
+use Rattle.names.specs.declared.format.Rules.{Rules}
 use Rattle.names.specs.Key.{Key}
 use Rattle.objects.specs.Objects.{value_at, with_value, without_key}
 use Rattle.objects.specs.declared.event.Change.{Change}

@@ -10,25 +10,26 @@ use apicore::{Prepared, prepare};
 use cases::{Wrong, first_word, numbered};
 use diskcases::Line;
 use holdings::Nothing;
-use objects::{Format, Rules};
+use names::{Format, Rules};
 use recovery::{Core, RecoveryFault, redone};
 use routes::{Routed, Routes};
 use std::alloc::Global;
 
-// The limits in front of a line: `first`, those of the first format, or the events of the window, the bytes of a text and of a body, the objects, and
-// the greatest revision.
+// The limits in front of a line: `first`, those of the first format, or the events of the window, the bytes of a text, the objects, and the greatest
+// revision.
 fn rules_of(line: &mut Line<'_>) -> Rules {
-    let rules = Format::First.rules();
+    let rules = Format::First.rules(0);
     let word = line.word();
     if word == "first" {
         return rules;
     }
     Rules {
+        format: Format::First,
         window_events: line.number_of(word) as usize,
         text_limit_bytes: line.number() as usize,
-        body_limit_bytes: line.number() as usize,
         object_limit: line.number() as usize,
         greatest_revision: line.number(),
+        floor: 0,
     }
 }
 

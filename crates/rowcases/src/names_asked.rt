@@ -4,8 +4,7 @@ use crate::texts::{or_dash, or_empty, quoted};
 use cases::{
     TextBuilder, WordReader, Wrong, first_word, push_bytes, shown, spelled, text, yes_or_no,
 };
-use names::{Key, KeyFault, Resource, ResourceTable, Scope, check_name, check_namespace};
-use objects::Format;
+use names::{Format, Key, KeyFault, Resource, ResourceTable, Scope, check_name, check_namespace};
 use records::RecordFault;
 use recovery::RecoveryFault;
 use std::alloc::Global;
@@ -146,14 +145,13 @@ pub fn told(alloc: Global, text: &str) -> Result<String, Wrong> {
     }
 }
 
-/// `format`: the numbers of the first format: events, bytes of a text and of a body, objects, the greatest revision.
+/// `format`: the numbers of the first format: events, bytes of a text, objects, the greatest revision.
 pub fn format(alloc: Global) -> Result<String, Wrong> {
-    let rules = Format::First.rules();
+    let rules = Format::First.rules(0);
     let mut line = TextBuilder::new(alloc);
     for limit in [
         rules.window_events,
         rules.text_limit_bytes,
-        rules.body_limit_bytes,
         rules.object_limit,
     ] {
         line.show(&limit);

@@ -4,8 +4,7 @@ use crate::entry_lines::check_written;
 use cases::Wrong;
 use diskcases::Line;
 use holdings::Holdings;
-use names::Key;
-use objects::Format;
+use names::{Format, Key};
 use records::{Entry, KeptObject, KeptView, event_entry, object_entry, plan_entries, read_view};
 use requests::Stored;
 use std::alloc::{AllocError, Global};
@@ -132,7 +131,7 @@ fn show_view(alloc: Global, view: KeptView, entries: &[Entry], line: &mut Line<'
     if first == 0 {
         return line.refuse("a view has as many events as revisions");
     }
-    let Ok(mut holdings) = Holdings::over(alloc, Format::First.rules(), first, 0) else {
+    let Ok(mut holdings) = Holdings::over(alloc, Format::First.rules(0), first, 0) else {
         return line.fail(Wrong::Memory);
     };
     fill(alloc, &mut holdings, view, line);

@@ -2,7 +2,7 @@
 use Rattle.std.proofs.Common.{◌≡◌, ◌≤◌, ◌∙◌, sym, ap, subst, ◌⊎◌, inl, inr, ℕ, List, [], length, map, take, get_or}
 use Rattle.device.specs.declared.device.Device.{Ghosts}
 use Rattle.requests.specs.Reply.{Reply}
-use Rattle.objects.specs.declared.format.Rules.{Rules}
+use Rattle.names.specs.declared.format.Rules.{Rules}
 use Rattle.recovery.specs.Standing.{View}
 use Rattle.durable.specs.declared.store.Store.{Store}
 use Rattle.durable.specs.Settled.{ServesAt, HasServed}

@@ -6,7 +6,7 @@ use Rattle.requests.specs.declared.refusal.Refusal.TheVariants.{OutOfMemory}
 use Rattle.requests.specs.Reply.{status}
 use Rattle.requests.specs.View.{after_all}
 use Rattle.requests.proofs.ViewLemmas.{after_all-append}
-use Rattle.objects.specs.declared.format.Rules.{Rules}
+use Rattle.names.specs.declared.format.Rules.{Rules}
 use Rattle.recovery.specs.Standing.{Write, View}
 use Rattle.apicore.specs.Step.{Asked, writes, reply, replies}
 use Rattle.httpmsg.specs.Stream.{Message}

@@ -1,7 +1,7 @@
 -- A turn in which the store's device fails.
 use Rattle.std.specs.Prelude.{◌≡◌, ℕ, List, ◌++◌, length, take, drop}
 use Rattle.device.specs.declared.device.Device.{Ghosts}
-use Rattle.objects.specs.declared.format.Rules.{Rules}
+use Rattle.names.specs.declared.format.Rules.{Rules}
 use Rattle.recovery.specs.Standing.{View}
 use Rattle.durable.specs.declared.store.Store.{Store}
 use Rattle.httpmsg.specs.Stream.{Message}

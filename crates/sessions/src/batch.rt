@@ -2,7 +2,7 @@
 
 ghost use Rattle.std.specs.Prelude.{◌≡◌, ◌<◌, ◌≤◌, ℕ, All, [], length, slice_index_or, IfOk, MatchResult};
 ghost use Rattle.std.specs.Vec.{vec_capacity};
-ghost use Rattle.objects.specs.declared.format.Rules.{Rules};
+ghost use Rattle.names.specs.declared.format.Rules.{Rules};
 ghost use Rattle.records.specs.Payload.{group_limit};
 ghost use Rattle.recovery.specs.Standing.{View};
 ghost use Rattle.durable.specs.Settled.{device_of, serves};

@@ -2,7 +2,8 @@
 use Rattle.std.proofs.Common.{arith, refl, ◌+◌, ◌≤◌, Bool, true, false, cond, ℕ, List, [], ◌∷◌, length}
 use Rattle.std.specs.List.{AllByRecursion, filter}
 use Rattle.documents.specs.Json.{text}
-use Rattle.objects.specs.declared.format.Rules.{Rules}
+use Rattle.names.specs.declared.format.Format.TheVariants.{First}
+use Rattle.names.specs.declared.format.Rules.{Rules}
 use Rattle.names.specs.Key.{Key, key_bytes}
 use Rattle.objects.specs.declared.event.Event.{Event}
 use Rattle.documents.specs.Document.{Document}
@@ -52,11 +53,12 @@ told_texts (e ∷ es) = length (text e.document.json) + told_texts es
 -- numbers by which all its texts may be held
 abbrev pub wide : View Beside → Rules
 wide held = record {
+  format = First;
   window_events = 0;
   text_limit_bytes = stored_texts held.objects + told_texts held.events;
-  body_limit_bytes = 0;
   object_limit = 0;
   greatest_revision = 0;
+  floor = 0;
 }
 
 can_objects : (rules : Rules) (os : List Object) → AllByRecursion IsHeldObject os → stored_texts os ≤ rules.text_limit_bytes → AllByRecursion (CanHoldObject rules) os

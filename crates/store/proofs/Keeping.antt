@@ -6,7 +6,7 @@ use Rattle.device.specs.Run.{Ran}
 use Rattle.device.specs.Step.{Same}
 use Rattle.device.specs.declared.device.Device.{Ghosts}
 use Rattle.device.proofs.Moments.{weaker, followed_by}
-use Rattle.objects.specs.declared.format.Rules.{Rules}
+use Rattle.names.specs.declared.format.Rules.{Rules}
 use Rattle.names.specs.Key.{Key}
 use Rattle.documents.specs.Document.{Document}
 use Rattle.requests.specs.declared.stored.Stored.{Stored}

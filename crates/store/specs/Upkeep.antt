@@ -1,7 +1,7 @@
 -- A device whose store is kept: its history stays, at every moment, and what is told of it is so.
 use Rattle.std.specs.Prelude.{◌≡◌, ◌+◌, ℕ, List, length}
 use Rattle.device.specs.Disk.{Disk, LeavesOnly}
-use Rattle.objects.specs.declared.format.Rules.{Rules}
+use Rattle.names.specs.declared.format.Rules.{Rules}
 use Rattle.requests.specs.View.{view}
 use Rattle.roots.specs.declared.root.Root.{Root}
 use Rattle.roots.specs.Root.{HoldsRoot}

@@ -1,7 +1,7 @@
 //! The whole way, from the bytes of requests to the bytes of replies and to what stands on the device.
 
 ghost use Rattle.std.specs.Prelude.{◌≡◌, IfOk, IfErr};
-ghost use Rattle.objects.specs.declared.format.Rules.{Rules};
+ghost use Rattle.names.specs.declared.format.Rules.{Rules};
 ghost use Rattle.objects.specs.Failing.{HasGrown};
 ghost use Rattle.recovery.specs.Standing.{History};
 ghost use Rattle.durable.specs.Ready.{HoldsHistory};

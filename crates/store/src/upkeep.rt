@@ -2,7 +2,7 @@
 
 ghost use Rattle.std.specs.Prelude.{◌≡◌, ◌≢◌, IfOk, IfErr};
 ghost use Rattle.device.specs.Disk.{HasFailed};
-ghost use Rattle.objects.specs.declared.format.Rules.{Rules};
+ghost use Rattle.names.specs.declared.format.Rules.{Rules};
 ghost use Rattle.recovery.specs.Standing.{History};
 ghost use Rattle.durable.specs.declared.fault.Damage.{Damage as DamageData};
 ghost use Rattle.durable.specs.declared.fault.Fault.TheVariants as FaultData;

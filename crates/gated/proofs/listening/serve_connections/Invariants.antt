@@ -1,4 +1,4 @@
-use Rattle.objects.specs.declared.format.Rules.{Rules}
+use Rattle.names.specs.declared.format.Rules.{Rules}
 use Rattle.recovery.specs.Standing.{View}
 use Rattle.api.specs.Answers.{ShowsAt}
 use Rattle.gated.specs.Doing.{HasServedSome}

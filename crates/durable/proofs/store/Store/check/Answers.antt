@@ -3,7 +3,7 @@ use Rattle.std.proofs.lemmas.Result.{IfOk-from_err}
 use Rattle.checkpoint.proofs.Faults.{no_fault}
 use Rattle.roots.specs.declared.root.Root.{Root}
 use Rattle.objects.specs.declared.fault.Part.TheVariants.{Plans}
-use Rattle.objects.specs.declared.format.Rules.{Rules}
+use Rattle.names.specs.declared.format.Rules.{Rules}
 use Rattle.holdings.specs.Holdings.{State, Shows}
 use Rattle.snapshots.specs.Keeping.{IsKeepable}
 use Rattle.recovery.specs.Beside.{Beside}

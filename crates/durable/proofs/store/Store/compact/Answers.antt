@@ -2,7 +2,7 @@ use Rattle.std.proofs.Common.{arith, ◌+◌, ◌≡◌, ◌∙◌, refl, sym, a
 use Rattle.std.proofs.lemmas.Result.{IfOk-from_err}
 use Rattle.roots.specs.declared.root.Root.{Root}
 use Rattle.checkpoint.specs.EntryList.{entries_of as in_list}
-use Rattle.objects.specs.declared.format.Rules.{Rules}
+use Rattle.names.specs.declared.format.Rules.{Rules}
 use Rattle.snapshots.specs.Keeping.{entries_of, IsKeepable}
 use Rattle.requests.specs.View.{view}
 use Rattle.recovery.proofs.Histories.{on_ok_to}
