@@ -3,9 +3,8 @@ ghost use Rattle.std.specs.Iterator.{at_most};
 ghost use Rattle.std.specs.Map.Iter.{TakesFirst, deref};
 
 use crate::event::{Change, Event};
-use crate::format::Rules;
 use circular_buffer::{HeapCircularBuffer, Iter};
-use names::Key;
+use names::{Key, Rules};
 use std::alloc::{AllocError, Global};
 use std::marker::Model;
 
