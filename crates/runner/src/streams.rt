@@ -10,7 +10,7 @@ use std::io::{Read, Write};
 // Room for a store of which there are many.
 const ROOM_SECTORS: u64 = 24;
 
-/// Gives at most this many bytes at its first call, and this many at each later one, and fails at a call; 0 asks for none.
+/// Gives at most this many bytes at its first call, and this many at each later one. It fails at one call, and goes on at the next; 0 asks for none.
 #[derive(Drop)]
 pub struct Parted<'a> {
     rest: &'a [u8],
@@ -33,10 +33,11 @@ impl<'a> Parted<'a> {
 
 impl<'a> Read for Parted<'a> {
     fn read(&mut self, buffer: &mut [u8]) -> io::Result<usize> {
-        if self.calls_left == 1 {
+        let is_failing = self.calls_left == 1;
+        self.calls_left = self.calls_left.saturating_sub(1);
+        if is_failing {
             return Err(io::ErrorKind::Other.into());
         }
-        self.calls_left = self.calls_left.saturating_sub(1);
         let count = self.first.min(self.rest.len()).min(buffer.len());
         buffer[..count].copy_from_slice(&self.rest[..count]);
         self.rest = &self.rest[count..];
@@ -45,7 +46,7 @@ impl<'a> Read for Parted<'a> {
     }
 }
 
-/// Takes at most this many bytes a call, and fails at a call; 0 asks for none.
+/// Takes at most this many bytes a call. It fails at one call, and goes on at the next; 0 asks for none.
 #[derive(Drop)]
 pub struct Taker {
     pub taken: Vec<u8>,
@@ -66,10 +67,11 @@ impl Taker {
 
 impl Write for Taker {
     fn write(&mut self, bytes: &[u8]) -> io::Result<usize> {
-        if self.calls_left == 1 {
+        let is_failing = self.calls_left == 1;
+        self.calls_left = self.calls_left.saturating_sub(1);
+        if is_failing {
             return Err(io::ErrorKind::Other.into());
         }
-        self.calls_left = self.calls_left.saturating_sub(1);
         let count = self.most.min(bytes.len());
         match self.taken.extend_from_slice(&bytes[..count]) {
             Ok(()) => Ok(count),
