@@ -210,6 +210,7 @@ fn typed_body(
     let inner = Scope {
         locals: &locals,
         has_params: scope.has_params,
+        has_namespace: scope.has_namespace,
         variables: scope.variables,
     };
     typed(alloc, body, &inner)
@@ -282,6 +283,7 @@ pub fn check(alloc: Global, tree: &Tree, env: &Env<'_>) -> Result<CelType, TypeF
     let scope = Scope {
         locals: &[],
         has_params: env.has_params,
+        has_namespace: env.has_namespace,
         variables: env.variables,
     };
     match typed(alloc, tree, &scope)? {

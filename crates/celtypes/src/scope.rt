@@ -22,6 +22,8 @@ pub struct Variable {
 pub struct Env<'a> {
     /// Whether `params` is declared, with any value.
     pub has_params: bool,
+    /// Whether `namespaceObject` is declared, with any value.
+    pub has_namespace: bool,
     /// The earlier variables, in order.
     pub variables: &'a [Variable],
 }
@@ -42,6 +44,8 @@ pub(crate) struct Scope<'a> {
     pub locals: &'a [Local<'a>],
     /// Whether `params` is declared.
     pub has_params: bool,
+    /// Whether `namespaceObject` is declared.
+    pub has_namespace: bool,
     /// The earlier variables, in order.
     pub variables: &'a [Variable],
 }
@@ -57,12 +61,13 @@ fn local_type<'a>(name: &str, locals: &[Local<'a>]) -> Option<&'a CelType>
     None
 }
 
-fn is_declared(has_params: bool, name: &str) -> bool
-    ensures { result ≡ is_declared has_params name.now }
+fn is_declared(has_params: bool, has_namespace: bool, name: &str) -> bool
+    ensures { result ≡ is_declared has_params has_namespace name.now }
 {
     match name {
         "object" | "oldObject" | "request" => true,
         "params" => has_params,
+        "namespaceObject" => has_namespace,
         _ => false,
     }
 }
@@ -74,7 +79,7 @@ pub(crate) fn name_type(name: &str, scope: &Scope<'_>) -> Result<Option<CelType>
     match local_type(name, scope.locals) {
         Some(found) => Ok(Some(copy(found)?)),
         None => {
-            if is_declared(scope.has_params, name) {
+            if is_declared(scope.has_params, scope.has_namespace, name) {
                 Ok(Some(CelType::Dyn))
             } else {
                 Ok(None)

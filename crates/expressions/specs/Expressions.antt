@@ -41,12 +41,13 @@ sources p = map of_condition p.conditions ++ (map of_variable p.variables ++ fla
 abbrev pub Variables : Type 0
 Variables = List (Text × ValueType)
 
--- `object`, `oldObject` and `request` always; outside match conditions the earlier variables too, and `params` where the policy has a kind of parameters
+-- `object`, `oldObject` and `request` always; outside match conditions the earlier variables too, and `params` where the policy has a kind of parameters.
+-- `namespaceObject` is declared nowhere, since namespaces are no objects.
 abbrev pub scope_at : Policy → Variables → Place → Scope
-scope_at p vs condition = record { locals = []; has_params = false; variables = [] }
-scope_at p vs (variable name) = record { locals = []; has_params = is_some p.param_kind; variables = vs }
-scope_at p vs validation = record { locals = []; has_params = is_some p.param_kind; variables = vs }
-scope_at p vs message = record { locals = []; has_params = is_some p.param_kind; variables = vs }
+scope_at p vs condition = record { locals = []; has_params = false; has_namespace = false; variables = [] }
+scope_at p vs (variable name) = record { locals = []; has_params = is_some p.param_kind; has_namespace = false; variables = vs }
+scope_at p vs validation = record { locals = []; has_params = is_some p.param_kind; has_namespace = false; variables = vs }
+scope_at p vs message = record { locals = []; has_params = is_some p.param_kind; has_namespace = false; variables = vs }
 
 -- the earlier variables of what stands after an expression of this type
 abbrev pub and_declared : Place → ValueType → Variables → Variables

@@ -42,7 +42,7 @@ fn verified(alloc: Global, tree: &Tree, env: &Env<'_>) -> Result<Verified, Alloc
     let plan = compile(alloc, tree, env)?;
     let bytes = encode(alloc, &plan)?;
     let vars = env.variables.len() as u16;
-    match decode(alloc, &bytes, vars, Name::Params) {
+    match decode(alloc, &bytes, vars, Name::NamespaceObject) {
         Ok(verified) => Ok(verified),
         Err(fault) => Err(of_memory(fault)),
     }

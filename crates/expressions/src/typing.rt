@@ -25,6 +25,7 @@ pub(crate) fn env_at<'a>(policy: &Policy, variables: &'a [Variable], place: &Pla
     match place {
         Place::Condition => Env {
             has_params: false,
+            has_namespace: false,
             variables: &[],
         },
         Place::Variable(_) => env_of(policy, variables),
@@ -38,6 +39,7 @@ fn env_of<'a>(policy: &Policy, variables: &'a [Variable]) -> Env<'a>
 {
     Env {
         has_params: policy.param_kind.is_some(),
+        has_namespace: false,
         variables,
     }
 }

@@ -51,7 +51,8 @@ name_of b =
     if b == 1 then Ok name.Object else
     if b == 2 then Ok name.OldObject else
     if b == 3 then Ok name.Request else
-    if b == 4 then Ok name.Params else Err fault.BadOperand
+    if b == 4 then Ok name.Params else
+    if b == 5 then Ok name.NamespaceObject else Err fault.BadOperand
 
 -- In a place that declares the names up to this one, by their numbers, those after it are none.
 abbrev pub name_up_to : Name → ℕ → Result Name CodeFault

@@ -13,6 +13,8 @@ pub enum Name {
     Request,
     /// `params`
     Params,
+    /// `namespaceObject`
+    NamespaceObject,
 }
 
 /// The variable of a macro: macros nest at most two deep.

@@ -28,7 +28,8 @@ fn truth_byte(truth: bool) -> u8
     if truth { 1 } else { 0 }
 }
 
-/// The number of a declared name in the bytes of a plan: `object` 1, `oldObject` 2, `request` 3, `params` 4.
+/// The number of a declared name in the bytes of a plan: `object` 1, `oldObject` 2, `request` 3, `params` 4,
+/// `namespaceObject` 5.
 pub fn name_byte(name: Name) -> u8
     ensures { result ≡ name_number name }
 {
@@ -37,6 +38,7 @@ pub fn name_byte(name: Name) -> u8
         Name::OldObject => 2,
         Name::Request => 3,
         Name::Params => 4,
+        Name::NamespaceObject => 5,
     }
 }
 

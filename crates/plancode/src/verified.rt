@@ -91,7 +91,7 @@ fn decode_all(alloc: Global, bytes: &[u8], vars: u16, greatest: Name) -> Result<
 }
 
 /// The well-formed plan that the bytes spell, for a place with this many variables, and with the declared names up to one: all of them up to
-/// [`Name::Params`], and without parameters up to [`Name::Request`].
+/// [`Name::NamespaceObject`], where that is not declared up to [`Name::Params`], and without parameters up to [`Name::Request`].
 ///
 /// The bytes are read front to back: [`CodeFault::Truncated`], [`CodeFault::BadOperand`], a name that is not declared among them, and [`CodeFault::TextNotUtf8`] are told in
 /// the order of the bytes, then [`CodeFault::TrailingBytes`]. The instructions are judged in order, each for its targets

@@ -70,7 +70,7 @@ fn read_code(alloc: Global, variables: u16, code_bytes: &[u8]) -> Result<Verifie
     ensures found { IfOk result (λ p. (p.vars ≡ variables) × IsVerified p.vars p.ops × (code p.ops ≡ code_bytes.now)) }
     ensures damaged { IsErrOf result fault.Damaged → (p : Judged) → IsFor variables p → code p.ops ≢ code_bytes.now }
 {
-    Ok(decode(alloc, code_bytes, variables, Name::Params)?)
+    Ok(decode(alloc, code_bytes, variables, Name::NamespaceObject)?)
 }
 
 // The plan that bytes begin with, for a place with this many variables, and what stands after it.

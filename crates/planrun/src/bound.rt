@@ -25,6 +25,8 @@ pub struct Bindings<'a> {
     pub request: &'a Json,
     /// `params`
     pub params: &'a Json,
+    /// `namespaceObject`
+    pub namespace: &'a Json,
     /// The policy's variables, in order.
     pub variables: &'a [Outcome],
 }
@@ -38,6 +40,7 @@ pub(crate) fn named<'a>(name: Name, bindings: &Bindings<'a>) -> Held<'a>
         Name::OldObject => Held::Document(bindings.old_object),
         Name::Request => Held::Document(bindings.request),
         Name::Params => Held::Document(bindings.params),
+        Name::NamespaceObject => Held::Document(bindings.namespace),
     }
 }
 

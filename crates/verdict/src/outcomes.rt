@@ -21,15 +21,17 @@ fn given_in<'a>(
     old_object: &'a Json,
     request: &'a Json,
     params: &'a Json,
+    namespace: &'a Json,
     variables: &'a [Outcome],
 ) -> Result<Outcome, AllocError>
-    ensures { IfOk result (λ o. outcome_of o ≡ given_by plan.now (record { names = names_in (view object.now) (view old_object.now) (view request.now) (view params.now); variables = outcomes_seen variables.now })) }
+    ensures { IfOk result (λ o. outcome_of o ≡ given_by plan.now (record { names = names_in (view object.now) (view old_object.now) (view request.now) (view params.now) (view namespace.now); variables = outcomes_seen variables.now })) }
 {
     let bindings = Bindings {
         object,
         old_object,
         request,
         params,
+        namespace,
         variables,
     };
     if variables.len() == usize::from(plan.vars()) {
@@ -43,7 +45,7 @@ fn given_in<'a>(
 pub(crate) fn given_by(
     alloc: Global,
     plan: &Verified,
-    scene: &Scene<'_, '_, '_, '_>,
+    scene: &Scene<'_, '_, '_, '_, '_>,
     variables: &[Outcome],
 ) -> Result<Outcome, AllocError>
     ensures { IfOk result (λ o. outcome_of o ≡ given_by plan.now (world_of scene.now variables.now)) }
@@ -55,6 +57,7 @@ pub(crate) fn given_by(
         scene.old_object,
         scene.request,
         scene.params,
+        scene.namespace,
         variables,
     )
 }
@@ -76,7 +79,7 @@ pub(crate) fn split(plans: &[Verified], count: usize) -> (&[Verified], &[Verifie
 pub(crate) fn outcomes_by(
     alloc: Global,
     plans: &[Verified],
-    scene: &Scene<'_, '_, '_, '_>,
+    scene: &Scene<'_, '_, '_, '_, '_>,
 ) -> Result<Vec<Outcome>, AllocError>
     ensures { IfOk result (λ v. outcomes_seen v.items ≡ outcomes_by plans.now (names_of scene.now) []) }
 {

@@ -10,7 +10,7 @@ use serde_json::Value as Json;
 
 /// What the declared names stand for.
 #[derive(Clone, Copy)]
-pub(crate) struct Scene<'o, 'b, 'r, 'p> {
+pub(crate) struct Scene<'o, 'b, 'r, 'p, 'n> {
     /// `object`
     pub object: &'o Json,
     /// `oldObject`
@@ -19,6 +19,8 @@ pub(crate) struct Scene<'o, 'b, 'r, 'p> {
     pub request: &'r Json,
     /// `params`
     pub params: &'p Json,
+    /// `namespaceObject`
+    pub namespace: &'n Json,
 }
 
 /// The document, or `absent` where there is none.

@@ -27,7 +27,7 @@ fn conditions_by<'p>(
     alloc: Global,
     conditions: &'p [Named],
     plans: &[Verified],
-    scene: &Scene<'_, '_, '_, '_>,
+    scene: &Scene<'_, '_, '_, '_, '_>,
 ) -> Result<Conditions<'p>, AllocError>
     ensures { IfOk result (λ c. conditions_seen c ≡ conditions_by (map named_seen conditions.now) plans.now (world_of scene.now [])) }
 {
@@ -75,6 +75,7 @@ pub fn conditions<'p>(
         old_object: or_null(attempt.old_object, &absent),
         request,
         params: or_null(None, &absent),
+        namespace: or_null(None, &absent),
     };
     conditions_by(alloc, &policy.conditions, plans, &scene)
 }

@@ -45,7 +45,7 @@ fn message_plan<'a>(
 fn line_by(
     alloc: Global,
     plan: Option<&Verified>,
-    scene: &Scene<'_, '_, '_, '_>,
+    scene: &Scene<'_, '_, '_, '_, '_>,
     variables: &[Outcome],
 ) -> Result<Option<String>, AllocError>
     ensures { IfOk result (λ o. option_map string_bytes o ≡ line_by (option_map (λ p. p.now) plan.entry) (world_of scene.now variables.now)) }
@@ -66,7 +66,7 @@ fn denial_by(
     validation: &Validation,
     plan: &Verified,
     message: Option<&Verified>,
-    scene: &Scene<'_, '_, '_, '_>,
+    scene: &Scene<'_, '_, '_, '_, '_>,
     variables: &[Outcome],
 ) -> Result<Option<Denial>, AllocError>
     ensures { IfOk result (λ o. option_map denial_seen o ≡ told policy (validation_seen validation.now) (line_by (option_map (λ p. p.now) message.entry) (world_of scene.now variables.now)) (given_by plan.now (world_of scene.now variables.now))) }
@@ -86,7 +86,7 @@ fn tests_by(
     policy: FailurePolicy,
     validations: &[Validation],
     plans: &[Verified],
-    scene: &Scene<'_, '_, '_, '_>,
+    scene: &Scene<'_, '_, '_, '_, '_>,
     variables: &[Outcome],
 ) -> Result<Option<Denial>, AllocError>
     ensures { IfOk result (λ o. option_map denial_seen o ≡ tests_by policy (map validation_seen validations.now) plans.now (world_of scene.now variables.now)) }
@@ -115,7 +115,7 @@ fn evaluate_by(
     alloc: Global,
     policy: &Policy,
     plans: &[Verified],
-    scene: &Scene<'_, '_, '_, '_>,
+    scene: &Scene<'_, '_, '_, '_, '_>,
 ) -> Result<Option<Denial>, AllocError>
     ensures { IfOk result (λ o. option_map denial_seen o ≡ evaluate_by (policy_seen policy.now) plans.now (names_of scene.now)) }
 {
@@ -157,6 +157,7 @@ pub fn evaluate(
         old_object: or_null(attempt.old_object, &absent),
         request,
         params: or_null(param, &absent),
+        namespace: or_null(None, &absent),
     };
     let (_, others) = split(plans, policy.conditions.len());
     evaluate_by(alloc, policy, others, &scene)
