@@ -82,7 +82,7 @@ impl<P> Model for Holdings<P> {
 
     ghost view = { λ h. record { rules = h.rules; changes = h.changes; revision = h.window.revision; events = h.window.events } };
 
-    ghost invariant = { λ h. h.window.places ≡ h.rules.window_events };
+    ghost invariant = { λ h. (h.window.places ≡ h.rules.window_events) × (h.window.floor ≡ h.rules.floor) };
 }
 
 impl<P: Drop> Holdings<P> {
@@ -143,7 +143,7 @@ impl<P: Drop> Holdings<P> {
         Ok(())
     }
 
-    /// Keeps an event that was, as that of the next revision. It changes no object.
+    /// Keeps an event that was, as that of the next revision, where that is above the floor. It changes no object.
     pub fn keep(&mut self, event: Event<Document>)
         requires { self.old.revision + 1 < 2 ^ 64 }
         ensures rules { self.new.rules ≡ self.old.rules }
@@ -152,7 +152,8 @@ impl<P: Drop> Holdings<P> {
         ensures shows { (base : List (KeyData × StoredData P)) (v : View P) → Shows self.old base v → Shows self.new base (record {
           objects = v.objects;
           revision = v.revision + 1;
-          events = keep_last self.old.rules.window_events (v.events ++ event_at (v.revision + 1) event.change event.key event.document ∷ []);
+          events = keep_last self.old.rules.window_events
+              (v.events ++ events_above self.old.rules.floor (event_at (v.revision + 1) event.change event.key event.document ∷ []));
         }) }
     {
         self.window.push(event.change, event.key, event.document);

@@ -5,14 +5,13 @@ use Rattle.std.specs.Prelude.{Option, None, Some, MatchOption}
 use Rattle.circular_buffer.specs.Buffer.{keep_last}
 
 module _ {X : Type 0} where
-  -- the last n of a list's last n and one more item are the last n of the list and that item
-  pub keep_last-push : (n : ℕ) (all : List X) (x : X) → keep_last n (keep_last n all ++ x ∷ []) ≡ keep_last n (all ++ x ∷ [])
-  keep_last-push n all x =
-      let k = length all - n in
-      let m = length (drop k all ++ x ∷ []) - n in
-      let front : drop k (all ++ x ∷ []) ≡ drop k all ++ x ∷ [] = drop-append-le k all (x ∷ []) (omega arith) in
-      let count : k + m ≡ length (all ++ x ∷ []) - n = omega (arith, length-append (drop k all) (x ∷ []), length-drop k all, length-append all (x ∷ [])) in
-      ap (drop m) (sym front) ∙ drop-drop m k (all ++ x ∷ []) ∙ ap (λ (q : ℕ). drop q (all ++ x ∷ [])) count
+  -- the last n of a list's last n and some more items are the last n of the list and those items
+  pub keep_last-append : (n : ℕ) (xs ys : List X) → keep_last n (keep_last n xs ++ ys) ≡ keep_last n (xs ++ ys)
+  keep_last-append n xs ys =
+      let m : ℕ = length xs - n in
+      let joined : drop m xs ++ ys ≡ drop m (xs ++ ys) = sym (drop-append-le m xs ys (omega arith)) in
+      ap (λ zs. drop (length zs - n) zs) joined ∙ drop-drop (length (drop m (xs ++ ys)) - n) m (xs ++ ys)
+      ∙ ap (λ k. drop k (xs ++ ys)) (omega (arith, length-drop m (xs ++ ys), length-append xs ys))
 
   -- what is left after one item more
   pub drop-after_none : (xs : List X) (i : ℕ) → drop i xs ≡ [] → drop (i + 1) xs ≡ []

@@ -1,5 +1,5 @@
 -- What a history shows can be held, and its events are numbered up to its revision.
-use Rattle.std.proofs.Common.{arith, ◌≡◌, sym, subst, refl, ◌<◌, ◌^◌, ◌+◌, true, false, cond, not, ℕ, zero, suc, List, [], ◌∷◌, ◌++◌, drop, Some, is_some}
+use Rattle.std.proofs.Common.{arith, ◌≡◌, sym, subst, refl, nat_lt, ◌<◌, ◌^◌, ◌+◌, true, false, cond, not, ℕ, zero, suc, List, [], ◌∷◌, ◌++◌, drop, Some, is_some}
 use Rattle.std.specs.FinMap.Entries.{by_order}
 use Rattle.std.specs.List.{AllByRecursion}
 use Rattle.std.specs.Option.{option_map_or}
@@ -11,7 +11,10 @@ use Rattle.names.specs.declared.format.Rules.{Rules}
 use Rattle.names.specs.Key.{Key, key_cmp}
 use Rattle.names.proofs.KeyOrder.{key_cmp-IsAntisymmetric}
 use Rattle.objects.specs.Objects.{value_at, with_value, without_key}
-use Rattle.objects.proofs.Numbered.{IsNumberedTo, IsNumberedTo-push}
+use Rattle.objects.specs.declared.event.Event.{Event}
+use Rattle.objects.specs.Window.{events_above}
+use Rattle.objects.proofs.Numbered.{IsNumberedTo, AreTold, told_push}
+use Rattle.documents.specs.Document.{Document}
 use Rattle.requests.specs.Manifest.{HasForm}
 use Rattle.requests.specs.declared.stored.Stored.{Stored}
 use Rattle.requests.specs.History.{Write, put, delete}
@@ -28,6 +31,10 @@ all-drop Q zero xs a = a
 all-drop Q (suc n) [] a = tt
 all-drop Q (suc n) (x ∷ xs) a = all-drop Q n xs a.1
 
+-- what holds of an event holds of what is told of it
+all-told : (Q : Event Document → Type 0) (floor : ℕ) (e : Event Document) → Q e → AllByRecursion Q (events_above floor (e ∷ []))
+all-told Q floor e holds = elim (nat_lt floor e.revision) as (λ b. AllByRecursion Q (cond b (e ∷ []) [])) [ true ↦ (holds, tt) | false ↦ tt ]
+
 equal_from : (o : Ordering) → is_eq o ≡ true → o ≡ Equal
 equal_from Less e = cc
 equal_from Equal e = refl
@@ -35,17 +42,20 @@ equal_from Greater e = cc
 
 -- ---- the events of a history
 
-numbered_after : {P : Type 0} (rules : Rules) (v : View P) (w : Write P) → IsNumberedTo v.revision v.events → IsNumberedTo (after rules v w).revision (after rules v w).events
-numbered_after rules v (put k d b) is = IsNumberedTo-push rules.window_events v.revision v.events (event_of v (put k d b)) is.fewer is.numbered refl
-numbered_after rules v (delete k) is = IsNumberedTo-push rules.window_events v.revision v.events (event_of v (delete k)) is.fewer is.numbered refl
+told_after : {P : Type 0} (rules : Rules) (v : View P) (w : Write P) → AreTold rules.floor v.revision v.events → AreTold rules.floor (after rules v w).revision (after rules v w).events
+told_after rules v (put k d b) is = told_push rules.window_events rules.floor v.revision v.events (event_of v (put k d b)) is refl
+told_after rules v (delete k) is = told_push rules.window_events rules.floor v.revision v.events (event_of v (delete k)) is refl
 
-numbered_after_all : {P : Type 0} (rules : Rules) (v : View P) (ws : List (Write P)) → IsNumberedTo v.revision v.events → IsNumberedTo (after_all rules v ws).revision (after_all rules v ws).events
-numbered_after_all rules v [] is = is
-numbered_after_all rules v (w ∷ ws) is = numbered_after_all rules (after rules v w) ws (numbered_after rules v w is)
+told_after_all : {P : Type 0} (rules : Rules) (v : View P) (ws : List (Write P)) → AreTold rules.floor v.revision v.events
+    → AreTold rules.floor (after_all rules v ws).revision (after_all rules v ws).events
+told_after_all rules v [] is = is
+told_after_all rules v (w ∷ ws) is = told_after_all rules (after rules v w) ws (told_after rules v w is)
 
 -- The events of a history have the revisions up to its own, one after another.
 numbered : {P : Type 0} (rules : Rules) (h : List (Write P)) → IsNumberedTo (view rules h).revision (view rules h).events
-numbered rules h = numbered_after_all rules empty h (record { fewer = omega arith; numbered = tt })
+numbered rules h =
+    let all = told_after_all rules empty h (record { fewer = omega arith; numbered = tt; few = omega arith }) in
+    record { fewer = all.fewer; numbered = all.numbered }
 
 -- ---- what can be held
 
@@ -88,14 +98,16 @@ module _ {P : Type 0} (rules : Rules) where
     can_after v (put k d b) can may = (
       all-with_value k (record { document = d; beside = b; revision = v.revision + 1 }) v.objects
           ((may.form, omega (arith, limit, may.revision)), may.size) can.0,
-      all-drop (CanHoldEvent rules) _ (v.events ++ event_of v (put k d b) ∷ [])
-          (all-append (CanHoldEvent rules) v.events (event_of v (put k d b) ∷ []) can.1 (((may.form, omega (arith, limit, may.revision)), may.size), tt)),
+      all-drop (CanHoldEvent rules) _ (v.events ++ events_above rules.floor (event_of v (put k d b) ∷ []))
+          (all-append (CanHoldEvent rules) v.events (events_above rules.floor (event_of v (put k d b) ∷ [])) can.1
+          (all-told (CanHoldEvent rules) rules.floor (event_of v (put k d b)) ((may.form, omega (arith, limit, may.revision)), may.size))),
     )
     can_after v (delete k) can may =
         let there = found k v.objects can.0 may.object in (
           all-without_key k v.objects can.0,
-          all-drop (CanHoldEvent rules) _ (v.events ++ event_of v (delete k) ∷ [])
-              (all-append (CanHoldEvent rules) v.events (event_of v (delete k) ∷ []) can.1 (((there.0, omega (arith, limit, may.revision)), there.1), tt)),
+          all-drop (CanHoldEvent rules) _ (v.events ++ events_above rules.floor (event_of v (delete k) ∷ []))
+              (all-append (CanHoldEvent rules) v.events (events_above rules.floor (event_of v (delete k) ∷ [])) can.1
+              (all-told (CanHoldEvent rules) rules.floor (event_of v (delete k)) ((there.0, omega (arith, limit, may.revision)), there.1))),
         )
 
     can_after_all : (v : View P) (ws : List (Write P)) → CanHold v → AllMayFollow rules v ws → CanHold (after_all rules v ws)

@@ -10,7 +10,7 @@ use Rattle.names.specs.Key.{Key, key_cmp}
 use Rattle.objects.specs.Objects.{value_at, with_value, without_key}
 use Rattle.std.specs.FinMap.Entries.{by_order}
 use Rattle.objects.specs.declared.event.Change.TheVariants.{Added, Modified, Deleted}
-use Rattle.objects.specs.Window.{event_at}
+use Rattle.objects.specs.Window.{event_at, events_above}
 use Rattle.documents.specs.Document.{Document}
 use Rattle.requests.specs.declared.stored.Stored.{Stored}
 use Rattle.requests.specs.History.{Write, put, delete}
@@ -69,7 +69,7 @@ module _ {A B : Type 0} (f : Document → A → B) where
   after_mapped rules v w = λ i. record {
     objects = objects_mapped v w i;
     revision = v.revision + 1;
-    events = keep_last rules.window_events (v.events ++ event_mapped v w i ∷ []);
+    events = keep_last rules.window_events (v.events ++ events_above rules.floor (event_mapped v w i ∷ []));
   }
 
   pub all_mapped : (rules : Rules) (v : View A) (ws : List (Write A)) → (mapped f) (after_all rules v ws) ≡ after_all rules ((mapped f) v) (map (mapped_write f) ws)

@@ -1,21 +1,23 @@
 -- What is seen of longer histories.
-use Rattle.std.proofs.Common.{◌≡◌, ℕ, ◌+◌, ◌-◌, ◌≤◌, List, [], ◌∷◌, ◌++◌, length, drop, Bool, true, false, not, cond, Option, None, refl, sym, ap, ◌∙◌, arith, append_assoc, length-append, length-drop}
+use Rattle.std.proofs.Common.{◌≡◌, ℕ, suc, ◌+◌, ◌-◌, ◌≤◌, List, [], ◌∷◌, ◌++◌, length, drop, Bool, true, false, not, cond, Option, None, refl, sym, ap, ◌∙◌, arith, append_assoc, length-drop, nat_lt}
 use Rattle.std.proofs.Common.{Equal, is_eq, append-nil, IsTrue}
 use Rattle.std.proofs.Common.{Ordering, Less, Greater}
 use Rattle.std.specs.Ordering.{ordering_reverse}
 use Rattle.std.proofs.lemmas.Cmp.{alike_right, tied_back}
-use Rattle.std.proofs.lemmas.List.{drop-append-le, drop-drop}
 use Rattle.std.specs.FinMap.{is_sorted}
 use Rattle.std.specs.FinMap.Entries.{find-put, find-where_key}
 use Rattle.objects.proofs.Edits.{sorted-with_value, sorted-without_key}
 use Rattle.circular_buffer.specs.Buffer.{keep_last}
 use Rattle.objects.specs.declared.event.Event.{Event}
+use Rattle.objects.specs.Window.{AreNumberedFrom, events_above}
+use Rattle.objects.proofs.Numbered.{events_above-numbered}
+use Rattle.objects.proofs.Kept.{keep_last-append}
 use Rattle.names.specs.declared.format.Rules.{Rules}
 use Rattle.names.specs.Key.{Key, key_cmp}
 use Rattle.names.specs.KeyLaws.{key_cmp_total}
 use Rattle.documents.specs.Document.{Document}
 use Rattle.requests.specs.History.{Write, put, delete, same_key, left_by_one, left_by}
-use Rattle.requests.specs.View.{View, stored_at, after, after_all, event_of, AllMayFollow}
+use Rattle.requests.specs.View.{View, stored_at, after, after_all, event_of, empty, view, AllMayFollow}
 use Rattle.requests.specs.HistoryLaws.{events_from}
 
 -- writes after writes
@@ -56,30 +58,50 @@ stored_at-after_all rules v (w ∷ ws) k =
 
 -- ---- the last events
 
-keep_last-short : {A : Type 0} (n : ℕ) (xs : List A) → length xs ≤ n → keep_last n xs ≡ xs
+pub keep_last-short : {A : Type 0} (n : ℕ) (xs : List A) → length xs ≤ n → keep_last n xs ≡ xs
 keep_last-short n xs short = let none : length xs - n ≡ 0 = omega arith in rw none
 
 length-keep_last : {A : Type 0} (n : ℕ) (xs : List A) → length (keep_last n xs) ≤ n
 length-keep_last n xs = omega (arith, length-drop (length xs - n) xs)
 
--- the last of some that end in the last ones
-pub keep_last-append : {A : Type 0} (n : ℕ) (xs ys : List A) → keep_last n (keep_last n xs ++ ys) ≡ keep_last n (xs ++ ys)
-keep_last-append n xs ys =
-    let m : ℕ = length xs - n in
-    let inside : m ≤ length xs = omega arith in
-    let joined : drop m xs ++ ys ≡ drop m (xs ++ ys) = sym (drop-append-le m xs ys inside) in
-    ap (λ zs. drop (length zs - n) zs) joined ∙ drop-drop (length (drop m (xs ++ ys)) - n) m (xs ++ ys)
-    ∙ ap (λ k. drop k (xs ++ ys)) (omega (arith, length-drop m (xs ++ ys), length-append xs ys))
+events_above-cons : (f : ℕ) (e : Event Document) (es : List (Event Document)) → events_above f (e ∷ es) ≡ events_above f (e ∷ []) ++ events_above f es
+events_above-cons f e es = elim (nat_lt f e.revision) as (λ b. cond b (e ∷ events_above f es) (events_above f es) ≡ cond b (e ∷ []) [] ++ events_above f es) [
+  | true ↦ refl
+  | false ↦ refl
+]
 
 pub events-after_all : {P : Type 0} (rules : Rules) (v : View P) (ws : List (Write P)) → length v.events ≤ rules.window_events
-    → (after_all rules v ws).events ≡ keep_last rules.window_events (v.events ++ events_from rules v ws)
+    → (after_all rules v ws).events ≡ keep_last rules.window_events (v.events ++ events_above rules.floor (events_from rules v ws))
 events-after_all rules v [] short = rw append-nil (sym (keep_last-short rules.window_events v.events short))
 events-after_all rules v (w ∷ ws) short =
     let n : ℕ = rules.window_events in
-    let rest : List (Event Document) = events_from rules (after rules v w) ws in
-    events-after_all rules (after rules v w) ws (length-keep_last n (v.events ++ event_of v w ∷ []))
-    ∙ keep_last-append n (v.events ++ event_of v w ∷ []) rest
-    ∙ ap (keep_last n) (append_assoc v.events (event_of v w ∷ []) rest)
+    let one : List (Event Document) = events_above rules.floor (event_of v w ∷ []) in
+    let later : List (Event Document) = events_from rules (after rules v w) ws in
+    let rest : List (Event Document) = events_above rules.floor later in
+    let joined : one ++ rest ≡ events_above rules.floor (event_of v w ∷ later) = sym (events_above-cons rules.floor (event_of v w) later) in
+    events-after_all rules (after rules v w) ws (length-keep_last n (v.events ++ one))
+    ∙ keep_last-append n (v.events ++ one) rest
+    ∙ ap (keep_last n) (append_assoc v.events one rest ∙ ap (λ (es : List (Event Document)). v.events ++ es) joined)
+
+numbered_event : {P : Type 0} (v : View P) (w : Write P) → (event_of v w).revision ≡ v.revision + 1
+numbered_event v (put k d b) = refl
+numbered_event v (delete k) = refl
+
+-- the events that writes make are numbered, and one for each
+numbered_events : {P : Type 0} (rules : Rules) (v : View P) (ws : List (Write P)) → AreNumberedFrom v.revision (events_from rules v ws)
+numbered_events rules v [] = tt
+numbered_events rules v (w ∷ ws) = (numbered_event v w, numbered_events rules (after rules v w) ws)
+
+pub counted_events : {P : Type 0} (rules : Rules) (v : View P) (ws : List (Write P)) → length (events_from rules v ws) ≡ length ws
+counted_events rules v [] = refl
+counted_events rules v (w ∷ ws) = ap (λ n. suc n) (counted_events rules (after rules v w) ws)
+
+-- the events of a history are the last of those whose numbers the floor leaves
+pub events-numbered : {P : Type 0} (rules : Rules) (h : List (Write P))
+    → (view rules h).events ≡ keep_last rules.window_events (drop (rules.floor - 1) (events_from rules empty h))
+events-numbered rules h =
+    events-after_all rules empty h (omega arith)
+    ∙ ap (keep_last rules.window_events) (events_above-numbered rules.floor 1 (events_from rules empty h) (numbered_events rules empty h))
 
 -- ---- what may follow
 

@@ -1,5 +1,5 @@
 -- Lists of objects, and the events of a watch (Kubernetes API concepts, "Resource versions", "Efficient detection of changes").
-use Rattle.std.specs.Prelude.{ℕ, ◌+◌, List, [], ◌∷◌, ◌++◌, map, codes, decimal, nat_lt}
+use Rattle.std.specs.Prelude.{ℕ, ◌+◌, List, [], ◌∷◌, ◌++◌, map, codes, decimal, nat_lt, ◌||◌}
 use Rattle.std.specs.List.{filter, concat}
 use Rattle.serde_json.specs.Data.{Data, string, array}
 use Rattle.serde_json.specs.View.{items_of}
@@ -57,10 +57,10 @@ listing v c selector = served (text (list_document v c selector))
 -- ---- watches
 
 -- What refuses a watch of the events above a revision: the revision is above the current one, or so old that some of these
--- events may have left the window.
+-- events may have left the window, or below the floor, up to which none is kept.
 abbrev pub watch_conditions : {P : Type 0} → Rules → View P → (revision : ℕ) → List Condition
 watch_conditions rules v revision =
-    (BadVersion, nat_lt v.revision revision) ∷ (Expired, nat_lt (revision + rules.window_events) v.revision) ∷ []
+    (BadVersion, nat_lt v.revision revision) ∷ (Expired, nat_lt (revision + rules.window_events) v.revision || nat_lt revision rules.floor) ∷ []
 
 abbrev pub change_text : Change → List ℕ
 change_text Added = codes "ADDED"

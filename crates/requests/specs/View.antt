@@ -10,7 +10,7 @@ use Rattle.objects.specs.Objects.{value_at, with_value, without_key}
 use Rattle.objects.specs.declared.event.Change.{Change}
 use Rattle.objects.specs.declared.event.Change.TheVariants.{Added, Modified, Deleted}
 use Rattle.objects.specs.declared.event.Event.{Event}
-use Rattle.objects.specs.Window.{event_at}
+use Rattle.objects.specs.Window.{event_at, events_above}
 use Rattle.documents.specs.Document.{Document}
 use Rattle.requests.specs.Manifest.{HasForm}
 use Rattle.requests.specs.declared.stored.Stored.{Stored}
@@ -52,12 +52,12 @@ module _ {P : Type 0} where
   event_of v (put k d b) = event_at (v.revision + 1) (change_at v k) k d
   event_of v (delete k) = event_at (v.revision + 1) Deleted k (document_at v k)
 
-  -- what is seen after one more write
+  -- what is seen after one more write: its event is told if it is above the floor
   abbrev pub after : Rules → View P → Write P → View P
   after rules v w = record {
     objects = objects_after v w;
     revision = v.revision + 1;
-    events = keep_last rules.window_events (v.events ++ event_of v w ∷ []);
+    events = keep_last rules.window_events (v.events ++ events_above rules.floor (event_of v w ∷ []));
   }
 
   abbrev pub after_all : Rules → View P → List (Write P) → View P
