@@ -6,7 +6,7 @@
 //! [`write`] writes entries as the next generation, while the root that counts stays as it is:
 //!
 //! ```text
-//! let written = write(alloc, &mut device, &root, log.last_gate(), revision, &mut entries)?;
+//! let written = write(alloc, &mut device, &root, log.last_gate(), label, &mut entries)?;
 //! let log = Log::restart(&device, written.root.log_start());
 //! ```
 //!

@@ -17,7 +17,7 @@ ghost use Rattle.checkpoint.specs.PageWriter.{IsFor, HasPages, end_of};
 use crate::filling::{Entries, EntriesFault, first_keys};
 use crate::page_writer::PageWriter;
 use device::{Device, DeviceFault};
-use roots::{Exhausted, Root, clear_slot, install, next_root};
+use roots::{Exhausted, Label, Root, clear_slot, install, next_root};
 use std::alloc::{AllocError, Global};
 
 /// Why the next generation is not there.
@@ -132,7 +132,7 @@ fn next_of(
     current: &Root,
     last_gate: u64,
     first_keys: &[Vec<u8>],
-    revision: u64,
+    label: Label,
 ) -> Result<Root, WriteFault>
     requires in_data { 8 ≤ last_gate }
     requires room { last_gate < 2 ^ 54 }
@@ -140,12 +140,12 @@ fn next_of(
     ensures place { IfOk result (λ next. IsPlace current.now.first last_gate next.pages next.first) }
     ensures room { IfOk result (λ next. log_start next < 2 ^ 64) }
     ensures pages { IfOk result (λ next. next.pages ≡ length first_keys.now) }
-    ensures revision { IfOk result (λ next. next.revision ≡ revision) }
+    ensures label { IfOk result (λ next. next.label ≡ label) }
     ensures exhausted { IsErrOf result WriteFault.Exhausted → current.now.generation ≡ 2 ^ 64 - 1 }
     ensures refusal { OnErr result (IsErrOf result WriteFault.Exhausted ⊎ IsErrOf result WriteFault.Memory) }
 {
     match u32::try_from(first_keys.len()) {
-        Ok(pages) => Ok(next_root(current, last_gate, pages, revision)?),
+        Ok(pages) => Ok(next_root(current, last_gate, pages, label)?),
         Err(_) => Err(WriteFault::Memory),
     }
 }
@@ -165,12 +165,12 @@ fn write_generation<D: Device, E: Entries>(
     ensures any_moment { D.disk.keeps device.old → (last : ℕ) (all : List Entry) → IsInUse D.disk device.old current.now last
         → IsSource E.gives E.reads current.now last (D.disk.content device.old) entries.old all
         → IsNext current.now last next.now → AllFit all → next.now.pages ≡ length (pages_of all)
-        → Stands D.disk device.old device.new (IsBeforeOrWritten current.now last (D.disk.content device.old) next.now.revision all)
-        (IsBeforeOrWritten current.now last (D.disk.content device.old) next.now.revision all) }
+        → Stands D.disk device.old device.new (IsBeforeOrWritten current.now last (D.disk.content device.old) next.now.label all)
+        (IsBeforeOrWritten current.now last (D.disk.content device.old) next.now.label all) }
     ensures written { D.disk.keeps device.old → (last : ℕ) (all : List Entry) → IsInUse D.disk device.old current.now last
         → IsSource E.gives E.reads current.now last (D.disk.content device.old) entries.old all
         → IsNext current.now last next.now → AllFit all → next.now.pages ≡ length (pages_of all)
-        → OnOk result (Stands D.disk device.old device.new (IsBeforeOrWritten current.now last (D.disk.content device.old) next.now.revision all)
+        → OnOk result (Stands D.disk device.old device.new (IsBeforeOrWritten current.now last (D.disk.content device.old) next.now.label all)
         (IsWritten next.now all)) }
     ensures in_use { D.disk.keeps device.old → (last : ℕ) (all : List Entry) → IsInUse D.disk device.old current.now last
         → IsSource E.gives E.reads current.now last (D.disk.content device.old) entries.old all
@@ -197,7 +197,7 @@ fn write_generation<D: Device, E: Entries>(
     Ok(install(device, next)?)
 }
 
-/// Writes the entries as the next generation of a store, for this revision, while `current` counts and its log ends with the gate in the
+/// Writes the entries as the next generation of a store, with this label, while `current` counts and its log ends with the gate in the
 /// sector `last_gate`. The entries are walked twice: to count pages and take their first keys, and to write. Their pages lie off the
 /// generation in use, and go to the device in runs of up to 16, each by one write. Then the new root is installed, as [`install`] does.
 /// All memory is taken before the first write: 17 pages and the keys.
@@ -216,7 +216,7 @@ pub fn write<D: Device, E: Entries>(
     device: &mut D,
     current: &Root,
     last_gate: u64,
-    revision: u64,
+    label: Label,
     entries: &mut E,
 ) -> Result<Written, WriteFault>
     requires in_data { 8 ≤ last_gate }
@@ -226,12 +226,12 @@ pub fn write<D: Device, E: Entries>(
     // From a device on which that generation is in use, over which the source gives entries.
     ensures any_moment { D.disk.keeps device.old → (all : List Entry) → IsInUse D.disk device.old current.now last_gate
         → IsSource E.gives E.reads current.now last_gate (D.disk.content device.old) entries.old all
-        → Stands D.disk device.old device.new (IsBeforeOrWritten current.now last_gate (D.disk.content device.old) revision all)
-        (IsBeforeOrWritten current.now last_gate (D.disk.content device.old) revision all) }
+        → Stands D.disk device.old device.new (IsBeforeOrWritten current.now last_gate (D.disk.content device.old) label all)
+        (IsBeforeOrWritten current.now last_gate (D.disk.content device.old) label all) }
     ensures written { D.disk.keeps device.old → (all : List Entry) → IsInUse D.disk device.old current.now last_gate
         → IsSource E.gives E.reads current.now last_gate (D.disk.content device.old) entries.old all
         → IfOk result (λ written. Stands D.disk device.old device.new
-        (IsBeforeOrWritten current.now last_gate (D.disk.content device.old) revision all) (IsWritten written.root all)) }
+        (IsBeforeOrWritten current.now last_gate (D.disk.content device.old) label all) (IsWritten written.root all)) }
     ensures in_use { D.disk.keeps device.old → (all : List Entry) → IsInUse D.disk device.old current.now last_gate
         → IsSource E.gives E.reads current.now last_gate (D.disk.content device.old) entries.old all
         → IfOk result (λ written. IsInUse D.disk device.new written.root (log_start written.root)) }
@@ -243,7 +243,7 @@ pub fn write<D: Device, E: Entries>(
     ensures next { IfOk result (λ written. IsNext current.now last_gate written.root) }
     ensures place { IfOk result (λ written. IsPlace current.now.first last_gate written.root.pages written.root.first) }
     ensures pages { IfOk result (λ written. written.root.pages ≡ length written.first_keys.items) }
-    ensures revision { IfOk result (λ written. written.root.revision ≡ revision) }
+    ensures label { IfOk result (λ written. written.root.label ≡ label) }
     ensures room { IfOk result (λ written. log_start written.root < 2 ^ 54) }
     ensures front { D.disk.keeps device.old → IfOk result (λ written. written.root.first ≡ 8
         → length (D.disk.content device.new) ≡ 512 * log_start written.root + 512) }
@@ -268,7 +268,7 @@ pub fn write<D: Device, E: Entries>(
     ensures count { D.disk.failures device.old ≤ D.disk.failures device.new }
 {
     let first_keys = first_keys(alloc, device, entries)?;
-    let root = next_of(current, last_gate, &first_keys, revision)?;
+    let root = next_of(current, last_gate, &first_keys, label)?;
     let mut writer = PageWriter::new(alloc, &root)?;
     write_generation(device, current, &root, entries, &mut writer)?;
     Ok(Written { root, first_keys })

@@ -1,12 +1,14 @@
 -- Which root counts, from what stands in the two slots.
-use Rattle.std.proofs.Common.{◌≡◌, ◌<◌, ◌*◌, ◌⊎◌, inl, inr, ℕ, List, refl, ap, sym, ◌∙◌, subst, arith, Option, Some, None, IfSome}
+use Rattle.std.proofs.Common.{slice_index, ◌≡◌, ◌<◌, ◌*◌, ◌⊎◌, inl, inr, ℕ, List, refl, ap, sym, ◌∙◌, subst, arith, Option, Some, None, IfSome}
 use Rattle.gatelog.specs.Record.{part}
 use Rattle.gatelog.specs.Log.{IsOpen}
+use Rattle.names.specs.declared.format.Format.{Format}
+use Rattle.names.specs.declared.format.Format.TheVariants.{First, Second}
 use Rattle.roots.specs.declared.root.Slot.{Slot}
 use Rattle.roots.specs.declared.root.Slot.TheVariants.{A, B}
 use Rattle.roots.specs.declared.root.Root.{Root}
 use Rattle.roots.specs.declared.slots.Standing.TheVariants.{Closed, Unspelled, Open}
-use Rattle.roots.specs.Root.{root_sector, gate_sector, other, IsRoot, IsOpenRoot, Counts, AtMostOneRoot}
+use Rattle.roots.specs.Root.{mark_of, root_sector, gate_sector, other, IsRoot, IsOpenRoot, Counts, AtMostOneRoot}
 use Rattle.roots.specs.Front.{StandsIn}
 
 -- the sector of a slot's root
@@ -127,13 +129,24 @@ one_slot content root lesser x y =
       same_generation (sector_of A content) root below_y.0 x.spelled below_y.1,
     )
 
+abbrev eighth : List ℕ → ℕ
+eighth bytes = slice_index bytes 7
+
+-- a mark is that of one format: their last bytes differ
+one_mark : (f g : Format) → mark_of f ≡ mark_of g → f ≡ g
+one_mark First First same = refl
+one_mark First Second same = let last : ◌≡◌ {A = ℕ} 84 50 = ap eighth same in absurd (omega (arith, last))
+one_mark Second First same = let last : ◌≡◌ {A = ℕ} 50 84 = ap eighth same in absurd (omega (arith, last))
+one_mark Second Second same = refl
+
 same_fields : (sector : List ℕ) (a b : Root) → a.slot ≡ b.slot → IsRoot a sector → IsRoot b sector → a ≡ b
 same_fields sector a b slots x y =
     let generations : a.generation ≡ b.generation = sym x.generation ∙ y.generation in
     let firsts : a.first ≡ b.first = sym x.first ∙ y.first in
     let counts : a.pages ≡ b.pages = sym x.pages ∙ y.pages in
-    let revisions : a.revision ≡ b.revision = sym x.revision ∙ y.revision in
-    λ i. record { slot = slots i; generation = generations i; first = firsts i; pages = counts i; revision = revisions i }
+    let formats : a.label.format ≡ b.label.format = one_mark a.label.format b.label.format (sym x.mark ∙ y.mark) in
+    let revisions : a.label.revision ≡ b.label.revision = sym x.revision ∙ y.revision in
+    λ i. record { slot = slots i; generation = generations i; first = firsts i; pages = counts i; label = record { format = formats i; revision = revisions i } }
 
 -- at most one root counts
 pub one_counts : AtMostOneRoot

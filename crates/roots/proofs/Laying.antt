@@ -4,8 +4,10 @@ use Rattle.std.proofs.lemmas.List.{places, same_lists, get_or-append_right, leng
 use Rattle.byteorder.specs.Endian.{big_number, big_bytes}
 use Rattle.byteorder.specs.Numbers.{big_number-reads_back}
 use Rattle.gatelog.proofs.Gathering.{replicate-zero}
+use Rattle.names.specs.declared.format.Format.{Format}
+use Rattle.names.specs.declared.format.Format.TheVariants.{First, Second}
 use Rattle.roots.specs.declared.root.Root.{Root}
-use Rattle.roots.specs.Root.{IsHeader, IsRoot}
+use Rattle.roots.specs.Root.{IsHeader, IsRoot, mark_of}
 use Rattle.roots.specs.NewStore.{new_header, root_fields}
 
 -- this many bytes: fields, and zeros behind them
@@ -39,23 +41,66 @@ laid-zeros n fields sector laid size k behind =
 pub laid-length : (fields sector : List ℕ) → Laid fields sector → length sector ≡ 512
 laid-length fields sector laid = ap length laid.is ∙ omega (arith, laid.inside, length-append fields (replicate (512 - length fields) 0), length-replicate {A = ℕ} (512 - length fields) 0)
 
+-- the fields of a root, one behind the other
+abbrev pub root_row : Format → (generation first pages revision : ℕ) → List ℕ
+root_row format generation first pages revision =
+    (((mark_of format ++ big_bytes 8 generation) ++ big_bytes 8 first) ++ big_bytes 4 pages) ++ big_bytes 8 revision
+
+-- what a sector spells with them
+record Tells (format : Format) (generation first pages revision : ℕ) (sector : List ℕ) : Type 0 where
+  mark : take 8 sector ≡ mark_of format
+  generation_is : big_number 8 (drop 8 sector) ≡ generation
+  first_is : big_number 8 (drop 16 sector) ≡ first
+  pages_are : big_number 4 (drop 24 sector) ≡ pages
+  revision_is : big_number 8 (drop 28 sector) ≡ revision
+  zeros : (k : ℕ) → 36 ≤ k → slice_index sector k ≡ 0
+
+-- fields behind the mark of each format
+module _ (generation first pages revision : ℕ) (sector : List ℕ) (generation_fits : generation < 2 ^ 64) (first_fits : first < 2 ^ 64) (pages_fits : pages < 2 ^ 32)
+    (revision_fits : revision < 2 ^ 64) where
+  abbrev zeros_behind : List ℕ
+  zeros_behind = replicate (512 - 36) 0
+
+  tells : (format : Format) → Laid (root_row format generation first pages revision) sector → Tells format generation first pages revision sector
+  tells First laid = record {
+    mark = ap (take 8) laid.is;
+    generation_is = ap (λ (x : List ℕ). big_number 8 (drop 8 x)) laid.is
+        ∙ big_number-reads_back 8 generation (((big_bytes 8 first ++ big_bytes 4 pages) ++ big_bytes 8 revision) ++ zeros_behind) generation_fits;
+    first_is = ap (λ (x : List ℕ). big_number 8 (drop 16 x)) laid.is
+        ∙ big_number-reads_back 8 first ((big_bytes 4 pages ++ big_bytes 8 revision) ++ zeros_behind) first_fits;
+    pages_are = ap (λ (x : List ℕ). big_number 4 (drop 24 x)) laid.is ∙ big_number-reads_back 4 pages (big_bytes 8 revision ++ zeros_behind) pages_fits;
+    revision_is = ap (λ (x : List ℕ). big_number 8 (drop 28 x)) laid.is ∙ big_number-reads_back 8 revision zeros_behind revision_fits;
+    zeros = laid-zeros 36 (root_row First generation first pages revision) sector laid refl;
+  }
+  tells Second laid = record {
+    mark = ap (take 8) laid.is;
+    generation_is = ap (λ (x : List ℕ). big_number 8 (drop 8 x)) laid.is
+        ∙ big_number-reads_back 8 generation (((big_bytes 8 first ++ big_bytes 4 pages) ++ big_bytes 8 revision) ++ zeros_behind) generation_fits;
+    first_is = ap (λ (x : List ℕ). big_number 8 (drop 16 x)) laid.is
+        ∙ big_number-reads_back 8 first ((big_bytes 4 pages ++ big_bytes 8 revision) ++ zeros_behind) first_fits;
+    pages_are = ap (λ (x : List ℕ). big_number 4 (drop 24 x)) laid.is ∙ big_number-reads_back 4 pages (big_bytes 8 revision ++ zeros_behind) pages_fits;
+    revision_is = ap (λ (x : List ℕ). big_number 8 (drop 28 x)) laid.is ∙ big_number-reads_back 8 revision zeros_behind revision_fits;
+    zeros = laid-zeros 36 (root_row Second generation first pages revision) sector laid refl;
+  }
+
+-- the row of a root's fields
+abbrev pub row_of : Root → List ℕ
+row_of root = root_row root.label.format root.generation root.first root.pages root.label.revision
+
 -- the fields of a root, front to back
-pub fields-root : (root : Root) (sector : List ℕ) → root.generation < 2 ^ 64 → root.first < 2 ^ 64 → root.pages < 2 ^ 32 → root.revision < 2 ^ 64 → 8 ≤ root.first
-    → Laid ((((codes "GATEROOT" ++ big_bytes 8 root.generation) ++ big_bytes 8 root.first) ++ big_bytes 4 root.pages) ++ big_bytes 8 root.revision) sector → IsRoot root sector
+pub fields-root : (root : Root) (sector : List ℕ) → root.generation < 2 ^ 64 → root.first < 2 ^ 64 → root.pages < 2 ^ 32 → root.label.revision < 2 ^ 64
+    → 8 ≤ root.first → Laid (row_of root) sector → IsRoot root sector
 fields-root root sector generation_fits first_fits pages_fits revision_fits in_data laid =
-    let fields : List ℕ = (((codes "GATEROOT" ++ big_bytes 8 root.generation) ++ big_bytes 8 root.first) ++ big_bytes 4 root.pages) ++ big_bytes 8 root.revision in
-    let zeros : List ℕ = replicate (512 - length fields) 0 in
+    let told = tells root.generation root.first root.pages root.label.revision sector generation_fits first_fits pages_fits revision_fits root.label.format laid in
     record {
-      whole = laid-length fields sector laid;
-      mark = ap (take 8) laid.is;
-      generation = ap (λ (x : List ℕ). big_number 8 (drop 8 x)) laid.is
-          ∙ big_number-reads_back 8 root.generation (((big_bytes 8 root.first ++ big_bytes 4 root.pages) ++ big_bytes 8 root.revision) ++ zeros) generation_fits;
-      first = ap (λ (x : List ℕ). big_number 8 (drop 16 x)) laid.is
-          ∙ big_number-reads_back 8 root.first ((big_bytes 4 root.pages ++ big_bytes 8 root.revision) ++ zeros) first_fits;
-      pages = ap (λ (x : List ℕ). big_number 4 (drop 24 x)) laid.is ∙ big_number-reads_back 4 root.pages (big_bytes 8 root.revision ++ zeros) pages_fits;
-      revision = ap (λ (x : List ℕ). big_number 8 (drop 28 x)) laid.is ∙ big_number-reads_back 8 root.revision zeros revision_fits;
+      whole = laid-length (row_of root) sector laid;
+      mark = told.mark;
+      generation = told.generation_is;
+      first = told.first_is;
+      pages = told.pages_are;
+      revision = told.revision_is;
       in_data = in_data;
-      zeros = laid-zeros 36 fields sector laid refl;
+      zeros = told.zeros;
     }
 
 -- the fields of the header, front to back
@@ -86,17 +131,29 @@ laid-header marked formatted sector first second third =
     let format = laid-next 8 4 (codes "GATESTOR") (big_bytes 4 1) marked formatted mark refl refl (omega arith) second in
     laid-next 12 4 _ (big_bytes 4 512) formatted sector format refl refl (omega arith) third
 
+length-mark : (format : Format) → length (mark_of format) ≡ 8
+length-mark First = refl
+length-mark Second = refl
+
+put-mark : (format : Format) (marked : List ℕ) → marked ≡ put_at 0 (mark_of format) (replicate 512 0) → Laid (mark_of format) marked
+put-mark format marked first =
+    laid-next 0 8 [] (mark_of format) (replicate 512 0) marked blank refl (length-mark format) (omega arith)
+    (subst (λ (n : ℕ). marked ≡ take 0 (replicate 512 0) ++ mark_of format ++ drop (0 + n) (replicate 512 0)) (length-mark format) first)
+
 -- a root's sector that was written field by field
-pub laid-root : (root : Root) (marked numbered placed paged sector : List ℕ) → marked ≡ put_at 0 (codes "GATEROOT") (replicate 512 0)
+pub laid-root : (root : Root) (marked numbered placed paged sector : List ℕ) → marked ≡ put_at 0 (mark_of root.label.format) (replicate 512 0)
     → numbered ≡ put_at 8 (big_bytes 8 root.generation) marked → placed ≡ put_at 16 (big_bytes 8 root.first) numbered
-    → paged ≡ put_at 24 (big_bytes 4 root.pages) placed → sector ≡ put_at 28 (big_bytes 8 root.revision) paged
-    → Laid ((((codes "GATEROOT" ++ big_bytes 8 root.generation) ++ big_bytes 8 root.first) ++ big_bytes 4 root.pages) ++ big_bytes 8 root.revision) sector
+    → paged ≡ put_at 24 (big_bytes 4 root.pages) placed → sector ≡ put_at 28 (big_bytes 8 root.label.revision) paged → Laid (row_of root) sector
 laid-root root marked numbered placed paged sector first second third fourth fifth =
-    let mark = laid-next 0 8 [] (codes "GATEROOT") (replicate 512 0) marked blank refl refl (omega arith) first in
-    let generation = laid-next 8 8 (codes "GATEROOT") (big_bytes 8 root.generation) marked numbered mark refl refl (omega arith) second in
-    let place = laid-next 16 8 _ (big_bytes 8 root.first) numbered placed generation refl refl (omega arith) third in
-    let pages = laid-next 24 4 _ (big_bytes 4 root.pages) placed paged place refl refl (omega arith) fourth in
-    laid-next 28 8 _ (big_bytes 8 root.revision) paged sector pages refl refl (omega arith) fifth
+    let size = length-mark root.label.format in
+    let mark = put-mark root.label.format marked first in
+    let generation = laid-next 8 8 (mark_of root.label.format) (big_bytes 8 root.generation) marked numbered mark size refl (omega arith) second in
+    let at_first = length-append (mark_of root.label.format) (big_bytes 8 root.generation) in
+    let place = laid-next 16 8 _ (big_bytes 8 root.first) numbered placed generation (omega (arith, size, at_first)) refl (omega arith) third in
+    let at_pages = length-append (mark_of root.label.format ++ big_bytes 8 root.generation) (big_bytes 8 root.first) in
+    let pages = laid-next 24 4 _ (big_bytes 4 root.pages) placed paged place (omega (arith, size, at_first, at_pages)) refl (omega arith) fourth in
+    let at_revision = length-append ((mark_of root.label.format ++ big_bytes 8 root.generation) ++ big_bytes 8 root.first) (big_bytes 4 root.pages) in
+    laid-next 28 8 _ (big_bytes 8 root.label.revision) paged sector pages (omega (arith, size, at_first, at_pages, at_revision)) refl (omega arith) fifth
 
 -- nine sectors that were written from their start on
 pub laid-nine : (header spelled first second third : List ℕ) → length header ≡ 512 → length spelled ≡ 512 → first ≡ put_at 0 header (replicate 4608 0)
@@ -118,7 +175,10 @@ laid-nine header spelled first second third header_size spelled_size is_first is
 pub row-header : (sector : List ℕ) → Laid ((codes "GATESTOR" ++ big_bytes 4 1) ++ big_bytes 4 512) sector → sector ≡ new_header
 row-header sector laid = laid.is
 
-pub row-root : (root : Root) (sector : List ℕ)
-    → Laid ((((codes "GATEROOT" ++ big_bytes 8 root.generation) ++ big_bytes 8 root.first) ++ big_bytes 4 root.pages) ++ big_bytes 8 root.revision) sector
-    → sector ≡ root_fields root.generation root.first root.pages root.revision
-row-root root sector laid = laid.is
+row-by : (format : Format) (generation first pages revision : ℕ) (sector : List ℕ) → Laid (root_row format generation first pages revision) sector
+    → sector ≡ root_fields generation first pages (record { format = format; revision = revision })
+row-by First generation first pages revision sector laid = laid.is
+row-by Second generation first pages revision sector laid = laid.is
+
+pub row-root : (root : Root) (sector : List ℕ) → Laid (row_of root) sector → sector ≡ root_fields root.generation root.first root.pages root.label
+row-root root sector laid = row-by root.label.format root.generation root.first root.pages root.label.revision sector laid

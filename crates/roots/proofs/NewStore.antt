@@ -1,5 +1,5 @@
 -- The nine sectors of a new store.
-use Rattle.std.proofs.Common.{append_assoc, arith, ap, refl, subst, ◌≡◌, ◌∙◌, sym, ◌≤◌, ◌+◌, ◌-◌, ◌*◌, ◌++◌, ◌∷◌, [], ℕ, List, length, take, drop, replicate, slice_index}
+use Rattle.std.proofs.Common.{append_assoc, arith, ap, refl, subst, ◌≡◌, ◌∙◌, sym, ◌<◌, ◌≤◌, ◌+◌, ◌-◌, ◌*◌, ◌^◌, ◌++◌, ◌∷◌, [], ℕ, List, length, take, drop, replicate, slice_index}
 use Rattle.std.proofs.lemmas.List.{append-nil, drop_all, take_at, drop_at, get_or-append_right, length-append, length-replicate}
 use Rattle.device.specs.Disk.{Disk}
 use Rattle.device.specs.Step.{Holds, Same, Torn}
@@ -9,13 +9,16 @@ use Rattle.device.proofs.Runs.{ran_then}
 use Rattle.gatelog.specs.Record.{part}
 use Rattle.gatelog.specs.Log.{IsOpen, HoldsLog}
 use Rattle.gatelog.proofs.Gathering.{replicate-zero}
+use Rattle.names.specs.declared.format.Format.{Format}
+use Rattle.names.specs.declared.format.Format.TheVariants.{First, Second}
 use Rattle.roots.specs.declared.root.Slot.{Slot}
 use Rattle.roots.specs.declared.root.Slot.TheVariants.{A}
+use Rattle.roots.specs.declared.root.Label.{Label}
 use Rattle.roots.specs.declared.root.Root.{Root}
 use Rattle.roots.specs.Root.{root_sector, gate_sector, IsHeader, IsRoot, IsOpenRoot, HoldsRoot}
-use Rattle.roots.specs.NewStore.{new_header, root_fields, new_content}
+use Rattle.roots.specs.NewStore.{new_header, root_fields, first_label, new_content}
 use Rattle.roots.proofs.Counting.{counts_alone}
-use Rattle.roots.proofs.Laying.{fields-header, fields-root}
+use Rattle.roots.proofs.Laying.{Laid, root_row, fields-header, fields-root}
 
 -- a header, a root, an open gate and zeros
 new_holds : (header spelled bytes : List ℕ) (root : Root) → IsHeader header → IsRoot root spelled → root.slot ≡ A → root.first ≡ 8 → root.pages ≡ 0
@@ -50,32 +53,47 @@ new_holds header spelled bytes root is_header is_root in_a first pages is =
 is_new_header : IsHeader new_header
 is_new_header = fields-header new_header (record { inside = omega arith; is = refl })
 
-is_new_root : (root : Root) → root.generation ≡ 1 → root.first ≡ 8 → root.pages ≡ 0 → root.revision ≡ 1 → IsRoot root (root_fields 1 8 0 1)
-is_new_root root generation first pages revision =
+-- the fields of a root and zeros behind them
+row_laid : (format : Format) (generation first pages revision : ℕ)
+    → Laid (root_row format generation first pages revision) (root_fields generation first pages (record { format = format; revision = revision }))
+row_laid First generation first pages revision = record { inside = omega arith; is = refl }
+row_laid Second generation first pages revision = record { inside = omega arith; is = refl }
+
+is_new_root : (format : Format) (root : Root) → root.generation ≡ 1 → root.first ≡ 8 → root.pages ≡ 0 → root.label ≡ first_label format → IsRoot root (root_fields 1 8 0 (first_label format))
+is_new_root format root generation first pages label =
     let Spells : List ℕ → Type 0 = λ x. IsRoot root x in
-    subst Spells (rw (generation, first, pages, revision) refl)
-    (fields-root root (root_fields root.generation root.first root.pages root.revision) (omega (arith, generation)) (omega (arith, first)) (omega (arith, pages))
-    (omega (arith, revision)) (omega (arith, first)) (record { inside = omega arith; is = refl }))
+    let same : root_fields root.generation root.first root.pages root.label ≡ root_fields 1 8 0 (first_label format) =
+    λ i. root_fields (generation i) (first i) (pages i) (label i) in
+    let Fits : Label → Type 0 = λ l. l.revision < 2 ^ 64 in
+    let fits : root.label.revision < 2 ^ 64 = subst Fits (sym label) (omega arith) in
+    subst Spells same
+    (fields-root root (root_fields root.generation root.first root.pages root.label) (omega (arith, generation)) (omega (arith, first)) (omega (arith, pages))
+    fits (omega (arith, first)) (row_laid root.label.format root.generation root.first root.pages root.label.revision))
 
 -- the first root of a store counts in its nine sectors
-pub new_content-root : (root : Root) → root.slot ≡ A → root.generation ≡ 1 → root.first ≡ 8 → root.pages ≡ 0 → root.revision ≡ 1 → HoldsRoot new_content root
+pub new_content-root : (format : Format) (root : Root) → root.slot ≡ A → root.generation ≡ 1 → root.first ≡ 8 → root.pages ≡ 0 → root.label ≡ first_label format
+    → HoldsRoot (new_content format) root
 unfolding new_content
-new_content-root root in_a generation first pages revision =
-    new_holds new_header (root_fields 1 8 0 1) new_content root is_new_header (is_new_root root generation first pages revision) in_a first pages refl
+new_content-root format root in_a generation first pages label =
+    new_holds new_header (root_fields 1 8 0 (first_label format)) (new_content format) root is_new_header (is_new_root format root generation first pages label) in_a first pages refl
 
 -- behind the open gate are zeros
-pub new_content-zeros : (k : ℕ) → 1025 ≤ k → slice_index new_content k ≡ 0
+pub new_content-zeros : (format : Format) (k : ℕ) → 1025 ≤ k → slice_index (new_content format) k ≡ 0
 unfolding new_content
-new_content-zeros k behind =
-    get_or-append_right ((new_header ++ root_fields 1 8 0 1) ++ 165 ∷ []) (replicate 3583 0) 1025 k 0 refl behind ∙ replicate-zero 3583 (k - 1025)
+new_content-zeros First k behind =
+    get_or-append_right ((new_header ++ root_fields 1 8 0 (first_label First)) ++ 165 ∷ []) (replicate 3583 0) 1025 k 0 refl behind ∙ replicate-zero 3583 (k - 1025)
+new_content-zeros Second k behind =
+    get_or-append_right ((new_header ++ root_fields 1 8 0 (first_label Second)) ++ 165 ∷ []) (replicate 3583 0) 1025 k 0 refl behind ∙ replicate-zero 3583 (k - 1025)
 
-pub length-new_content : length new_content ≡ 4608
+pub length-new_content : (format : Format) → length (new_content format) ≡ 4608
 unfolding new_content
-length-new_content = refl
+length-new_content First = refl
+length-new_content Second = refl
 
 -- an empty log at sector 8
-pub new_content-log : HoldsLog 8 [] 8 new_content
-new_content-log = (refl, (omega (arith, length-new_content), λ open_too. omega (arith, open_too, new_content-zeros 4096 (omega arith))))
+pub new_content-log : (format : Format) → HoldsLog 8 [] 8 (new_content format)
+new_content-log format =
+    (refl, (omega (arith, length-new_content format), λ open_too. omega (arith, open_too, new_content-zeros format 4096 (omega arith))))
 
 -- what an empty content holds after a write at its start
 pub written_whole : (old new bytes : List ℕ) → old ≡ [] → Holds old 0 bytes new → new ≡ bytes

@@ -3,6 +3,8 @@ use Rattle.std.specs.Prelude.{◌≡◌, ◌<◌, ◌≤◌, ◌+◌, ◌*◌, �
 use Rattle.byteorder.specs.Endian.{big_number}
 use Rattle.gatelog.specs.Record.{part}
 use Rattle.gatelog.specs.Log.{IsOpen}
+use Rattle.names.specs.declared.format.Format.{Format}
+use Rattle.names.specs.declared.format.Format.TheVariants.{First, Second}
 use Rattle.roots.specs.declared.root.Slot.{Slot}
 use Rattle.roots.specs.declared.root.Slot.TheVariants.{A, B}
 use Rattle.roots.specs.declared.root.Root.{Root}
@@ -15,14 +17,19 @@ pub record IsHeader (sector : List ℕ) : Type 0 where
   pub sector_size : big_number 4 (drop 12 sector) ≡ 512
   pub zeros : (k : ℕ) → 16 ≤ k → slice_index sector k ≡ 0
 
+-- The mark of a root, by which it tells the format of the store.
+abbrev pub mark_of : Format → List ℕ
+mark_of First = codes "GATEROOT"
+mark_of Second = codes "GATEROO2"
+
 -- A sector that spells a root, as it is read: its mark and its fields, each with the highest byte first, and zeros behind them.
 pub record IsRoot (root : Root) (sector : List ℕ) : Type 0 where
   pub whole : length sector ≡ 512
-  pub mark : take 8 sector ≡ codes "GATEROOT"
+  pub mark : take 8 sector ≡ mark_of root.label.format
   pub generation : big_number 8 (drop 8 sector) ≡ root.generation
   pub first : big_number 8 (drop 16 sector) ≡ root.first
   pub pages : big_number 4 (drop 24 sector) ≡ root.pages
-  pub revision : big_number 8 (drop 28 sector) ≡ root.revision
+  pub revision : big_number 8 (drop 28 sector) ≡ root.label.revision
   pub in_data : 8 ≤ root.first
   pub zeros : (k : ℕ) → 36 ≤ k → slice_index sector k ≡ 0
 

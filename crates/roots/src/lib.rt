@@ -28,4 +28,4 @@ pub use generation::{clear_slot, install};
 pub use new_store::{StartFault, start};
 pub use next::{Exhausted, next_root, place};
 pub use open::{RootFault, counted_root, synced_root};
-pub use root::{Root, Slot};
+pub use root::{Label, Root, Slot};

@@ -6,12 +6,13 @@ ghost use Rattle.device.specs.Step.{Same, Torn};
 ghost use Rattle.device.specs.Run.{Ran};
 ghost use Rattle.gatelog.specs.Log.{HoldsLog};
 ghost use Rattle.roots.specs.Root.{HoldsRoot};
-ghost use Rattle.roots.specs.NewStore.{new_content};
+ghost use Rattle.roots.specs.NewStore.{first_label, new_content};
 
-use crate::root::{Root, Slot};
+use crate::root::{Label, Root, Slot};
 use crate::sector::{header_bytes, put, root_bytes};
 use device::{Device, DeviceFault, SECTOR, write_through};
 use gatelog::OPEN;
+use names::Format;
 
 /// Why no new store could be made.
 #[derive(Clone, Copy)]
@@ -34,30 +35,33 @@ impl From<DeviceFault> for StartFault {
 }
 
 // The sectors of a new store: the header, the root in slot A and its open gate, and behind them closed gates and zeros.
-fn nine_sectors() -> [u8; 4608]
-    ensures { result ≡ new_content }
+fn nine_sectors(format: Format) -> [u8; 4608]
+    ensures { result ≡ new_content format }
 {
     let mut sectors = [0; 4608];
     put(&mut sectors, 0, &header_bytes());
-    put(&mut sectors, SECTOR, &root_bytes(&first_root()));
+    put(&mut sectors, SECTOR, &root_bytes(&first_root(format)));
     put(&mut sectors, 2 * SECTOR, &[OPEN]);
     sectors
 }
 
 // The first root of a store.
-fn first_root() -> Root
+fn first_root(format: Format) -> Root
     ensures slot { result.slot ≡ Slot.A }
     ensures generation { result.generation ≡ 1 }
     ensures first { result.first ≡ 8 }
     ensures pages { result.pages ≡ 0 }
-    ensures revision { result.revision ≡ 1 }
+    ensures label { result.label ≡ first_label format }
 {
     Root {
         slot: Slot::A,
         generation: 1,
         first: 8,
         pages: 0,
-        revision: 1,
+        label: Label {
+            format,
+            revision: 1,
+        },
     }
 }
 
@@ -93,16 +97,16 @@ fn write_sectors<D: Device>(device: &mut D, sectors: &[u8]) -> Result<(), Device
 ///
 /// `NotEmpty` where the device has sectors. `Device` where the device failed, which may leave any bytes in the nine sectors of one that was empty.
 /// Sectors that are there stay, whatever is answered.
-pub fn start<D: Device>(device: &mut D) -> Result<Root, StartFault>
+pub fn start<D: Device>(device: &mut D, format: Format) -> Result<Root, StartFault>
     ensures empty { D.disk.keeps device.old → OnOk result (D.disk.content device.old ≡ []) }
     ensures slot { IfOk result (λ root. root.slot ≡ Slot.A) }
     ensures generation { IfOk result (λ root. root.generation ≡ 1) }
     ensures first { IfOk result (λ root. root.first ≡ 8) }
     ensures pages { IfOk result (λ root. root.pages ≡ 0) }
-    ensures revision { IfOk result (λ root. root.revision ≡ 1) }
+    ensures label { IfOk result (λ root. root.label ≡ first_label format) }
 
     // What the device then holds, also after a crash.
-    ensures content { D.disk.keeps device.old → OnOk result (D.disk.content device.new ≡ new_content) }
+    ensures content { D.disk.keeps device.old → OnOk result (D.disk.content device.new ≡ new_content format) }
     ensures nine { D.disk.keeps device.old → OnOk result (length (D.disk.content device.new) ≡ 9 * 512) }
     ensures root { D.disk.keeps device.old → IfOk result (HoldsRoot (D.disk.content device.new)) }
     ensures log { D.disk.keeps device.old → OnOk result (HoldsLog 8 [] 8 (D.disk.content device.new)) }
@@ -119,6 +123,6 @@ pub fn start<D: Device>(device: &mut D) -> Result<Root, StartFault>
     ensures cause { IsErrOf result StartFault.Device → HasFailed D.disk device.old device.new }
 {
     check_empty(device)?;
-    write_sectors(device, &nine_sectors())?;
-    Ok(first_root())
+    write_sectors(device, &nine_sectors(format))?;
+    Ok(first_root(format))
 }

@@ -4,7 +4,7 @@ ghost use Rattle.std.specs.Prelude.{◌≡◌, ◌<◌, ◌≤◌, ◌+◌, ◌-
 ghost use Rattle.roots.specs.Root.{log_start};
 ghost use Rattle.roots.specs.Install.{IsPlace, IsNext};
 
-use crate::root::Root;
+use crate::root::{Label, Root};
 
 /// The generation in use is the last one that a root can tell, 2^64 - 1.
 #[derive(Clone, Copy)]
@@ -24,7 +24,7 @@ pub fn place(start: u64, last_gate: u64, pages: u32) -> u64
     }
 }
 
-/// The root of the next generation, of this many pages and for this revision, while `current` counts and its log ends with the gate in the
+/// The root of the next generation, of this many pages and with this label, while `current` counts and its log ends with the gate in the
 /// sector `last_gate`. It is in the other slot, and its pages and first gate lie off the generation in use. Nothing is written.
 ///
 /// # Errors
@@ -34,7 +34,7 @@ pub fn next_root(
     current: &Root,
     last_gate: u64,
     pages: u32,
-    revision: u64,
+    label: Label,
 ) -> Result<Root, Exhausted>
     requires in_data { 8 ≤ last_gate }
     requires room { last_gate < 2 ^ 54 }
@@ -42,7 +42,7 @@ pub fn next_root(
     ensures place { IfOk result (λ next. IsPlace current.now.first last_gate pages next.first) }
     ensures room { IfOk result (λ next. log_start next < 2 ^ 64) }
     ensures pages { IfOk result (λ next. next.pages ≡ pages) }
-    ensures revision { IfOk result (λ next. next.revision ≡ revision) }
+    ensures label { IfOk result (λ next. next.label ≡ label) }
     ensures exhausted { IsErr result ↔ (current.now.generation ≡ 2 ^ 64 - 1) }
 {
     if current.generation == u64::MAX {
@@ -53,6 +53,6 @@ pub fn next_root(
         generation: current.generation + 1,
         first: place(current.first, last_gate, pages),
         pages,
-        revision,
+        label,
     })
 }

@@ -1,12 +1,12 @@
 //! A root and its sector.
 
 ghost use Rattle.std.specs.Prelude.{◌≡◌, ◌≤◌, ◌*◌, ℕ, length, take, codes, IsTrue, ◌↔◌, IfSome, IfNone};
-ghost use Rattle.roots.specs.Root.{IsHeader};
+ghost use Rattle.names.specs.declared.format.Format.{Format as FormatData};
+ghost use Rattle.roots.specs.Root.{IsHeader, mark_of};
 
 use byteorder::{BigEndian, ByteOrder};
 use device::is_zero;
-
-pub(crate) const ROOT_MARK: &[u8; 8] = b"GATEROOT";
+use names::Format;
 
 pub(crate) const HEADER_MARK: &[u8; 8] = b"GATESTOR";
 
@@ -30,8 +30,27 @@ pub struct Root {
     pub first: u64,
     /// How many pages it has, of 64 sectors each.
     pub pages: u32,
+    /// What it tells of the store whose view its pages keep.
+    pub label: Label,
+}
+
+/// What a root tells of the store whose view its pages keep.
+#[derive(Clone, Copy)]
+pub struct Label {
+    /// The store's format.
+    pub format: Format,
     /// The store's revision when the pages were written.
     pub revision: u64,
+}
+
+/// The mark of a format's roots.
+pub(crate) fn mark(format: Format) -> &'static [u8; 8]
+    ensures { result.now ≡ mark_of format }
+{
+    match format {
+        Format::First => b"GATEROOT",
+        Format::Second => b"GATEROO2",
+    }
 }
 
 impl Slot {
@@ -68,11 +87,27 @@ impl Slot {
     }
 }
 
-fn has_root_mark(sector: &[u8]) -> bool
+// Whether a sector has the mark of a format's roots.
+fn has_mark(sector: &[u8], format: Format) -> bool
     requires { 8 ≤ length sector.now }
-    ensures { IsTrue result ↔ (take 8 sector.now ≡ codes "GATEROOT") }
+    ensures { IsTrue result ↔ (take 8 sector.now ≡ mark_of format) }
 {
-    sector[..8] == ROOT_MARK[..]
+    sector[..8] == mark(format)[..]
+}
+
+// The format whose mark a sector has.
+fn marked(sector: &[u8]) -> Option<Format>
+    requires { 8 ≤ length sector.now }
+    ensures some { IfSome result (λ format. take 8 sector.now ≡ mark_of format) }
+    ensures none { IfNone result ((format : FormatData) → take 8 sector.now ≡ mark_of format → ⊥) }
+{
+    if has_mark(sector, Format::First) {
+        return Some(Format::First);
+    }
+    if has_mark(sector, Format::Second) {
+        return Some(Format::Second);
+    }
+    None
 }
 
 fn has_header_mark(sector: &[u8]) -> bool
@@ -102,9 +137,7 @@ impl Root {
         ensures some { IfSome result (λ root. (root.slot ≡ slot) × IsRoot root sector.now) }
         ensures none { IfNone result ((root : Root) → IsRoot root sector.now → ⊥) }
     {
-        if !has_root_mark(sector) {
-            return None;
-        }
+        let format = marked(sector)?;
         if !is_zero(&sector[36..]) {
             return None;
         }
@@ -117,7 +150,10 @@ impl Root {
             generation: BigEndian::read_u64(&sector[8..]),
             first,
             pages: BigEndian::read_u32(&sector[24..]),
-            revision: BigEndian::read_u64(&sector[28..]),
+            label: Label {
+                format,
+                revision: BigEndian::read_u64(&sector[28..]),
+            },
         })
     }
 }

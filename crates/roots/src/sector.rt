@@ -5,7 +5,7 @@ ghost use Rattle.byteorder.specs.Endian.{big_bytes};
 ghost use Rattle.roots.specs.Root.{IsHeader, IsRoot};
 ghost use Rattle.roots.specs.NewStore.{new_header, root_fields};
 
-use crate::root::{HEADER_MARK, ROOT_MARK, Root};
+use crate::root::{HEADER_MARK, Root, mark};
 use byteorder::{BigEndian, ByteOrder};
 use device::SECTOR;
 
@@ -58,13 +58,13 @@ pub(crate) fn header_bytes() -> [u8; 512]
 pub(crate) fn root_bytes(root: &Root) -> [u8; 512]
     requires { 8 ≤ root.now.first }
     ensures root { IsRoot root.now result }
-    ensures bytes { result ≡ root_fields root.now.generation root.now.first root.now.pages root.now.revision }
+    ensures bytes { result ≡ root_fields root.now.generation root.now.first root.now.pages root.now.label }
 {
     let mut sector = [0; SECTOR];
-    put(&mut sector, 0, ROOT_MARK);
+    put(&mut sector, 0, mark(root.label.format));
     put_u64(&mut sector, 8, root.generation);
     put_u64(&mut sector, 16, root.first);
     put_u32(&mut sector, 24, root.pages);
-    put_u64(&mut sector, 28, root.revision);
+    put_u64(&mut sector, 28, root.label.revision);
     sector
 }

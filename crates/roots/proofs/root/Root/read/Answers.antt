@@ -26,7 +26,7 @@ returns-clause-some c =
       refl,
       record {
         whole = c.requires;
-        mark = c.has_root_mark.ensures.0 c.if-not-has_root_mark.false;
+        mark = c.in_ok-format.ensures.some;
         generation = sym generation;
         first = sym first;
         pages = sym pages;
