@@ -3,7 +3,9 @@ use Rattle.std.proofs.Common.{arith, ◌≡◌, ◌∙◌, sym, ap, subst, refl,
 use Rattle.std.proofs.lemmas.List.{append-nil}
 use Rattle.circular_buffer.specs.Buffer.{keep_last}
 use Rattle.objects.specs.declared.event.Event.{Event}
-use Rattle.objects.specs.Window.{event_at, AreNumberedFrom}
+use Rattle.objects.specs.Window.{event_at, events_above, AreNumberedFrom}
+use Rattle.objects.proofs.Numbered.{told_above}
+use Rattle.names.specs.declared.format.Rules.{Rules}
 use Rattle.documents.specs.Document.{Document}
 use Rattle.requests.specs.View.{View}
 use Rattle.holdings.specs.Holdings.{Shows}
@@ -21,18 +23,20 @@ numbered_at : (r : ℕ) (done : List Told) (e : Told) (rest : List Told) → Are
 numbered_at r [] e rest is = omega (arith, is.0)
 numbered_at r (d ∷ done) e rest is = omega (arith, numbered_at (r + 1) done e rest is.1)
 
--- the view with one event more, and without those that the window has no place for
-abbrev pub with_next : (window : ℕ) → View Beside → Told → View Beside
-with_next window v e = record {
+-- the view with one event more, if it is above the floor, and without those that the window has no place for
+abbrev pub with_next : Rules → View Beside → Told → View Beside
+with_next rules v e = record {
   objects = v.objects;
   revision = v.revision + 1;
-  events = keep_last window (v.events ++ event_at (v.revision + 1) e.change e.key e.document ∷ []);
+  events = keep_last rules.window_events (v.events ++ events_above rules.floor (event_at (v.revision + 1) e.change e.key e.document ∷ []));
 }
 
 -- the next of some events has its revision, and a place
-next_event : (window : ℕ) (v : View Beside) (done : List Told) (e : Told) (rest all : List Told) → done ++ e ∷ rest ≡ all → AreNumberedFrom v.revision all
-    → length v.events + length all ≤ window → with_next window (with_events v done) e ≡ with_events v (done ++ e ∷ [])
-next_event window v done e rest all parts numbered places =
+next_event : (rules : Rules) (v : View Beside) (done : List Told) (e : Told) (rest all : List Told) → done ++ e ∷ rest ≡ all → AreNumberedFrom v.revision all
+    → (0 < length all → rules.floor ≤ v.revision) → length v.events + length all ≤ rules.window_events
+    → with_next rules (with_events v done) e ≡ with_events v (done ++ e ∷ [])
+next_event rules v done e rest all parts numbered above places =
+    let window : ℕ = rules.window_events in
     let number : e.revision ≡ v.revision + length done + 1 =
     numbered_at v.revision done e rest (subst (λ (es : List Told). AreNumberedFrom v.revision es) (sym parts) numbered)
     in
@@ -40,6 +44,8 @@ next_event window v done e rest all parts numbered places =
     let same : event_at ((v.revision + length done) + 1) e.change e.key e.document ≡ e =
     λ i. record { revision = next i; change = e.change; key = e.key; document = e.document }
     in
+    let some : 0 < length all = omega (arith, ap length parts, length-append done (e ∷ rest)) in
+    let told : events_above rules.floor (e ∷ []) ≡ e ∷ [] = told_above rules.floor e (omega (arith, number, above some)) in
     let short : length ((v.events ++ done) ++ e ∷ []) ≤ window =
     omega (
       arith,
@@ -50,8 +56,10 @@ next_event window v done e rest all parts numbered places =
       places,
     )
     in
-    let events : keep_last window ((v.events ++ done) ++ event_at ((v.revision + length done) + 1) e.change e.key e.document ∷ []) ≡ v.events ++ (done ++ e ∷ []) =
-    (λ i. keep_last window ((v.events ++ done) ++ same i ∷ [])) ∙ keep_short window ((v.events ++ done) ++ e ∷ []) short ∙ append_assoc v.events done (e ∷ [])
+    let next_told : List Told = events_above rules.floor (event_at ((v.revision + length done) + 1) e.change e.key e.document ∷ []) in
+    let is_told : next_told ≡ e ∷ [] = (λ i. events_above rules.floor (same i ∷ [])) ∙ told in
+    let events : keep_last window ((v.events ++ done) ++ next_told) ≡ v.events ++ (done ++ e ∷ []) =
+    ap (λ (es : List Told). keep_last window ((v.events ++ done) ++ es)) is_told ∙ keep_short window ((v.events ++ done) ++ e ∷ []) short ∙ append_assoc v.events done (e ∷ [])
     in
     let count : (v.revision + length done) + 1 ≡ v.revision + length (done ++ e ∷ []) = omega (arith, length-append done (e ∷ [])) in
     λ i. record { objects = v.objects; revision = count i; events = events i }
@@ -98,7 +106,7 @@ next_revision start now all left e rest kept step room =
 
 pub one_more : (start now new : Core) (all left : List Told) (e : Told) (rest : List Told) → AreKept start now all left → left ≡ e ∷ rest → now.rules ≡ start.rules
     → new.revision ≡ now.revision + 1
-    → ((base : List Object) (v : View Beside) → Shows now base v → Shows new base (with_next now.rules.window_events v e)) → AreKept start new all rest
+    → ((base : List Object) (v : View Beside) → Shows now base v → Shows new base (with_next now.rules v e)) → AreKept start new all rest
 one_more start now new all left e rest kept step same number next =
     let done : List Told = kept.done in
     let parts : done ++ e ∷ rest ≡ all = ap (λ (es : List Told). done ++ es) (sym step) ∙ kept.parts in
@@ -108,7 +116,7 @@ one_more start now new all left e rest kept step same number next =
       revision = omega (arith, number, kept.revision, length-append done (e ∷ []));
       shows = λ base v can.
           subst (Shows new base)
-          (ap (λ (n : ℕ). with_next n (with_events v done) e) (ap (λ r. r.window_events) same)
-          ∙ next_event start.rules.window_events v done e rest all parts can.numbered can.places)
+          (ap (λ (r : Rules). with_next r (with_events v done) e) same
+          ∙ next_event start.rules v done e rest all parts can.numbered can.above can.places)
           (next base (with_events v done) (kept.shows base v can));
     }

@@ -1,5 +1,5 @@
 -- A store that is made again from what entries keep, part by part.
-use Rattle.std.specs.Prelude.{◌≡◌, ◌≤◌, ◌⊎◌, ℕ, ◌+◌, ◌-◌, Bool, List, [], ◌++◌, map, length, Some, Result, IsTrue, IsErrOf}
+use Rattle.std.specs.Prelude.{◌≡◌, ◌<◌, ◌≤◌, ◌⊎◌, ℕ, ◌+◌, ◌-◌, Bool, List, [], ◌++◌, map, length, Some, Result, IsTrue, IsErrOf}
 use Rattle.std.specs.FinMap.{is_sorted}
 use Rattle.std.specs.List.{AllByRecursion}
 use Rattle.names.specs.declared.format.Rules.{Rules}
@@ -62,10 +62,12 @@ with_objects v os = record { objects = os; revision = v.revision; events = v.eve
 abbrev pub with_events : View Beside → List (Event Document) → View Beside
 with_events v events = record { objects = v.objects; revision = v.revision + length events; events = v.events ++ events }
 
--- This view is shown, and the events may be kept after its own: their revisions count up from the view's, and the window has places for them.
+-- This view is shown, and the events may be kept after its own: their revisions count up from the view's, which is not below the floor where there are any,
+-- and the window has places for them.
 pub record CanKeep (core : State Beside) (base : List (Key × Stored Beside)) (v : View Beside) (events : List (Event Document)) : Type 0 where
   pub shows : Shows core base v
   pub numbered : AreNumberedFrom v.revision events
+  pub above : 0 < length events → core.rules.floor ≤ v.revision
   pub places : length v.events + length events ≤ core.rules.window_events
 
 -- One object more is held, over what lies below: it has a change, and is shown where it was, if it lies below, or as one more.

@@ -138,14 +138,12 @@ fn keep_all(core: &mut Core, events: Vec<Event<Document>>)
     }
 }
 
-// Whether there is an event for each of the last writes.
+// Whether there is an event for each of the last writes above the floor.
 fn has_last_events(rules: Rules, view: &KeptView) -> bool
     ensures { IsTrue result ↔ HasLastEvents rules view.now }
 {
-    match view.revision.checked_sub(1) {
-        Some(writes) => view.events.len() as u64 == writes.min(rules.window_events as u64),
-        None => false,
-    }
+    let writes = view.revision.saturating_sub(rules.floor.max(1));
+    0 < view.revision && view.events.len() as u64 == writes.min(rules.window_events as u64)
 }
 
 // Nothing is held yet, over this many objects that lie below, at the revision before the first event of a view: its keys ascend, and it has the events
