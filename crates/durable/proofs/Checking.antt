@@ -15,12 +15,13 @@ use Rattle.durable.proofs.Answering.{holds_shown}
 
 -- what is told of what it holds is told of its history's view
 pub checked_settled : {D : Type 0} {g : Ghosts D} (store : Store D g) (rules : Rules) (h : History) (settled : IsSettledAt rules store h) (c : Checked)
-    → ((held : seen.View Beside) → Holds store held → IsCheckOf (root_of store) held c) → c.generation ≡ settled.read.root.generation
+    → ((held : seen.View Beside) → Holds store held → IsCheckOf (root_of store) held c) → c.generation ≡ settled.read.root.generation → c.format ≡ settled.read.root.label.format
     → IsCheckOf settled.read.root (view rules h) c
-checked_settled store rules h settled c told counted =
+checked_settled store rules h settled c told counted format =
     let all = told (with_plans (view rules h)) (holds_shown store (view rules h) settled.shows) in
     record {
       revision = all.revision;
       objects = all.objects ∙ length-map (view rules h).objects _;
       generation = counted;
+      format = format;
     }

@@ -1,42 +1,41 @@
 -- The numbers of a format, and what a history of one shows.
-use Rattle.std.proofs.Common.{arith, ◌≡◌, ◌≤◌, ◌<◌, ◌^◌, ◌∙◌, sym, subst, refl}
-use Rattle.names.specs.declared.format.Format.TheVariants.{First}
+use Rattle.std.proofs.Common.{arith, ◌≡◌, ◌≤◌, ◌<◌, ◌^◌, ◌∙◌, ap, sym, subst}
 use Rattle.names.specs.declared.format.Rules.{Rules}
-use Rattle.names.specs.Format.{AreSmall, rules_of}
+use Rattle.names.specs.Format.{rules_of}
 use Rattle.names.proofs.Formats.{numbers_small}
+use Rattle.roots.specs.declared.root.Label.{Label}
 use Rattle.requests.specs.View.{view}
 use Rattle.recovery.specs.Standing.{History, IsHistory}
 use Rattle.snapshots.specs.Keeping.{IsKeepable}
 use Rattle.snapshots.proofs.Histories.{histories_are_kept}
-use Rattle.durable.specs.Rules.{first_rules, AreOfFormat}
+use Rattle.durable.specs.Rules.{rules_by}
 
-rules_of_first : rules_of First 0 ≡ first_rules
-unfolding first_rules
-rules_of_first = refl
+pub small_of : (label : Label) → (rules_by label).text_limit_bytes ≤ 2 ^ 24
+small_of label = omega (arith, (numbers_small label.format 0).texts)
 
-first_numbers_small : AreSmall First 0 first_rules
-unfolding first_rules
-first_numbers_small = numbers_small First 0
+pub kept_size : (label : Label) → (rules_by label).text_limit_bytes ≤ 16384
+kept_size label = omega (arith, (numbers_small label.format 0).texts)
 
-pub first_small : first_rules.text_limit_bytes ≤ 2 ^ 24
-first_small = omega (arith, first_numbers_small.texts)
+last_below : (label : Label) → (rules_by label).greatest_revision < 2 ^ 64
+last_below label = omega (arith, (numbers_small label.format 0).revisions)
 
--- there is one format
-pub first_numbers : (rules : Rules) → AreOfFormat rules → rules ≡ first_rules
-first_numbers rules numbers = numbers.are ∙ rules_of_first
+pub by_label : (rules : Rules) (label : Label) → rules ≡ rules_by label → (P : Rules → Type 0) → P (rules_by label) → P rules
+by_label rules label numbers P holds = subst P (sym numbers) holds
 
-pub kept_size : first_rules.text_limit_bytes ≤ 16384
-kept_size = omega (arith, first_numbers_small.texts)
+pub format_by : (label : Label) → (rules_by label).format ≡ label.format
+format_by label = (numbers_small label.format 0).of_format
 
-last_below : first_rules.greatest_revision < 2 ^ 64
-last_below = omega (arith, first_numbers_small.revisions)
+pub format_of : (rules : Rules) (label : Label) → rules ≡ rules_by label → rules.format ≡ label.format
+format_of rules label numbers = ap (λ (r : Rules). r.format) numbers ∙ format_by label
 
-pub of_first : (rules : Rules) → AreOfFormat rules → (P : Rules → Type 0) → P first_rules → P rules
-of_first rules numbers P holds = subst P (sym (first_numbers rules numbers)) holds
+-- the rules of a format are those of the format that they name
+pub by_own_format : (rules : Rules) (label : Label) → rules ≡ rules_by label → rules ≡ rules_of rules.format 0
+by_own_format rules label numbers =
+    numbers ∙ sym (ap (λ f. rules_of f 0) (format_of rules label numbers))
 
 -- what a history of a format shows can be kept
-pub history_kept : (rules : Rules) (h : History) → AreOfFormat rules → IsHistory rules h → IsKeepable rules (view rules h)
-history_kept rules h numbers history =
+pub history_kept : (rules : Rules) (label : Label) (h : History) → rules ≡ rules_by label → IsHistory rules h → IsKeepable rules (view rules h)
+history_kept rules label h numbers history =
     let Small : Rules → Type 0 = λ r. r.text_limit_bytes ≤ 2 ^ 24 in
     let Last : Rules → Type 0 = λ r. r.greatest_revision < 2 ^ 64 in
-    histories_are_kept rules h (of_first rules numbers Small first_small) (of_first rules numbers Last last_below) history
+    histories_are_kept rules h (by_label rules label numbers Small (small_of label)) (by_label rules label numbers Last (last_below label)) history

@@ -102,7 +102,7 @@ module _ {D : Type 0} {g : Ghosts D} (old mid new : Store D g) (run : Ran g.disk
     pub keepable_here : IsKeepable (kept_rules old) (view rules h)
     keepable_here =
         let Keeps : Rules → Type 0 = λ r. IsKeepable r (view rules h) in
-        subst Keeps (sym settled.rules_are) (history_kept rules h settled.read.numbers settled.read.history)
+        subst Keeps (sym settled.rules_are) (history_kept rules settled.read.root.label h settled.read.checkpoint.numbers settled.read.history)
 
     -- at every moment a crash leaves the history
     pub moments_renewed : Stands g.disk (device_of mid) (device_of new) (λ c. StandsFor rules c h) (λ c. StandsFor rules c h) → LeavesSome rules old new h []

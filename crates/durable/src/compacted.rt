@@ -1,5 +1,7 @@
 //! What is told of a store as a whole.
 
+use names::Format;
+
 /// The generation that a compaction wrote.
 #[derive(Clone, Copy)]
 pub struct Compacted {
@@ -18,4 +20,6 @@ pub struct Checked {
     /// How many objects are stored.
     pub objects: usize,
     pub generation: u64,
+    /// The format of the store's file.
+    pub format: Format,
 }

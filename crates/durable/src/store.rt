@@ -1,6 +1,8 @@
 ghost use Rattle.std.specs.Prelude.{◌≡◌, ◌≢◌, ◌≤◌, ◌+◌, ◌-◌, ◌^◌, ◌<◌, IsTrue, ◌++◌, ◌∷◌, [], List, ℕ, length, min, take, map, true, false, is_ok, None, Some, IsSome, IfSome, IfOk, IfErr, OnOk, OnErr, IsErrOf, ◌⊎◌, ◌↔◌};
 ghost use Rattle.checkpoint.specs.declared.writing.WriteFault.TheVariants as WriteFault;
+ghost use Rattle.durable.specs.Compacted.{label_of};
 ghost use Rattle.durable.specs.Ready.{IsReady};
+ghost use Rattle.durable.specs.Rules.{rules_at};
 ghost use Rattle.paged.specs.Paged.{root_of as paged_root};
 ghost use Rattle.records.specs.Payload.{group_limit};
 
@@ -11,11 +13,13 @@ use apicore::Prepared;
 use checkpoint::{WriteFault, Written, write};
 use device::{Device, MemDevice};
 use gatelog::{Body, Log};
+use names::Format;
 use objects::LookupFault;
 use paged::{Next, Paged};
 use records::{GROUP_LIMIT, Group};
 use recovery::{Core, has_own_plans};
 use requests::{Reply, Request};
+use roots::Label;
 use std::alloc::Global;
 
 // Whether this fault guarantees that nothing was written.
@@ -23,6 +27,16 @@ fn changed_nothing(fault: WriteFault) -> bool
     ensures { IsTrue result ↔ ((fault ≡ WriteFault.Memory) ⊎ (fault ≡ WriteFault.Exhausted)) }
 {
     matches!(fault, WriteFault::Memory | WriteFault::Exhausted)
+}
+
+// The label of the root over whose pages this is held.
+fn label_of(core: &Core) -> Label
+    ensures { result ≡ label_of core.now }
+{
+    Label {
+        format: core.rules().format,
+        revision: core.revision(),
+    }
 }
 
 // How many of the requests that wait are a group, whose writes stand in one record: as many as a record holds writes, and else all.
@@ -39,7 +53,7 @@ pub struct Store<D: Device> {
     paged: Paged,
     log: Log,
     serves: bool,
-    ghost limits: { paged.core.rules.text_limit_bytes ≤ 2 ^ 24 },
+    ghost numbers: { paged.core.rules ≡ rules_at (paged_root paged) },
     ghost in_data: { 8 ≤ log.start },
     ghost works: { serves ≡ true → log.failed ≡ false },
     ghost ready: { serves ≡ true → D.disk.keeps device → ∥ IsReady D.disk device (paged_root paged) log ∥₁ },
@@ -79,7 +93,8 @@ impl<D: Device> Store<D> {
     ghost use Rattle.durable.specs.declared.fault.Fault.TheVariants as Fault;
     ghost use Rattle.durable.specs.Called.{ServesOn};
     ghost use Rattle.durable.specs.Faults.{MayBeMet, of_lookup_fault, goes_on_after};
-    ghost use Rattle.durable.specs.Compacted.{IsToldOf, IsCheckOf};
+    ghost use Rattle.durable.specs.Compacted.{IsToldOf, IsCheckOf, Keeps};
+    ghost use Rattle.durable.specs.Rules.{rules_by};
     ghost use Rattle.durable.specs.Recorded.{payload, IsGroup};
     ghost use Rattle.durable.specs.Gathered.{in_record, CanBeAppended, HasStepped, StaysAs, HasGatheredMore, HasServedMore, HasStoppedIn, HasAnswered, HasMet};
     ghost use Rattle.durable.specs.Ready.{IsReadyAt, HoldsHistory};
@@ -88,7 +103,7 @@ impl<D: Device> Store<D> {
 
     /// The store of what an opening found on a device: what is shown over the pages of the root that counts, and the log behind them. It serves.
     pub fn serving(device: D, paged: Paged, log: Log) -> Store<D>
-        requires limits { paged.core.rules.text_limit_bytes ≤ 2 ^ 24 }
+        requires numbers { paged.core.rules ≡ rules_at (paged_root paged) }
         requires in_data { 8 ≤ log.start }
         requires works { log.failed ≡ false }
         requires ready { D.disk.keeps device → ∥ IsReady D.disk device (paged_root paged) log ∥₁ }
@@ -118,6 +133,14 @@ impl<D: Device> Store<D> {
         ensures shown { (rules : Rules) (v : View) → ServesAt rules self.now v → result ≡ v.revision }
     {
         self.paged.revision()
+    }
+
+    /// The format of the store's file, which its root tells.
+    pub fn format(&self) -> Format
+        ensures value { result ≡ (kept_rules self.now).format }
+        ensures told { result ≡ (root_of self.now).label.format }
+    {
+        self.paged.root().label.format
     }
 
     /// The device, to be opened again.
@@ -407,6 +430,7 @@ impl<D: Device> Store<D> {
             → OnOk result ((root_of self.new).generation ≡ settled.read.root.generation + 1) }
         ensures empty { OnOk result (((log_of self.new).start ≡ log_start (root_of self.new)) × ((log_of self.new).last ≡ (log_of self.new).start)) }
         ensures told { IfOk result (IsToldOf (root_of self.new)) }
+        ensures keeps_format { OnOk result ((root_of self.new).label.format ≡ (root_of self.old).label.format) }
 
         // At every moment a crash leaves the history.
         ensures any_moment { (rules : Rules) (h : History) → IsSettledAt rules self.old h → LeavesSome rules self.old self.new h [] }
@@ -492,24 +516,28 @@ impl<D: Device> Store<D> {
         Err(self.stop_for(Fault::Damaged(Damage::Entry)))
     }
 
-    // Writes the next generation, whose entries ascend. After a failure the store serves no more.
+    // Writes the next generation, whose entries ascend: a crash leaves the history that stood, or the one that it keeps. After a failure the store serves
+    // no more.
     fn write_next(&mut self, alloc: Global, next: Next) -> Result<Compacted, Fault>
         requires serves { serves self.old ≡ true }
         requires ascending { IsTrue (is_sorted bytes_cmp (in_list next.entries)) }
-        requires rules { next.core.rules ≡ kept_rules self.old }
+        requires numbers { next.core.rules ≡ rules_by (label_of next.core) }
         ensures core { OnOk result (self.new.paged.core ≡ next.core) }
+        ensures label { OnOk result ((root_of self.new).label ≡ label_of next.core) }
         ensures lies { (rules : Rules) (v : View) → IsKeepable rules v → D.disk.keeps (device_of self.old) → in_list next.entries ≡ entries_of v
             → OnOk result (LiesUnder self.new (base_of (with_plans v))) }
         ensures paged { OnErr result (self.new.paged ≡ self.old.paged) }
-        ensures stands { (rules : Rules) (h : History) → HoldsHistory rules D.disk (device_of self.old) h → revision_of self.old ≡ (view rules h).revision
-            → in_list next.entries ≡ entries_of (view rules h)
-            → Stands D.disk (device_of self.old) (device_of self.new) (λ c. StandsFor rules c h) (λ c. StandsFor rules c h) }
-        ensures counts { (rules : Rules) (h : History) → HoldsHistory rules D.disk (device_of self.old) h → revision_of self.old ≡ (view rules h).revision
-            → in_list next.entries ≡ entries_of (view rules h)
+        ensures stands { (rules next_rules : Rules) (h next_h : History) → HoldsHistory rules D.disk (device_of self.old) h → Keeps next next_rules next_h
+            → Stands D.disk (device_of self.old) (device_of self.new) (λ c. StandsFor rules c h ⊎ StandsFor next_rules c next_h)
+            (λ c. StandsFor rules c h ⊎ StandsFor next_rules c next_h) }
+        ensures written { (rules next_rules : Rules) (h next_h : History) → HoldsHistory rules D.disk (device_of self.old) h → Keeps next next_rules next_h
+            → OnOk result (Stands D.disk (device_of self.old) (device_of self.new) (λ c. StandsFor rules c h ⊎ StandsFor next_rules c next_h)
+            (λ c. StandsFor next_rules c next_h)) }
+        ensures counts { (rules next_rules : Rules) (h next_h : History) → HoldsHistory rules D.disk (device_of self.old) h → Keeps next next_rules next_h
             → OnOk result (HoldsRoot (D.disk.content (device_of self.new)) (root_of self.new)
             × HoldsLog (log_start (root_of self.new)) [] (log_start (root_of self.new)) (D.disk.content (device_of self.new))) }
-        ensures damaged { (rules : Rules) (h : History) (damage : Damage) → HoldsHistory rules D.disk (device_of self.old) h → revision_of self.old ≡ (view rules h).revision
-            → in_list next.entries ≡ entries_of (view rules h) → IsErrOf result (Fault.Damaged damage) → ⊥ }
+        ensures damaged { (rules next_rules : Rules) (h next_h : History) (damage : Damage) → HoldsHistory rules D.disk (device_of self.old) h → Keeps next next_rules next_h
+            → IsErrOf result (Fault.Damaged damage) → ⊥ }
         ensures damaged_ran { (damage : Damage) → IsErrOf result (Fault.Damaged damage) → D.disk.keeps (device_of self.old)
             → Ran D.disk (device_of self.old) (device_of self.new) Same }
         ensures damaged_stops { (damage : Damage) → IsErrOf result (Fault.Damaged damage) → serves self.new ≡ false }
@@ -527,13 +555,14 @@ impl<D: Device> Store<D> {
     {
         self.serves = false;
         let Next { mut entries, core } = next;
-        let (last_gate, revision) = (self.log.last_gate(), self.paged.revision());
+        let last_gate = self.log.last_gate();
+        let label = label_of(&core);
         match write(
             alloc,
             &mut self.device,
             self.paged.root(),
             last_gate,
-            revision,
+            label,
             &mut entries,
         ) {
             Ok(written) => Ok(self.start_over(alloc, written, core)),
@@ -550,7 +579,7 @@ impl<D: Device> Store<D> {
         requires in_data { 8 ≤ written.root.first }
         requires room { log_start written.root < 2 ^ 54 }
         requires counted { length written.first_keys.items ≡ written.root.pages }
-        requires limits { core.rules.text_limit_bytes ≤ 2 ^ 24 }
+        requires numbers { core.rules ≡ rules_at written.root }
         requires in_use { D.disk.keeps (device_of self.old) → ∥ IsReadyAt D.disk (device_of self.old) written.root ∥₁ }
         ensures core { self.new.paged.core ≡ core }
         ensures lies { (rules : Rules) (held : seen.View Beside) → IsHeld rules held
@@ -585,7 +614,7 @@ impl<D: Device> Store<D> {
     pub fn check(&mut self, alloc: Global) -> Result<Checked, Fault>
         ensures told { (held : seen.View Beside) → Holds self.old held → IfOk result (IsCheckOf (root_of self.old) held) }
         ensures counted { (rules : Rules) (h : History) (settled : IsSettledAt rules self.old h)
-            → IfOk result (λ c. c.generation ≡ settled.read.root.generation) }
+            → IfOk result (λ c. (c.generation ≡ settled.read.root.generation) × (c.format ≡ settled.read.root.label.format)) }
         ensures told_settled { (rules : Rules) (h : History) (settled : IsSettledAt rules self.old h)
             → IfOk result (IsCheckOf settled.read.root (view rules h)) }
         ensures plans { (held : seen.View Beside) → Holds self.old held → OnOk result (AllByRecursion HasOwnPlans held.objects) }
@@ -616,6 +645,7 @@ impl<D: Device> Store<D> {
             revision: self.paged.revision(),
             objects: self.paged.core().object_count(),
             generation: self.paged.root().generation,
+            format: self.format(),
         })
     }
 }

@@ -118,12 +118,12 @@ impl Paged {
 
         // What a checkpoint keeps is held over what of it lies in the pages, and memory knows the keys.
         ensures held { D.disk.keeps device.old → (held : seen.View BesideData) → IsHeld rules held
-            → HoldsEntries (D.disk.content device.old) root.now (held_entries held) → root.now.revision ≡ held.revision
+            → HoldsEntries (D.disk.content device.old) root.now (held_entries held) → root.now.label.revision ≡ held.revision
             → IfOk result (λ p. Below D.disk device.new p (base_of held) × Shows p.core (base_of held) held
             × ((k : KeyData) → Contains keys.now k → IsKnown p.core (base_of held) k)) }
         ensures damaged { D.disk.keeps device.old → IsErrOf result ReadFault.Page ⊎ (IsErrOf result ReadFault.Entry ⊎ IsErrOf result ReadFault.Plans)
             → (held : seen.View BesideData) → IsHeld rules held
-            → HoldsEntries (D.disk.content device.old) root.now (held_entries held) → root.now.revision ≡ held.revision → ⊥ }
+            → HoldsEntries (D.disk.content device.old) root.now (held_entries held) → root.now.label.revision ≡ held.revision → ⊥ }
 
         // And of a root without pages, whatever the device.
         ensures no_pages { root.now.pages ≡ 0 → IfOk result (λ p. Below D.disk device.new p [] × ((held : seen.View BesideData) × IsHeld rules held × Shows p.core [] held)) }
@@ -134,7 +134,13 @@ impl Paged {
         let chosen = Chosen::of(alloc, keys)?;
         let mut sieve = Sieve::new(alloc, &chosen);
         let first_keys = scan(alloc, device, root, &mut sieve)?;
-        let core = core_of(alloc, rules, sieve.kept(), sieve.objects(), root.revision);
+        let core = core_of(
+            alloc,
+            rules,
+            sieve.kept(),
+            sieve.objects(),
+            root.label.revision,
+        );
         drop(sieve);
         drop(chosen);
         let core = core?;

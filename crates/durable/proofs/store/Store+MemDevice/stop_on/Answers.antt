@@ -16,7 +16,7 @@ invariant_of-self c =
     let store = c.args.self.now in
     let ran : Ran memory_disk store.device c.stop_on.new.self Same = stop_ran store.device c.stop_on.new.self _ c.stop_on.ensures refl in
     record {
-      limits = store.limits;
+      numbers = store.numbers;
       in_data = store.in_data;
       works = store.works;
       ready = λ serves keeps. ∥∥₁_elim (store.ready serves keeps) ∥∥₁_prop

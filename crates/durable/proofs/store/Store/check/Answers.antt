@@ -127,11 +127,12 @@ returns g c =
     let mid = c.next.new.self in
     let working = c.in_ok-next.ensures.leaves.goes_on in
     let root = c.root.ensures ∙ c.next.ensures.root in
+    let format = c.format.ensures.told ∙ ap (λ (r : Root). r.label.format) c.next.ensures.root in
     record {
       told = λ held holds. search rules;
       counted = λ rules h settled.
-          ap (λ (r : Root). r.generation)
-          (root ∙ root_is g.D.Device.disk store.device (root_of store) store.log (store.ready settled.working settled.keeps) settled.read.root settled.read.counts);
+          let same = root_is g.D.Device.disk store.device (root_of store) store.log (store.ready settled.working settled.keeps) settled.read.root settled.read.counts in
+          (ap (λ (r : Root). r.generation) (root ∙ same), format ∙ ap (λ (r : Root). r.label.format) same);
       plans = λ held holds.
           let Held : State Beside → Type 0 = λ core. Shows core holds.base held in
           c.in_ok-has_own_plans.ensures.yes holds.base held (subst Held (sym (c.core.ensures ∙ c.next.ensures.core)) holds.shows)
@@ -140,9 +141,9 @@ returns g c =
       memory = λ rules v serving is. absurd (no_fault is);
       settled = λ rules h settled. settled_between store mid mid c.next.ensures.device c.next.ensures.core c.next.ensures.lies working rules h settled;
       told_settled = λ numbers h settled.
-          checked_settled store numbers h settled _ (λ held holds. search rules)
-          (ap (λ (r : Root). r.generation)
-          (root ∙ root_is g.D.Device.disk store.device (root_of store) store.log (store.ready settled.working settled.keeps) settled.read.root settled.read.counts));
+          let same = root_is g.D.Device.disk store.device (root_of store) store.log (store.ready settled.working settled.keeps) settled.read.root settled.read.counts in
+          checked_settled store numbers h settled _ (λ held holds. search rules) (ap (λ (r : Root). r.generation) (root ∙ same))
+          (format ∙ ap (λ (r : Root). r.label.format) same);
       memory_settled = λ rules h settled is. absurd (no_fault is);
       device = c.next.ensures.device;
       damaged = λ damage is. absurd (no_fault is);

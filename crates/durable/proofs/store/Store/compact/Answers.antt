@@ -7,11 +7,22 @@ use Rattle.snapshots.specs.Keeping.{entries_of, IsKeepable}
 use Rattle.requests.specs.View.{view}
 use Rattle.recovery.proofs.Histories.{on_ok_to}
 use Rattle.durable.specs.declared.fault.Fault.TheVariants as Fault
-use Rattle.durable.specs.Settled.{root_of, revision_of}
+use Rattle.durable.specs.Settled.{root_of, kept_rules, IsSettledAt}
 use Rattle.durable.proofs.Answering.{held}
 use Rattle.durable.proofs.Called.{serves_passed, passed_on, failed_alone, no_device, no_memory, no_damage, no_exhausted, not_failed, not_exhausted}
 use Rattle.durable.proofs.Keeping.{root_is}
-use Rattle.durable.proofs.Numbers.{history_kept}
+use Rattle.device.specs.declared.device.Device.{Ghosts}
+use Rattle.holdings.specs.Holdings.{Shows}
+use Rattle.recovery.specs.Standing.{History, with_plans}
+use Rattle.roots.specs.declared.root.Label.{Label}
+use Rattle.paged.specs.Lying.{base_of}
+use Rattle.paged.specs.declared.compacting.Next.{Next}
+use Rattle.durable.specs.Compacted.{Keeps, label_of}
+use Rattle.durable.specs.Rules.{rules_by}
+use Rattle.durable.specs.Stands.{StandsFor}
+use Rattle.durable.specs.declared.store.Store.{Store}
+use Rattle.durable.proofs.Compacting.{one_stands}
+use Rattle.durable.proofs.Numbers.{history_kept, by_own_format, format_of}
 use Rattle.durable.proofs.Renewing.{on_ok_three, at_either, failed_then, serves_between, settled_between, revision_between, serves_unchanged, settled_unchanged, keepable_here, moments_renewed, settled_renewed, serves_renewed, left_renewed}
 use Rattle.durable.proofs.Unwritten.{held_after, left_read, moments_read, read_then}
 use Rattle.durable.proofs.store.Store.compact.Goals as goal
@@ -27,6 +38,7 @@ returns-then-not-self g c =
       counted = λ rules h settled. tt;
       empty = tt;
       told = tt;
+      keeps_format = tt;
       any_moment = λ rules h settled. absurd (true≢false (sym settled.working ∙ stopped));
       device = λ rules h settled is. absurd (true≢false (sym settled.working ∙ stopped));
       memory_serving = λ rules v serving told. absurd (true≢false (sym serving.working ∙ stopped));
@@ -64,6 +76,7 @@ returns-in_err-next g c =
       counted = λ rules h settled. IfOk-from_err told _ passed.0;
       empty = IfOk-from_err told _ passed.0;
       told = IfOk-from_err told _ passed.0;
+      keeps_format = IfOk-from_err told _ passed.0;
       any_moment = λ rules h settled. moments_read rules store mid h [] run settled;
       device = λ rules h settled is. left_read rules store mid h [] run settled (leaves.stops is);
       memory_serving = λ rules v serving is.
@@ -86,6 +99,23 @@ returns-in_err-next g c =
       count = run.count;
     }
 
+-- the next generation keeps the history at which the store is settled
+keeps_here : {D : Type 0} {g : Ghosts D} (store : Store D g) (next : Next) (rules : Rules) (h : History) → IsSettledAt rules store h
+    → next.core.rules ≡ rules_by (label_of next.core) → next.core.rules ≡ kept_rules store → Shows next.core (base_of (with_plans (view rules h))) (with_plans (view rules h))
+    → in_list next.entries ≡ entries_of (view rules h) → Keeps next rules h
+keeps_here store next rules h settled numbers same shows entries = record {
+  numbers = sym settled.rules_are ∙ sym same ∙ numbers;
+  history = settled.read.history;
+  revision = shows.revision;
+  entries = entries;
+}
+
+-- the rules of a store are those of the format that they name
+numbers_here : {D : Type 0} {g : Ghosts D} (store : Store D g) (next : Next) → next.core.rules ≡ kept_rules store → next.core.rules ≡ rules_by (label_of next.core)
+numbers_here store next same =
+    let numbers : next.core.rules ≡ rules_by (root_of store).label = same ∙ store.numbers in
+    by_own_format next.core.rules (root_of store).label numbers
+
 pub returns : goal.returns
 returns g c =
     let store = c.args.self.now in
@@ -96,34 +126,38 @@ returns g c =
     let new = c.write_next.new.self in
     record {
       settled = λ rules h settled.
-          let shown : in_list c.in_ok-next.next.entries ≡ entries_of (view rules h) = c.in_ok-next.ensures.entries (view rules h) settled.shows in
-          let revision : revision_of mid ≡ (view rules h).revision = revision_between store mid mid run core still (view rules h) settled.shows in
+          let keeps = keeps_here store c.in_ok-next.next rules h settled (numbers_here store c.in_ok-next.next c.in_ok-next.ensures.rules) c.in_ok-next.ensures.rules
+          (c.in_ok-next.ensures.held (view rules h) settled.shows (keepable_here store mid mid run core still rules h settled))
+          (c.in_ok-next.ensures.entries (view rules h) settled.shows) in
           let holds = held_after g.D.Device.disk rules h store.device mid.device run (held rules store h settled) in
           on_ok_three _ _ _ _ c.write_next.result
           (λ lies is serves.
           settled_renewed store mid new run core still rules h settled c.in_ok-next.next.core c.in_ok-next.ensures.rules
           (c.in_ok-next.ensures.held (view rules h) settled.shows (keepable_here store mid mid run core still rules h settled))
-          (c.write_next.ensures.stands rules h holds revision shown) lies is serves)
-          (c.write_next.ensures.lies rules (view rules h) (history_kept rules h settled.read.numbers settled.read.history) holds.keeps shown) c.write_next.ensures.core
+          (one_stands g.D.Device.disk mid.device new.device (λ x. StandsFor rules x h) (c.write_next.ensures.stands rules rules h h holds keeps)) lies is serves)
+          (c.write_next.ensures.lies rules (view rules h) (history_kept rules settled.read.root.label h settled.read.checkpoint.numbers settled.read.history) holds.keeps keeps.entries) c.write_next.ensures.core
           c.write_next.ensures.serves;
       counts = λ rules h settled.
-          let shown : in_list c.in_ok-next.next.entries ≡ entries_of (view rules h) = c.in_ok-next.ensures.entries (view rules h) settled.shows in
-          let revision : revision_of mid ≡ (view rules h).revision = revision_between store mid mid run core still (view rules h) settled.shows in
+          let keeps = keeps_here store c.in_ok-next.next rules h settled (numbers_here store c.in_ok-next.next c.in_ok-next.ensures.rules) c.in_ok-next.ensures.rules
+          (c.in_ok-next.ensures.held (view rules h) settled.shows (keepable_here store mid mid run core still rules h settled))
+          (c.in_ok-next.ensures.entries (view rules h) settled.shows) in
           let holds = held_after g.D.Device.disk rules h store.device mid.device run (held rules store h settled) in
-          c.write_next.ensures.counts rules h holds revision shown;
+          c.write_next.ensures.counts rules rules h h holds keeps;
       counted = λ rules h settled.
           let same = c.next.ensures.root ∙ root_is g.D.Device.disk store.device (root_of store) store.log (store.ready settled.working settled.keeps) settled.read.root settled.read.counts in
           on_ok_to c.write_next.result _ _ (λ next. next ∙ ap (λ (r : Root). r.generation + 1) same) c.write_next.ensures.next;
       any_moment = λ rules h settled.
-          let shown : in_list c.in_ok-next.next.entries ≡ entries_of (view rules h) = c.in_ok-next.ensures.entries (view rules h) settled.shows in
-          let revision : revision_of mid ≡ (view rules h).revision = revision_between store mid mid run core still (view rules h) settled.shows in
+          let keeps = keeps_here store c.in_ok-next.next rules h settled (numbers_here store c.in_ok-next.next c.in_ok-next.ensures.rules) c.in_ok-next.ensures.rules
+          (c.in_ok-next.ensures.held (view rules h) settled.shows (keepable_here store mid mid run core still rules h settled))
+          (c.in_ok-next.ensures.entries (view rules h) settled.shows) in
           let holds = held_after g.D.Device.disk rules h store.device mid.device run (held rules store h settled) in
-          moments_renewed store mid new run core still rules h settled (c.write_next.ensures.stands rules h holds revision shown);
+          moments_renewed store mid new run core still rules h settled (one_stands g.D.Device.disk mid.device new.device (λ x. StandsFor rules x h) (c.write_next.ensures.stands rules rules h h holds keeps));
       device = λ rules h settled told.
-          let shown : in_list c.in_ok-next.next.entries ≡ entries_of (view rules h) = c.in_ok-next.ensures.entries (view rules h) settled.shows in
-          let revision : revision_of mid ≡ (view rules h).revision = revision_between store mid mid run core still (view rules h) settled.shows in
+          let keeps = keeps_here store c.in_ok-next.next rules h settled (numbers_here store c.in_ok-next.next c.in_ok-next.ensures.rules) c.in_ok-next.ensures.rules
+          (c.in_ok-next.ensures.held (view rules h) settled.shows (keepable_here store mid mid run core still rules h settled))
+          (c.in_ok-next.ensures.entries (view rules h) settled.shows) in
           let holds = held_after g.D.Device.disk rules h store.device mid.device run (held rules store h settled) in
-          left_renewed store mid new run core still rules h settled (c.write_next.ensures.stands rules h holds revision shown) (c.write_next.ensures.stops told);
+          left_renewed store mid new run core still rules h settled (one_stands g.D.Device.disk mid.device new.device (λ x. StandsFor rules x h) (c.write_next.ensures.stands rules rules h h holds keeps)) (c.write_next.ensures.stops told);
       memory_serving = λ rules v serving told.
           let unchanged = c.write_next.ensures.unchanged told in
           let same = at_either _ c.write_next.result Fault.Memory Fault.Exhausted told c.write_next.ensures.paged in
@@ -136,10 +170,11 @@ returns g c =
           );
       unchanged = λ is. read_then g.D.Device.disk store.device mid.device new.device run (c.write_next.ensures.unchanged is).0;
       damaged = λ damage told rules h settled.
-          let shown : in_list c.in_ok-next.next.entries ≡ entries_of (view rules h) = c.in_ok-next.ensures.entries (view rules h) settled.shows in
-          let revision : revision_of mid ≡ (view rules h).revision = revision_between store mid mid run core still (view rules h) settled.shows in
+          let keeps = keeps_here store c.in_ok-next.next rules h settled (numbers_here store c.in_ok-next.next c.in_ok-next.ensures.rules) c.in_ok-next.ensures.rules
+          (c.in_ok-next.ensures.held (view rules h) settled.shows (keepable_here store mid mid run core still rules h settled))
+          (c.in_ok-next.ensures.entries (view rules h) settled.shows) in
           let holds = held_after g.D.Device.disk rules h store.device mid.device run (held rules store h settled) in
-          c.write_next.ensures.damaged rules h damage holds revision shown told;
+          c.write_next.ensures.damaged rules rules h h damage holds keeps told;
       damaged_ran = λ damage is keeps. read_then g.D.Device.disk store.device mid.device new.device run (c.write_next.ensures.damaged_ran damage is (run.kept keeps));
       damaged_stops = c.write_next.ensures.damaged_stops;
       memory_goes_on = λ is. (c.write_next.ensures.unchanged is).1 ∙ sym c.if-not-self.false;
@@ -153,6 +188,8 @@ returns g c =
       next = on_ok_to c.write_next.result _ _ (λ next. next ∙ ap (λ (r : Root). r.generation + 1) c.next.ensures.root) c.write_next.ensures.next;
       empty = c.write_next.ensures.empty;
       told = c.write_next.ensures.told;
+      keeps_format = on_ok_to c.write_next.result _ _
+          (λ label. ap (λ (l : Label). l.format) label ∙ format_of c.in_ok-next.next.core.rules (root_of store).label (c.in_ok-next.ensures.rules ∙ store.numbers)) c.write_next.ensures.label;
       greatest = λ is. sym (ap (λ (r : Root). r.generation) c.next.ensures.root) ∙ c.write_next.ensures.greatest is;
       failed = λ stopped. absurd (true≢false (sym c.if-not-self.false ∙ stopped));
       failed_only = λ is. absurd (c.write_next.ensures.refusal is);
@@ -161,3 +198,6 @@ returns g c =
       cause = λ is. failed_then g.D.Device.disk store.device mid.device new.device run (c.write_next.ensures.cause is);
       count = omega (arith, run.count, c.write_next.ensures.count);
     }
+
+pub write_next-requires-clause-numbers : goal.write_next-requires-clause-numbers
+write_next-requires-clause-numbers g c = numbers_here c.args.self.now c.in_ok-next.next c.in_ok-next.ensures.rules

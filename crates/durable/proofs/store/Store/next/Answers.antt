@@ -14,10 +14,12 @@ use Rattle.recovery.specs.Standing.{with_plans}
 use Rattle.paged.specs.declared.state.Paged.{Paged}
 use Rattle.paged.specs.Paged as paged
 use Rattle.durable.specs.Settled.{root_of, kept_rules}
-use Rattle.durable.proofs.Answering.{Small, holds_shown}
+use Rattle.durable.proofs.Answering.{holds_shown}
 use Rattle.durable.proofs.Called.{err_same, serves_value, serves_met, serves_spoiled, look_damaged, lies_met, ran_met, failed_met}
 use Rattle.durable.proofs.Compacting.{still_ready}
 use Rattle.durable.proofs.Keeping.{pages_inside}
+use Rattle.roots.specs.declared.root.Root.{Root}
+use Rattle.durable.specs.Rules.{rules_by}
 use Rattle.durable.proofs.store.Store.next.Goals as goal
 
 pub next-requires : goal.next-requires
@@ -29,7 +31,7 @@ pub invariant_of-self : goal.invariant_of-self
 invariant_of-self g c =
     let store = c.args.self.now in
     record {
-      limits = subst Small (sym (ap (λ (core : State Beside). core.rules) c.next.ensures.core)) store.limits;
+      numbers = ap (λ (core : State Beside). core.rules) c.next.ensures.core ∙ store.numbers ∙ sym (ap (λ (r : Root). rules_by r.label) c.next.ensures.root);
       in_data = store.in_data;
       works = store.works;
       ready = λ serves. still_ready g.D.Device.disk store.device c.next.new.device (root_of store) _ store.log c.next.ensures.root c.next.ensures.ran (store.ready serves);

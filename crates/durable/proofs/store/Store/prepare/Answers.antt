@@ -3,10 +3,11 @@ use Rattle.checkpoint.proofs.Faults.{no_fault}
 use Rattle.holdings.specs.Holdings.{ShowsSame}
 use Rattle.paged.specs.declared.state.Paged.{Paged}
 use Rattle.durable.specs.Settled.{root_of}
-use Rattle.durable.proofs.Answering.{Small}
 use Rattle.durable.proofs.Called.{err_same, serves_value, serves_met, look_device, look_damaged, lies_met, ran_met, failed_met}
 use Rattle.durable.proofs.Compacting.{still_ready}
 use Rattle.durable.proofs.Keeping.{pages_inside}
+use Rattle.roots.specs.declared.root.Root.{Root}
+use Rattle.durable.specs.Rules.{rules_by}
 use Rattle.durable.proofs.store.Store.prepare.Goals as goal
 
 pub prepare-requires : goal.prepare-requires
@@ -18,7 +19,7 @@ pub invariant_of-self : goal.invariant_of-self
 invariant_of-self g c =
     let store = c.args.self.now in
     record {
-      limits = subst Small (sym c.prepare.ensures.rules) store.limits;
+      numbers = c.prepare.ensures.rules ∙ store.numbers ∙ sym (ap (λ (r : Root). rules_by r.label) c.prepare.ensures.root);
       in_data = store.in_data;
       works = store.works;
       ready = λ serves. still_ready g.D.Device.disk store.device c.prepare.new.device (root_of store) _ store.log c.prepare.ensures.root c.prepare.ensures.ran (store.ready serves);
