@@ -31,10 +31,8 @@ ghost use Rattle.objects.specs.declared.fault.LookupFault.TheVariants as LookupF
 use crate::prepared::{Deletion, PreparedWrite, Put};
 use crate::source::{Found, Source};
 use documents::Document;
-use names::{Key, Resource};
-use objects::{
-    Change, Changes, Entry, Event, Events, Lent, LookupFault, Rules, Window, WindowFault,
-};
+use names::{Key, Resource, Rules};
+use objects::{Change, Changes, Entry, Event, Events, Lent, LookupFault, Window, WindowFault};
 use requests::{Collection, Manifest, Refusal, Reply, Selector, Stored, listed, told};
 use std::alloc::{AllocError, Global};
 use std::marker::Model;
