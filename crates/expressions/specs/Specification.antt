@@ -1,5 +1,5 @@
 -- What stands in the `spec` of an object: those of policies and bindings have a form, and the expressions of a policy spell trees.
-use Rattle.std.specs.Prelude.{◌≡◌, ◌≢◌, ℕ, ◌+◌, ◌*◌, ◌^◌, ◌≤◌, List, [], length, Some, None, IsTrue, is_some, string_bytes}
+use Rattle.std.specs.Prelude.{◌≡◌, ◌≢◌, ℕ, ◌+◌, ◌*◌, ◌^◌, ◌≤◌, Bool, if◌then◌else◌, List, [], length, Option, Some, None, IsTrue, is_some, is_none, option_and_then, string_bytes}
 use Rattle.std.specs.Option.{option_map_or}
 use Rattle.serde_json.specs.Data.{Data}
 use Rattle.celtree.specs.Tree.{Expr}
@@ -11,7 +11,8 @@ use Rattle.planlist.specs.Plans.{list_bytes, IsListFor}
 use Rattle.policy.specs.Bindings.{binding_of}
 use Rattle.policy.specs.Forms.{Text}
 use Rattle.policy.specs.Policies.{policy_of}
-use Rattle.policy.specs.Spec.{Policy}
+use Rattle.policy.specs.Rules.{MatchRules}
+use Rattle.policy.specs.Spec.{Policy, Binding}
 use Rattle.expressions.specs.Expressions.{sources}
 use Rattle.expressions.specs.Plans.{plans_of}
 use Rattle.expressions.specs.Typed.{AreTyped, IsFirstBad}
@@ -30,14 +31,25 @@ pub data Specification (T : Type 0) : Type 0 where
 
 -- ---- with trees
 
+-- match rules may stand in an object where they have no selector of namespaces, since namespaces are no objects
+abbrev pub may_stand : MatchRules → Bool
+may_stand m = is_none m.namespaces
+
+-- the policy, and the binding, that a document spells and that may stand
+abbrev pub policy_for : Data → Option Policy
+policy_for d = option_and_then (λ p. if may_stand p.constraints then Some p else None) (policy_in d)
+
+abbrev pub binding_for : Data → Option Binding
+binding_for d = option_and_then (λ b. if may_stand b.resources then Some b else None) (binding_of d)
+
 abbrev pub OfPolicy : Data → Specification Expr → Type 0
-OfPolicy d (sound trees) = (p : Policy) × (policy_in d ≡ Some p) × AreTyped p [] (sources p) trees
-OfPolicy d bad_spec = policy_in d ≡ None
-OfPolicy d (bad_expression text) = (p : Policy) × (policy_in d ≡ Some p) × IsFirstBad p [] (sources p) text
+OfPolicy d (sound trees) = (p : Policy) × (policy_for d ≡ Some p) × AreTyped p [] (sources p) trees
+OfPolicy d bad_spec = policy_for d ≡ None
+OfPolicy d (bad_expression text) = (p : Policy) × (policy_for d ≡ Some p) × IsFirstBad p [] (sources p) text
 
 abbrev pub OfBinding : Data → Specification Expr → Type 0
-OfBinding d (sound trees) = IsTrue (is_some (binding_of d)) × (trees ≡ [])
-OfBinding d bad_spec = binding_of d ≡ None
+OfBinding d (sound trees) = IsTrue (is_some (binding_for d)) × (trees ≡ [])
+OfBinding d bad_spec = binding_for d ≡ None
 OfBinding d (bad_expression text) = ⊥
 
 -- this stands in the object of a resource; those of other resources have no form

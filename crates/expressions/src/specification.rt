@@ -5,9 +5,10 @@ ghost use Rattle.std.specs.List.{AllByRecursion};
 ghost use Rattle.serde_json.specs.View.{view};
 ghost use Rattle.names.specs.declared.resource.Resource.TheVariants.{ValidatingAdmissionPolicy, ValidatingAdmissionPolicyBinding};
 ghost use Rattle.plancode.specs.Plans.{IsVerified};
+ghost use Rattle.policy.specs.Rules.{match_rules_seen};
 ghost use Rattle.policy.specs.Spec.{policy_seen};
 ghost use Rattle.expressions.specs.Places.{policy_in};
-ghost use Rattle.expressions.specs.Specification.{IsCompiled, AreShort, MayBeHeld, specification_seen};
+ghost use Rattle.expressions.specs.Specification.{may_stand, policy_for, IsCompiled, AreShort, MayBeHeld, specification_seen};
 
 use crate::fault::PolicyFault;
 use crate::places::policy_in;
@@ -15,7 +16,7 @@ use crate::typed_policy::TypedPolicy;
 use documents::Doc;
 use names::Resource;
 use plancode::Verified;
-use policy::{Binding, Policy};
+use policy::{Binding, MatchRules, Policy};
 use std::alloc::{AllocError, Global};
 
 /// What stands in the `spec` of an object.
@@ -38,10 +39,17 @@ fn all_verified(plans: &[Verified])
     }
 }
 
-// What stands in a policy of this form.
-#[tactic(auto, using(crate::proofs::Standing::bad_expression_in))]
+// Whether match rules may stand in an object: those with a selector of namespaces may not.
+fn may_stand(rules: &MatchRules) -> bool
+    ensures { result ≡ may_stand (match_rules_seen rules.now) }
+{
+    rules.namespaces.is_none()
+}
+
+// What stands in a policy of this form, which may stand.
+#[tactic(auto, using(crate::proofs::Standing::bad_expression_of))]
 fn of_form(alloc: Global, document: &Doc, form: &Policy) -> Result<Specification, AllocError>
-    requires form { policy_in document.now ≡ Some (policy_seen form.now) }
+    requires form { policy_for document.now ≡ Some (policy_seen form.now) }
     ensures compiled { IfOk result (λ s. IsCompiled ValidatingAdmissionPolicy document.now (specification_seen s)) }
     ensures short { IfOk result (λ s. AreShort document.now (specification_seen s)) }
     ensures held { IfOk result (λ s. MayBeHeld ValidatingAdmissionPolicy document.now (specification_seen s)) }
@@ -58,26 +66,47 @@ fn of_form(alloc: Global, document: &Doc, form: &Policy) -> Result<Specification
     }
 }
 
-#[tactic(auto, using(crate::proofs::Standing::bad_policy))]
+// What stands in a policy of this form.
+#[tactic(auto, using(crate::proofs::Standing::bad_policy, crate::proofs::Standing::stands_for, crate::proofs::Standing::stands_not))]
+fn of_known(alloc: Global, document: &Doc, form: &Policy) -> Result<Specification, AllocError>
+    requires form { policy_in document.now ≡ Some (policy_seen form.now) }
+    ensures compiled { IfOk result (λ s. IsCompiled ValidatingAdmissionPolicy document.now (specification_seen s)) }
+    ensures short { IfOk result (λ s. AreShort document.now (specification_seen s)) }
+    ensures held { IfOk result (λ s. MayBeHeld ValidatingAdmissionPolicy document.now (specification_seen s)) }
+{
+    if may_stand(&form.constraints) {
+        of_form(alloc, document, form)
+    } else {
+        Ok(Specification::BadSpec)
+    }
+}
+
+#[tactic(auto, using(crate::proofs::Standing::bad_policy, crate::proofs::Standing::no_policy))]
 fn of_policy(alloc: Global, document: &Doc) -> Result<Specification, AllocError>
     ensures compiled { IfOk result (λ s. IsCompiled ValidatingAdmissionPolicy document.now (specification_seen s)) }
     ensures short { IfOk result (λ s. AreShort document.now (specification_seen s)) }
     ensures held { IfOk result (λ s. MayBeHeld ValidatingAdmissionPolicy document.now (specification_seen s)) }
 {
     match policy_in(alloc, document)? {
-        Some((form, _)) => of_form(alloc, document, &form),
+        Some((form, _)) => of_known(alloc, document, &form),
         None => Ok(Specification::BadSpec),
     }
 }
 
-#[tactic(auto, using(crate::proofs::Standing::sound_binding, crate::proofs::Standing::bad_binding))]
+#[tactic(auto, using(crate::proofs::Standing::sound_binding, crate::proofs::Standing::bad_binding, crate::proofs::Standing::binding_may, crate::proofs::Standing::binding_may_not, crate::proofs::Standing::no_binding))]
 fn of_binding(alloc: Global, document: &Doc) -> Result<Specification, AllocError>
     ensures compiled { IfOk result (λ s. IsCompiled ValidatingAdmissionPolicyBinding document.now (specification_seen s)) }
     ensures short { IfOk result (λ s. AreShort document.now (specification_seen s)) }
     ensures held { IfOk result (λ s. MayBeHeld ValidatingAdmissionPolicyBinding document.now (specification_seen s)) }
 {
     match Binding::of(alloc, document.value())? {
-        Some(_) => Ok(Specification::Sound(Vec::new(alloc))),
+        Some(binding) => {
+            if may_stand(&binding.resources) {
+                Ok(Specification::Sound(Vec::new(alloc)))
+            } else {
+                Ok(Specification::BadSpec)
+            }
+        }
         None => Ok(Specification::BadSpec),
     }
 }

@@ -1,5 +1,6 @@
 -- Which writes rules match (Kubernetes, ValidatingAdmissionPolicy: MatchResources, NamedRuleWithOperations).
-use Rattle.std.specs.Prelude.{ℕ, List, length, Bool, true, false, not, ◌&&◌, ◌||◌, ◌==◌}
+use Rattle.std.specs.Prelude.{ℕ, List, length, Bool, true, false, not, ◌&&◌, ◌||◌, ◌==◌, Option, unwrap_or}
+use Rattle.serde_json.specs.Data.{Data, null}
 use Rattle.std.specs.List.{list_any}
 use Rattle.std.specs.Option.{option_map_or}
 use Rattle.std.specs.Str.{bytes_eq}
@@ -76,9 +77,19 @@ meets_rule w r = holds_operation r.operations w.operation && has_object r w.key
 abbrev pub selects_either : List Requirement → Attempt → Bool
 selects_either requirements w = option_map_or (selects requirements) w.object false || option_map_or (selects requirements) w.old_object false
 
--- no rule excludes the write, and the selector takes it
+-- the labels of the namespace that an object stands in are looked at, and a namespace that is not there has none; of a cluster-scoped object nothing is asked
+abbrev pub selects_home : List Requirement → Scope → Option Data → Bool
+selects_home requirements of_resource.Namespaced home = selects requirements (unwrap_or home null)
+selects_home requirements of_resource.Cluster home = true
+
+abbrev pub selects_namespace : List Requirement → Resource → Attempt → Bool
+selects_namespace requirements r w = selects_home requirements (row r).scope w.namespace
+
+-- no rule excludes the write, and the selectors take it: where there is none of namespaces, every namespace is taken
 abbrev pub takes : MatchRules → Attempt → Bool
-takes m w = not (list_any (meets_rule w) m.excluded) && selects_either m.objects w
+takes m w =
+    not (list_any (meets_rule w) m.excluded) && selects_either m.objects w
+    && option_map_or (λ requirements. selects_namespace requirements w.key.resource w) m.namespaces true
 
 -- what a policy is for: it says so by some rule
 abbrev pub is_constrained : MatchRules → Attempt → Bool

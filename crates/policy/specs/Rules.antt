@@ -29,18 +29,21 @@ pub record Rule : Type 0 where
   pub names : List (List ℕ)
   pub scope : RuleScope
 
--- the writes that a policy, or a binding, is for: by rules, rules that exclude, and a selector of objects
+-- the writes that a policy, or a binding, is for: by rules, rules that exclude, a selector of objects, and one of namespaces, if there is one
 pub record MatchRules : Type 0 where
   pub rules : List Rule
   pub excluded : List Rule
   pub objects : List Requirement
+  pub namespaces : Option (List Requirement)
 
--- a write that asks for admission: the document to be stored (a deletion has none), and the one shown before (a creation has none)
+-- a write that asks for admission: the document to be stored (a deletion has none), the one shown before (a creation has none), and the Namespace that the
+-- object stands in, as it is shown (what is cluster-scoped has none)
 pub record Attempt : Type 0 where
   pub operation : Operation
   pub key : Key
   pub object : Option Data
   pub old_object : Option Data
+  pub namespace : Option Data
 
 -- ---- what the code's types stand for
 
@@ -63,6 +66,7 @@ match_rules_seen m = record {
   rules = map rule_seen m.rules.items;
   excluded = map rule_seen m.excluded.items;
   objects = map requirement_seen m.objects.items;
+  namespaces = option_map (λ v. map requirement_seen v.items) m.namespaces;
 }
 
 abbrev pub attempt_seen : code_attempt.Attempt → Attempt
@@ -71,4 +75,5 @@ attempt_seen w = record {
   key = w.key.now;
   object = option_map (λ d. view d.now) w.object;
   old_object = option_map (λ d. view d.now) w.old_object;
+  namespace = option_map (λ d. view d.now) w.namespace;
 }

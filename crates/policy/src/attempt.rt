@@ -1,10 +1,10 @@
 //! A write that asks for admission, and whether rules match it.
 
-ghost use Rattle.std.specs.Prelude.{◌≡◌, map, option_map, string_bytes, false};
+ghost use Rattle.std.specs.Prelude.{◌≡◌, map, option_map, string_bytes, true, false};
 ghost use Rattle.std.specs.List.{list_any};
 ghost use Rattle.std.specs.Option.{option_map_or};
 ghost use Rattle.serde_json.specs.View.{view};
-ghost use Rattle.policy.specs.Matching.{is_guarded, holds_operation, holds_text, is_text, allows_name, fits, has_resource, has_object, meets_rule, selects_either, takes, is_constrained, is_bound, is_matched};
+ghost use Rattle.policy.specs.Matching.{is_guarded, holds_operation, holds_text, is_text, allows_name, fits, has_resource, has_object, meets_rule, selects_either, selects_home, selects_namespace, takes, is_constrained, is_bound, is_matched};
 ghost use Rattle.policy.specs.Rules.{attempt_seen, entry_seen, match_rules_seen, rule_seen};
 ghost use Rattle.documents.specs.Requirement.{requirement_seen};
 ghost use Rattle.documents.specs.Selecting.{selects};
@@ -25,6 +25,8 @@ pub struct Attempt<'a> {
     pub object: Option<&'a Value>,
     /// The document as it was shown before; a creation has none.
     pub old_object: Option<&'a Value>,
+    /// The Namespace that its object stands in, as it is shown; what is cluster-scoped has none.
+    pub namespace: Option<&'a Value>,
 }
 
 /// Whether policies are asked for writes to the resource: those to policies and bindings are never matched.
@@ -61,11 +63,44 @@ fn is_bound(resources: &MatchRules, attempt: &Attempt<'_>) -> bool
         && takes(resources, attempt)
 }
 
-// Whether no rule excludes the write, and the selector takes it.
+// Whether no rule excludes the write, and the selectors take it.
 fn takes(rules: &MatchRules, attempt: &Attempt<'_>) -> bool
     ensures { result ≡ takes (match_rules_seen rules.now) (attempt_seen attempt.now) }
 {
-    !meets_some(&rules.excluded, attempt) && selects_either(&rules.objects, attempt)
+    !meets_some(&rules.excluded, attempt)
+        && selects_either(&rules.objects, attempt)
+        && takes_namespace(rules, attempt)
+}
+
+// Whether the selector of namespaces takes the write, if there is one.
+fn takes_namespace(rules: &MatchRules, attempt: &Attempt<'_>) -> bool
+    ensures { result ≡ option_map_or (λ requirements. selects_namespace requirements (attempt_seen attempt.now).key.resource (attempt_seen attempt.now)) (match_rules_seen rules.now).namespaces true }
+{
+    match &rules.namespaces {
+        Some(requirements) => selects_namespace(requirements, attempt),
+        None => true,
+    }
+}
+
+fn selects_namespace(requirements: &[Requirement], attempt: &Attempt<'_>) -> bool
+    ensures { result ≡ selects_namespace (map requirement_seen requirements.now) (attempt_seen attempt.now).key.resource (attempt_seen attempt.now) }
+{
+    selects_home(
+        requirements,
+        attempt.key.resource().scope(),
+        attempt.namespace,
+    )
+}
+
+// Whether the labels of the namespace that an object stands in are selected, if it stands in one.
+fn selects_home(requirements: &[Requirement], scope: Scope, home: Option<&Value>) -> bool
+    ensures { result ≡ selects_home (map requirement_seen requirements.now) scope (option_map (λ d. view d.now) home.entry) }
+{
+    let absent = Value::Null;
+    match scope {
+        Scope::Namespaced => selects(requirements, home.unwrap_or(&absent)),
+        Scope::Cluster => true,
+    }
 }
 
 // Whether the write meets some of the rules.

@@ -7,7 +7,7 @@
 //!     Some(policy) => policy.validations.len(),      // at least one
 //!     None => 0,                                     // the document has not the form of a policy
 //! }
-//! let attempt = Attempt { operation: Operation::Create, key: &key, object: Some(&pod), old_object: None };
+//! let attempt = Attempt { operation: Operation::Create, key: &key, object: Some(&pod), old_object: None, namespace: None };
 //! matches(&policy.constraints, &binding.resources, &attempt)
 //! ```
 //!

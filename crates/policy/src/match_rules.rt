@@ -71,6 +71,8 @@ pub struct MatchRules {
     pub excluded: Vec<Rule>,
     /// The object, or the one before the write, is there and meets all of these.
     pub objects: Vec<Requirement>,
+    /// The Namespace that the object stands in meets all of these. Nothing is asked without them, nor of an object that stands in no namespace.
+    pub namespaces: Option<Vec<Requirement>>,
 }
 
 impl MatchRules {
@@ -82,6 +84,7 @@ impl MatchRules {
             rules: Vec::new(alloc),
             excluded: Vec::new(alloc),
             objects: Vec::new(alloc),
+            namespaces: None,
         }
     }
 }

@@ -1,6 +1,7 @@
 //! The rules that say for which writes a policy or a binding is.
 
-ghost use Rattle.std.specs.Prelude.{◌≡◌, [], None, Some, codes, map, IfOk, IsErrOf, string_bytes};
+ghost use Rattle.documents.specs.Requirement.{requirement_seen};
+ghost use Rattle.std.specs.Prelude.{◌≡◌, [], None, Some, codes, map, option_map, IfOk, IsErrOf, string_bytes};
 ghost use Rattle.std.specs.List.{list_all};
 ghost use Rattle.serde_json.specs.View.{view};
 ghost use Rattle.policy.specs.Forms.{perhaps};
@@ -8,10 +9,12 @@ ghost use Rattle.policy.specs.MatchRules.{is_plain, is_entry, resource_names_of}
 ghost use Rattle.policy.specs.declared.form.FormFault.TheVariants as FormFault;
 
 use crate::form::{
-    Form, FormFault, choice, has_only, list, optional_list, optional_or, required_filled_list,
+    Form, FormFault, choice, has_only, list, optional, optional_list, optional_or,
+    required_filled_list,
 };
 use crate::match_rules::{Entry, MatchRules, Operation, OperationEntry, Rule, RuleScope};
 use crate::selector::Selector;
+use documents::Requirement;
 use serde_json::Value as Json;
 use std::alloc::Global;
 
@@ -159,6 +162,16 @@ impl Form for Rule {
     }
 }
 
+// What a selector asks, if there is one.
+fn requirements_of(selector: Option<Selector>) -> Option<Vec<Requirement>>
+    ensures { option_map (λ v. map requirement_seen v.items) result ≡ option_map (λ s. map requirement_seen s.requirements.items) selector }
+{
+    match selector {
+        Some(selector) => Some(selector.requirements),
+        None => None,
+    }
+}
+
 impl Form for MatchRules {
     ghost use Rattle.policy.specs.Rules as rules;
     ghost use Rattle.policy.specs.Rules.{match_rules_seen};
@@ -173,7 +186,12 @@ impl Form for MatchRules {
     fn read(alloc: Global, part: &Json) -> Result<MatchRules, FormFault> {
         if !has_only(
             part,
-            &["resourceRules", "excludeResourceRules", "objectSelector"],
+            &[
+                "resourceRules",
+                "excludeResourceRules",
+                "objectSelector",
+                "namespaceSelector",
+            ],
         ) {
             return Err(FormFault::BadForm);
         }
@@ -184,6 +202,7 @@ impl Form for MatchRules {
             rules: optional_list(alloc, part, "resourceRules")?,
             excluded: optional_list(alloc, part, "excludeResourceRules")?,
             objects: optional_or(alloc, part, "objectSelector", everything)?.requirements,
+            namespaces: requirements_of(optional(alloc, part, "namespaceSelector")?),
         })
     }
 }

@@ -9,7 +9,7 @@ use Rattle.celtree.specs.Tree.{Expr}
 use Rattle.celtree.specs.Nesting.{nests_within}
 use Rattle.serde_json.specs.Data.{Data}
 use Rattle.policy.specs.Rules.{Attempt}
-use Rattle.celmean.specs.Value.{Outcome, Null, Gives}
+use Rattle.celmean.specs.Value.{Outcome, Gives}
 use Rattle.planstack.specs.Documents.{json_value}
 use Rattle.instructions.specs.declared.instruction.Name.TheVariants as name_of
 use Rattle.verdict.specs.Seen.{names_in}
@@ -192,7 +192,7 @@ evaluate_meant p trees js names env ready f =
 -- the documents of a write, and null where there is none, are what expressions see
 pub seen_agrees : (object old_object request params namespace : Data) (w : Attempt) (param : Option Data) → json_value object ≡ value_or_null w.object
     → json_value old_object ≡ value_or_null w.old_object → request ≡ request_of w → json_value params ≡ value_or_null param
-    → json_value namespace ≡ Null → Agree (names_in object old_object request params namespace) (seen w param)
+    → json_value namespace ≡ value_or_null w.namespace → Agree (names_in object old_object request params namespace) (seen w param)
 seen_agrees o b r p n w param object old_object request params namespace name_of.Object = ap Gives object
 seen_agrees o b r p n w param object old_object request params namespace name_of.OldObject = ap Gives old_object
 seen_agrees o b r p n w param object old_object request params namespace name_of.Request = ap (λ (d : Data). Gives (json_value d)) request

@@ -12,8 +12,8 @@ use Rattle.planstack.specs.Documents.{json_value}
 abbrev pub value_or_null : Option Data → Value
 value_or_null d = option_map_or json_value d Null
 
--- What expressions see: the object to be stored, the one shown before, the request, and a parameter. Match conditions, and policies without a kind of
--- parameters, see no parameter: their types let no expression name it. Nor do they let one name `namespaceObject`.
+-- What expressions see: the object to be stored, the one shown before, the request, a parameter, and the Namespace that the object stands in. Match
+-- conditions, and policies without a kind of parameters, see no parameter: their types let no expression name it. Nor do they let one name the Namespace.
 abbrev pub seen : Attempt → (param : Option Data) → Environment
 seen w param = record {
   names =
@@ -21,7 +21,7 @@ seen w param = record {
       ∷ (codes "oldObject", Gives (value_or_null w.old_object))
       ∷ (codes "request", Gives (json_value (request_of w)))
       ∷ (codes "params", Gives (value_or_null param))
-      ∷ (codes "namespaceObject", Gives Null)
+      ∷ (codes "namespaceObject", Gives (value_or_null w.namespace))
       ∷ [];
   variables = [];
 }

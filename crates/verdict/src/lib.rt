@@ -1,7 +1,7 @@
 //! The verdict of admission policies on a write, of one binding and of all (Kubernetes, "Validating Admission Policy").
 //!
 //! ```text
-//! let attempt = Attempt { operation: Operation::Create, key: &key, object: Some(document.value()), old_object: None };
+//! let attempt = Attempt { operation: Operation::Create, key: &key, object: Some(document.value()), old_object: None, namespace: None };
 //! match admit(alloc, &mut lookup, &attempt)? {
 //!     Verdict::Admitted(warnings) => reply(warnings),
 //!     Verdict::Denied { policy, binding, reason, message } => {

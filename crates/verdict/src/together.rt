@@ -75,7 +75,7 @@ pub fn conditions<'p>(
         old_object: or_null(attempt.old_object, &absent),
         request,
         params: or_null(None, &absent),
-        namespace: or_null(None, &absent),
+        namespace: or_null(attempt.namespace, &absent),
     };
     conditions_by(alloc, &policy.conditions, plans, &scene)
 }

@@ -157,7 +157,7 @@ pub fn evaluate(
         old_object: or_null(attempt.old_object, &absent),
         request,
         params: or_null(param, &absent),
-        namespace: or_null(None, &absent),
+        namespace: or_null(attempt.namespace, &absent),
     };
     let (_, others) = split(plans, policy.conditions.len());
     evaluate_by(alloc, policy, others, &scene)
