@@ -6,7 +6,7 @@ ghost use Rattle.roots.specs.Root.{log_start};
 use crate::line::Line;
 use crate::root_lines::push_root;
 use device::{Device, MemDevice};
-use roots::{Root, clear_slot, counted_root, install, next_root, place};
+use roots::{Label, Root, clear_slot, counted_root, install, next_root, place};
 
 /// `place START LAST PAGES`: where this many pages go while a generation that begins at `START`, and whose log ends with the gate `LAST`, is in
 /// use.
@@ -31,7 +31,8 @@ fn last_gate(line: &mut Line<'_>) -> Option<u64>
     Some(gate)
 }
 
-// `LAST PAGES REVISION`: the root that counts, and the next one behind a log that ends with the gate `LAST`. `exhausted` where there is no next generation.
+// `LAST PAGES REVISION FORMAT`: the root that counts, and the next one behind a log that ends with the gate `LAST`. Without a format it keeps that of the
+// root that counts. `exhausted` where there is no next generation.
 fn next_of(device: &mut MemDevice, line: &mut Line<'_>) -> Option<(Root, Root)>
     ensures { IfSome result (λ both. (8 ≤ both.1.first) × (log_start both.1 < 2 ^ 64)) }
 {
@@ -41,7 +42,9 @@ fn next_of(device: &mut MemDevice, line: &mut Line<'_>) -> Option<(Root, Root)>
         line.refuse("no root counts");
         return None;
     };
-    match next_root(&current, last_gate, pages, revision) {
+    let format = line.format(current.label.format);
+    let label = Label { format, revision };
+    match next_root(&current, last_gate, pages, label) {
         Ok(next) => Some((current, next)),
         Err(_) => {
             line.answer.word("exhausted");
@@ -50,7 +53,7 @@ fn next_of(device: &mut MemDevice, line: &mut Line<'_>) -> Option<(Root, Root)>
     }
 }
 
-/// `next LAST PAGES REVISION`: the root of the next generation, of this many pages and this revision, or `exhausted`.
+/// `next LAST PAGES REVISION FORMAT`: the root of the next generation, of this many pages, this revision and this format, or `exhausted`.
 pub fn next(device: &mut MemDevice, line: &mut Line<'_>) {
     if let Some((_, next)) = next_of(device, line) {
         push_root(line, &next);
@@ -65,7 +68,7 @@ fn clears(device: &mut MemDevice, current: &Root) -> bool {
     }
 }
 
-/// `install LAST PAGES REVISION`: makes the slot of that root free, and installs it over what stands in its place.
+/// `install LAST PAGES REVISION FORMAT`: makes the slot of that root free, and installs it over what stands in its place.
 pub fn install_next(device: &mut MemDevice, line: &mut Line<'_>) {
     let Some((current, next)) = next_of(device, line) else {
         return;

@@ -1,6 +1,7 @@
 //! A line that is answered.
 
 use cases::{TextBuilder, Wrong, first_word, number};
+use names::Format;
 use std::alloc::Global;
 use std::fmt::Display;
 
@@ -72,6 +73,19 @@ impl<'a> Line<'a> {
             Err(_) => {
                 self.refuse("too many pages");
                 0
+            }
+        }
+    }
+
+    /// The format whose number the next word says, or this one where there is none.
+    pub fn format(&mut self, unsaid: Format) -> Format {
+        match self.word() {
+            "" => unsaid,
+            "1" => Format::First,
+            "2" => Format::Second,
+            _ => {
+                self.refuse("no such format");
+                unsaid
             }
         }
     }

@@ -2,10 +2,11 @@
 
 use crate::line::Line;
 use device::{Device, MemDevice};
-use roots::{Root, RootFault, Slot, StartFault, counted_root, start};
+use names::Format;
+use roots::{Label, Root, RootFault, Slot, StartFault, counted_root, start};
 use std::alloc::Global;
 
-/// Adds the slot, the generation, the first sector, the pages and the revision of a root.
+/// Adds the slot, the generation, the first sector, the pages and the revision of a root, and behind `format` its format where that is not the first.
 pub fn push_root(line: &mut Line<'_>, root: &Root) {
     line.answer.word(match root.slot {
         Slot::A => "A",
@@ -15,15 +16,21 @@ pub fn push_root(line: &mut Line<'_>, root: &Root) {
         root.generation,
         root.first,
         u64::from(root.pages),
-        root.revision,
+        root.label.revision,
     ] {
         line.show(&number);
     }
+    let format = root.label.format.number();
+    if format != 1 {
+        line.answer.word("format");
+        line.show(&format);
+    }
 }
 
-/// `new-store`: its root, or why there is none.
+/// `new-store FORMAT`: its root, or why there is none. Without a format it is made in the first one.
 pub fn new_store(device: &mut MemDevice, line: &mut Line<'_>) {
-    let told = match start(device) {
+    let format = line.format(Format::First);
+    let told = match start(device, format) {
         Ok(root) => return push_root(line, &root),
         Err(StartFault::NotEmpty) => "not empty",
         Err(StartFault::Device) => "device failed",
@@ -53,7 +60,10 @@ pub fn log_start(line: &mut Line<'_>) {
         generation: 1,
         first,
         pages,
-        revision: 1,
+        label: Label {
+            format: Format::First,
+            revision: 1,
+        },
     };
     line.show(&root.log_start());
 }

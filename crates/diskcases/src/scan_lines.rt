@@ -9,9 +9,10 @@ use crate::page_lines::fill;
 use crate::writing_lines::push_keys;
 use checkpoint::{ReadFault, Reader, ScanFault, scan};
 use device::{Device, MemDevice};
+use names::Format;
 use pages::PageBuilder;
 use records::Entry;
-use roots::{Root, Slot};
+use roots::{Label, Root, Slot};
 use std::alloc::Global;
 
 /// `lay SECTOR CELLS`: writes the page of these cells, if its place is at most the length.
@@ -77,7 +78,10 @@ pub(crate) fn root_at(
             generation: 1,
             first,
             pages,
-            revision: 1,
+            label: Label {
+                format: Format::First,
+                revision: 1,
+            },
         }),
         _ => {
             line.refuse("the pages lie past the end");

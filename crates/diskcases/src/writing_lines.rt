@@ -5,7 +5,7 @@ use crate::root_lines::push_root;
 use cases::Wrong;
 use checkpoint::{EntryList, WriteFault, write};
 use device::{Device, MemDevice};
-use roots::counted_root;
+use roots::{Label, counted_root};
 use std::alloc::Global;
 
 // The entries of the rest, with ` | ` between them; none where it is empty.
@@ -55,7 +55,7 @@ pub(crate) fn push_keys(line: &mut Line<'_>, first_keys: &[Vec<u8>]) {
     }
 }
 
-/// `write LAST REVISION KEY ; CELL | ..`: writes these entries as the next generation: its root, and after `begin` the first key of each
+/// `write LAST REVISION KEY ; CELL | ..`: writes these entries as the next generation, of the same format: its root, and after `begin` the first key of each
 /// page, in hex where it is no word.
 pub fn write_entries(alloc: Global, device: &mut MemDevice, line: &mut Line<'_>) {
     let (last_gate, revision) = (line.number(), line.number());
@@ -66,7 +66,11 @@ pub fn write_entries(alloc: Global, device: &mut MemDevice, line: &mut Line<'_>)
         return line.answer.word("no gate of a log");
     }
     let mut entries = entries_of(alloc, line);
-    let written = write(alloc, device, &current, last_gate, revision, &mut entries);
+    let label = Label {
+        format: current.label.format,
+        revision,
+    };
+    let written = write(alloc, device, &current, last_gate, label, &mut entries);
     drop(entries);
     match written {
         Ok(written) => {

@@ -22,13 +22,13 @@ ghost use Rattle.requests.specs.View.{view};
 ghost use Rattle.holdings.specs.Holdings as holdings;
 ghost use Rattle.paged.specs.Lying.{base_of};
 ghost use Rattle.paged.specs.Paged.{Below, root_of};
-ghost use Rattle.durable.specs.Rules.{first_rules, AreOfFormat};
+ghost use Rattle.durable.specs.Rules.{rules_at};
 ghost use Rattle.durable.specs.Stands.{HoldsBase};
 
 use device::Device;
 use durable::{Damage, Fault};
 use gatelog::Log;
-use names::{Format, Key, Rules};
+use names::{Key, Rules};
 use paged::Paged;
 use recovery::{RecoveryFault, written_keys};
 use roots::{Root, synced_root};
@@ -41,17 +41,16 @@ pub(crate) struct Opened {
     pub(crate) log: Log,
 }
 
-// The numbers of the first format, which is the only one: a file of another has another header.
-#[tactic(auto, unfolding(durable::specs::Rules::first_rules))]
-fn rules() -> Rules
-    ensures { result ≡ first_rules }
+// The rules of the format that a root tells.
+fn rules(root: &Root) -> Rules
+    ensures { result ≡ rules_at root.now }
 {
-    Format::First.rules(0)
+    root.label.format.rules(0)
 }
 
 // The keys that a log with these payloads writes. Where some payload is that of no writes there are none: it is told where the writes are taken.
 fn keys_in(alloc: Global, payloads: &[Vec<u8>]) -> Result<Vec<Key>, Fault>
-    ensures all { (v : seen.View BesideData) (ws : List Write) → IsWritten first_rules v ws (map (λ p. p.items) payloads.now)
+    ensures all { (own : Rules) (v : seen.View BesideData) (ws : List Write) → IsWritten own v ws (map (λ p. p.items) payloads.now)
         → IfOk result (λ keys. (payload : List ℕ) (key : KeyData) → Contains (map (λ p. p.items) payloads.now) payload → Writes payload key → Contains keys.items key) }
     ensures refusal { OnErr result (result ≡ Err Fault.Memory) }
 {
@@ -72,25 +71,25 @@ fn read_objects<D: Device>(
 ) -> Result<Paged, Fault>
     requires small { log_start root.now < 2 ^ 54 }
     requires inside { D.disk.keeps device.old → 512 * log_start root.now ≤ length (D.disk.content device.old) }
-    ensures rules { IfOk result (λ p. p.core.rules ≡ first_rules) }
+    ensures rules { IfOk result (λ p. p.core.rules ≡ rules_at root.now) }
     ensures root { IfOk result (λ p. root_of p ≡ root.now) }
-    ensures found { D.disk.keeps device.old → (rules : Rules) (base : History) (ws : List Write) → AreOfFormat rules → IsHistory rules base
+    ensures found { D.disk.keeps device.old → (rules : Rules) (base : History) (ws : List Write) → IsHistory rules base
         → HoldsBase rules (D.disk.content device.old) root.now base → IsWritten rules (with_plans (view rules base)) ws (map (λ p. p.items) payloads.now)
         → IfOk result (λ p. Below D.disk device.new p (base_of (with_plans (view rules base)))
         × HasRedone rules (base_of (with_plans (view rules base))) (with_plans (view rules base)) p.core (map (λ p. p.items) payloads.now)) }
     ensures damaged { D.disk.keeps device.old → (damage : DamageData) → IsErrOf result (Fault.Damaged damage)
-        → (rules : Rules) (base : History) (ws : List Write) → AreOfFormat rules → IsHistory rules base
+        → (rules : Rules) (base : History) (ws : List Write) → IsHistory rules base
         → HoldsBase rules (D.disk.content device.old) root.now base → IsWritten rules (with_plans (view rules base)) ws (map (λ p. p.items) payloads.now) → ⊥ }
     ensures behind { D.disk.keeps device.old → (damage : DamageData) → IsErrOf result (Fault.Damaged damage)
         → IsDamageBehind (D.disk.content device.old) root.now damage }
     ensures redone { root.now.pages ≡ 0 → IfOk result (λ p. Below D.disk device.new p []
-        × ((held : seen.View BesideData) × holdings.Shows p.core [] held × IsRedone first_rules held)) }
+        × ((held : seen.View BesideData) × holdings.Shows p.core [] held × IsRedone (rules_at root.now) held)) }
     ensures ran { Ran D.disk device.old device.new Same }
     ensures refusal { (result ≢ Err Fault.Failed) × (result ≢ Err Fault.Exhausted) }
     ensures cause { IsErrOf result Fault.Device → HasFailed D.disk device.old device.new }
 {
     let keys = keys_in(alloc, payloads)?;
-    let paged = Paged::read(alloc, device, rules(), root, &keys)?;
+    let paged = Paged::read(alloc, device, rules(root), root, &keys)?;
     Ok(paged.redone(alloc, payloads)?)
 }
 
@@ -120,7 +119,7 @@ fn read_pages_alone<D: Device>(alloc: Global, device: &mut D, root: &Root, damag
     ensures refusal { (result ≢ Fault.Failed) × (result ≢ Fault.Exhausted) }
     ensures cause { result ≡ Fault.Device → HasFailed D.disk device.old device.new }
 {
-    match Paged::read(alloc, device, rules(), root, &[]) {
+    match Paged::read(alloc, device, rules(root), root, &[]) {
         Ok(_) => Fault::Damaged(damage),
         Err(fault) => Fault::from(fault),
     }

@@ -1,7 +1,7 @@
 //! How a store on a device begins: it is made, and it is opened, again and again.
 //!
 //! ```text
-//! create(&mut device)?;
+//! create(&mut device, Format::First)?;
 //! let mut store = open(alloc, device)?;
 //! ```
 //!

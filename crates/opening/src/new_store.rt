@@ -1,12 +1,13 @@
 ghost use Rattle.std.specs.Prelude.{◌≡◌, ◌≢◌, ◌*◌, List, ℕ, [], length, OnOk, IsErrOf};
-ghost use Rattle.durable.specs.Rules.{first_rules};
+ghost use Rattle.durable.specs.Rules.{rules_by};
 ghost use Rattle.device.specs.Disk.{HasFailed};
 ghost use Rattle.device.specs.Run.{Ran};
 ghost use Rattle.device.specs.Step.{Same, Torn};
-ghost use Rattle.roots.specs.NewStore.{new_content};
+ghost use Rattle.roots.specs.NewStore.{new_content, first_label};
 ghost use Rattle.durable.specs.Stands.{StandsFor};
 
 use device::Device;
+use names::Format;
 use roots::{StartFault, start};
 use std::fmt;
 use std::fmt::{Display, Formatter};
@@ -47,18 +48,18 @@ impl From<StartFault> for CreateFault {
     }
 }
 
-/// Makes a store without objects on a device without sectors: nine sectors, and then a sync. No memory is taken.
+/// Makes a store of this format, without objects, on a device without sectors: nine sectors, and then a sync. No memory is taken.
 ///
 /// # Errors
 ///
 /// `NotEmpty` where the device has sectors. `Device` only where the device failed in this call; one that was empty may then hold anything in nine
 /// sectors. Sectors that are there stay, whatever is answered.
-pub fn create<D: Device>(device: &mut D) -> Result<(), CreateFault>
+pub fn create<D: Device>(device: &mut D, format: Format) -> Result<(), CreateFault>
     ensures empty { D.disk.keeps device.old → OnOk result (D.disk.content device.old ≡ []) }
-    ensures content { D.disk.keeps device.old → OnOk result (D.disk.content device.new ≡ new_content) }
+    ensures content { D.disk.keeps device.old → OnOk result (D.disk.content device.new ≡ new_content format) }
     ensures nine { D.disk.keeps device.old → OnOk result (length (D.disk.content device.new) ≡ 9 * 512) }
-    ensures stands { D.disk.keeps device.old → OnOk result (StandsFor first_rules (D.disk.content device.new) []) }
-    ensures left { D.disk.keeps device.old → OnOk result ((c : List ℕ) → D.disk.left device.new c → StandsFor first_rules c []) }
+    ensures stands { D.disk.keeps device.old → OnOk result (StandsFor (rules_by (first_label format)) (D.disk.content device.new) []) }
+    ensures left { D.disk.keeps device.old → OnOk result ((c : List ℕ) → D.disk.left device.new c → StandsFor (rules_by (first_label format)) c []) }
     ensures not_empty { D.disk.keeps device.old → IsErrOf result CreateFault.NotEmpty → D.disk.content device.old ≢ [] }
 
     ensures ran { Ran D.disk device.old device.new (Torn 0 4608) }
@@ -70,6 +71,6 @@ pub fn create<D: Device>(device: &mut D) -> Result<(), CreateFault>
     ensures cause { IsErrOf result CreateFault.Device → HasFailed D.disk device.old device.new }
     ensures kept { D.disk.keeps device.old → D.disk.keeps device.new }
 {
-    start(device)?;
+    start(device, format)?;
     Ok(())
 }

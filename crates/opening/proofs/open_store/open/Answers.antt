@@ -1,17 +1,14 @@
-use Rattle.std.proofs.Common.{◌∙◌, sym, ap, subst, Err}
+use Rattle.std.proofs.Common.{◌≡◌, ◌∙◌, sym, ap, subst, Err}
 use Rattle.std.proofs.lemmas.Grind.{merely}
 use Rattle.paged.specs.Paged.{root_of as paged_root}
 use Rattle.paged.specs.declared.state.Paged.{Paged}
-use Rattle.durable.specs.Rules.{AreOfFormat}
-use Rattle.durable.proofs.Answering.{Small}
-use Rattle.durable.proofs.Numbers.{first_small}
-use Rattle.opening.proofs.Beginning.{first_is}
+use Rattle.durable.specs.Rules.{rules_by}
 use Rattle.opening.proofs.Readiness.{opened_ready, opened_holds, device_or_memory}
 use Rattle.opening.proofs.Settling.{settled_with, redone_with, moments_with, content_with, count_with}
 use Rattle.opening.proofs.open_store.open.Goals as goal
 
-pub serving-requires-clause-limits : goal.serving-requires-clause-limits
-serving-requires-clause-limits g c = subst Small (sym c.in-Ok.ensures.read.rules) first_small
+pub serving-requires-clause-numbers : goal.serving-requires-clause-numbers
+serving-requires-clause-numbers g c = c.in-Ok.ensures.read.rules
 
 pub serving-requires-clause-ready : goal.serving-requires-clause-ready
 serving-requires-clause-ready g c keeps =
@@ -28,8 +25,8 @@ returns-in-Ok-clause-settled g c rules h keeps stands =
 
 pub returns-in-Ok-clause-rules : goal.returns-in-Ok-clause-rules
 returns-in-Ok-clause-rules g c =
-    let At : Paged → Type 0 = λ p. AreOfFormat p.core.rules in
-    subst At (sym c.serving.ensures.paged) (subst AreOfFormat (sym c.in-Ok.ensures.read.rules) first_is)
+    let At : Paged → Type 0 = λ p. p.core.rules ≡ rules_by (paged_root p).label in
+    subst At (sym c.serving.ensures.paged) c.in-Ok.ensures.read.rules
 
 pub returns-in-Ok-clause-redone : goal.returns-in-Ok-clause-redone
 returns-in-Ok-clause-redone g c =

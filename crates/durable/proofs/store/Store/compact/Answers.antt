@@ -23,7 +23,7 @@ use Rattle.durable.specs.Stands.{StandsFor}
 use Rattle.durable.specs.declared.store.Store.{Store}
 use Rattle.durable.proofs.Compacting.{one_stands}
 use Rattle.durable.proofs.Numbers.{history_kept, by_own_format, format_of}
-use Rattle.durable.proofs.Renewing.{on_ok_three, at_either, failed_then, serves_between, settled_between, revision_between, serves_unchanged, settled_unchanged, keepable_here, moments_renewed, settled_renewed, serves_renewed, left_renewed}
+use Rattle.durable.proofs.Renewing.{on_ok_three, at_either, failed_then, serves_between, settled_between, serves_unchanged, settled_unchanged, keepable_here, moments_renewed, settled_renewed, serves_renewed, left_renewed}
 use Rattle.durable.proofs.Unwritten.{held_after, left_read, moments_read, read_then}
 use Rattle.durable.proofs.store.Store.compact.Goals as goal
 
