@@ -118,7 +118,7 @@ pub(crate) fn judged_put<'x, S: Source<Beside>>(
         → plans.items ≡ plans_in (document_in manifest.now.body).json trees
         → IfOk result (IsJudged held (λ warnings. showing (if is_some old then 200 else 201) warnings (document_in manifest.now.body) (held.revision + 1))
         (put manifest.now.key (document_in manifest.now.body) trees)
-        (verdict (objects_of v) (record { operation = if is_some old then Update else Create; key = manifest.now.key; object = Some (document_in manifest.now.body).json; old_object = old }))) }
+        (verdict (objects_of v) (record { operation = if is_some old then Update else Create; key = manifest.now.key; object = Some (document_in manifest.now.body).json; old_object = old; namespace = None }))) }
     ensures looked { HasLooked S.holds S.goes_to S.failures S.unfailed core.old source.old source.new result }
 {
     let attempt = put_attempt(manifest, old_object);
@@ -181,7 +181,7 @@ pub(crate) fn judged_delete<'x, S: Source<Beside>>(
     ensures ready { IfOk result (λ p. HasRoomFor core.new p.write) }
     ensures judged { (held : Held BesideData) (v : View) → IsOver (S.holds source.old) core.old held v → option_map found_in (stored_at held key.now) ≡ Some found
         → IfOk result (IsJudged held (λ warnings. showing 200 warnings found.document (held.revision + 1)) (delete key.now)
-        (verdict (objects_of v) (record { operation = Delete; key = key.now; object = None; old_object = Some (view old_object.now) }))) }
+        (verdict (objects_of v) (record { operation = Delete; key = key.now; object = None; old_object = Some (view old_object.now); namespace = None }))) }
     ensures looked { HasLooked S.holds S.goes_to S.failures S.unfailed core.old source.old source.new result }
 {
     let deletion = Attempt {
@@ -189,6 +189,7 @@ pub(crate) fn judged_delete<'x, S: Source<Beside>>(
         key,
         object: None,
         old_object: Some(old_object),
+        namespace: None,
     };
     match verdict_of(core, alloc, source, &deletion)? {
         Verdict::Admitted(warnings) => {

@@ -29,6 +29,7 @@ use Rattle.expressions.specs.Objects as asked
 use Rattle.expressions.specs.Objects.{Held, Objects, all_held, shown_objects}
 use Rattle.expressions.specs.Listed.{listed, wanted_of}
 use Rattle.expressions.specs.LookupSeen.{shown_held}
+use Rattle.expressions.proofs.Standing.{counted_policy}
 use Rattle.expressions.proofs.LookupStanding.{listed-map, value_at-map, shown_listed}
 use Rattle.recovery.specs.Beside.{Beside}
 use Rattle.recovery.specs.Shown.{plans_held, HasNoRules, Shows}
@@ -128,7 +129,7 @@ policy_is d p q spelled stands =
 trees_of : (r : Resource) (o : Stored (List Expr)) → HasTrees r o.document.json o.beside → asked.HasTrees r (object_of o)
 trees_of ValidatingAdmissionPolicy o has = λ p spelled.
     let stands = has.spelled in
-    subst (λ (q : Policy). AreTyped q [] (sources q) o.beside) (policy_is o.document.json p stands.0 spelled stands.1) stands.2
+    subst (λ (q : Policy). AreTyped q [] (sources q) o.beside) (policy_is o.document.json p stands.0 spelled (counted_policy o.document.json stands.0 stands.1)) stands.2
 trees_of ConfigMap o has = tt
 trees_of Node o has = tt
 trees_of Pod o has = tt

@@ -69,7 +69,7 @@ module _ (rules : Rules) (held : seen.View Beside) (m : Manifest) (v : View) (sh
   no_object (Some s) is = absurd (let never : true ≡ false = is in cc)
 
   pub create_attempt : (trees : List Expr) → exists held m.key ≡ false
-      → ◌≡◌ {A = Attempt} (record { operation = Create; key = m.key; object = Some (document_in m.body).json; old_object = None }) (attempt_of v (put m.key (document_in m.body) trees))
+      → ◌≡◌ {A = Attempt} (record { operation = Create; key = m.key; object = Some (document_in m.body).json; old_object = None; namespace = None }) (attempt_of v (put m.key (document_in m.body) trees))
   create_attempt trees free =
       let absent : exists v m.key ≡ false = sym (exists_shown held v m.key shows) ∙ free in
       λ i. record {
@@ -77,6 +77,7 @@ module _ (rules : Rules) (held : seen.View Beside) (m : Manifest) (v : View) (sh
         key = m.key;
         object = Some (document_in m.body).json;
         old_object = no_object (stored_at v m.key) absent i;
+        namespace = None;
       }
 
   -- ---- replacements
@@ -117,7 +118,7 @@ module _ (rules : Rules) (held : seen.View Beside) (m : Manifest) (v : View) (sh
   replace_clear trees free none = none_of_both (replace_conditions v m.key m.version) (replace_limits rules v (document_in m.body)) (replaced free) (replace_limits_at none)
 
   pub replace_attempt : (trees : List Expr) (old : Data) → exists held m.key ≡ true → Some old ≡ shown_at held m.key
-      → ◌≡◌ {A = Attempt} (record { operation = Update; key = m.key; object = Some (document_in m.body).json; old_object = Some old }) (attempt_of v (put m.key (document_in m.body) trees))
+      → ◌≡◌ {A = Attempt} (record { operation = Update; key = m.key; object = Some (document_in m.body).json; old_object = Some old; namespace = None }) (attempt_of v (put m.key (document_in m.body) trees))
   replace_attempt trees old there_held is =
       let there : exists v m.key ≡ true = sym (exists_shown held v m.key shows) ∙ there_held in
       let before : Some old ≡ shown_at v m.key = is ∙ shown_at_shown held v m.key shows in
@@ -126,6 +127,7 @@ module _ (rules : Rules) (held : seen.View Beside) (m : Manifest) (v : View) (sh
         key = m.key;
         object = Some (document_in m.body).json;
         old_object = before i;
+        namespace = None;
       }
 
 -- ---- deletions
@@ -140,7 +142,7 @@ module _ (rules : Rules) (held : seen.View Beside) (k : Key) (version : Option (
       deleted (first_missing held k ((known VersionNotCurrent, deletion_conflicts held k version) ∷ (known RevisionExhausted, is_exhausted rules held) ∷ []) none) s
 
   pub delete_attempt : (old : Data) → Some old ≡ shown_at held k
-      → ◌≡◌ {A = Attempt} (record { operation = Delete; key = k; object = None; old_object = Some old }) (attempt_of v (write.delete k))
+      → ◌≡◌ {A = Attempt} (record { operation = Delete; key = k; object = None; old_object = Some old; namespace = None }) (attempt_of v (write.delete k))
   delete_attempt old is =
       let before : Some old ≡ shown_at v k = is ∙ shown_at_shown held v k shows in
-      λ i. record { operation = Delete; key = k; object = None; old_object = before i }
+      λ i. record { operation = Delete; key = k; object = None; old_object = before i; namespace = None }

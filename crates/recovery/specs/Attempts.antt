@@ -24,7 +24,7 @@ objects_of v = map (λ o. (o.0, object_of o.1)) v.objects
 abbrev pub shown_at : {P : Type 0} → seen.View P → Key → Option Data
 shown_at v k = option_map (λ s. shown s.document s.revision) (stored_at v k)
 
--- what a write attempts: a put creates or updates, and a deletion tells what it removes
+-- what a write attempts: a put creates or updates, and a deletion tells what it removes. No Namespace is shown, since namespaces are no objects.
 abbrev pub attempt_of : View → Write → Attempt
-attempt_of v (put k d trees) = record { operation = if exists v k then Update else Create; key = k; object = Some d.json; old_object = shown_at v k }
-attempt_of v (delete k) = record { operation = Delete; key = k; object = None; old_object = shown_at v k }
+attempt_of v (put k d trees) = record { operation = if exists v k then Update else Create; key = k; object = Some d.json; old_object = shown_at v k; namespace = None }
+attempt_of v (delete k) = record { operation = Delete; key = k; object = None; old_object = shown_at v k; namespace = None }

@@ -1,6 +1,6 @@
 //! The attempt of a write, as policies are asked about it.
 
-ghost use Rattle.std.specs.Prelude.{◌≡◌, option_map, if◌then◌else◌, Some, is_some};
+ghost use Rattle.std.specs.Prelude.{◌≡◌, option_map, if◌then◌else◌, None, Some, is_some};
 ghost use Rattle.serde_json.specs.View.{view};
 ghost use Rattle.requests.specs.Codes.{document_in};
 ghost use Rattle.policy.specs.Rules.{attempt_seen};
@@ -25,12 +25,13 @@ fn put_operation(stands: bool) -> Operation
 #[must_use]
 pub fn put_attempt<'x>(manifest: &'x Manifest, old_object: Option<&'x Value>) -> Attempt<'x>
     ensures { let old = option_map (λ d. view d.now) old_object.entry in attempt_seen result
-        ≡ record { operation = if is_some old then Update else Create; key = manifest.now.key; object = Some (document_in manifest.now.body).json; old_object = old } }
+        ≡ record { operation = if is_some old then Update else Create; key = manifest.now.key; object = Some (document_in manifest.now.body).json; old_object = old; namespace = None } }
 {
     Attempt {
         operation: put_operation(old_object.is_some()),
         key: manifest.key(),
         object: Some(manifest.document().json().value()),
         old_object,
+        namespace: None,
     }
 }
