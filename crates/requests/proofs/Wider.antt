@@ -1,5 +1,5 @@
 -- Under wider rules a history stays one, and is seen as it was.
-use Rattle.std.proofs.Common.{arith, ◌≡◌, ◌∙◌, ap, subst, sym, ◌+◌, ◌-◌, ◌<◌, ◌≤◌, ◌⊎◌, inl, inr, refl, ℕ, List, [], ◌∷◌, ◌++◌, length, drop, max, IsTrue, is_some, length-drop}
+use Rattle.std.proofs.Common.{arith, ◌≡◌, ◌∙◌, ap, subst, sym, ◌+◌, ◌-◌, ◌<◌, ◌≤◌, ◌⊎◌, inl, inr, refl, ℕ, List, [], ◌∷◌, ◌++◌, length, drop, IsTrue, is_some, length-drop}
 use Rattle.names.specs.declared.format.Rules.{Rules}
 use Rattle.names.specs.Key.{Key}
 use Rattle.circular_buffer.specs.Buffer.{keep_last}
@@ -10,7 +10,7 @@ use Rattle.documents.specs.Document.{Document}
 use Rattle.requests.specs.declared.stored.Stored.{Stored}
 use Rattle.requests.specs.History.{Write, put, delete}
 use Rattle.requests.specs.HistoryLaws.{events_from}
-use Rattle.requests.specs.View.{View, exists, objects_after, event_of, after, after_all, empty, view, MayPut, MayFollow, AllMayFollow, AllFollow}
+use Rattle.requests.specs.View.{View, exists, objects_after, event_of, after, after_all, empty, view, MayFollow, AllMayFollow}
 use Rattle.requests.specs.Wider.{AreWider, floor_at, HistoriesStay, ViewsStay, ViewsStayAboveFloor}
 use Rattle.requests.proofs.ViewLemmas.{counted_events, events-numbered, revision-after_all, keep_last-short}
 

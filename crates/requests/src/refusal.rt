@@ -34,7 +34,7 @@ pub enum Refusal {
     UnexpectedBody,
     /// The revision that a watch begins after is not there, is no number in its one form, or is above the current one.
     BadVersion,
-    /// Events above the revision that a watch begins after may have left the window.
+    /// Events above the revision that a watch begins after may have left the window, or it is below the floor, up to which none is kept.
     Expired,
     /// The body is no JSON value (RFC 8259), or one that is nested too deep.
     BodyIsNotJson,
