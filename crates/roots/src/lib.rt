@@ -1,10 +1,10 @@
 //! The header of a store's file and its two roots, of which one counts.
 //!
-//! A root says where a generation of the store lies: its pages, and behind them the first gate of its log. Of the roots
+//! A root says where a generation of the store lies: its pages, and behind them the first gate of its log. Its mark tells the store's format. Of the roots
 //! whose gates are open the one of greater generation counts. Opening syncs the device and answers it, or that the content holds none.
 //!
 //! ```text
-//! let first = start(&mut device)?;
+//! let first = start(&mut device, Format::First)?;
 //! let root = synced_root(&mut device)?;
 //! let log = Log::open(&mut device, root.log_start())?;
 //! ```

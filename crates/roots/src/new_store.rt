@@ -90,7 +90,7 @@ fn write_sectors<D: Device>(device: &mut D, sectors: &[u8]) -> Result<(), Device
     write_through(device, 0, sectors)
 }
 
-/// Makes the store of an empty device: writes the nine sectors of a new store, and syncs. They are the header, the first root behind
+/// Makes a store of this format on an empty device: writes its nine sectors, and syncs. They are the header, the first root behind
 /// an open gate in slot A, and zeros, among them the closed gates of slot B and of the empty log at sector 8. No memory is taken.
 ///
 /// # Errors
