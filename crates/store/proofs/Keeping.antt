@@ -117,11 +117,12 @@ length-each f (o ∷ os) = ap suc (length-each f os)
 
 -- what is told of what a store holds is told of the view that it shows
 pub told_of_view : (rules : Rules) (h : History) (root other : Root) (stored : seen.View Beside) (c : Checked) → Shows stored (view rules h) → IsCheckOf other stored c
-    → other.generation ≡ root.generation → IsToldOfHistory rules h root c
-told_of_view rules h root other stored c shows told same =
+    → other.generation ≡ root.generation → other.label.format ≡ root.label.format → IsToldOfHistory rules h root c
+told_of_view rules h root other stored c shows told same format =
     let counted : length (mapped plans_held stored).objects ≡ length (with_plans (view rules h)).objects = ap (λ (v : seen.View Beside). length v.objects) shows in
     record {
       revision = told.revision ∙ ap (λ (v : seen.View Beside). v.revision) shows;
       objects = told.objects ∙ (sym (length-each plans_held stored.objects) ∙ (counted ∙ length-each plans_beside (view rules h).objects));
       generation = told.generation ∙ same;
+      format = told.format ∙ format;
     }

@@ -17,11 +17,12 @@ pub record KeepsHistory {D : Type 0} (rules : Rules) (disk : Disk D) (old new : 
   pub holds : HoldsHistory rules disk new h
   pub any_moment : LeavesOnly disk old new (λ c. StandsFor rules c h)
 
--- The root that counts is of the generation after that of another one, and this is told of it.
+-- The root that counts is of the generation after that of another one, and of its format, and this is told of it.
 pub record IsWrittenAnew (content : List ℕ) (before : Root) (c : Compacted) : Type 0 where
   pub root : Root
   pub counts : HoldsRoot content root
   pub next : root.generation ≡ before.generation + 1
+  pub format : root.label.format ≡ before.label.format
   pub told : IsToldOf root c
 
 -- This is told of a store that shows the view of the history, in the generation of a root.
@@ -29,3 +30,4 @@ pub record IsToldOfHistory (rules : Rules) (h : History) (root : Root) (c : Chec
   pub revision : c.revision ≡ (view rules h).revision
   pub objects : c.objects ≡ length (view rules h).objects
   pub generation : c.generation ≡ root.generation
+  pub format : c.format ≡ root.label.format

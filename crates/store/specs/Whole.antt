@@ -13,7 +13,7 @@ use Rattle.apicore.specs.Admitted.{AreAdmitted}
 use Rattle.durable.specs.declared.fault.Fault.{Fault}
 use Rattle.durable.specs.declared.fault.Fault.TheVariants as fault
 use Rattle.durable.specs.declared.store.Store.{Store}
-use Rattle.durable.specs.Rules.{AreOfFormat}
+use Rattle.durable.specs.Rules.{rules_at}
 use Rattle.durable.specs.Ready.{HoldsHistory}
 use Rattle.durable.specs.Settled.{device_of, root_of, serves, kept_rules, Holds, IsFound, ServesAt, IsSettledAt}
 use Rattle.opening.specs.Opened.{IsRedone}
@@ -102,7 +102,7 @@ IsUndamaged other = Unit {0}
 
 -- ---- with the store between
 
--- There is a store that was opened on the device, served, and gave it back: it was serving, kept to the numbers of a format, and where the root that counts has
+-- There is a store that was opened on the device, served, and gave it back: it was serving, kept to the rules of the format that its root tells, and where the root that counts has
 -- no pages it held what the writes that were read left, with their plans. At each view that it showed this is so. Where the device held a history, it was
 -- settled at that. Where it did not, nothing pins the store: one with pages shows no view on a device that does not keep the disk model.
 pub record WasServed {D : Type 0} (g : Ghosts D) (old new : D) (IsSo : (opened served : Store D g) → Rules → View → Type 0) : Type 0 where
@@ -111,7 +111,7 @@ pub record WasServed {D : Type 0} (g : Ghosts D) (old new : D) (IsSo : (opened s
   pub given_back : new ≡ device_of served
   pub settled : (rules : Rules) (h : History) → HoldsHistory rules g.disk old h → IsSettledAt rules opened h
   pub serving : serves opened ≡ true
-  pub numbers : AreOfFormat (kept_rules opened)
+  pub numbers : kept_rules opened ≡ rules_at (root_of opened)
   pub redone : (root_of opened).pages ≡ 0 → (held : seen.View Beside) × Holds opened held × IsRedone (kept_rules opened) held
   pub at_views : (rules : Rules) (v : View) → ServesAt rules opened v → IsSo opened served rules v
 

@@ -2,7 +2,7 @@
 //!
 //! ```text
 //! let mut device = storage.create("store.db")?;
-//! create(&mut device)?;
+//! create(&mut device, Format::First)?;
 //! let device = answer(alloc, device, &mut input, &mut output)?;
 //! ```
 //!
@@ -25,4 +25,5 @@ pub use api::{ServeFault, serve};
 pub use device::{Device, FileDevice};
 pub use durable::{Checked, Compacted, Damage, Fault, Store};
 pub use httpmsg::{End, Input, Output, Std};
+pub use names::Format;
 pub use opening::{CreateFault, create, open};

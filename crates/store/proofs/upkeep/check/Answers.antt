@@ -25,7 +25,8 @@ returns-in-Ok-check-clause-told g c rules h holds =
     holds.read.counts settled.read.counts
     in
     told_of_view rules h holds.read.root _ shown.shows.held c.in-Ok-check.checked shown.shows.plans told
-    (sym told.generation ∙ (c.in-Ok-check.ensures.counted rules h settled ∙ ap (λ (r : Root). r.generation) same))
+    (sym told.generation ∙ (c.in-Ok-check.ensures.counted rules h settled).0 ∙ ap (λ (r : Root). r.generation) same)
+    (sym told.format ∙ (c.in-Ok-check.ensures.counted rules h settled).1 ∙ ap (λ (r : Root). r.label.format) same)
 
 pub returns-in-Err-check-clause-failed : goal.returns-in-Err-check-clause-failed
 returns-in-Err-check-clause-failed g c rules h holds =
@@ -37,4 +38,4 @@ pub returns-in-Err-check-clause-undamaged : goal.returns-in-Err-check-clause-und
 returns-in-Err-check-clause-undamaged g c rules h holds damage is =
     let settled = c.in-Ok.ensures.settled rules h holds.keeps holds.read in
     c.check.ensures.damaged damage (c.in-Err-check.is ∙ ap Err is) rules (view rules h) (settled_serves rules c.in-Ok.store h settled)
-    (history_kept rules h settled.read.numbers settled.read.history)
+    (history_kept rules settled.read.root.label h settled.read.checkpoint.numbers settled.read.history)

@@ -1,5 +1,8 @@
 use Rattle.std.proofs.Common.{◌∙◌, ◌+◌, sym, subst, ap, Err, true≢false, ⊎_elim}
+use Rattle.names.specs.declared.format.Rules.{Rules}
 use Rattle.roots.specs.declared.root.Root.{Root}
+use Rattle.durable.specs.Settled.{root_of, kept_rules}
+use Rattle.durable.proofs.Numbers.{format_of}
 use Rattle.store.specs.Upkeep.{IsWrittenAnew}
 use Rattle.store.proofs.Keeping.{kept_settled, kept_failed, same_root}
 use Rattle.store.proofs.upkeep.compact.Goals as goal
@@ -25,6 +28,8 @@ returns-in-Ok-compact-clause-written g c rules h holds =
       root = _;
       counts = (c.in-Ok-compact.ensures.counts rules h settled).0;
       next = c.in-Ok-compact.ensures.counted rules h settled ∙ ap (λ (r : Root). r.generation + 1) same;
+      format = c.in-Ok-compact.ensures.keeps_format ∙ sym (format_of (kept_rules c.in-Ok.store) (root_of c.in-Ok.store).label c.in-Ok.ensures.rules)
+          ∙ ap (λ (r : Rules). r.format) settled.rules_are ∙ format_of rules settled.read.root.label settled.read.checkpoint.numbers ∙ ap (λ (r : Root). r.label.format) same;
       told = c.in-Ok-compact.ensures.told;
     })
 
