@@ -291,7 +291,7 @@ pub refuses_passed : {O T S : Type 0} (took : O → O → List ℕ → Type 0) (
     → (damage : Damage) → IsErrOf {T = S} (Err fault) (Damaged damage) → RefusesLast took failures o p
 refuses_passed took failures o q p fault later told damage is = refuses_later took failures o q p later (told damage (ap Err (err_same is)))
 
--- the output's fault and want of memory are no damage
+-- the output's fault and out of memory are no damage
 pub no_damage_told : {T P : Type 0} (r : Result T ServeFault) → IfErr r (λ stop. (stop ≡ Memory) ⊎ (stop ≡ Write)) → (damage : Damage)
     → IsErrOf r (Damaged damage) → P
 no_damage_told (Ok value) only damage is = absurd (no_fault is)

@@ -96,7 +96,7 @@ pub trait Lookup<'a> {
     ///
     /// # Errors
     ///
-    /// `Memory` where no memory is left, `Device` where the device failed, `Damaged` where what lies below is damaged, so that it shows nothing. A device
+    /// `Memory` where out of memory, `Device` where the device failed, `Damaged` where what lies below is damaged, so that it shows nothing. A device
     /// that failed is told as `Device`, and never as `Memory`.
     fn parameters(
         &mut self,

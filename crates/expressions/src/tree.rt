@@ -23,7 +23,7 @@ pub(crate) fn tree_of(alloc: Global, text: &str) -> Result<Option<Box<Tree>>, Al
     }
 }
 
-// A text that is not read for this fault spells no tree, unless no memory is left.
+// A text that is not read for this fault spells no tree, unless it is out of memory.
 fn spells_none(fault: ReadFault) -> Result<(), AllocError>
     ensures ok { OnOk result (fault ≡ ReadFault.Memory → ⊥) }
     ensures err { OnErr result (fault ≡ ReadFault.Memory) }
