@@ -24,3 +24,10 @@ pub six_joined : (a b c d e f : List ℕ) → a ++ (b ++ (c ++ (d ++ (e ++ f))))
 six_joined a b c d e f =
     sym (append_assoc a b (c ++ (d ++ (e ++ f)))) ∙ sym (append_assoc (a ++ b) c (d ++ (e ++ f))) ∙ sym (append_assoc (a ++ b ++ c) d (e ++ f))
     ∙ sym (append_assoc (a ++ b ++ c ++ d) e f)
+
+-- eight texts, one after the other
+pub eight_joined : (a b c d e f g h : List ℕ) → a ++ (b ++ (c ++ (d ++ (e ++ (f ++ (g ++ h)))))) ≡ a ++ b ++ c ++ d ++ e ++ f ++ g ++ h
+eight_joined a b c d e f g h =
+    sym (append_assoc a b (c ++ (d ++ (e ++ (f ++ (g ++ h)))))) ∙ sym (append_assoc (a ++ b) c (d ++ (e ++ (f ++ (g ++ h)))))
+    ∙ sym (append_assoc (a ++ b ++ c) d (e ++ (f ++ (g ++ h)))) ∙ sym (append_assoc (a ++ b ++ c ++ d) e (f ++ (g ++ h)))
+    ∙ sym (append_assoc (a ++ b ++ c ++ d ++ e) f (g ++ h)) ∙ sym (append_assoc (a ++ b ++ c ++ d ++ e ++ f) g h)

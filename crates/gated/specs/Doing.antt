@@ -2,7 +2,9 @@
 use Rattle.std.specs.Prelude.{◌≡◌, ℕ, List, [], ◌++◌}
 use Rattle.device.specs.declared.device.Device.{Ghosts}
 use Rattle.device.specs.Disk.{Disk, LeavesOnly}
+use Rattle.names.specs.declared.format.Format.TheVariants.{First}
 use Rattle.names.specs.declared.format.Rules.{Rules}
+use Rattle.names.specs.Format.{rules_of}
 use Rattle.requests.specs.View.{view}
 use Rattle.recovery.specs.Standing.{History, View}
 use Rattle.apicore.specs.Admitted.{AreAdmitted}
@@ -10,7 +12,6 @@ use Rattle.durable.specs.declared.compacted.Checked.{Checked}
 use Rattle.durable.specs.declared.compacted.Compacted.{Compacted}
 use Rattle.durable.specs.declared.store.Store.{Store}
 use Rattle.durable.specs.Ready.{HoldsHistory}
-use Rattle.durable.specs.Rules.{first_rules}
 use Rattle.durable.specs.Settled.{device_of, IsFound, IsSettledAt}
 use Rattle.api.specs.Answers.{Answered, AreRead, all_writes, HasApplied}
 use Rattle.api.specs.Serving.{Exchanged}
@@ -39,13 +40,13 @@ pub record IsOpened {S D : Type 0} {g : Ghosts D} (opened : S → List ℕ → D
   pub moments : g.disk.keeps found → LeavesOnly g.disk found (device_of store) (g.disk.left found)
 
 module _ {S D : Type 0} (disk : Disk D) (made opened closed : S → List ℕ → D → Type 0) (storage : S) (name : List ℕ) where
-  -- A device without a sector was made under the name, and holds a store without objects, after a crash too.
+  -- A device without a sector was made under the name, and holds a store of the first format without objects, after a crash too.
   pub record MadeStore : Type 0 where
     pub empty : D
     pub left : D
     pub was_made : made storage name empty
     pub was_closed : closed storage name left
-    pub holds : disk.keeps empty → HoldsHistory first_rules disk left []
+    pub holds : disk.keeps empty → HoldsHistory (rules_of First 0) disk left []
 
   -- What the store on the device under the name was asked was answered: what was read and written is as the whole theorem says.
   pub record AnsweredAll {I O : Type 0} (gave : I → I → List ℕ → Type 0) (took : O → O → List ℕ → Type 0) (ended : Type 0) (input_old input_new : I) (output_old output_new : O)

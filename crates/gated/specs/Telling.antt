@@ -1,6 +1,7 @@
 -- What the program tells on its output of a compaction, and of a check.
 use Rattle.std.specs.Prelude.{◌≡◌, ℕ, List, ◌++◌, ◌⊎◌, true, codes, decimal}
 use Rattle.device.specs.Disk.{Disk}
+use Rattle.names.specs.Format.{number_of}
 use Rattle.durable.specs.declared.compacted.Checked.{Checked}
 use Rattle.durable.specs.declared.compacted.Compacted.{Compacted}
 use Rattle.durable.specs.declared.fault.Damage.{Damage}
@@ -19,7 +20,8 @@ compacted_text c = codes "generation " ++ decimal c.generation ++ codes ", " ++ 
 
 -- of a store that is whole
 abbrev pub checked_text : Checked → List ℕ
-checked_text c = codes "ok: format 1, revision " ++ decimal c.revision ++ codes ", objects " ++ decimal c.objects ++ codes ", generation " ++ decimal c.generation
+checked_text c =
+    codes "ok: format " ++ decimal (number_of c.format) ++ codes ", revision " ++ decimal c.revision ++ codes ", objects " ++ decimal c.objects ++ codes ", generation " ++ decimal c.generation
 
 -- A line was written.
 abbrev pub HasLine : {O : Type 0} (took : O → O → List ℕ → Type 0) (old new : O) → List ℕ → Type 0

@@ -26,8 +26,8 @@ use std::convert::AsStr;
 use std::net::{Net, SocketAddr, TcpListener, TcpStream};
 use std::time::Duration;
 use store::{
-    Checked, Compacted, Device, Input, Output, Storage, Store, answer, check as check_store,
-    compact as compact_store, create, open,
+    Checked, Compacted, Device, Format, Input, Output, Storage, Store, answer,
+    check as check_store, compact as compact_store, create, open,
 };
 
 // Makes a store in a new file. It allocates nothing, so it cannot run out of memory once there is a file. Where the store cannot be written, as on a
@@ -39,7 +39,7 @@ fn create_store<D: Device, S: Storage<D>>(storage: &S, file: &str) -> Result<(),
     ensures no_damage { (damage : Damage) → IsErrOf result (Problem.Damaged damage) → ⊥ }
 {
     let mut device = storage.create(file)?;
-    match create(&mut device) {
+    match create(&mut device, Format::First) {
         Ok(()) => {
             storage.close(file, device);
             Ok(())
@@ -243,9 +243,11 @@ fn print_checked<O: Output>(alloc: Global, checked: &Checked, output: &mut O) ->
         revision,
         objects,
         generation,
+        format,
     } = *checked;
+    let number = format.number();
     match format!(in alloc;
-        "ok: format 1, revision {revision}, objects {objects}, generation {generation}"
+        "ok: format {number}, revision {revision}, objects {objects}, generation {generation}"
     ) {
         Ok(line) => print(output, line.as_str()),
         Err(_) => Err(Problem::OutOfMemory),

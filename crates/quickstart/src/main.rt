@@ -8,7 +8,7 @@
 use httpmsg::write_all;
 use std::fmt::Display;
 use std::process::ExitCode;
-use store::{FileStorage, Std, Storage, answer, create};
+use store::{FileStorage, Format, Std, Storage, answer, create};
 
 const STORE: &str = "store.db";
 
@@ -26,7 +26,7 @@ fn main(rt: HostRuntime) -> ExitCode {
         Ok(device) => device,
         Err(fault) => return failed(&rt, fault),
     };
-    if let Err(fault) = create(&mut device) {
+    if let Err(fault) = create(&mut device, Format::First) {
         return failed(&rt, fault);
     }
     let mut requests = Std::new(rt.stdin());

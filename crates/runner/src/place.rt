@@ -9,6 +9,7 @@ use cases::{TextBuilder, Wrong, shown, text, yes_or_no};
 use device::{MemDevice, Pick};
 use durable::{Checked, Compacted, Fault, Store};
 use httpmsg::Std;
+use names::Format;
 use opening::{Episode, Found, create, drive, open};
 use requests::{Reply, Request};
 use std::alloc::Global;
@@ -89,7 +90,7 @@ fn created(alloc: Global, room_sectors: u64) -> Result<MemDevice, &'static str> 
     let Ok(mut device) = MemDevice::new(alloc, room_sectors) else {
         return Err("out of memory");
     };
-    match create(&mut device) {
+    match create(&mut device, Format::First) {
         Ok(()) => Ok(device),
         Err(_) => Err("no store can be made"),
     }
@@ -229,7 +230,7 @@ impl Place {
     pub fn create(&mut self) {
         let alloc = self.alloc;
         let told = match self.device() {
-            Some(device) => match create(device) {
+            Some(device) => match create(device, Format::First) {
                 Ok(()) => text(alloc, "ok"),
                 Err(fault) => shown(alloc, &fault),
             },
