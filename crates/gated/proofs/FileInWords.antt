@@ -379,7 +379,7 @@ subs_are_bare W = (
   (
     ((λ is. (refl, refl, refl, (λ name. refl), (λ x. refl))), ((λ is. cc), tt)),
     (
-      ((λ is. (refl, refl, refl, (λ name. refl), (λ x. refl))), ((λ is. cc), ((λ is. cc), ((λ is. cc), ((λ is. cc), tt))))),
+      ((λ is. (refl, refl, refl, (λ name. refl), (λ x. refl))), ((λ is. cc), ((λ is. cc), ((λ is. cc), ((λ is. cc), ((λ is. cc), tt)))))),
       (
         ((λ is. (refl, refl, refl, (λ name. refl), (λ x. refl))), ((λ is. cc), tt)),
         (((λ is. (refl, refl, refl, (λ name. refl), (λ x. refl))), ((λ is. cc), tt)), (((λ is. cc), tt), tt)),
@@ -404,6 +404,6 @@ file_in_words words verb asked = go verb asked
     go : (v : Verb) → AskFor words v → Contains words (file_of v)
     go (Create file) a = fine a.0 a.1 file.now a.2 a.3.1
     go (Replay file) a = fine a.0 a.1 file.now a.2 a.3.1
-    go (Serve file address connections idle_seconds) a = fine a.0 a.1 file.now a.2 a.3.1
+    go (Serve file address serving idle_seconds) a = fine a.0 a.1 file.now a.2 a.3.1
     go (Compact file) a = fine a.0 a.1 file.now a.2 a.3.1
     go (Check file) a = fine a.0 a.1 file.now a.2 a.3.1

@@ -4,3 +4,4 @@ pub mod Tellings
 pub mod Showing
 pub mod Served
 pub mod Watching
+pub mod Unless

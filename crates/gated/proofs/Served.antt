@@ -1,21 +1,20 @@
 -- What connections leave of a store, and of the device that it was opened on.
-use Rattle.std.proofs.Common.{◌≡◌, ◌∙◌, ap, sym, subst, refl, ℕ, List, [], ◌++◌, false, Result, Ok, Err, IsErrOf, IfOk, OnOk}
+use Rattle.std.proofs.Common.{◌≡◌, sym, subst, refl, ℕ, List, [], ◌++◌, Result, Ok, Err, OnOk}
 use Rattle.device.specs.declared.device.Device.{Ghosts}
-use Rattle.device.specs.Disk.{Disk, LeavesOnly}
 use Rattle.device.proofs.Moments.{followed_by}
 use Rattle.names.specs.declared.format.Rules.{Rules}
-use Rattle.requests.specs.View.{view, after_all}
+use Rattle.requests.specs.View.{view}
 use Rattle.recovery.specs.Standing.{History, View, Write}
 use Rattle.durable.specs.declared.store.Store.{Store}
 use Rattle.durable.specs.Ready.{HoldsHistory}
-use Rattle.durable.specs.Settled.{device_of, serves, IsFound, IsSettledAt, LeavesSome}
+use Rattle.durable.specs.Settled.{device_of, serves, IsFound, IsSettledAt}
 use Rattle.durable.proofs.Answering.{settled_serves}
 use Rattle.durable.proofs.Findings.{found_none}
 use Rattle.httpmsg.specs.declared.head.End.{End}
-use Rattle.api.specs.Answers.{Answered, ShowsAt, all_writes, HasApplied}
+use Rattle.api.specs.Answers.{ShowsAt, all_writes}
 use Rattle.api.specs.Serving.{Exchanged, HasEnded, HasReadSome, HasWrittenSome}
-use Rattle.api.proofs.Folds.{applied_then, applied_none}
-use Rattle.gated.specs.Doing.{HasServedSome, HasServedAll, IsOpened, ServedAll}
+use Rattle.clients.specs.Serving.{HasServedSome}
+use Rattle.gated.specs.Doing.{HasServedAll, IsOpened, ServedAll}
 
 -- ---- a connection
 
@@ -30,19 +29,6 @@ read_some rules old new v e = record { answered = e.holds.answered; store = e.ho
 pub wrote_some : {I O D : Type 0} {g : Ghosts D} {gave : I → I → List ℕ → Type 0} {took : O → O → List ℕ → Type 0} {i j : I} {o p : O} (rules : Rules) (old new : Store D g) (v : View)
     → Exchanged gave took i j o p (HasWrittenSome rules old new v) → HasServedSome rules old new v
 wrote_some rules old new v e = record { answered = e.holds.answered; store = e.holds.store }
-
--- ---- connections, one after the other
-
-module _ {D : Type 0} {g : Ghosts D} (rules : Rules) where
-  pub served_none : (store : Store D g) (v : View) → ShowsAt rules store v
-      → (g.disk.keeps (device_of store) → (c : List ℕ) → g.disk.since (device_of store) (g.disk.moment (device_of store)) c → g.disk.left (device_of store) c)
-      → HasServedSome rules store store v
-  served_none store v shows only_now = record { answered = []; store = applied_none rules store v shows only_now }
-
-  pub served_then : (old mid new : Store D g) (v : View) (before : HasServedSome rules old mid v)
-      → HasServedSome rules mid new (after_all rules v (all_writes rules v before.answered)) → HasServedSome rules old new v
-  served_then old mid new v before after =
-      record { answered = before.answered ++ after.answered; store = applied_then rules old mid new v before.answered after.answered before.store after.store }
 
 -- ---- on the device under a name
 

@@ -1,10 +1,12 @@
 -- The command line, and what its words ask for.
-use Rattle.std.specs.Prelude.{◌≡◌, ℕ, Bool, true, false, List, [], ◌∷◌, Some, codes}
-use Rattle.std.specs.Str.Parse.{digits_value, without_leading_plus}
+use Rattle.std.specs.Prelude.{◌≡◌, ℕ, ◌<◌, ◌^◌, Bool, true, false, List, [], ◌∷◌, Option, None, Some, codes}
+use Rattle.std.specs.Str.Parse.{IsNumeral, digits_value, without_leading_plus}
 use Rattle.clap.specs.Words.{App, Row, Rule, Shape, Text, first_of, new_rule, one_of, subcommand_of}
 use Rattle.clap.specs.Simple.{new_shape}
 use Rattle.clap.specs.declared.builder.action.ArgAction.TheVariants.{Set}
 use Rattle.clap.specs.declared.builder.value_parser.ValueParser.TheVariants as parser
+use Rattle.gated.specs.declared.command.Serving.{Serving}
+use Rattle.gated.specs.declared.command.Serving.TheVariants.{OneByOne, AtOnce}
 use Rattle.gated.specs.declared.command.Verb.{Verb}
 use Rattle.gated.specs.declared.command.Verb.TheVariants.{Create, Replay, Serve, Compact, Check}
 
@@ -22,9 +24,13 @@ option_rule name = record (new_rule name) { long = Some name; value_names = 1; a
 abbrev pub listen_rule : Rule
 listen_rule = record (option_rule (codes "listen")) { required = true }
 
--- `--conns N`, which is required: 1 to 65535
+-- `--conns N`: 1 to 65535. It is required unless another option is there, which `is_free` says, and the line's code says which.
 abbrev pub conns_rule : Rule
-conns_rule = record (option_rule (codes "conns")) { required = true; parser = Some (parser.Unsigned 1 65535) }
+conns_rule = record (option_rule (codes "conns")) { parser = Some (parser.Unsigned 1 65535); is_free = false }
+
+-- `--at-once M`: 1 to 1024
+abbrev pub at_once_rule : Rule
+at_once_rule = record (option_rule (codes "at-once")) { parser = Some (parser.Unsigned 1 1024) }
 
 -- `--idle SECONDS`: 0 to 86400, and 60 where it is left out
 abbrev pub idle_rule : Rule
@@ -35,7 +41,7 @@ abbrev pub over_file : Text → Shape
 over_file name = record (new_shape name) { rules = file_rule ∷ [] }
 
 abbrev pub serve_shape : Shape
-serve_shape = record (new_shape (codes "serve")) { rules = file_rule ∷ listen_rule ∷ conns_rule ∷ idle_rule ∷ [] }
+serve_shape = record (new_shape (codes "serve")) { rules = file_rule ∷ listen_rule ∷ conns_rule ∷ at_once_rule ∷ idle_rule ∷ [] }
 
 -- `gated COMMAND FILE`, where the command is create, replay, compact or check, and `gated serve FILE OPTION..`; `gated` alone is refused
 unfoldable pub gated_line : App
@@ -50,13 +56,28 @@ gated_line = record {
 abbrev pub HasNumber : Text → List Row → ℕ → Type 0
 HasNumber name rows n = (text : Text) × (one_of name rows ≡ Some text) × (n ≡ digits_value 10 (without_leading_plus text))
 
+-- no number below 2^16 stands in an option's row
+abbrev pub HasNoNumber : Text → List Row → Type 0
+HasNoNumber name rows = (text : Text) → one_of name rows ≡ Some text
+    → IsNumeral 10 (without_leading_plus text) × (digits_value 10 (without_leading_plus text) < 2 ^ 16) → ⊥
+
+-- the number that may stand in an option's row
+abbrev pub MayHaveNumber : Text → List Row → Option ℕ → Type 0
+MayHaveNumber name rows None = HasNoNumber name rows
+MayHaveNumber name rows (Some n) = HasNumber name rows n
+
+-- Connections are served at once where the rows have `--at-once`, of as many in all as `--conns` says, and else one by one.
+abbrev pub IsServedAs : List Row → Serving → Type 0
+IsServedAs rows (OneByOne connections) = HasNoNumber (codes "at-once") rows × HasNumber (codes "conns") rows connections
+IsServedAs rows (AtOnce at_once connections) = HasNumber (codes "at-once") rows at_once × MayHaveNumber (codes "conns") rows connections
+
 -- The verb is that of a command of this name whose arguments have these rows.
 abbrev pub IsAsked : Text → List Row → Verb → Type 0
 IsAsked name rows (Create file) = (name ≡ codes "create") × (first_of (codes "file") rows ≡ Some file.now)
 IsAsked name rows (Replay file) = (name ≡ codes "replay") × (first_of (codes "file") rows ≡ Some file.now)
-IsAsked name rows (Serve file address connections idle_seconds) =
+IsAsked name rows (Serve file address serving idle_seconds) =
     (name ≡ codes "serve") × (first_of (codes "file") rows ≡ Some file.now) × (first_of (codes "listen") rows ≡ Some address.now)
-    × HasNumber (codes "conns") rows connections × HasNumber (codes "idle") rows idle_seconds
+    × IsServedAs rows serving × HasNumber (codes "idle") rows idle_seconds
 IsAsked name rows (Compact file) = (name ≡ codes "compact") × (first_of (codes "file") rows ≡ Some file.now)
 IsAsked name rows (Check file) = (name ≡ codes "check") × (first_of (codes "file") rows ≡ Some file.now)
 
@@ -68,7 +89,7 @@ AskFor words verb = (name : Text) × (rows : List Row) × (subcommand_of gated_l
 abbrev pub is_check : Verb → Bool
 is_check (Create file) = false
 is_check (Replay file) = false
-is_check (Serve file address connections idle_seconds) = false
+is_check (Serve file address serving idle_seconds) = false
 is_check (Compact file) = false
 is_check (Check file) = true
 
@@ -76,6 +97,6 @@ is_check (Check file) = true
 abbrev pub file_of : Verb → Text
 file_of (Create file) = file.now
 file_of (Replay file) = file.now
-file_of (Serve file address connections idle_seconds) = file.now
+file_of (Serve file address serving idle_seconds) = file.now
 file_of (Compact file) = file.now
 file_of (Check file) = file.now

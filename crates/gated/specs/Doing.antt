@@ -1,27 +1,22 @@
 -- What a command does to the store behind its file: a device is made or opened under the file's name, and this is what becomes of it.
-use Rattle.std.specs.Prelude.{◌≡◌, ℕ, List, [], ◌++◌}
+use Rattle.std.specs.Prelude.{ℕ, List, [], ◌++◌}
 use Rattle.device.specs.declared.device.Device.{Ghosts}
 use Rattle.device.specs.Disk.{Disk, LeavesOnly}
 use Rattle.names.specs.declared.format.Format.TheVariants.{First}
 use Rattle.names.specs.declared.format.Rules.{Rules}
 use Rattle.names.specs.Format.{rules_of}
 use Rattle.requests.specs.View.{view}
-use Rattle.recovery.specs.Standing.{History, View}
+use Rattle.recovery.specs.Standing.{History}
 use Rattle.apicore.specs.Admitted.{AreAdmitted}
 use Rattle.durable.specs.declared.compacted.Checked.{Checked}
 use Rattle.durable.specs.declared.compacted.Compacted.{Compacted}
 use Rattle.durable.specs.declared.store.Store.{Store}
 use Rattle.durable.specs.Ready.{HoldsHistory}
 use Rattle.durable.specs.Settled.{device_of, IsFound, IsSettledAt}
-use Rattle.api.specs.Answers.{Answered, AreRead, all_writes, HasApplied}
+use Rattle.api.specs.Answers.{Answered, AreRead, all_writes}
 use Rattle.api.specs.Serving.{Exchanged}
 use Rattle.store.specs.Upkeep.{KeepsHistory, IsWrittenAnew, IsToldOfHistory}
 use Rattle.store.specs.Whole.{HasAnswered}
-
--- Some messages were answered: what the store then shows and holds is what their writes leave.
-pub record HasServedSome {D : Type 0} {g : Ghosts D} (rules : Rules) (old new : Store D g) (v : View) : Type 0 where
-  pub answered : List Answered
-  pub store : HasApplied rules old new v answered
 
 -- Connections were served. Each write of theirs that was accepted was admitted by the policies just before it. The device holds the history with these writes
 -- after it, and at every moment a crash leaves the history followed by some first ones of them.

@@ -3,6 +3,8 @@ use Rattle.std.specs.Prelude.{◌≡◌, ℕ, ◌⊎◌, List, [], ◌++◌, cod
 use Rattle.objects.specs.Failing.{HasGrown}
 use Rattle.api.specs.declared.fault.ServeFault as serve
 use Rattle.api.specs.declared.fault.ServeFault.TheVariants as serve_fault
+use Rattle.clients.specs.declared.fault.ClientsFault as clients
+use Rattle.clients.specs.declared.fault.ClientsFault.TheVariants as clients_fault
 use Rattle.device.specs.declared.file_device.CreateFault as file_create
 use Rattle.device.specs.declared.file_device.CreateFault.TheVariants as file_create_fault
 use Rattle.device.specs.declared.file_device.OpenFault as file_open
@@ -97,3 +99,8 @@ of_serve serve_fault.Failed = problem.DeviceFailed
 abbrev pub of_answer : answer.AnswerFault → Problem
 of_answer (answer_fault.Opening f) = of_store f
 of_answer (answer_fault.Serving f) = of_serve f
+
+abbrev pub of_clients : clients.ClientsFault → Problem
+of_clients clients_fault.Network = problem.StreamFailed
+of_clients clients_fault.Memory = problem.OutOfMemory
+of_clients (clients_fault.Store f) = of_serve f

@@ -3,13 +3,27 @@
 ghost use Rattle.std.specs.Prelude.{◌≡◌, false, List, [], map, Some, Contains, IfOk, IfSome};
 ghost use Rattle.clap.specs.Words.{Row, Text, app_of, found_of, rows_of, rule_of, subcommand_rows_of, with_subcommand};
 ghost use Rattle.clap.specs.declared.builder.command.Command.TheViews.{out-Command};
-ghost use Rattle.gated.specs.CommandLine.{AskFor, IsAsked, file_of, gated_line, option_rule, over_file, serve_shape};
+ghost use Rattle.gated.specs.CommandLine.{AskFor, IsAsked, IsServedAs, at_once_rule, conns_rule, file_of, gated_line, option_rule, over_file, serve_shape};
 
 use clap::builder::ValueParser;
 use clap::error::ErrorKind;
 use clap::{Arg, ArgAction, ArgMatches, Command, Error};
 use std::alloc::{AllocError, Global};
 use std::convert::AsStr;
+
+/// How connections are served.
+#[derive(Clone, Copy)]
+pub enum Serving {
+    /// This many, one after the other.
+    OneByOne {
+        connections: u16,
+    },
+    /// So many at once, of this many in all, or of any number.
+    AtOnce {
+        at_once: u16,
+        connections: Option<u16>,
+    },
+}
 
 /// What the words ask for.
 #[derive(Clone, Copy)]
@@ -22,11 +36,11 @@ pub enum Verb<'a> {
     Replay {
         file: &'a str,
     },
-    /// Serve this many connections to an address, each of which is closed where it sends nothing for this many seconds, or never (0).
+    /// Serve connections to an address, each of which is closed where it does not go on for this many seconds, or never (0).
     Serve {
         file: &'a str,
         address: &'a str,
-        connections: u16,
+        serving: Serving,
         idle_seconds: u32,
     },
     /// Write what the store shows as its next generation.
@@ -72,6 +86,35 @@ fn option<'a>(alloc: Global, name: &'a str, value: &'a str, help: &'a str) -> Ar
         .action(ArgAction::Set)
 }
 
+// `--conns`, which may be left out beside `--at-once`.
+fn conns_option<'a>(alloc: Global) -> Result<Arg<'a>, AllocError>
+    ensures rule { IfOk result (λ arg. rule_of arg ≡ conns_rule) }
+    ensures local { IfOk result (λ arg. arg.global ≡ false) }
+{
+    let arg = option(
+        alloc,
+        "conns",
+        "N",
+        "How many connections are served; with --at-once: any number if it is left out",
+    )
+    .value_parser(ValueParser::unsigned(1, 65535));
+    arg.required_unless_present("at-once")
+}
+
+// `--at-once`.
+fn at_once_option<'a>(alloc: Global) -> Arg<'a>
+    ensures rule { rule_of result ≡ at_once_rule }
+    ensures local { result.global ≡ false }
+{
+    option(
+        alloc,
+        "at-once",
+        "M",
+        "How many connections are served at once; one after the other if it is left out",
+    )
+    .value_parser(ValueParser::unsigned(1, 1024))
+}
+
 fn serve_line<'a>(alloc: Global) -> Result<Command<'a>, AllocError>
     ensures app { IfOk result (λ c. app_of c ≡ record { top = serve_shape; subs = [] }) }
     ensures local { IfOk result (λ c. (out-Command c).has_globals ≡ false) }
@@ -79,8 +122,8 @@ fn serve_line<'a>(alloc: Global) -> Result<Command<'a>, AllocError>
     over_file(
         alloc,
         "serve",
-        "Serves connections, one after the other, and then ends",
-        "Example: gated serve store.db --listen 127.0.0.1:8080 --conns 65535",
+        "Serves connections, one after the other or many at once",
+        "Example: gated serve store.db --listen 127.0.0.1:8080 --at-once 256",
     )?
     .arg(option(
         alloc,
@@ -89,11 +132,8 @@ fn serve_line<'a>(alloc: Global) -> Result<Command<'a>, AllocError>
         "The address that is listened on",
     )
     .required(true))?
-    .arg(
-        option(alloc, "conns", "N", "How many connections are served")
-            .required(true)
-            .value_parser(ValueParser::unsigned(1, 65535)),
-    )?
+    .arg(conns_option(alloc)?)?
+    .arg(at_once_option(alloc))?
     .arg(
         option(
             alloc,
@@ -166,6 +206,21 @@ fn line<'a>(alloc: Global) -> Result<Command<'a>, AllocError>
     )
 }
 
+// How the arguments of `serve` ask for connections to be served.
+fn serving_of<'a>(matches: &ArgMatches<'a>) -> Option<Serving>
+    ensures { IfSome result (IsServedAs (rows_of (found_of matches.now))) }
+{
+    match matches.get_one::<u16>("at-once") {
+        Some(at_once) => Some(Serving::AtOnce {
+            at_once,
+            connections: matches.get_one::<u16>("conns"),
+        }),
+        None => Some(Serving::OneByOne {
+            connections: matches.get_one::<u16>("conns")?,
+        }),
+    }
+}
+
 // The verb of a subcommand.
 fn verb_of<'a>(name: &str, matches: &ArgMatches<'a>) -> Option<Verb<'a>>
     ensures { IfSome result (IsAsked name.now (rows_of (found_of matches.now))) }
@@ -177,7 +232,7 @@ fn verb_of<'a>(name: &str, matches: &ArgMatches<'a>) -> Option<Verb<'a>>
         "serve" => Some(Verb::Serve {
             file,
             address: matches.get_str("listen")?,
-            connections: matches.get_one::<u16>("conns")?,
+            serving: serving_of(matches)?,
             idle_seconds: matches.get_one::<u32>("idle")?,
         }),
         "compact" => Some(Verb::Compact { file }),

@@ -1,17 +1,19 @@
-//! Connections to an address, served one after the other.
+//! Connections to an address, served one after the other, or many at once.
 
 ghost use Rattle.std.specs.Prelude.{IsErrOf, OnOk};
 ghost use Rattle.names.specs.declared.format.Rules.{Rules};
 ghost use Rattle.recovery.specs.Standing.{View};
 ghost use Rattle.api.specs.Answers.{ShowsAt};
-ghost use Rattle.gated.specs.Doing.{HasServedSome};
+ghost use Rattle.clients.specs.Serving.{HasServedSome};
 
 use crate::problem::Problem;
+use clients::{Limits, Server};
+use httpmsg::write_all;
 use std::alloc::Global;
 use std::io::Read;
-use std::net::{Shutdown, TcpListener, TcpStream};
-use std::time::Duration;
-use store::{Device, End, ServeFault, Std, Store, serve};
+use std::net::{Net, Shutdown, SocketAddr, TcpListener, TcpStream};
+use std::time::{Clock, Duration};
+use store::{Device, End, Output, ServeFault, Std, Store, serve};
 
 // For how many reads, of how many bytes and how long, a connection that ends is read on.
 const DRAIN_READS: u32 = 32;
@@ -69,8 +71,8 @@ fn serve_one<D: Device>(
     }
 }
 
-/// Serves this many connections, one after the other.
-pub(crate) fn serve_connections<D: Device>(
+// Serves this many connections, one after the other.
+fn serve_connections<D: Device>(
     alloc: Global,
     listener: &TcpListener,
     connections: u16,
@@ -86,4 +88,64 @@ pub(crate) fn serve_connections<D: Device>(
         serve_one(alloc, &stream, idle, store)?;
     }
     Ok(())
+}
+
+// The address that a word says: an IP address and a port.
+fn address_of(address: &str) -> Result<SocketAddr, Problem> {
+    match address.parse::<SocketAddr>() {
+        Ok(address) => Ok(address),
+        Err(_) => Err(Problem::StreamFailed),
+    }
+}
+
+// Says that connections are accepted from now on.
+fn print_ready<O: Output>(output: &mut O) -> Result<(), Problem> {
+    if write_all(output, b"ready\n").is_err() {
+        return Err(Problem::StreamFailed);
+    }
+    Ok(())
+}
+
+/// Listens on an address, says so, and serves this many connections, one after the other.
+pub(crate) fn serve_one_by_one<
+    D: Device,
+    R: Net<Stream = TcpStream, Listener = TcpListener>,
+    O: Output,
+>(
+    net: &R,
+    alloc: Global,
+    address: &str,
+    connections: u16,
+    idle: Option<Duration>,
+    store: &mut Store<D>,
+    output: &mut O,
+) -> Result<(), Problem>
+    ensures served { (rules : Rules) (v : View) → ShowsAt rules store.old v → OnOk result (HasServedSome rules store.old store.new v) }
+{
+    let address = address_of(address)?;
+    let Ok(listener) = TcpListener::bind(net, address) else {
+        return Err(Problem::StreamFailed);
+    };
+    print_ready(output)?;
+    serve_connections(alloc, &listener, connections, idle, store)
+}
+
+/// Listens on an address, says so, and serves connections at once.
+pub(crate) fn serve_at_once<D: Device, R: Net + Clock, O: Output>(
+    net: &R,
+    alloc: Global,
+    address: &str,
+    limits: Limits,
+    store: &mut Store<D>,
+    output: &mut O,
+) -> Result<(), Problem>
+    ensures served { (rules : Rules) (v : View) → ShowsAt rules store.old v → OnOk result (HasServedSome rules store.old store.new v) }
+{
+    let address = address_of(address)?;
+    let mut server = Server::bind(net, alloc, address, limits)?;
+    print_ready(output)?;
+    match server.run(net, alloc, store) {
+        Ok(()) => Ok(()),
+        Err(fault) => Err(Problem::from(fault)),
+    }
 }

@@ -2,10 +2,11 @@
 
 ghost use Rattle.std.specs.Prelude.{◌≡◌, codes, ◌++◌, OnOk, OnErr};
 ghost use Rattle.gated.specs.Telling.{HasLine};
-ghost use Rattle.gated.specs.Problem.{text_of, line_of, TellsAll, status_of, of_file_create, of_file_open, of_store_create, of_store, of_serve, of_answer};
+ghost use Rattle.gated.specs.Problem.{text_of, line_of, TellsAll, status_of, of_file_create, of_file_open, of_store_create, of_store, of_serve, of_answer, of_clients};
 ghost use Rattle.httpmsg.specs.Flow.{HasCause, Writes};
 
 use crate::status::Status;
+use clients::ClientsFault;
 use device::{CreateFault as FileCreateFault, OpenFault};
 use httpmsg::{StreamFault, write_all};
 use store::{AnswerFault, CreateFault, Damage, Fault, Output, ServeFault};
@@ -126,6 +127,18 @@ impl From<AnswerFault> for Problem {
         match fault {
             AnswerFault::Opening(fault) => Problem::from(fault),
             AnswerFault::Serving(fault) => Problem::from(fault),
+        }
+    }
+}
+
+impl From<ClientsFault> for Problem {
+    ghost from_gives = { λ fault problem. problem ≡ of_clients fault };
+
+    fn from(fault: ClientsFault) -> Problem {
+        match fault {
+            ClientsFault::Network => Problem::StreamFailed,
+            ClientsFault::Memory => Problem::OutOfMemory,
+            ClientsFault::Store(fault) => Problem::from(fault),
         }
     }
 }

@@ -9,22 +9,24 @@ ghost use Rattle.durable.specs.declared.fault.Damage.{Damage};
 ghost use Rattle.api.specs.Answers.{ShowsAt};
 ghost use Rattle.gated.specs.declared.command.Verb.{Verb as VerbData};
 ghost use Rattle.gated.specs.CommandLine.{AskFor};
-ghost use Rattle.gated.specs.Doing.{AnsweredAll, FoundDamaged, FoundWhole, HasServedSome, IsOpened, MadeStore, ServedAll, WroteAnew};
+ghost use Rattle.clients.specs.Serving.{HasServedSome};
+ghost use Rattle.gated.specs.Doing.{AnsweredAll, FoundDamaged, FoundWhole, IsOpened, MadeStore, ServedAll, WroteAnew};
 ghost use Rattle.gated.specs.Problem.{Tells};
 ghost use Rattle.gated.specs.Telling.{HasLine, EndsCheck, IsDone, checked_text, compacted_text};
 
-use crate::command::{Verb, command};
-use crate::listening::serve_connections;
+use crate::command::{Serving, Verb, command};
+use crate::listening::{serve_at_once, serve_one_by_one};
 use crate::problem::{Problem, print, tell};
 use crate::progress::{Progress, Watched};
 use crate::status::Status;
 use clap::Error;
 use clap::error::ErrorKind;
+use clients::Limits;
 use httpmsg::write_all;
 use std::alloc::Global;
 use std::convert::AsStr;
-use std::net::{Net, SocketAddr, TcpListener, TcpStream};
-use std::time::Duration;
+use std::net::{Net, TcpListener, TcpStream};
+use std::time::{Clock, Duration};
 use store::{
     Checked, Compacted, Device, Format, Input, Output, Storage, Store, answer,
     check as check_store, compact as compact_store, create, open,
@@ -90,45 +92,45 @@ fn replay<D: Device, S: Storage<D>, I: Input, O: Output>(
     }
 }
 
-// Listens on an address, which is an IP address and a port.
-fn listen<R: Net<Stream = TcpStream, Listener = TcpListener>>(
-    net: &R,
-    address: &str,
-) -> Result<TcpListener, Problem> {
-    match address.parse::<SocketAddr>() {
-        Ok(address) => TcpListener::bind(net, address).map_err(|_| Problem::StreamFailed),
-        Err(_) => Err(Problem::StreamFailed),
-    }
-}
-
-// Listens, says so, and serves this many connections against a store.
-fn serve_store<D: Device, R: Net<Stream = TcpStream, Listener = TcpListener>, O: Output>(
+// Listens, says so, and serves connections against a store.
+fn serve_store<D: Device, R: Net<Stream = TcpStream, Listener = TcpListener> + Clock, O: Output>(
     net: &R,
     alloc: Global,
     address: &str,
-    connections: u16,
+    serving: Serving,
     idle_seconds: u32,
     store: &mut Store<D>,
     output: &mut O,
 ) -> Result<(), Problem>
     ensures served { (rules : Rules) (v : View) → ShowsAt rules store.old v → OnOk result (HasServedSome rules store.old store.new v) }
 {
-    let listener = listen(net, address)?;
-    if write_all(output, b"ready\n").is_err() {
-        return Err(Problem::StreamFailed);
-    }
     let idle = match idle_seconds {
         0 => None,
         seconds => Some(Duration::from_secs(u64::from(seconds))),
     };
-    serve_connections(alloc, &listener, connections, idle, store)
+    match serving {
+        Serving::OneByOne { connections } => {
+            serve_one_by_one(net, alloc, address, connections, idle, store, output)
+        }
+        Serving::AtOnce {
+            at_once,
+            connections,
+        } => {
+            let limits = Limits {
+                at_once,
+                connections,
+                idle,
+            };
+            serve_at_once(net, alloc, address, limits, store, output)
+        }
+    }
 }
 
 // The same against the store in a file.
 fn serve_file<
     D: Device,
     S: Storage<D>,
-    R: Net<Stream = TcpStream, Listener = TcpListener>,
+    R: Net<Stream = TcpStream, Listener = TcpListener> + Clock,
     O: Output,
 >(
     storage: &S,
@@ -136,7 +138,7 @@ fn serve_file<
     alloc: Global,
     file: &str,
     address: &str,
-    connections: u16,
+    serving: Serving,
     idle_seconds: u32,
     output: &mut O,
 ) -> Result<(), Problem>
@@ -147,7 +149,7 @@ fn serve_file<
         net,
         alloc,
         address,
-        connections,
+        serving,
         idle_seconds,
         &mut store,
         output,
@@ -282,7 +284,7 @@ fn check<D: Device, S: Storage<D>, O: Output>(
 fn done<
     D: Device,
     S: Storage<D>,
-    R: Net<Stream = TcpStream, Listener = TcpListener>,
+    R: Net<Stream = TcpStream, Listener = TcpListener> + Clock,
     I: Input,
     O: Output,
     P: Output + Drop,
@@ -303,7 +305,7 @@ fn done<
         Verb::Serve {
             file,
             address,
-            connections,
+            serving,
             idle_seconds,
         } => serve_file(
             storage,
@@ -311,7 +313,7 @@ fn done<
             alloc,
             file,
             address,
-            connections,
+            serving,
             idle_seconds,
             output,
         )?,
@@ -348,7 +350,7 @@ fn refuse<E: Output>(alloc: Global, error: &Error, errors: &mut E) -> Status
 pub fn program<
     D: Device,
     S: Storage<D>,
-    R: Net<Stream = TcpStream, Listener = TcpListener>,
+    R: Net<Stream = TcpStream, Listener = TcpListener> + Clock,
     W: AsStr,
     I: Input,
     O: Output,

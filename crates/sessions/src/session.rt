@@ -6,6 +6,8 @@ ghost use Rattle.requests.specs.declared.refusal.Refusal.TheVariants as refusal;
 ghost use Rattle.routes.specs.AnswerBytes.{answer_bytes, CanAnswer};
 ghost use Rattle.routes.specs.ReplyBytes.{closing_bytes, end_bytes};
 ghost use Rattle.httpmsg.specs.Stream.{Message as MessageData, IsCut};
+ghost use Rattle.httpmsg.specs.declared.head.BrokenMessage.{BrokenMessage as BrokenMessageData};
+ghost use Rattle.httpmsg.specs.Cut.{end_of};
 ghost use Rattle.sessions.specs.State.{is_open, is_lost, GoesOnWith, Closes};
 ghost use Rattle.sessions.specs.Pieces.{TakesPiece, EndsInput};
 
@@ -98,6 +100,13 @@ impl Session {
         ensures { IsTrue result ↔ (self.now.waiting ≡ []) }
     {
         self.waiting.is_empty()
+    }
+
+    /// Whether a message has begun that is not whole, or has a fault.
+    pub fn has_begun(&self) -> bool
+        ensures { IsTrue result ↔ ((b : BrokenMessageData) × (end_of self.now.progress ≡ End.Broken b)) }
+    {
+        self.cutter.ending().is_err()
     }
 
     /// The bytes that wait to be sent.

@@ -2,7 +2,7 @@ use Rattle.std.proofs.Common.{rules, ap, ap₂, codes, true, false, ◌||◌, []
 use Rattle.std.proofs.lemmas.Result.{IfOk-weaker}
 use Rattle.clap.specs.Words.{Rule, rule_of, with_rule}
 use Rattle.clap.specs.declared.builder.value_parser.ValueParser.TheVariants as parser
-use Rattle.gated.specs.CommandLine.{conns_rule, idle_rule, listen_rule}
+use Rattle.gated.specs.CommandLine.{idle_rule, listen_rule}
 use Rattle.gated.proofs.command.serve_line.Goals as goal
 
 pub returns-clause-app : goal.returns-clause-app
@@ -10,27 +10,22 @@ returns-clause-app c =
     let listen_is : rule_of c.required.result ≡ listen_rule =
     ap rule_of c.required.ensures ∙ ap (λ (r : Rule). record r { required = true }) c.option.ensures.rule
     in
-    let conns_given = c.value_parser.ensures.given in
-    let conns_parser : c.value_parser.result.value_parser ≡ Some (parser.Unsigned 1 65535) = conns_given.1 ∙ ap Some (conns_given.2 ∙ c.unsigned.ensures) in
-    let conns_is : rule_of c.value_parser.result ≡ conns_rule = ap rule_of c.value_parser.ensures.others
-    ∙ ap₂ (λ (r : Rule) p. record r { parser = p })
-    (ap rule_of c.required-2.ensures ∙ ap (λ (r : Rule). record r { required = true }) c.option-2.ensures.rule) conns_parser
-    in
-    let idle_given = c.value_parser-2.ensures.given in
-    let idle_parser : c.value_parser-2.result.value_parser ≡ Some (parser.Unsigned 0 86400) = idle_given.1 ∙ ap Some (idle_given.2 ∙ c.unsigned-2.ensures) in
-    let default_is : rule_of c.default_value.result ≡ record (rule_of c.option-3.result) { defaults = codes "60" ∷ [] } = search rules in
-    let idle_is : rule_of c.value_parser-2.result ≡ idle_rule = ap rule_of c.value_parser-2.ensures.others
-    ∙ ap₂ (λ (r : Rule) p. record r { parser = p }) (default_is ∙ ap (λ (r : Rule). record r { defaults = codes "60" ∷ [] }) c.option-3.ensures.rule) idle_parser
+    let idle_given = c.value_parser.ensures.given in
+    let idle_parser : c.value_parser.result.value_parser ≡ Some (parser.Unsigned 0 86400) = idle_given.1 ∙ ap Some (idle_given.2 ∙ c.unsigned.ensures) in
+    let default_is : rule_of c.default_value.result ≡ record (rule_of c.option-2.result) { defaults = codes "60" ∷ [] } = search rules in
+    let idle_is : rule_of c.value_parser.result ≡ idle_rule = ap rule_of c.value_parser.ensures.others
+    ∙ ap₂ (λ (r : Rule) p. record r { parser = p }) (default_is ∙ ap (λ (r : Rule). record r { defaults = codes "60" ∷ [] }) c.option-2.ensures.rule) idle_parser
     in
     let with_listen = c.in_ok-arg.ensures.shape (search rules) ∙ ap₂ with_rule c.in_ok-over_file.ensures.app listen_is in
-    let with_conns = c.in_ok-arg-2.ensures.shape (search rules) ∙ ap₂ with_rule with_listen conns_is in
-    IfOk-weaker c.arg-3.result _ _ (λ r h. h.shape (search rules) ∙ ap₂ with_rule with_conns idle_is) c.arg-3.ensures
+    let with_conns = c.in_ok-arg-2.ensures.shape (search rules) ∙ ap₂ with_rule with_listen c.in_ok-conns_option.ensures.rule in
+    let with_at_once = c.in_ok-arg-3.ensures.shape (search rules) ∙ ap₂ with_rule with_conns c.at_once_option.ensures.rule in
+    IfOk-weaker c.arg-4.result _ _ (λ r h. h.shape (search rules) ∙ ap₂ with_rule with_at_once idle_is) c.arg-4.ensures
 
 pub returns-clause-local : goal.returns-clause-local
 returns-clause-local c =
     let listen_local : c.required.result.global ≡ false = search rules in
-    let conns_local : c.value_parser.result.global ≡ false = search rules in
-    let idle_local : c.value_parser-2.result.global ≡ false = search rules in
+    let idle_local : c.value_parser.result.global ≡ false = search rules in
     let with_listen = c.in_ok-arg.ensures.globals ∙ ap₂ (λ a b. a || b) c.in_ok-over_file.ensures.local listen_local in
-    let with_conns = c.in_ok-arg-2.ensures.globals ∙ ap₂ (λ a b. a || b) with_listen conns_local in
-    IfOk-weaker c.arg-3.result _ _ (λ r h. h.globals ∙ ap₂ (λ a b. a || b) with_conns idle_local) c.arg-3.ensures
+    let with_conns = c.in_ok-arg-2.ensures.globals ∙ ap₂ (λ a b. a || b) with_listen c.in_ok-conns_option.ensures.local in
+    let with_at_once = c.in_ok-arg-3.ensures.globals ∙ ap₂ (λ a b. a || b) with_conns c.at_once_option.ensures.local in
+    IfOk-weaker c.arg-4.result _ _ (λ r h. h.globals ∙ ap₂ (λ a b. a || b) with_at_once idle_local) c.arg-4.ensures

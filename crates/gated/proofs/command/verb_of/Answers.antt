@@ -26,18 +26,16 @@ returns-in-check c =
     let file : option_map (λ s. s.now) c.get_str.result ≡ Some c.in_ok-file.file.now = search rules in
     (search rules, sym (first_value-rows (found_of c.args.matches.now) (codes "file")) ∙ sym c.get_str.ensures ∙ file)
 
-pub returns-in_ok-get_one-in-serve-2 : goal.returns-in_ok-get_one-in-serve-2
-returns-in_ok-get_one-in-serve-2 c =
+pub returns-in_ok-get_one-in-serve : goal.returns-in_ok-get_one-in-serve
+returns-in_ok-get_one-in-serve c =
     let found = found_of c.args.matches.now in
     let file : option_map (λ s. s.now) c.get_str.result ≡ Some c.in_ok-file.file.now = search rules in
     let address : option_map (λ s. s.now) c.get_str-in-serve.result ≡ Some c.in_ok-get_str-in-serve.field-0.now = search rules in
-    let connections : c.get_one.result ≡ Some c.in_ok-get_one-in-serve.field-0 = search rules in
-    let idle_seconds : c.get_one-in-serve.result ≡ Some c.in_ok-get_one-in-serve-2.field-0 = search rules in (
+    let idle_seconds : c.get_one.result ≡ Some c.in_ok-get_one-in-serve.field-0 = search rules in (
       search rules,
       sym (first_value-rows found (codes "file")) ∙ sym c.get_str.ensures ∙ file,
       sym (first_value-rows found (codes "listen")) ∙ sym c.get_str-in-serve.ensures ∙ address,
-      number_read _ (λ bs r. ParsesUnsigned 16 10 bs r × ExplainsUnsignedError 10 bs r × HasUnsignedDigitsIfOk bs r) 16 found (codes "conns") c.get_one.result
-          c.in_ok-get_one-in-serve.field-0 c.get_one.ensures.none c.get_one.ensures.value (λ u x g. g.0) connections,
-      number_read _ (λ bs r. ParsesUnsigned 32 10 bs r × ExplainsUnsignedError 10 bs r × HasUnsignedDigitsIfOk bs r) 32 found (codes "idle") c.get_one-in-serve.result
-          c.in_ok-get_one-in-serve-2.field-0 c.get_one-in-serve.ensures.none c.get_one-in-serve.ensures.value (λ u x g. g.0) idle_seconds,
+      c.in_ok-serving_of-in-serve.ensures,
+      number_read _ (λ bs r. ParsesUnsigned 32 10 bs r × ExplainsUnsignedError 10 bs r × HasUnsignedDigitsIfOk bs r) 32 found (codes "idle") c.get_one.result
+          c.in_ok-get_one-in-serve.field-0 c.get_one.ensures.none c.get_one.ensures.value (λ u x g. g.0) idle_seconds,
     )

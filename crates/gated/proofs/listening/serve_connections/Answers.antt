@@ -1,5 +1,5 @@
 use Rattle.api.specs.Answers.{ShowsAt}
-use Rattle.gated.proofs.Served.{served_none, served_then}
+use Rattle.clients.proofs.Served.{served_none, served_then}
 use Rattle.gated.proofs.listening.serve_connections.Goals as goal
 
 pub loop-stream-init : goal.loop-stream-init

@@ -1,7 +1,7 @@
 use Rattle.names.specs.declared.format.Rules.{Rules}
 use Rattle.recovery.specs.Standing.{View}
 use Rattle.api.specs.Answers.{ShowsAt}
-use Rattle.gated.specs.Doing.{HasServedSome}
+use Rattle.clients.specs.Serving.{HasServedSome}
 use Rattle.gated.proofs.listening.serve_connections.Given as goal
 
 abbrev pub invariant-loop-stream : goal.invariant-loop-stream

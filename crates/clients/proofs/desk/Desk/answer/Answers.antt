@@ -1,0 +1,19 @@
+use Rattle.std.proofs.Common.{refl}
+use Rattle.sessions.specs.Batch.{held, places_of}
+use Rattle.clients.proofs.Served.{group_outcome}
+use Rattle.clients.proofs.desk.Desk.answer.Goals as goal
+
+pub returns-clause-outcome : goal.returns-clause-outcome
+returns-clause-outcome g c rules v shows =
+    let full = c.gather-self.new.self in
+    group_outcome rules c.args.store.now c.answer.new.store v (places_of full) (held full) c.args.sessions.now c.gather-self.new.sessions c.answer.new.sessions c.answer.result
+    (record {
+      empty = c.args.self.now.batch;
+      full = full;
+      none = c.args.self.now.empty;
+      messages = refl;
+      at = refl;
+      kept = c.gather-self.ensures.kept;
+      some = c.gather-self.ensures.some;
+    })
+    (c.answer.ensures.outcome rules v shows)

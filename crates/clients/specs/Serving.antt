@@ -1,0 +1,74 @@
+-- What serving clients does to the store.
+use Rattle.std.specs.Prelude.{◌≡◌, ℕ, ◌<◌, List, [], length, slice_index_or}
+use Rattle.device.specs.declared.device.Device.{Ghosts}
+use Rattle.names.specs.declared.format.Rules.{Rules}
+use Rattle.recovery.specs.Standing.{View}
+use Rattle.durable.specs.declared.store.Store.{Store}
+use Rattle.api.specs.declared.fault.ServeFault.{ServeFault}
+use Rattle.api.specs.declared.fault.ServeFault.TheVariants as serve_fault
+use Rattle.httpmsg.specs.Stream.{Message}
+use Rattle.api.specs.Answers.{Answered, HasApplied, HasFailedIn}
+use Rattle.sessions.specs.declared.batch.Batch.{Batch}
+use Rattle.sessions.specs.Batch.{AllKept, held, places_of}
+use Rattle.sessions.specs.State.{State}
+use Rattle.sessions.specs.Turn.{Turned}
+use Rattle.sessions.specs.Stops.{TurnStops}
+use Rattle.clients.specs.declared.fault.ClientsFault.{ClientsFault}
+use Rattle.clients.specs.declared.fault.ClientsFault.TheVariants as clients_fault
+
+-- ---- one group
+
+-- Messages that waited in sessions were taken, those of each session in their order: none is lost, all else of the sessions stays, and none is
+-- taken only where none waited.
+pub record Gathers (places : List ℕ) (ms : List Message) (before after : List State) : Type 0 where
+  pub empty : Batch
+  pub full : Batch
+  pub none : held empty ≡ []
+  pub messages : held full ≡ ms
+  pub at : places_of full ≡ places
+  pub kept : AllKept empty full before after
+  pub some : ms ≡ [] → (i : ℕ) (d : State) → i < length before → (slice_index_or before i d).waiting ≡ []
+
+-- They were answered together, and each session gains the answers to its own.
+pub record AnswersGroup {D : Type 0} {g : Ghosts D} (rules : Rules) (old new : Store D g) (v : View) (before after : List State) : Type 0 where
+  pub places : List ℕ
+  pub messages : List Message
+  pub between : List State
+  pub gathers : Gathers places messages before between
+  pub turned : Turned rules old new v places messages between after
+
+-- The store stopped at them.
+pub record StopsAtGroup {D : Type 0} {g : Ghosts D} (rules : Rules) (old new : Store D g) (v : View) (before after : List State) (fault : ServeFault) : Type 0 where
+  pub places : List ℕ
+  pub messages : List Message
+  pub between : List State
+  pub gathers : Gathers places messages before between
+  pub stops : TurnStops rules old new v places messages between after fault
+
+-- ---- all of them
+
+-- Some messages were answered: what the store then shows and holds is what their writes leave.
+pub record HasServedSome {D : Type 0} {g : Ghosts D} (rules : Rules) (old new : Store D g) (v : View) : Type 0 where
+  pub answered : List Answered
+  pub store : HasApplied rules old new v answered
+
+-- Some messages were answered, and then the device failed at others, now or before.
+pub record HasFailedAt {D : Type 0} {g : Ghosts D} (rules : Rules) (old new : Store D g) (v : View) : Type 0 where
+  pub answered : List Answered
+  pub failing : List Answered
+  pub store : HasFailedIn rules old new v answered failing
+
+-- how serving stops by a fault of the store: only by the device; a store that shows a view finds no damage
+abbrev pub StopsServing : {D : Type 0} {g : Ghosts D} → Rules → Store D g → Store D g → View → ServeFault → Type 0
+StopsServing rules old new v serve_fault.Read = ⊥
+StopsServing rules old new v serve_fault.Write = ⊥
+StopsServing rules old new v serve_fault.Device = HasFailedAt rules old new v
+StopsServing rules old new v serve_fault.Memory = ⊥
+StopsServing rules old new v (serve_fault.Damaged damage) = ⊥
+StopsServing rules old new v serve_fault.Failed = HasFailedAt rules old new v
+
+-- how it stops by any fault: one of the network or of memory leaves what was served before
+abbrev pub StopsClients : {D : Type 0} {g : Ghosts D} → Rules → Store D g → Store D g → View → ClientsFault → Type 0
+StopsClients rules old new v clients_fault.Network = HasServedSome rules old new v
+StopsClients rules old new v clients_fault.Memory = HasServedSome rules old new v
+StopsClients rules old new v (clients_fault.Store fault) = StopsServing rules old new v fault

@@ -1,0 +1,266 @@
+//! The socket of one client.
+
+ghost use Rattle.std.specs.Prelude.{◌≡◌, ◌↔◌, [], true, IsTrue};
+ghost use Rattle.sessions.specs.State.{is_open};
+
+use crate::desk::Desk;
+use crate::moving::{Moved, failed, read_once, send_once};
+use mio::net::TcpStream;
+use sessions::Session;
+use std::alloc::Global;
+use std::io::Read;
+use std::net::Shutdown;
+use std::time::{Duration, Instant};
+
+// How often one turn writes to one client.
+const SENDS: u32 = 64;
+
+// How long what a client sends is read and forgotten, once it was sent all.
+const DRAIN_SECONDS: u64 = 1;
+
+/// The connection is let go.
+#[derive(Clone, Copy)]
+pub(crate) struct Gone;
+
+// Whether nothing waits in a session, neither to be answered nor to be sent.
+fn is_quiet(session: &Session) -> bool
+    ensures { IsTrue result ↔ ((session.now.waiting ≡ []) × (session.now.unsent ≡ [])) }
+{
+    session.is_idle() && session.rest().is_empty()
+}
+
+/// A socket, what it is ready for, and how far its client is.
+#[derive(Drop)]
+pub(crate) struct Line {
+    stream: TcpStream,
+    // A read, or a write, did not yet have to wait since the system told of it.
+    is_readable: bool,
+    is_writable: bool,
+    // When the client last did what it is waited for: it sent the first byte of a message, or the last, or it took bytes.
+    since: Instant,
+    // A message has begun that is not whole.
+    has_begun: bool,
+    // The session was given messages, and nobody has looked at what stands behind them.
+    looks_on: bool,
+    // The client sends no more.
+    has_ended: bool,
+    // Since when what it sends is forgotten.
+    drained_since: Option<Instant>,
+}
+
+impl Line {
+    /// Of a connection that was accepted now.
+    pub(crate) fn new(stream: TcpStream, now: Instant) -> Line {
+        Line {
+            stream,
+            is_readable: true,
+            is_writable: true,
+            since: now,
+            has_begun: false,
+            looks_on: false,
+            has_ended: false,
+            drained_since: None,
+        }
+    }
+
+    /// The system tells what the socket is ready for.
+    pub(crate) fn mark(&mut self, is_readable: bool, is_writable: bool) {
+        self.is_readable = self.is_readable || is_readable;
+        self.is_writable = self.is_writable || is_writable;
+    }
+
+    // Sends what waits, as far as the socket takes it now.
+    fn send(&mut self, alloc: Global, session: &mut Session, now: Instant) -> Result<(), Gone> {
+        for _ in 0..SENDS {
+            if session.rest().is_empty() || !self.is_writable {
+                return Ok(());
+            }
+            let mut stream = &self.stream;
+            match send_once(alloc, &mut stream, session) {
+                Moved::Some => self.since = now,
+                Moved::Again | Moved::Ended => {}
+                Moved::Waits => self.is_writable = false,
+                Moved::Failed => return Err(Gone),
+            }
+        }
+        Ok(())
+    }
+
+    // Takes note of a piece that the session took.
+    fn note_piece(&mut self, session: &Session, now: Instant) {
+        let begins = session.has_begun() && !self.has_begun;
+        if begins || !session.is_idle() {
+            self.since = now;
+        }
+        self.has_begun = session.has_begun();
+        self.looks_on = !session.is_idle();
+    }
+
+    // Reads a piece of what the client sends.
+    fn read(
+        &mut self,
+        alloc: Global,
+        desk: &mut Desk,
+        session: &mut Session,
+        now: Instant,
+    ) -> Result<(), Gone>
+        requires opened { is_open session.old.phase ≡ true }
+        requires idle { session.old.waiting ≡ [] }
+        requires sent { session.old.unsent ≡ [] }
+    {
+        let mut stream = &self.stream;
+        match read_once(
+            alloc,
+            &mut desk.tools,
+            &mut desk.buffer,
+            &mut stream,
+            session,
+        ) {
+            Moved::Some => self.note_piece(session, now),
+            Moved::Again => {}
+            Moved::Waits => self.is_readable = false,
+            Moved::Ended => self.has_ended = true,
+            Moved::Failed => return Err(Gone),
+        }
+        Ok(())
+    }
+
+    // Reads on and forgets: a socket that is closed with bytes that nobody read resets the connection, and the client may then lose the last
+    // reply. So a refused upload is taken to its end, within bounds.
+    fn drain(&mut self, buffer: &mut [u8], now: Instant) -> Result<(), Gone> {
+        if self.has_ended {
+            return Err(Gone);
+        }
+        let since = match self.drained_since {
+            Some(since) => since,
+            None => {
+                // The connection ends in any case, so a failure is ignored.
+                let _ = self.stream.shutdown(Shutdown::Write);
+                self.drained_since = Some(now);
+                now
+            }
+        };
+        if now.saturating_duration_since(since) >= Duration::from_secs(DRAIN_SECONDS) {
+            return Err(Gone);
+        }
+        self.forget(buffer)
+    }
+
+    // One read of what is forgotten.
+    fn forget(&mut self, buffer: &mut [u8]) -> Result<(), Gone> {
+        if !self.is_readable {
+            return Ok(());
+        }
+        let mut stream = &self.stream;
+        match stream.read(buffer) {
+            Ok(0) => Err(Gone),
+            Ok(_) => Ok(()),
+            Err(error) => match failed(error.kind()) {
+                Moved::Waits => {
+                    self.is_readable = false;
+                    Ok(())
+                }
+                Moved::Again => Ok(()),
+                Moved::Some | Moved::Ended | Moved::Failed => Err(Gone),
+            },
+        }
+    }
+
+    // Where nothing waits, tells what stands behind the messages that were answered.
+    fn look_on(
+        &mut self,
+        alloc: Global,
+        desk: &mut Desk,
+        session: &mut Session,
+        now: Instant,
+    ) -> Result<(), Gone> {
+        if !self.looks_on || !is_quiet(session) {
+            return Ok(());
+        }
+        session.take_piece(alloc, &mut desk.tools, &[]);
+        self.looks_on = !session.is_idle();
+        self.send(alloc, session, now)
+    }
+
+    // Where nothing waits: reads on, or ends the connection once the session is over.
+    fn attend(
+        &mut self,
+        alloc: Global,
+        desk: &mut Desk,
+        session: &mut Session,
+        now: Instant,
+    ) -> Result<(), Gone> {
+        if !is_quiet(session) {
+            return Ok(());
+        }
+        if !session.is_open() {
+            return self.drain(&mut desk.buffer, now);
+        }
+        if self.is_readable {
+            return self.read(alloc, desk, session, now);
+        }
+        Ok(())
+    }
+
+    // Whether the client has not done for too long what it is waited for: the whole of a message that it began, the first byte of the next
+    // one, or to take a byte. A client whose messages wait to be answered is not waited for.
+    fn is_late(&self, session: &Session, now: Instant, idle: Option<Duration>) -> bool {
+        match idle {
+            Some(idle) => {
+                (session.is_idle() || !session.rest().is_empty())
+                    && now.saturating_duration_since(self.since) >= idle
+            }
+            None => false,
+        }
+    }
+
+    // Whether more can be done before the system tells that the socket is ready.
+    fn is_busy(&self, session: &Session) -> bool {
+        if !session.rest().is_empty() {
+            return self.is_writable || session.is_lost();
+        }
+        session.is_idle() && (self.is_readable || self.looks_on || session.is_lost())
+    }
+
+    /// One turn of the connection: sends what waits, and reads one piece where nothing waits. It tells whether more can be done at once.
+    pub(crate) fn turn(
+        &mut self,
+        alloc: Global,
+        desk: &mut Desk,
+        session: &mut Session,
+        now: Instant,
+        idle: Option<Duration>,
+    ) -> Result<bool, Gone> {
+        if session.is_lost() {
+            return Err(Gone);
+        }
+        self.send(alloc, session, now)?;
+        self.look_on(alloc, desk, session, now)?;
+        self.attend(alloc, desk, session, now)?;
+        if self.is_late(session, now, idle) {
+            return Err(Gone);
+        }
+        Ok(self.is_busy(session))
+    }
+
+    /// A turn once nothing more is answered: sends what waits, and then ends the connection.
+    pub(crate) fn last_turn(
+        &mut self,
+        alloc: Global,
+        desk: &mut Desk,
+        session: &mut Session,
+        now: Instant,
+    ) -> Result<(), Gone> {
+        if session.is_lost() {
+            return Err(Gone);
+        }
+        self.send(alloc, session, now)?;
+        if session.rest().is_empty() {
+            if session.is_open() {
+                return Err(Gone);
+            }
+            return self.drain(&mut desk.buffer, now);
+        }
+        Ok(())
+    }
+}
