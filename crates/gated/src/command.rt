@@ -174,7 +174,7 @@ fn line<'a>(alloc: Global) -> Result<Command<'a>, AllocError>
 {
     let alone = Command::new(alloc, "gated")
         .about("A small Kubernetes-style API server over one crash-safe file")
-        .version("0.20.0")
+        .version("0.21.0")
         .subcommand_required(true);
     let with_create = with_over_file(
         alloc,
