@@ -9,7 +9,7 @@ use Rattle.api.specs.declared.fault.ServeFault.TheVariants as serve_fault
 use Rattle.httpmsg.specs.Stream.{Message}
 use Rattle.api.specs.Answers.{Answered, HasApplied, HasFailedIn}
 use Rattle.sessions.specs.declared.batch.Batch.{Batch}
-use Rattle.sessions.specs.Batch.{AllKept, held, places_of}
+use Rattle.sessions.specs.Batch.{AllKept, IsPassedOver, held, places_of}
 use Rattle.sessions.specs.State.{State}
 use Rattle.sessions.specs.Turn.{Turned}
 use Rattle.sessions.specs.Stops.{TurnStops}
@@ -19,7 +19,7 @@ use Rattle.clients.specs.declared.fault.ClientsFault.TheVariants as clients_faul
 -- ---- one group
 
 -- Messages that waited in sessions were taken, those of each session in their order: none is lost, all else of the sessions stays, and none is
--- taken only where none waited.
+-- taken only where each session was passed over: none of it waited, or its client has not taken the replies that it has.
 pub record Gathers (places : List ℕ) (ms : List Message) (before after : List State) : Type 0 where
   pub empty : Batch
   pub full : Batch
@@ -27,7 +27,7 @@ pub record Gathers (places : List ℕ) (ms : List Message) (before after : List 
   pub messages : held full ≡ ms
   pub at : places_of full ≡ places
   pub kept : AllKept empty full before after
-  pub some : ms ≡ [] → (i : ℕ) (d : State) → i < length before → (slice_index_or before i d).waiting ≡ []
+  pub some : ms ≡ [] → (i : ℕ) (d : State) → i < length before → IsPassedOver (slice_index_or before i d)
 
 -- They were answered together, and each session gains the answers to its own.
 pub record AnswersGroup {D : Type 0} {g : Ghosts D} (rules : Rules) (old new : Store D g) (v : View) (before after : List State) : Type 0 where

@@ -1,11 +1,11 @@
 -- Messages taken of sessions, one after another.
-use Rattle.std.proofs.Common.{arith, ◌≡◌, ◌∙◌, sym, ap, refl, subst, ◌<◌, ◌≤◌, ◌+◌, ◌⊎◌, All, inl, inr, ℕ, Bool, true, false, List, [], ◌∷◌, ◌++◌, length, drop, get_or, set, ◌==◌, cond}
+use Rattle.std.proofs.Common.{arith, ◌≡◌, ◌∙◌, sym, ap, refl, subst, ◌<◌, ◌≤◌, ◌+◌, ◌⊎◌, ⊎_elim, All, inl, inr, ℕ, Bool, true, false, List, [], ◌∷◌, ◌++◌, length, drop, get_or, set, ◌==◌, cond}
 use Rattle.std.proofs.lemmas.List.{append-nil, append_assoc, get_or-set_same, get_or-set_other, get_or_append_left, get_or_push, get_or-drop, length-append, length-drop}
 use Rattle.std.proofs.lemmas.Bool.{eqb-true, eqb-false, cases_lt}
 use Rattle.httpmsg.specs.Stream.{Message}
 use Rattle.sessions.specs.declared.batch.Batch.{Batch}
 use Rattle.sessions.specs.State.{State}
-use Rattle.sessions.specs.Batch.{held, places_of, messages_of, StaysBut, TakesOne, TakesNone, StaysFull, Takes, taken_and_waiting, AllKept}
+use Rattle.sessions.specs.Batch.{held, places_of, messages_of, StaysBut, IsPassedOver, TakesOne, TakesNone, StaysFull, Takes, taken_and_waiting, AllKept}
 
 -- one message more
 messages_of-push : (i : ℕ) (ps : List ℕ) (ms : List Message) (p : ℕ) (m : Message) → length ps ≡ length ms
@@ -65,7 +65,7 @@ kept_one old new all p s t known is alike takes i d below = on takes.0 (p == i) 
         here (inr (inl none)) here_is =
             ap (λ ps. messages_of i ps (held new) ++ t.waiting) none.places
             ∙ ap (λ ms. messages_of i (places_of old) ms ++ t.waiting) none.held
-            ∙ ap (λ (z : List Message). messages_of i (places_of old) (held old) ++ z) (none.waits ∙ sym none.waited)
+            ∙ ap (λ (z : List Message). messages_of i (places_of old) (held old) ++ z) none.waits
         here (inr (inr full)) here_is = ap (λ b. taken_and_waiting i b t) full.same ∙ ap (taken_and_waiting i old) full.session
     on took false other =
         let stays : get_or (set all p t) i d ≡ get_or all i d = get_or-set_other all p i t d (λ same. eqb-false p i other (sym same)) in
@@ -112,13 +112,13 @@ no_fewer place old new s t takes = on takes.0
     on (inr (inl none)) = omega (arith, ap length none.held)
     on (inr (inr full)) = omega (arith, ap (λ b. length (held b)) full.same)
 
--- where none is held afterwards, none waited
-pub none_waited : (place : ℕ) (old new : Batch) (s t : State) → Takes place old new s t → length (held new) ≡ 0 → s.waiting ≡ []
-none_waited place old new s t takes empty = on takes.0
+-- where none is held afterwards, it was passed over
+pub none_taken : (place : ℕ) (old new : Batch) (s t : State) → Takes place old new s t → length (held new) ≡ 0 → IsPassedOver s
+none_taken place old new s t takes empty = on takes.0
   where
-    on : (TakesOne place old new s t ⊎ TakesNone old new s t ⊎ StaysFull old new s t) → s.waiting ≡ []
+    on : (TakesOne place old new s t ⊎ TakesNone old new s t ⊎ StaysFull old new s t) → IsPassedOver s
     on (inl one) = absurd (omega (arith, empty, ap length one.held, length-append (held old) (one.message ∷ [])))
-    on (inr (inl none)) = none.waited
+    on (inr (inl none)) = none.passed
     on (inr (inr full)) = absurd (omega (arith, empty, full.full, ap (λ b. length (held b)) full.same))
 
 none_of : (i : ℕ) (ps : List ℕ) (ms : List Message) → ms ≡ [] → messages_of i ps ms ≡ []
@@ -134,6 +134,14 @@ waits_still old new before after kept was is i d below =
     let t = get_or after i d in
     ap (λ (z : List Message). z ++ t.waiting) (sym (none_of i (places_of new) (held new) is)) ∙ (kept i d below).0
     ∙ ap (λ (z : List Message). z ++ s.waiting) (none_of i (places_of old) (held old) was)
+
+-- and what is passed over afterwards was so before
+pub passed_still : (old new : Batch) (before after : List State) → AllKept old new before after → held old ≡ [] → held new ≡ [] → (i : ℕ) (d : State) → i < length before
+    → IsPassedOver (get_or after i d) → IsPassedOver (get_or before i d)
+passed_still old new before after kept was is i d below passed =
+    let waits : (get_or after i d).waiting ≡ (get_or before i d).waiting = waits_still old new before after kept was is i d below in
+    let unsent : (get_or after i d).unsent ≡ (get_or before i d).unsent = (kept i d below).1.unsent in
+    ⊎_elim (λ none. inl (sym waits ∙ none)) (λ much. inr (omega (arith, much, ap length unsent))) passed
 
 pub none_known : (n : ℕ) (b : Batch) → held b ≡ [] → All (λ q. q < n) (places_of b)
 none_known n b none k d inside = absurd (omega (arith, inside, b.alike, ap length none))

@@ -32,10 +32,18 @@ pub record TakesOne (place : ℕ) (old new : Batch) (before after : State) : Typ
   pub held : held new ≡ held old ++ message ∷ []
   pub places : places_of new ≡ places_of old ++ place ∷ []
 
--- none waited
+-- A client with this many bytes that wait to be sent gets no further message answered until it takes some.
+abbrev pub unsent_limit : ℕ
+unsent_limit = 65536
+
+-- A session is passed over where no message of it waits, and where its client has not taken the replies that it has.
+abbrev pub IsPassedOver : State → Type 0
+IsPassedOver s = (s.waiting ≡ []) ⊎ (unsent_limit ≤ length s.unsent)
+
+-- it was passed over
 pub record TakesNone (old new : Batch) (before after : State) : Type 0 where
-  pub waited : before.waiting ≡ []
-  pub waits : after.waiting ≡ []
+  pub passed : IsPassedOver before
+  pub waits : after.waiting ≡ before.waiting
   pub held : held new ≡ held old
   pub places : places_of new ≡ places_of old
 

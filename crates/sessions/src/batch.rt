@@ -19,6 +19,9 @@ use httpmsg::Message;
 use records::GROUP_LIMIT;
 use std::alloc::{AllocError, Global};
 
+/// A client with this many bytes that wait to be sent gets no further message answered until it takes some.
+pub const UNSENT_LIMIT: usize = 65536;
+
 /// As many messages as a record of a store holds writes, each with the place of the session that it comes from.
 #[derive(Drop)]
 pub struct Batch {
@@ -32,7 +35,7 @@ pub struct Batch {
 
 impl Batch {
     ghost use Rattle.sessions.specs.State.{State};
-    ghost use Rattle.sessions.specs.Batch.{Takes, AllKept, places_of, held};
+    ghost use Rattle.sessions.specs.Batch.{Takes, AllKept, IsPassedOver, places_of, held};
 
     /// An empty one. All its memory is taken here.
     pub fn new(alloc: Global) -> Result<Batch, AllocError>
@@ -51,11 +54,14 @@ impl Batch {
         &self.places
     }
 
-    // Takes the first message that waits in a session, if there is one, and room for it.
+    // Takes the first message that waits in a session, if there is one, and room for it, and its client does not leave too much unread.
     fn take_from(&mut self, place: usize, session: &mut Session)
         ensures { Takes place self.old self.new session.old session.new }
     {
         if self.messages.len() >= GROUP_LIMIT {
+            return;
+        }
+        if session.rest().len() >= UNSENT_LIMIT {
             return;
         }
         match session.next_message() {
@@ -73,7 +79,7 @@ impl Batch {
         ensures kept { AllKept self.old self.new sessions.old sessions.new }
         ensures known { All (λ p. p < length sessions.old) (places_of self.old) → All (λ p. p < length sessions.old) (places_of self.new) }
         ensures more { length (held self.old) ≤ length (held self.new) }
-        ensures none { held self.new ≡ [] → (i : ℕ) (d : State) → from ≤ i → i < to → (slice_index_or sessions.old i d).waiting ≡ [] }
+        ensures none { held self.new ≡ [] → (i : ℕ) (d : State) → from ≤ i → i < to → IsPassedOver (slice_index_or sessions.old i d) }
     {
         for place in from..to {
             self.take_from(place, &mut sessions[place]);
@@ -86,7 +92,7 @@ impl Batch {
         ensures kept { AllKept self.old self.new sessions.old sessions.new }
         ensures known { All (λ p. p < length sessions.old) (places_of self.old) → All (λ p. p < length sessions.old) (places_of self.new) }
         ensures more { length (held self.old) ≤ length (held self.new) }
-        ensures none { held self.new ≡ [] → (i : ℕ) (d : State) → i < length sessions.old → (slice_index_or sessions.old i d).waiting ≡ [] }
+        ensures none { held self.new ≡ [] → (i : ℕ) (d : State) → i < length sessions.old → IsPassedOver (slice_index_or sessions.old i d) }
     {
         let end = sessions.len();
         self.pass(sessions, first, end);
@@ -94,12 +100,13 @@ impl Batch {
     }
 
     /// Takes messages that wait in sessions, by turns: one of each session, from a place on, and then another of each, until none waits or
-    /// there is no more room. It gives the place that the next batch begins with.
+    /// there is no more room. A session of which [`UNSENT_LIMIT`] bytes wait to be sent is passed over. It gives the place that the next
+    /// batch begins with.
     pub fn gather(&mut self, sessions: &mut [Session], first: usize) -> usize
         requires empty { held self.old ≡ [] }
         ensures kept { AllKept self.old self.new sessions.old sessions.new }
         ensures known { All (λ p. p < length sessions.old) (places_of self.new) }
-        ensures some { held self.new ≡ [] → (i : ℕ) (d : State) → i < length sessions.old → (slice_index_or sessions.old i d).waiting ≡ [] }
+        ensures some { held self.new ≡ [] → (i : ℕ) (d : State) → i < length sessions.old → IsPassedOver (slice_index_or sessions.old i d) }
     {
         let first = first.min(sessions.len());
         let mut before = 0;

@@ -22,7 +22,7 @@ mod outbox;
 mod session;
 mod turn;
 
-pub use batch::Batch;
+pub use batch::{Batch, UNSENT_LIMIT};
 pub use laws::turns_are_runs;
 pub use outbox::Outbox;
 pub use session::{Session, Tools};

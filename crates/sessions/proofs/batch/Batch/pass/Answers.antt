@@ -1,9 +1,9 @@
-use Rattle.std.proofs.Common.{arith, ◌≡◌, ◌<◌, ◌≤◌, ◌∙◌, ⊎_elim, ap, ℕ, [], length, sym, get_or, set}
+use Rattle.std.proofs.Common.{arith, ◌≡◌, ◌<◌, ◌≤◌, ◌∙◌, ⊎_elim, ap, subst, ℕ, [], length, sym, get_or, set}
 use Rattle.std.proofs.lemmas.List.{get_or_default, nil_from_length}
 use Rattle.std.proofs.lemmas.Bool.{cases_lt}
 use Rattle.sessions.specs.State.{State}
-use Rattle.sessions.specs.Batch.{held}
-use Rattle.sessions.proofs.Taking.{kept_none, kept_then, kept_one, known_one, no_fewer, none_waited, waits_still}
+use Rattle.sessions.specs.Batch.{held, IsPassedOver}
+use Rattle.sessions.proofs.Taking.{kept_none, kept_then, kept_one, known_one, no_fewer, none_taken, passed_still}
 use Rattle.sessions.proofs.batch.Batch.pass.Goals as goal
 
 pub loop-place-init : goal.loop-place-init
@@ -39,9 +39,9 @@ loop-place-preserved c =
           ⊎_elim (λ before. c.loop-place.invariant.none was i d from before)
           (λ after.
           let at : p ≡ i = omega (arith, after, below) in
-          sym (waits_still c.args.self.now c.loop-place.self c.args.sessions.now all c.loop-place.invariant.kept first was i d
-          (omega (arith, at, known, c.loop-place.auto.sessions)))
-          ∙ ap (λ n. (get_or all n d).waiting) (sym at) ∙ ap (λ (x : State). x.waiting) (get_or_default all p d r known)
-          ∙ none_waited p c.loop-place.self c.take_from.new.self s c.take_from.new.session c.take_from.ensures size)
+          let here : get_or all i d ≡ s = ap (λ n. get_or all n d) (sym at) ∙ get_or_default all p d r known in
+          passed_still c.args.self.now c.loop-place.self c.args.sessions.now all c.loop-place.invariant.kept first was i d
+          (omega (arith, at, known, c.loop-place.auto.sessions))
+          (subst IsPassedOver (sym here) (none_taken p c.loop-place.self c.take_from.new.self s c.take_from.new.session c.take_from.ensures size)))
           (cases_lt i p);
     }

@@ -1,8 +1,8 @@
-use Rattle.std.proofs.Common.{arith, ◌≡◌, ◌<◌, ℕ, ◌∙◌, All, ap, subst, [], length, sym, ⊎_elim}
+use Rattle.std.proofs.Common.{arith, ◌≡◌, ◌<◌, ℕ, All, ap, subst, [], length, ⊎_elim}
 use Rattle.std.proofs.lemmas.List.{nil_from_length}
 use Rattle.std.proofs.lemmas.Bool.{cases_lt}
 use Rattle.sessions.specs.Batch.{held, places_of}
-use Rattle.sessions.proofs.Taking.{kept_then, waits_still}
+use Rattle.sessions.proofs.Taking.{kept_then, passed_still}
 use Rattle.sessions.proofs.batch.Batch.round.Goals as goal
 
 pub returns-clause-kept : goal.returns-clause-kept
@@ -23,7 +23,7 @@ returns-clause-none c is i d below =
     let mid : held c.pass.new.self ≡ [] = nil_from_length (held c.pass.new.self) (omega (arith, ap length is, c.pass-2.ensures.more)) in
     let first : held c.args.self.now ≡ [] = nil_from_length (held c.args.self.now) (omega (arith, ap length mid, c.pass.ensures.more)) in
     ⊎_elim
-    (λ before. sym (waits_still c.args.self.now c.pass.new.self c.args.sessions.now c.pass.new.sessions c.pass.ensures.kept first mid i d below)
-    ∙ c.pass-2.ensures.none is i d (omega arith) before)
+    (λ before. passed_still c.args.self.now c.pass.new.self c.args.sessions.now c.pass.new.sessions c.pass.ensures.kept first mid i d below
+    (c.pass-2.ensures.none is i d (omega arith) before))
     (λ after. c.pass.ensures.none mid i d after (omega (arith, below)))
     (cases_lt i c.args.first)
