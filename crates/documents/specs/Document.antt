@@ -6,6 +6,7 @@ use Rattle.serde_json.specs.Data.{Data, null, string, object, Members, no_member
 use Rattle.serde_json.specs.Find.{get, as_str, as_object}
 use Rattle.documents.specs.Json.{with_member}
 use Rattle.names.specs.declared.resource.Resource.{Resource}
+use Rattle.names.specs.Key.{is_name_of}
 use Rattle.names.specs.Name.{is_namespace, is_name}
 use Rattle.names.specs.Resource.{row, api_version}
 
@@ -59,6 +60,10 @@ is_metadata_member name value =
 -- metadata, which has a name
 abbrev pub is_metadata : Data → Bool
 is_metadata metadata = is_object_of is_metadata_member metadata && is_some (get (codes "name") metadata)
+
+-- metadata, whose name may name an object of the resource
+abbrev pub is_metadata_of : Resource → Data → Bool
+is_metadata_of r metadata = is_metadata metadata && option_map_or (is_name_of r) (option_and_then as_str (get (codes "name") metadata)) false
 
 -- ---- kind and version
 

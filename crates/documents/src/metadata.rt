@@ -1,9 +1,12 @@
-ghost use Rattle.std.specs.Prelude.{◌≡◌, IfOk, option_map};
+ghost use Rattle.std.specs.Prelude.{◌≡◌, IfOk, false, codes, option_map, option_and_then};
+ghost use Rattle.std.specs.Option.{option_map_or};
+ghost use Rattle.serde_json.specs.Find.{get, as_str};
 ghost use Rattle.serde_json.specs.View.{view, members_view};
-ghost use Rattle.documents.specs.Document.{metadata_of, metadata_text, is_metadata, each_member, is_metadata_member, is_text, are_texts, has_kind, has_text};
+ghost use Rattle.names.specs.Key.{is_name_of};
+ghost use Rattle.documents.specs.Document.{metadata_of, metadata_text, is_metadata, is_metadata_of, each_member, is_metadata_member, is_text, are_texts, has_kind, has_text};
 
 use crate::doc::Doc;
-use names::{Resource, check_name, check_namespace};
+use names::{Resource, check_name, check_name_of, check_namespace};
 use serde_json::{Map, Value};
 use std::alloc::AllocError;
 
@@ -44,13 +47,26 @@ fn has_text(document: &Doc, name: &str, text: &str) -> bool
     }
 }
 
-/// Whether the object's metadata is well-formed, and has a name: a well-formed name and namespace, labels and annotations of
-/// texts, a `resourceVersion` that is a text, and nothing else.
-pub fn has_metadata(document: &Doc) -> bool
-    ensures { result ≡ is_metadata (metadata_of document.now) }
+/// Whether the object's metadata is well-formed, and has a name that an object of the resource may have: a well-formed name and
+/// namespace, labels and annotations of texts, a `resourceVersion` that is a text, and nothing else.
+pub fn has_metadata(resource: Resource, document: &Doc) -> bool
+    ensures { result ≡ is_metadata_of resource (metadata_of document.now) }
 {
     match document.get("metadata") {
-        Some(metadata) => is_metadata(metadata),
+        Some(metadata) => is_metadata(metadata) && has_name_of(resource, metadata),
+        None => false,
+    }
+}
+
+// Whether the name in the metadata may name an object of the resource.
+fn has_name_of(resource: Resource, metadata: &Value) -> bool
+    ensures { result ≡ option_map_or (is_name_of resource) (option_and_then as_str (get (codes "name") (view metadata.now))) false }
+{
+    match metadata.get("name") {
+        Some(name) => match name.as_str() {
+            Some(text) => check_name_of(resource, text),
+            None => false,
+        },
         None => false,
     }
 }

@@ -4,6 +4,7 @@ use Rattle.std.specs.Ordering.{nat_cmp, ordering_then}
 use Rattle.std.specs.Cmp.Lexicographic.{slice_cmp}
 use Rattle.std.specs.declared.cmp.Ordering.{Ordering}
 use Rattle.names.specs.declared.resource.Resource.{Resource}
+use Rattle.names.specs.declared.resource.Resource.TheVariants.{Namespace}
 use Rattle.names.specs.declared.resource.Scope.{Scope}
 use Rattle.names.specs.declared.resource.Scope.TheVariants.{Namespaced, Cluster}
 use Rattle.names.specs.Name.{is_namespace, is_name}
@@ -24,9 +25,14 @@ abbrev pub fits_scope : Scope → List ℕ → Bool
 fits_scope Namespaced namespace = is_namespace namespace
 fits_scope Cluster namespace = length namespace == 0
 
+-- the text may name an object of the resource: the name of a Namespace is a namespace
+abbrev pub is_name_of : Resource → List ℕ → Bool
+is_name_of Namespace name = is_namespace name
+is_name_of r name = is_name name
+
 -- a well-formed key
 abbrev pub is_key : Key → Bool
-is_key key = fits_scope (row key.resource).scope key.namespace && is_name key.name
+is_key key = fits_scope (row key.resource).scope key.namespace && is_name_of key.resource key.name
 
 -- by number of the resource, then by namespace, then by name, both by bytes
 abbrev pub key_cmp : Key → Key → Ordering

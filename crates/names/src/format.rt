@@ -1,5 +1,7 @@
 ghost use Rattle.std.specs.Prelude.{◌≡◌, ◌^◌, ◌-◌};
-ghost use Rattle.names.specs.Format.{number_of, rules_of, NumbersAreSmall};
+ghost use Rattle.names.specs.Format.{number_of, has_namespaces, has_resource, rules_of, NumbersAreSmall};
+
+use crate::resource::Resource;
 
 /// A format of the store's file, which fixes the rules that the store keeps to.
 #[derive(Clone, Copy, Debug, PartialEq, Eq)]
@@ -33,6 +35,26 @@ impl Format {
         match self {
             Format::First => 1,
             Format::Second => 2,
+        }
+    }
+
+    /// Whether namespaces are objects.
+    pub fn has_namespaces(self) -> bool
+        ensures { result ≡ has_namespaces self }
+    {
+        match self {
+            Format::First => false,
+            Format::Second => true,
+        }
+    }
+
+    /// Whether a store of this format may hold objects of the resource.
+    pub fn has(self, resource: Resource) -> bool
+        ensures { result ≡ has_resource self resource }
+    {
+        match resource {
+            Resource::Namespace => self.has_namespaces(),
+            _ => true,
         }
     }
 

@@ -2,7 +2,7 @@ ghost use Rattle.std.specs.Prelude.{◌≡◌, ◌≢◌, ◌↔◌, ℕ, List, 
 ghost use Rattle.names.specs.KeyParts.{IsPlain};
 ghost use Rattle.names.specs.declared.key.KeyFault.TheVariants.{Memory};
 
-use crate::name::{check_name, check_namespace};
+use crate::name::{check_name_of, check_namespace};
 use crate::resource::{Resource, ResourceTable, Scope};
 use std::alloc::{AllocError, Global};
 use std::cmp::Ordering;
@@ -104,7 +104,7 @@ impl Key {
             Scope::Namespaced => check_namespace(namespace),
             Scope::Cluster => namespace.is_empty(),
         };
-        if !fits_scope || !check_name(name) {
+        if !fits_scope || !check_name_of(resource, name) {
             return Err(KeyFault::NoKey);
         }
         Ok(Key {

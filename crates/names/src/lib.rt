@@ -20,5 +20,5 @@ mod resource;
 
 pub use format::{Format, Rules, numbers_are_small};
 pub use key::{Key, KeyFault};
-pub use name::{check_name, check_namespace};
+pub use name::{check_name, check_name_of, check_namespace};
 pub use resource::{Resource, ResourceTable, Scope};

@@ -1,7 +1,10 @@
 ghost use Rattle.std.specs.Prelude.{◌≡◌, ◌↔◌, ◌==◌, ◌≤◌, false, length, IsTrue};
 ghost use Rattle.std.specs.List.{list_all, slice_split};
 ghost use Rattle.std.specs.Option.{option_map_or};
+ghost use Rattle.names.specs.Key.{is_name_of};
 ghost use Rattle.names.specs.Name.{is_letter_or_digit, is_label_byte, is_label, is_namespace, is_name, dot, IsLabel, IsSubdomain};
+
+use crate::resource::Resource;
 
 /// The longest name, in characters.
 pub const NAME_LIMIT: usize = 253;
@@ -59,4 +62,14 @@ pub fn check_name(text: &str) -> bool
     ensures grammar { IsTrue result ↔ IsSubdomain text.now }
 {
     text.len() <= NAME_LIMIT && check_labels(text.as_bytes())
+}
+
+/// Whether the text may name an object of the resource. The name of a Namespace is a namespace.
+pub fn check_name_of(resource: Resource, text: &str) -> bool
+    ensures { result ≡ is_name_of resource text.now }
+{
+    match resource {
+        Resource::Namespace => check_namespace(text),
+        _ => check_name(text),
+    }
 }
