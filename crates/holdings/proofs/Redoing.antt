@@ -8,6 +8,7 @@ use Rattle.std.specs.Ordering.{is_eq}
 use Rattle.serde_json.specs.Data.{null}
 use Rattle.documents.specs.Json.{text}
 use Rattle.names.specs.declared.format.Rules.{Rules}
+use Rattle.names.specs.Format.{has_resource}
 use Rattle.names.specs.Key.{Key, key_cmp}
 use Rattle.names.specs.KeyLaws.{key_cmp_total}
 use Rattle.objects.specs.Objects.{value_at, with_value}
@@ -25,12 +26,13 @@ use Rattle.holdings.specs.Sources.{found_in}
 use Rattle.holdings.specs.Writes.{Put, Deletion}
 use Rattle.holdings.proofs.Showing.{some_same}
 
-pub revision_left : (greatest revision : ℕ) (large exhausted stands full : Bool) → exhausted ≡ nat_le greatest revision
-    → (not large && not exhausted && (stands || not full)) ≡ true → revision < greatest
-revision_left greatest revision true true stands full is holds = absurd (false≢true holds)
-revision_left greatest revision true false stands full is holds = absurd (false≢true holds)
-revision_left greatest revision false true stands full is holds = absurd (false≢true holds)
-revision_left greatest revision false false stands full is holds = leb-false greatest revision (sym is)
+pub revision_left : (greatest revision : ℕ) (served large exhausted stands full : Bool) → exhausted ≡ nat_le greatest revision
+    → (served && not large && not exhausted && (stands || not full)) ≡ true → revision < greatest
+revision_left greatest revision false large exhausted stands full is holds = absurd (false≢true holds)
+revision_left greatest revision true true true stands full is holds = absurd (false≢true holds)
+revision_left greatest revision true true false stands full is holds = absurd (false≢true holds)
+revision_left greatest revision true false true stands full is holds = absurd (false≢true holds)
+revision_left greatest revision true false false stands full is holds = leb-false greatest revision (sym is)
 
 none_of_either : {Y : Type 0} (b : Bool) (y : Y) (o : Option Y) → cond b (Some y) o ≡ None → o ≡ None
 none_of_either true y o is = cc
@@ -61,24 +63,34 @@ module _ {P : Type 0} where
 
   -- ---- what may be put
 
-  may_from_test : (rules : Rules) (v : View P) (k : Key) (d : Document) (large exhausted stands full : Bool) → HasForm k d → large ≡ is_too_large rules d → exhausted ≡ is_exhausted rules v
+  may_from_test : (rules : Rules) (v : View P) (k : Key) (d : Document) (large exhausted stands full : Bool) → HasForm k d → has_resource rules.format k.resource ≡ true
+      → large ≡ is_too_large rules d → exhausted ≡ is_exhausted rules v
       → stands ≡ exists v k → full ≡ is_full rules v → (not large && not exhausted && (stands || not full)) ≡ true → MayPut rules v k d
-  may_from_test rules v k d true true stands full form size revision there room holds = absurd (false≢true holds)
-  may_from_test rules v k d true false stands full form size revision there room holds = absurd (false≢true holds)
-  may_from_test rules v k d false true stands full form size revision there room holds = absurd (false≢true holds)
-  may_from_test rules v k d false false true full form size revision there room holds = record {
+  may_from_test rules v k d true true stands full form served size revision there room holds = absurd (false≢true holds)
+  may_from_test rules v k d true false stands full form served size revision there room holds = absurd (false≢true holds)
+  may_from_test rules v k d false true stands full form served size revision there room holds = absurd (false≢true holds)
+  may_from_test rules v k d false false true full form served size revision there room holds = record {
     form = form;
+    served = served;
     size = ltb-false rules.text_limit_bytes (length (text d.json)) (sym size);
     room = inl (sym there);
     revision = leb-false rules.greatest_revision v.revision (sym revision);
   }
-  may_from_test rules v k d false false false true form size revision there room holds = absurd (false≢true holds)
-  may_from_test rules v k d false false false false form size revision there room holds = record {
+  may_from_test rules v k d false false false true form served size revision there room holds = absurd (false≢true holds)
+  may_from_test rules v k d false false false false form served size revision there room holds = record {
     form = form;
+    served = served;
     size = ltb-false rules.text_limit_bytes (length (text d.json)) (sym size);
     room = inr (leb-false rules.object_limit (length v.objects) (sym room));
     revision = leb-false rules.greatest_revision v.revision (sym revision);
   }
+
+  may_where_served : (rules : Rules) (v : View P) (k : Key) (d : Document) (served large exhausted stands full : Bool) → HasForm k d → served ≡ has_resource rules.format k.resource
+      → large ≡ is_too_large rules d → exhausted ≡ is_exhausted rules v
+      → stands ≡ exists v k → full ≡ is_full rules v → (served && not large && not exhausted && (stands || not full)) ≡ true → MayPut rules v k d
+  may_where_served rules v k d true large exhausted stands full form served size revision there room holds =
+      may_from_test rules v k d large exhausted stands full form (sym served) size revision there room holds
+  may_where_served rules v k d false large exhausted stands full form served size revision there room holds = absurd (false≢true holds)
 
   test_from_may : (rules : Rules) (v : View P) (k : Key) (d : Document) (large exhausted stands full : Bool) → large ≡ is_too_large rules d → exhausted ≡ is_exhausted rules v
       → stands ≡ exists v k → full ≡ is_full rules v → MayPut rules v k d → (not large && not exhausted && (stands || not full)) ≡ true
@@ -91,12 +103,14 @@ module _ {P : Type 0} where
   test_from_may rules v k d false false false true size revision there room may =
       ⊎_elim (λ stands. there ∙ stands) (λ below. absurd (omega (arith, leb-true rules.object_limit (length v.objects) (sym room), below))) may.room
 
-  pub may_put_shown : (rules : Rules) (v : View P) (k : Key) (d : Document) (large exhausted stands full result : Bool) → HasForm k d → large ≡ is_too_large rules d
-      → exhausted ≡ is_exhausted rules v → stands ≡ exists v k → full ≡ is_full rules v → result ≡ (not large && not exhausted && (stands || not full))
+  pub may_put_shown : (rules : Rules) (v : View P) (k : Key) (d : Document) (served large exhausted stands full result : Bool) → HasForm k d
+      → served ≡ has_resource rules.format k.resource → large ≡ is_too_large rules d
+      → exhausted ≡ is_exhausted rules v → stands ≡ exists v k → full ≡ is_full rules v → result ≡ (served && not large && not exhausted && (stands || not full))
       → (IsTrue result → MayPut rules v k d) × (MayPut rules v k d → IsTrue result)
-  may_put_shown rules v k d large exhausted stands full result form size revision there room is = (
-    (λ holds. may_from_test rules v k d large exhausted stands full form size revision there room (sym is ∙ holds)),
-    (λ may. is ∙ test_from_may rules v k d large exhausted stands full size revision there room may),
+  may_put_shown rules v k d served large exhausted stands full result form known size revision there room is = (
+    (λ holds. may_where_served rules v k d served large exhausted stands full form known size revision there room (sym is ∙ holds)),
+    (λ may. is ∙ ap (λ b. b && not large && not exhausted && (stands || not full)) (known ∙ may.served)
+        ∙ test_from_may rules v k d large exhausted stands full size revision there room may),
   )
 
   -- ---- a put

@@ -37,11 +37,18 @@ impl From<AllocError> for RedoFault {
     }
 }
 
-// Whether a document may be put: it is not too large, a revision is left, and it stands over an object or there is room for one more.
-fn may_stand(is_too_large: bool, is_exhausted: bool, stands: bool, is_full: bool) -> bool
-    ensures { result ≡ (not is_too_large && not is_exhausted && (stands || not is_full)) }
+// Whether a document may be put: the format has the resource, the document is not too large, a revision is left, and it stands over an
+// object or there is room for one more.
+fn may_stand(
+    is_served: bool,
+    is_too_large: bool,
+    is_exhausted: bool,
+    stands: bool,
+    is_full: bool,
+) -> bool
+    ensures { result ≡ (is_served && not is_too_large && not is_exhausted && (stands || not is_full)) }
 {
-    !is_too_large && !is_exhausted && (stands || !is_full)
+    is_served && !is_too_large && !is_exhausted && (stands || !is_full)
 }
 
 impl<P: Drop> Holdings<P> {
@@ -131,6 +138,7 @@ impl<P: Drop> Holdings<P> {
         // The document, of which the text and the form speak.
         let _document = manifest.document();
         may_stand(
+            self.rules().format.has(manifest.key().resource()),
             self.is_too_large(manifest),
             self.is_exhausted(),
             self.has(manifest.key()),

@@ -10,10 +10,10 @@ use Rattle.documents.proofs.Json.{both, get-with_member, get-with_member_other, 
 use Rattle.names.specs.declared.resource.Resource.{Resource}
 use Rattle.names.specs.declared.resource.Scope.{Scope}
 use Rattle.names.specs.declared.resource.Scope.TheVariants.{Namespaced, Cluster}
-use Rattle.names.specs.Key.{Key, fits_scope, is_key}
-use Rattle.names.specs.Name.{is_name, is_namespace}
+use Rattle.names.specs.Key.{Key, fits_scope, is_key, is_name_of}
+use Rattle.names.specs.Name.{is_namespace}
 use Rattle.names.specs.Resource.{row, api_version}
-use Rattle.documents.specs.Document.{Document, metadata_of, metadata_text, is_metadata, is_metadata_member, is_object_of, is_text_that, has_kind, has_text}
+use Rattle.documents.specs.Document.{Document, metadata_of, metadata_text, is_metadata, is_metadata_of, is_metadata_member, is_object_of, is_text_that, has_kind, has_text}
 use Rattle.documents.proofs.MemberLemmas.{each_member-get_member, each_member-put, each_member-without, depth-with_member, depth-without_member, depth-get}
 use Rattle.requests.specs.declared.refusal.Refusal.TheVariants.{WrongKind, BadMetadata, WrongName, VersionOnCreate}
 use Rattle.requests.specs.Manifest.{Target, is_target, fits_path, asks_for_version, document_conditions, stored_document, with_namespace, namespace_at, key_at, manifest_of, Manifest, sound, HasForm}
@@ -84,6 +84,7 @@ differ a b e same = true≢false (sym ((bytes_eq-Decides a b).1 same) ∙ e)
 pub record IsSound (t : Target) (d : Data) : Type 0 where
   pub kind : has_kind t.resource d ≡ true
   pub metadata : is_metadata (metadata_of d) ≡ true
+  pub named : option_map_or (is_name_of t.resource) (metadata_text (codes "name") d) false ≡ true
   pub path : fits_path t.namespace t.name d ≡ true
 
 sound_by_tests : (kind metadata path : Bool) (asks : Bool)
@@ -96,8 +97,9 @@ sound_by_tests true true true asks none = (refl, refl, refl)
 
 pub IsSound-none : (t : Target) (d : Data) → first_of (document_conditions t d) ≡ None → IsSound t d
 IsSound-none t d none =
-    let parts = sound_by_tests (has_kind t.resource d) (is_metadata (metadata_of d)) (fits_path t.namespace t.name d) (is_none t.name && asks_for_version d) none in
-    record { kind = parts.0; metadata = parts.1; path = parts.2 }
+    let parts = sound_by_tests (has_kind t.resource d) (is_metadata_of t.resource (metadata_of d)) (fits_path t.namespace t.name d) (is_none t.name && asks_for_version d) none in
+    let metadata = both (is_metadata (metadata_of d)) (option_map_or (is_name_of t.resource) (metadata_text (codes "name") d) false) parts.1 in
+    record { kind = parts.0; metadata = metadata.0; named = metadata.1; path = parts.2 }
 
 -- ---- the stored metadata
 
@@ -167,26 +169,14 @@ version-stored Namespaced text m =
     (differ (codes "resourceVersion") (codes "namespace") refl) ∙ get-without_member (codes "resourceVersion") m)
 version-stored Cluster text m = ap (option_and_then as_str) (get-without_member (codes "resourceVersion") m)
 
-record Named (o : Option (List ℕ)) : Type 0 where
+record Named (r : Resource) (o : Option (List ℕ)) : Type 0 where
   there : o ≡ Some (unwrap_or o [])
-  good : is_name (unwrap_or o []) ≡ true
+  good : is_name_of r (unwrap_or o []) ≡ true
 
-named_text : (v : Data) → is_text_that is_name v ≡ true → Named (as_str v)
-named_text null good = absurd (true≢false (sym good))
-named_text (boolean b) good = absurd (true≢false (sym good))
-named_text (number n) good = absurd (true≢false (sym good))
-named_text (string s) good = record { there = refl; good = good }
-named_text (array ds) good = absurd (true≢false (sym good))
-named_text (object ms) good = absurd (true≢false (sym good))
-
-named_member : (o : Option Data) → is_some o ≡ true → ((v : Data) → o ≡ Some v → is_text_that is_name v ≡ true) → Named (option_and_then as_str o)
-named_member None there good = absurd (true≢false (sym there))
-named_member (Some v) there good = named_text v (good v refl)
-
-named : (m : Data) → is_metadata m ≡ true → Named (option_and_then as_str (get (codes "name") m))
-named m has =
-    let parts = both (is_object_of is_metadata_member m) (is_some (get (codes "name") m)) has in
-    named_member (get (codes "name") m) parts.1 (λ v found. is_object_of-get is_metadata_member (codes "name") m v parts.0 found)
+-- a text that is there and passes
+named : (r : Resource) (o : Option (List ℕ)) → option_map_or (is_name_of r) o false ≡ true → Named r o
+named r None has = absurd (true≢false (sym has))
+named r (Some s) has = record { there = refl; good = has }
 
 -- ---- the stored document
 
@@ -213,8 +203,8 @@ HasForm-stored t d at none reads_back =
     let m : Data = metadata_of d in
     let scope : Scope = (row t.resource).scope in
     let stored : Data = with_namespace scope t.namespace (without_member (codes "resourceVersion") m) in
-    let place = both (fits_scope scope t.namespace) (option_map_or is_name t.name true) at in
-    let name = named m fine.metadata in
+    let place = both (fits_scope scope t.namespace) (option_map_or (is_name_of t.resource) t.name true) at in
+    let name = named t.resource (metadata_text (codes "name") d) fine.named in
     let members = both (is_object_of is_metadata_member m) (is_some (get (codes "name") m)) fine.metadata in
     let path =
     both (option_map_or (λ n. option_map_or (bytes_eq n) (metadata_text (codes "name") d) false) t.name true)
@@ -238,8 +228,8 @@ HasForm-stored t d at none reads_back =
 pub is_key-key_at : (t : Target) (d : Data) → is_target t ≡ true → first_of (document_conditions t d) ≡ None → is_key (key_at t.resource t.namespace d) ≡ true
 is_key-key_at t d at none =
     let fine = IsSound-none t d none in
-    let place = both (fits_scope (row t.resource).scope t.namespace) (option_map_or is_name t.name true) at in
-    let name = named (metadata_of d) fine.metadata in
+    let place = both (fits_scope (row t.resource).scope t.namespace) (option_map_or (is_name_of t.resource) t.name true) at in
+    let name = named t.resource (metadata_text (codes "name") d) fine.named in
     rw (place.0, name.good)
 
 -- ---- what is made of a body

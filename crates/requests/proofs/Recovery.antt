@@ -7,9 +7,9 @@ use Rattle.documents.specs.Json.{text, reading, document, with_member, without_m
 use Rattle.documents.proofs.Json.{both, without_member-none}
 use Rattle.names.specs.declared.resource.Scope.{Scope}
 use Rattle.names.specs.declared.resource.Scope.TheVariants.{Namespaced, Cluster}
-use Rattle.names.specs.Key.{Key, is_key}
+use Rattle.names.specs.Key.{Key, is_key, is_name_of, fits_scope}
 use Rattle.names.specs.Resource.{row}
-use Rattle.documents.specs.Document.{Document, metadata_of, metadata_text, is_metadata, has_kind, is_metadata_member, is_object_of, is_text}
+use Rattle.documents.specs.Document.{Document, metadata_of, metadata_text, is_metadata, is_metadata_of, has_kind, is_metadata_member, is_object_of, is_text}
 use Rattle.requests.specs.declared.refusal.Refusal.TheVariants.{WrongKind, BadMetadata, WrongName, VersionOnCreate}
 use Rattle.requests.specs.Manifest.{Target, item, is_target, fits_path, asks_for_version, document_conditions, body_refusal, stored_document, with_namespace, namespace_at, sound, HasForm, IsManifestOf}
 use Rattle.requests.specs.Refusal.{first_of}
@@ -90,9 +90,11 @@ stored-HasForm k d form =
 pub IsManifestOf-stored : (k : Key) (d : Document) → HasForm k d → IsManifestOf (item k) (text d.json) (record { key = k; body = sound d; version = None })
 IsManifestOf-stored k d form =
     let path = fits_own_path k.namespace k.name (row k.resource).scope d.json form.name form.namespace in
+    let good = (both (fits_scope (row k.resource).scope k.namespace) (is_name_of k.resource k.name) form.key).1 in
+    let of_resource : is_metadata_of k.resource (metadata_of d.json) ≡ true = rw (form.metadata, form.name) good in
     let none =
-    nothing_refuses (has_kind k.resource d.json) (is_metadata (metadata_of d.json)) (fits_path k.namespace (Some k.name) d.json) (asks_for_version d.json)
-    form.kind form.metadata path in
+    nothing_refuses (has_kind k.resource d.json) (is_metadata_of k.resource (metadata_of d.json)) (fits_path k.namespace (Some k.name) d.json) (asks_for_version d.json)
+    form.kind of_resource path in
     let name_is : unwrap_or (metadata_text (codes "name") d.json) [] ≡ k.name = ap (λ o. unwrap_or o []) form.name in
     let stored_is = stored-HasForm k d form in
     record {

@@ -1,6 +1,10 @@
 -- Under wider rules a history stays one, and is seen as it was.
-use Rattle.std.proofs.Common.{arith, ◌≡◌, ◌∙◌, ap, subst, sym, ◌+◌, ◌-◌, ◌<◌, ◌≤◌, ◌⊎◌, inl, inr, refl, ℕ, List, [], ◌∷◌, ◌++◌, length, drop, IsTrue, is_some, length-drop}
+use Rattle.std.proofs.Common.{arith, ◌≡◌, ◌∙◌, ap, subst, sym, ◌+◌, ◌-◌, ◌<◌, ◌≤◌, ◌⊎◌, inl, inr, refl, true, ℕ, List, [], ◌∷◌, ◌++◌, length, drop, IsTrue, is_some, length-drop}
+use Rattle.names.specs.declared.format.Format.{Format}
 use Rattle.names.specs.declared.format.Rules.{Rules}
+use Rattle.names.specs.declared.resource.Resource.{Resource}
+use Rattle.names.specs.declared.resource.Resource.TheVariants.{Namespace}
+use Rattle.names.specs.Format.{has_namespaces, has_resource}
 use Rattle.names.specs.Key.{Key}
 use Rattle.circular_buffer.specs.Buffer.{keep_last}
 use Rattle.objects.specs.declared.event.Event.{Event}
@@ -13,6 +17,11 @@ use Rattle.requests.specs.HistoryLaws.{events_from}
 use Rattle.requests.specs.View.{View, exists, objects_after, event_of, after, after_all, empty, view, MayFollow, AllMayFollow}
 use Rattle.requests.specs.Wider.{AreWider, floor_at, HistoriesStay, ViewsStay, ViewsStayAboveFloor}
 use Rattle.requests.proofs.ViewLemmas.{counted_events, events-numbered, revision-after_all, keep_last-short}
+
+-- a resource that a format has is one of a format that has namespaces where that one has them
+resource_too : (old new : Format) (r : Resource) → (has_namespaces old ≡ true → has_namespaces new ≡ true) → has_resource old r ≡ true → has_resource new r ≡ true
+resource_too old new Namespace more has = more has
+resource_too old new r more has = refl
 
 -- two views of the same objects at the same revision
 pub record Alike {P : Type 0} (u v : View P) : Type 0 where
@@ -43,6 +52,7 @@ module _ {P : Type 0} where
 
   pub follows_too : (old new : Rules) (u v : View P) (w : Write P) → AreWider old new → Alike u v → MayFollow old u w → MayFollow new v w
   follows_too old new u v (put k d b) wider same may = record {
+    served = resource_too old.format new.format k.resource wider.namespaces may.served;
     form = may.form;
     size = omega (arith, may.size, wider.texts);
     room = room_too old new u v k wider same may.room;

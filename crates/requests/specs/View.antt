@@ -1,10 +1,11 @@
 -- What is seen of a history: its objects, its revision and its last events. And what may follow it.
-use Rattle.std.specs.Prelude.{ℕ, ◌+◌, ◌<◌, ◌≤◌, List, [], ◌∷◌, ◌++◌, length, Bool, nat_lt, nat_le, IsTrue, if◌then◌else◌, Option, is_some, ◌⊎◌}
+use Rattle.std.specs.Prelude.{◌≡◌, ℕ, ◌+◌, ◌<◌, ◌≤◌, true, List, [], ◌∷◌, ◌++◌, length, Bool, nat_lt, nat_le, IsTrue, if◌then◌else◌, Option, is_some, ◌⊎◌}
 use Rattle.std.specs.Option.{option_map_or}
 use Rattle.circular_buffer.specs.Buffer.{keep_last}
 use Rattle.serde_json.specs.Data.{null}
 use Rattle.documents.specs.Json.{text}
 use Rattle.names.specs.declared.format.Rules.{Rules}
+use Rattle.names.specs.Format.{has_resource}
 use Rattle.names.specs.Key.{Key}
 use Rattle.objects.specs.Objects.{value_at, with_value, without_key}
 use Rattle.objects.specs.declared.event.Change.{Change}
@@ -79,8 +80,10 @@ module _ {P : Type 0} where
   abbrev pub is_exhausted : Rules → View P → Bool
   is_exhausted rules v = nat_le rules.greatest_revision v.revision
 
--- a put that may follow: a document of the right form and size, at a key with an object or where there is room for one more
+-- a put that may follow: of a resource that the format has, a document of the right form and size, at a key with an object or where there is room for one
+-- more
 pub record MayPut {P : Type 0} (rules : Rules) (v : View P) (k : Key) (d : Document) : Type 0 where
+  pub served : has_resource rules.format k.resource ≡ true
   pub form : HasForm k d
   pub size : length (text d.json) ≤ rules.text_limit_bytes
   pub room : IsTrue (exists v k) ⊎ (length v.objects < rules.object_limit)

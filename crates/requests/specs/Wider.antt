@@ -1,14 +1,16 @@
 -- Rules under which a history of others stays one, and is seen as it was.
-use Rattle.std.specs.Prelude.{◌≡◌, ◌≤◌, ◌-◌, ℕ, List, max}
+use Rattle.std.specs.Prelude.{◌≡◌, ◌≤◌, ◌-◌, ℕ, List, max, true}
+use Rattle.names.specs.Format.{has_namespaces}
 use Rattle.names.specs.declared.format.Rules.{Rules}
 use Rattle.requests.specs.History.{Write}
 use Rattle.requests.specs.View.{view, AllFollow}
 
--- Each limit is at least as great.
+-- Each limit is at least as great, and namespaces are objects where they were.
 pub record AreWider (old new : Rules) : Type 0 where
   pub texts : old.text_limit_bytes ≤ new.text_limit_bytes
   pub objects : old.object_limit ≤ new.object_limit
   pub revisions : old.greatest_revision ≤ new.greatest_revision
+  pub namespaces : has_namespaces old.format ≡ true → has_namespaces new.format ≡ true
 
 -- the revision up to which no event is known, of a store at a revision whose window has so many events
 abbrev pub floor_at : (window revision : ℕ) → ℕ

@@ -22,6 +22,7 @@ mod delete_options;
 mod laws;
 mod listing;
 mod manifest;
+mod namespaces;
 mod refusal;
 mod reply;
 mod request;

@@ -1,19 +1,23 @@
-ghost use Rattle.std.specs.Prelude.{◌≡◌, ◌≤◌, ℕ, List, Option, true, false, Some, None, IfOk, IfErr, option_map, string_bytes, codes};
+ghost use Rattle.std.specs.Prelude.{◌≡◌, ◌≤◌, ℕ, List, [], Option, IsTrue, true, false, Some, None, IfOk, IfErr, option_map, string_bytes, codes};
 ghost use Rattle.std.specs.Option.{option_map_or};
 ghost use Rattle.std.specs.Str.{bytes_eq};
 ghost use Rattle.serde_json.specs.Data.{depth};
 ghost use Rattle.documents.specs.Json.{text, without_member};
 ghost use Rattle.documents.specs.Document.{Document as DocumentData, metadata_of, metadata_text};
 ghost use Rattle.requests.specs.Manifest.{target, is_target, key_at, fits_path, asks_for_version, document_conditions, body_refusal, with_namespace, stored_document, manifest_of, sound, IsManifestOf, HasForm, BodyHasForm};
-ghost use Rattle.names.specs.Key.{is_key};
+ghost use Rattle.names.specs.declared.resource.Resource.TheVariants.{Namespace};
+ghost use Rattle.names.specs.Key.{is_key, key_of};
+ghost use Rattle.names.specs.Name.{is_namespace};
 ghost use Rattle.names.specs.Resource.{row};
+ghost use Rattle.requests.specs.Namespaces.{namespace_document};
 ghost use Rattle.requests.specs.Refusal.{first_of};
 ghost use Rattle.requests.specs.declared.manifest.BodyFault.TheVariants.{Memory};
 
+use crate::namespaces::namespace_document;
 use crate::refusal::Refusal;
 use crate::reply::put_text;
 use documents::{Doc, Document, ReadFault, has_kind, has_metadata, metadata_copy, metadata_text};
-use names::{Key, KeyFault, Resource, Scope, check_name, check_namespace};
+use names::{Key, KeyFault, Resource, Scope, check_name_of, check_namespace};
 use std::alloc::{AllocError, Global};
 use std::marker::Model;
 use thiserror::Error;
@@ -123,6 +127,23 @@ impl Manifest {
         })
     }
 
+    /// The manifest of a Namespace of which only the name is told. `AllocError` when out of memory.
+    pub fn of_namespace(alloc: Global, name: &str) -> Result<Manifest, AllocError>
+        requires { IsTrue (is_namespace name.now) }
+        ensures { IfOk result (λ m. m ≡ record { key = key_of Namespace [] name.now; body = sound (namespace_document name.now); version = None }) }
+    {
+        let document = namespace_document(alloc, name)?;
+        let key = key_of(alloc, Resource::Namespace, "", &document)?;
+        let document = Document::new(document);
+        let text = document.json().text(alloc)?;
+        Ok(Manifest {
+            key,
+            document,
+            text,
+            version: None,
+        })
+    }
+
     /// The key of the object.
     pub fn key(&self) -> &Key
         ensures { result.now ≡ self.now.key }
@@ -175,7 +196,7 @@ fn is_target(resource: Resource, namespace: &str, name: Option<&str>) -> bool
         Scope::Cluster => namespace.is_empty(),
     };
     let good_name = match name {
-        Some(name) => check_name(name),
+        Some(name) => check_name_of(resource, name),
         None => true,
     };
     fits_scope && good_name
@@ -194,7 +215,7 @@ fn document_refusal(
     if !has_kind(resource, document) {
         return Some(Refusal::WrongKind);
     }
-    if !has_metadata(document) {
+    if !has_metadata(resource, document) {
         return Some(Refusal::BadMetadata);
     }
     if !fits_path(namespace, name, document) {

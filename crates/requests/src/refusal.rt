@@ -50,12 +50,16 @@ pub enum Refusal {
     VersionOnCreate,
     /// The body of a DELETE is no `DeleteOptions`, or one with a member that is not served.
     BadDeleteOptions,
+    /// A POST or a PUT is sent to a namespace that is not there.
+    NamespaceNotFound,
     /// A POST names an object that is there.
     AlreadyExists,
     /// There is no such object.
     NotFound,
     /// A PUT or a DELETE asks for a revision that is not the object's.
     VersionNotCurrent,
+    /// A DELETE is of a namespace that holds objects.
+    NamespaceNotEmpty,
     /// A policy or a binding has not the form of one.
     BadSpec,
     /// The stored text is above the limit.
@@ -95,11 +99,11 @@ impl Refusal {
             Refusal::UnservedTransferCoding => 501,
             Refusal::BodyTooLarge | Refusal::ObjectTooLarge => 413,
             Refusal::UnservedExpectation => 417,
-            Refusal::NoSuchPath | Refusal::NotFound => 404,
+            Refusal::NoSuchPath | Refusal::NamespaceNotFound | Refusal::NotFound => 404,
             Refusal::MethodNotAllowed => 405,
             Refusal::Expired => 410,
             Refusal::BadMetadata | Refusal::BadSpec => 422,
-            Refusal::AlreadyExists | Refusal::VersionNotCurrent => 409,
+            Refusal::AlreadyExists | Refusal::VersionNotCurrent | Refusal::NamespaceNotEmpty => 409,
             Refusal::TooManyObjects | Refusal::RevisionExhausted => 507,
             Refusal::OutOfMemory => 503,
             Refusal::StorageFailed => 500,
@@ -130,12 +134,12 @@ impl Refusal {
             Refusal::UnservedTransferCoding => "NotImplemented",
             Refusal::BodyTooLarge | Refusal::ObjectTooLarge => "RequestEntityTooLarge",
             Refusal::UnservedExpectation => "ExpectationFailed",
-            Refusal::NoSuchPath | Refusal::NotFound => "NotFound",
+            Refusal::NoSuchPath | Refusal::NamespaceNotFound | Refusal::NotFound => "NotFound",
             Refusal::MethodNotAllowed => "MethodNotAllowed",
             Refusal::Expired => "Expired",
             Refusal::BadMetadata | Refusal::BadSpec => "Invalid",
             Refusal::AlreadyExists => "AlreadyExists",
-            Refusal::VersionNotCurrent => "Conflict",
+            Refusal::VersionNotCurrent | Refusal::NamespaceNotEmpty => "Conflict",
             Refusal::TooManyObjects | Refusal::RevisionExhausted => "InsufficientStorage",
             Refusal::OutOfMemory => "ServiceUnavailable",
             Refusal::StorageFailed => "InternalError",
@@ -170,9 +174,11 @@ impl Refusal {
             Refusal::WrongName => "name or namespace does not fit the path",
             Refusal::VersionOnCreate => "resourceVersion must be empty on create",
             Refusal::BadDeleteOptions => "bad delete options",
+            Refusal::NamespaceNotFound => "namespace not found",
             Refusal::AlreadyExists => "already exists",
             Refusal::NotFound => "not found",
             Refusal::VersionNotCurrent => "resourceVersion is not current",
+            Refusal::NamespaceNotEmpty => "namespace is not empty",
             Refusal::BadSpec => "bad spec",
             Refusal::ObjectTooLarge => "object too large",
             Refusal::TooManyObjects => "too many objects",
