@@ -6,6 +6,7 @@ use Rattle.std.specs.List.{AllByRecursion}
 use Rattle.std.specs.Slice.{IsItemAt}
 use Rattle.std.proofs.lemmas.List.{append-nil, append_assoc, drop_all}
 use Rattle.http.specs.StatusCode.{IsStatusCode}
+use Rattle.names.specs.declared.format.Format.{Format}
 use Rattle.requests.specs.declared.refusal.Refusal.TheVariants.{OutOfMemory}
 use Rattle.requests.specs.Reply.{Reply, status}
 use Rattle.routes.specs.Allow.{allow_of}
@@ -76,30 +77,30 @@ module _ {S : Type 0} (took : S → S → List ℕ → Type 0)
 -- ---- the bytes of answers
 
 -- the answers to the first messages and to the others
-pub answers_bytes-split : (ms : List Message) (rs : List Reply) (n : ℕ)
-    → answers_bytes ms rs ≡ answers_bytes (take n ms) rs ++ answers_bytes (drop n ms) (drop n rs)
-answers_bytes-split ms rs zero = refl
-answers_bytes-split [] rs (suc n) = refl
-answers_bytes-split (m ∷ ms) [] (suc n) =
-    ap (λ w. reply_bytes m (status OutOfMemory) ++ w) (answers_bytes-split ms [] n)
-    ∙ ap (λ rs. reply_bytes m (status OutOfMemory) ++ (answers_bytes (take n ms) [] ++ answers_bytes (drop n ms) rs)) (drop_all n [] (omega arith))
-    ∙ sym (append_assoc (reply_bytes m (status OutOfMemory)) (answers_bytes (take n ms) []) (answers_bytes (drop n ms) []))
-answers_bytes-split (m ∷ ms) (r ∷ rs) (suc n) =
-    ap (λ w. reply_bytes m r ++ w) (answers_bytes-split ms rs n)
-    ∙ sym (append_assoc (reply_bytes m r) (answers_bytes (take n ms) rs) (answers_bytes (drop n ms) (drop n rs)))
+pub answers_bytes-split : (format : Format) (ms : List Message) (rs : List Reply) (n : ℕ)
+    → answers_bytes format ms rs ≡ answers_bytes format (take n ms) rs ++ answers_bytes format (drop n ms) (drop n rs)
+answers_bytes-split format ms rs zero = refl
+answers_bytes-split format [] rs (suc n) = refl
+answers_bytes-split format (m ∷ ms) [] (suc n) =
+    ap (λ w. reply_bytes format m (status OutOfMemory) ++ w) (answers_bytes-split format ms [] n)
+    ∙ ap (λ rs. reply_bytes format m (status OutOfMemory) ++ (answers_bytes format (take n ms) [] ++ answers_bytes format (drop n ms) rs)) (drop_all n [] (omega arith))
+    ∙ sym (append_assoc (reply_bytes format m (status OutOfMemory)) (answers_bytes format (take n ms) []) (answers_bytes format (drop n ms) []))
+answers_bytes-split format (m ∷ ms) (r ∷ rs) (suc n) =
+    ap (λ w. reply_bytes format m r ++ w) (answers_bytes-split format ms rs n)
+    ∙ sym (append_assoc (reply_bytes format m r) (answers_bytes format (take n ms) rs) (answers_bytes format (drop n ms) (drop n rs)))
 
 -- the answer to one message more
-pub answers_bytes-more : (ms : List Message) (rs : List Reply) (i : ℕ) (d : Message) → i < length ms
-    → answers_bytes (take (suc i) ms) rs ≡ answers_bytes (take i ms) rs ++ reply_bytes (get_or ms i d) (get_or rs i (status OutOfMemory))
-answers_bytes-more [] rs i d below = absurd (omega arith)
-answers_bytes-more (m ∷ ms) [] zero d below = append-nil (reply_bytes m (status OutOfMemory))
-answers_bytes-more (m ∷ ms) (r ∷ rs) zero d below = append-nil (reply_bytes m r)
-answers_bytes-more (m ∷ ms) [] (suc i) d below =
-    ap (λ w. reply_bytes m (status OutOfMemory) ++ w) (answers_bytes-more ms [] i d (omega (arith, below)))
-    ∙ sym (append_assoc (reply_bytes m (status OutOfMemory)) (answers_bytes (take i ms) []) (reply_bytes (get_or ms i d) (status OutOfMemory)))
-answers_bytes-more (m ∷ ms) (r ∷ rs) (suc i) d below =
-    ap (λ w. reply_bytes m r ++ w) (answers_bytes-more ms rs i d (omega (arith, below)))
-    ∙ sym (append_assoc (reply_bytes m r) (answers_bytes (take i ms) rs) (reply_bytes (get_or ms i d) (get_or rs i (status OutOfMemory))))
+pub answers_bytes-more : (format : Format) (ms : List Message) (rs : List Reply) (i : ℕ) (d : Message) → i < length ms
+    → answers_bytes format (take (suc i) ms) rs ≡ answers_bytes format (take i ms) rs ++ reply_bytes format (get_or ms i d) (get_or rs i (status OutOfMemory))
+answers_bytes-more format [] rs i d below = absurd (omega arith)
+answers_bytes-more format (m ∷ ms) [] zero d below = append-nil (reply_bytes format m (status OutOfMemory))
+answers_bytes-more format (m ∷ ms) (r ∷ rs) zero d below = append-nil (reply_bytes format m r)
+answers_bytes-more format (m ∷ ms) [] (suc i) d below =
+    ap (λ w. reply_bytes format m (status OutOfMemory) ++ w) (answers_bytes-more format ms [] i d (omega (arith, below)))
+    ∙ sym (append_assoc (reply_bytes format m (status OutOfMemory)) (answers_bytes format (take i ms) []) (reply_bytes format (get_or ms i d) (status OutOfMemory)))
+answers_bytes-more format (m ∷ ms) (r ∷ rs) (suc i) d below =
+    ap (λ w. reply_bytes format m r ++ w) (answers_bytes-more format ms rs i d (omega (arith, below)))
+    ∙ sym (append_assoc (reply_bytes format m r) (answers_bytes format (take i ms) rs) (reply_bytes format (get_or ms i d) (get_or rs i (status OutOfMemory))))
 
 -- ---- the reply to a message
 
@@ -108,33 +109,33 @@ all_at P [] i d all below = absurd (omega arith)
 all_at P (x ∷ xs) zero d all below = all.0
 all_at P (x ∷ xs) (suc i) d all below = all_at P xs i d all.1 (omega (arith, below))
 
-module _ (ms : List Message) (rs : List Reply) (i : ℕ) (m : Message) (below : i < length ms) (is : m ≡ get_or ms i m) (found : Option (Bor Reply))
+module _ (format : Format) (ms : List Message) (rs : List Reply) (i : ℕ) (m : Message) (below : i < length ms) (is : m ≡ get_or ms i m) (found : Option (Bor Reply))
     (item : IsItemAt rs i found) where
   -- the bytes of what is found for it
   abbrev pub bytes_at : List ℕ
-  bytes_at = reply_bytes m (unwrap_or (option_map (λ r. r.now) found) (status OutOfMemory))
+  bytes_at = reply_bytes format m (unwrap_or (option_map (λ r. r.now) found) (status OutOfMemory))
 
-  bytes_are : reply_bytes (get_or ms i m) (get_or rs i (status OutOfMemory)) ≡ bytes_at
-  bytes_are = ap (λ x. reply_bytes x (get_or rs i (status OutOfMemory))) (sym is) ∙ ap (reply_bytes m) (sym (item.4 (omega arith) (status OutOfMemory)))
+  bytes_are : reply_bytes format (get_or ms i m) (get_or rs i (status OutOfMemory)) ≡ bytes_at
+  bytes_are = ap (λ x. reply_bytes format x (get_or rs i (status OutOfMemory))) (sym is) ∙ ap (reply_bytes format m) (sym (item.4 (omega arith) (status OutOfMemory)))
 
-  pub next_bytes : answers_bytes (take (i + 1) ms) rs ≡ answers_bytes (take i ms) rs ++ bytes_at
+  pub next_bytes : answers_bytes format (take (i + 1) ms) rs ≡ answers_bytes format (take i ms) rs ++ bytes_at
   next_bytes =
-      ap (λ n. answers_bytes (take n ms) rs) (add-one i) ∙ answers_bytes-more ms rs i m below ∙ ap (λ b. answers_bytes (take i ms) rs ++ b) bytes_are
+      ap (λ n. answers_bytes format (take n ms) rs) (add-one i) ∙ answers_bytes-more format ms rs i m below ∙ ap (λ b. answers_bytes format (take i ms) rs ++ b) bytes_are
 
-  pub all_bytes_by : answers_bytes ms rs ≡ (answers_bytes (take i ms) rs ++ bytes_at) ++ answers_bytes (drop (suc i) ms) (drop (suc i) rs)
+  pub all_bytes_by : answers_bytes format ms rs ≡ (answers_bytes format (take i ms) rs ++ bytes_at) ++ answers_bytes format (drop (suc i) ms) (drop (suc i) rs)
   all_bytes_by =
-      answers_bytes-split ms rs (suc i)
-      ∙ ap (λ b. b ++ answers_bytes (drop (suc i) ms) (drop (suc i) rs))
-      (answers_bytes-more ms rs i m below ∙ ap (λ b. answers_bytes (take i ms) rs ++ b) bytes_are)
+      answers_bytes-split format ms rs (suc i)
+      ∙ ap (λ b. b ++ answers_bytes format (drop (suc i) ms) (drop (suc i) rs))
+      (answers_bytes-more format ms rs i m below ∙ ap (λ b. answers_bytes format (take i ms) rs ++ b) bytes_are)
 
 -- what is found for a message can answer it
-pub can_answer_at : (ms : List Message) (rs : List Reply) (allows : List (Option (Bor (List ℕ)))) → CanAnswerAll ms rs allows → (i : ℕ) (m : Message) → i < length ms
+pub can_answer_at : (format : Format) (ms : List Message) (rs : List Reply) (allows : List (Option (Bor (List ℕ)))) → CanAnswerAll format ms rs allows → (i : ℕ) (m : Message) → i < length ms
     → m ≡ get_or ms i m → (found : Option (Bor Reply)) → IsItemAt rs i found → (allow : Option (Bor (List ℕ))) → allow ≡ get_or allows i None
-    → IfSome found (λ r. CanAnswer m r.now allow)
-can_answer_at ms rs allows can i m below is None item allow allow_is = tt
-can_answer_at ms rs allows can i m below is (Some r) item allow allow_is =
+    → IfSome found (λ r. CanAnswer format m r.now allow)
+can_answer_at format ms rs allows can i m below is None item allow allow_is = tt
+can_answer_at format ms rs allows can i m below is (Some r) item allow allow_is =
     let some : i < length rs = item.3.0 in
     let Code : Reply → Type 0 = λ x. IsStatusCode x.code in (
       subst Code (sym item.1) (all_at Code rs i r.now can.codes some),
-      ap (option_map (λ (methods : Bor (List ℕ)). methods.now)) allow_is ∙ can.allowed i m below some ∙ ap allow_of (sym is),
+      ap (option_map (λ (methods : Bor (List ℕ)). methods.now)) allow_is ∙ can.allowed i m below some ∙ ap (allow_of format) (sym is),
     )

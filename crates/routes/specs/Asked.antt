@@ -2,6 +2,7 @@
 use Rattle.std.specs.Prelude.{ℕ, List, [], ◌∷◌, true, not, Option, Some, None, unwrap_or}
 use Rattle.std.specs.Option.{option_map_or}
 use Rattle.documents.specs.Json.{Reading, not_json, not_whole, document, reading}
+use Rattle.names.specs.declared.format.Format.{Format}
 use Rattle.names.specs.Key.{Key, key_of}
 use Rattle.names.specs.Name.{is_namespace}
 use Rattle.names.specs.Resource.{row}
@@ -141,10 +142,10 @@ abbrev pub asked_at : Message → Place → Option Request
 asked_at m (everywhere r) = of_everywhere m r m.method
 asked_at m (within t) = option_map_or (λ name. of_item m t name m.method) t.name (of_collection m t m.method)
 
--- the place that a message points to, if it is served
-abbrev pub place_in : Message → Option Place
-place_in m = place_at (parts_of (path_of m.target))
+-- the place that a message points to, if a store of the format serves it
+abbrev pub place_in : Format → Message → Option Place
+place_in format m = place_at format (parts_of (path_of m.target))
 
--- the request that a message spells: what its method asks of where its path points
-abbrev pub asked : Message → Request
-asked m = option_map_or (λ place. unwrap_or (asked_at m place) (refused MethodNotAllowed)) (place_in m) (refused NoSuchPath)
+-- the request that a message spells to a store of a format: what its method asks of where its path points
+abbrev pub asked : Format → Message → Request
+asked format m = option_map_or (λ place. unwrap_or (asked_at m place) (refused MethodNotAllowed)) (place_in format m) (refused NoSuchPath)

@@ -3,10 +3,12 @@ use Rattle.std.specs.Prelude.{ℕ, Bool, false, List, [], ◌∷◌, ◌++◌, l
 use Rattle.std.specs.List.{slice_split, before_first, after_first}
 use Rattle.std.specs.Option.{option_map_or}
 use Rattle.std.specs.Str.{bytes_eq}
+use Rattle.names.specs.declared.format.Format.{Format}
 use Rattle.names.specs.declared.resource.Resource.{Resource}
-use Rattle.names.specs.declared.resource.Resource.TheVariants.{ConfigMap, Node, Pod, Service, Deployment, ValidatingAdmissionPolicy, ValidatingAdmissionPolicyBinding}
+use Rattle.names.specs.declared.resource.Resource.TheVariants.{ConfigMap, Node, Pod, Service, Deployment, ValidatingAdmissionPolicy, ValidatingAdmissionPolicyBinding, Namespace}
 use Rattle.names.specs.declared.resource.Scope.{Scope}
 use Rattle.names.specs.declared.resource.Scope.TheVariants.{Namespaced, Cluster}
+use Rattle.names.specs.Format.{has_resource}
 use Rattle.names.specs.Resource.{row}
 use Rattle.requests.specs.Manifest.{Target, target}
 
@@ -86,13 +88,17 @@ path_group (byte ∷ group) = Some (byte ∷ group)
 abbrev pub literal_of : Resource → List ℕ
 literal_of r = literal (path_group (row r).group) (row r).version (row r).plural
 
--- the resources that are served, in the order of their paths
+-- the resources, in the order of their paths
 abbrev pub served : List Resource
-served = ConfigMap ∷ Node ∷ Pod ∷ Service ∷ ValidatingAdmissionPolicy ∷ ValidatingAdmissionPolicyBinding ∷ Deployment ∷ []
+served = ConfigMap ∷ Namespace ∷ Node ∷ Pod ∷ Service ∷ ValidatingAdmissionPolicy ∷ ValidatingAdmissionPolicyBinding ∷ Deployment ∷ []
 
--- the resource that is served at this literal path
+-- the resource whose literal path this is
 abbrev pub resource_at : List ℕ → Option Resource
 resource_at path = find (λ r. bytes_eq (literal_of r) path) served
+
+-- the resource that a store of a format serves at this literal path
+abbrev pub resource_of : Format → (path : List ℕ) → Option Resource
+resource_of format path = option_and_then (λ r. if has_resource format r then Some r else None) (resource_at path)
 
 -- ---- where a path points
 
@@ -113,12 +119,12 @@ in_scope Cluster r (Some namespace) name = None
 abbrev pub is_left_out : Option (List ℕ) → Bool
 is_left_out piece = option_map_or is_empty piece false
 
--- where the pieces of a path point, if that is served
-abbrev pub place_of : Pieces → Option Place
-place_of p =
+-- where the pieces of a path point, if a store of the format serves that
+abbrev pub place_of : Format → Pieces → Option Place
+place_of format p =
     if is_left_out p.namespace || is_left_out p.name then None
-    else option_and_then (λ r. in_scope (row r).scope r p.namespace p.name) (resource_at (literal p.group p.version p.plural))
+    else option_and_then (λ r. in_scope (row r).scope r p.namespace p.name) (resource_of format (literal p.group p.version p.plural))
 
--- where the parts of a path point, if that is served
-abbrev pub place_at : List (List ℕ) → Option Place
-place_at parts = option_and_then place_of (pieces_of parts)
+-- where the parts of a path point, if a store of the format serves that
+abbrev pub place_at : Format → List (List ℕ) → Option Place
+place_at format parts = option_and_then (place_of format) (pieces_of parts)

@@ -1,5 +1,6 @@
 -- The bytes of replies to messages.
 use Rattle.std.specs.Prelude.{ℕ, Bool, true, List, [], ◌==◌, if◌then◌else◌, Option, None}
+use Rattle.names.specs.declared.format.Format.{Format}
 use Rattle.requests.specs.declared.refusal.Refusal.{Refusal}
 use Rattle.requests.specs.declared.refusal.Refusal.TheVariants.{MalformedRequest, UnservedVersion, TooManyFields, UnservedTransferCoding, BadHost, BadContentLength, BodyTooLarge, UnservedExpectation, BadTarget}
 use Rattle.requests.specs.Reply.{Reply, status}
@@ -30,13 +31,13 @@ response_of allow without_body closes r =
 
 -- the methods that a reply to a message lists: those of its path, where it says that the message's is none of them (RFC 9110
 -- section 15.5.6)
-abbrev pub allow_in : Message → Reply → Option (List ℕ)
-allow_in m r = if r.code == 405 then allow_of m else None
+abbrev pub allow_in : Format → Message → Reply → Option (List ℕ)
+allow_in format m r = if r.code == 405 then allow_of format m else None
 
--- The bytes of the reply to a message. One to HEAD has no body bytes (RFC 9110 section 9.3.2), and one to a message that
+-- The bytes of the reply to a message, by a store of a format. One to HEAD has no body bytes (RFC 9110 section 9.3.2), and one to a message that
 -- said `close` says so too (RFC 9112 section 9.6).
-abbrev pub reply_bytes : Message → Reply → List ℕ
-reply_bytes m r = response_bytes (response_of (allow_in m r) (is_head m.method) m.closes r)
+abbrev pub reply_bytes : Format → Message → Reply → List ℕ
+reply_bytes format m r = response_bytes (response_of (allow_in format m r) (is_head m.method) m.closes r)
 
 -- the bytes of a refusal after which the connection ends
 abbrev pub closing_bytes : (without_body : Bool) → Refusal → List ℕ

@@ -9,6 +9,7 @@ ghost use Rattle.routes.specs.Allow.{allow_of};
 use crate::routes::{Routed, route};
 use crate::table::Routes;
 use httpmsg::Message;
+use names::Format;
 use requests::Request;
 use std::alloc::{AllocError, Global};
 
@@ -60,18 +61,18 @@ impl Front {
     }
 }
 
-/// Routes messages from the first on, up to the first to which memory is refused.
-pub fn route_front(alloc: Global, routes: &Routes, messages: &[Message]) -> Front
+/// Routes messages to a store of a format from the first on, up to the first to which memory is refused.
+pub fn route_front(alloc: Global, routes: &Routes, format: Format, messages: &[Message]) -> Front
     ensures few { length result.requests.items ≤ length messages.now }
-    ensures requests { map request_of result.requests.items ≡ map asked (take (length result.requests.items) messages.now) }
-    ensures allows { map (option_map (λ methods. methods.now)) result.allows.items ≡ map allow_of (take (length result.requests.items) messages.now) }
+    ensures requests { map request_of result.requests.items ≡ map (asked format) (take (length result.requests.items) messages.now) }
+    ensures allows { map (option_map (λ methods. methods.now)) result.allows.items ≡ map (allow_of format) (take (length result.requests.items) messages.now) }
 {
     let mut front = match Front::with_capacity(alloc, messages.len()) {
         Ok(front) => front,
         Err(AllocError) => return Front::new(alloc),
     };
     for message in messages {
-        match route(alloc, routes, message) {
+        match route(alloc, routes, format, message) {
             Ok(routed) => front.push(routed),
             Err(AllocError) => return front,
         }

@@ -2,7 +2,7 @@
 //!
 //! ```text
 //! let routes = Routes::new(alloc)?;
-//! let front = route_front(alloc, &routes, &messages);
+//! let front = route_front(alloc, &routes, store.format(), &messages);
 //! let (replies, _) = store.run(alloc, &front.requests);
 //! write_answers(&mut output, &mut sheet, &messages, &replies, &front.allows)?;
 //! ```

@@ -1,6 +1,7 @@
 //! The bytes of replies.
 
 ghost use Rattle.std.specs.Prelude.{◌≡◌, ◌==◌, false, if◌then◌else◌, None, IfSome, option_map, unwrap_or, slice_index_or};
+ghost use Rattle.names.specs.declared.format.Format.{Format};
 ghost use Rattle.requests.specs.declared.refusal.Refusal.TheVariants as refusal;
 ghost use Rattle.requests.specs.Reply.{status};
 ghost use Rattle.httpmsg.specs.Flow.{HasCause, Writes};
@@ -54,8 +55,8 @@ fn listing<'r>(response: Response<'r>, allow: Option<&'r str>) -> Response<'r>
 
 // The response of a reply to a message. `allow` has the methods of its path, if the request's method is not among them.
 fn response_to<'r>(message: &Message, reply: &'r Reply, allow: Option<&'static str>) -> Response<'r>
-    ensures { CanAnswer message.now reply.now allow.entry
-        → result ≡ response_of (allow_in message.now reply.now) (is_head message.now.method) message.now.closes reply.now }
+    ensures { (format : Format) → CanAnswer format message.now reply.now allow.entry
+        → result ≡ response_of (allow_in format message.now reply.now) (is_head message.now.method) message.now.closes reply.now }
 {
     let response = Response::new(Status::of(reply.code()), reply.body().as_bytes())
         .warning(reply.warnings())
@@ -114,9 +115,9 @@ fn put_answer<O: Output>(
     reply: Option<&Reply>,
     allow: Option<&'static str>,
 ) -> Result<(), StreamFault>
-    ensures puts { IfSome reply.entry (λ r. CanAnswer message.now r.now allow.entry)
+    ensures puts { (format : Format) → IfSome reply.entry (λ r. CanAnswer format message.now r.now allow.entry)
         → PutsAfter O.took output.old output.new (gathered sheet.old) (gathered sheet.new)
-        (reply_bytes message.now (unwrap_or (option_map (λ r. r.now) reply.entry) (status refusal.OutOfMemory))) result }
+        (reply_bytes format message.now (unwrap_or (option_map (λ r. r.now) reply.entry) (status refusal.OutOfMemory))) result }
     ensures cause { HasCause (O.failures output.old) (O.failures output.new) result }
 {
     match reply {
@@ -141,8 +142,8 @@ pub fn write_answers<O: Output>(
     replies: &[Reply],
     allows: &[Option<&'static str>],
 ) -> Result<(), StreamFault>
-    ensures writes { CanAnswerAll messages.now replies.now allows.now
-        → Writes O.took output.old output.new (answers_bytes messages.now replies.now) result }
+    ensures writes { (format : Format) → CanAnswerAll format messages.now replies.now allows.now
+        → Writes O.took output.old output.new (answers_bytes format messages.now replies.now) result }
     ensures cause { HasCause (O.failures output.old) (O.failures output.new) result }
 {
     sheet.clear();
@@ -164,8 +165,8 @@ pub fn write_answer<O: Output>(
     reply: Option<&Reply>,
     allow: Option<&'static str>,
 ) -> Result<(), StreamFault>
-    ensures writes { IfSome reply.entry (λ r. CanAnswer message.now r.now allow.entry)
-        → Writes O.took output.old output.new (answer_bytes message.now (option_map (λ r. r.now) reply.entry)) result }
+    ensures writes { (format : Format) → IfSome reply.entry (λ r. CanAnswer format message.now r.now allow.entry)
+        → Writes O.took output.old output.new (answer_bytes format message.now (option_map (λ r. r.now) reply.entry)) result }
     ensures cause { HasCause (O.failures output.old) (O.failures output.new) result }
 {
     match reply {

@@ -20,7 +20,7 @@ use crate::path::path_and_query;
 use crate::query::has_pairs;
 use crate::table::{Place, Routes, Target};
 use httpmsg::{Message, Method};
-use names::{Key, KeyFault, Resource};
+use names::{Format, Key, KeyFault, Resource};
 use requests::{BodyFault, Manifest, Refusal, Request, read_delete_options};
 use std::alloc::{AllocError, Global};
 
@@ -34,17 +34,22 @@ pub struct Routed {
     pub allow: Option<&'static str>,
 }
 
-/// The request that a message spells, and the methods that its path allows where its own is refused.
+/// The request that a message spells to a store of a format, and the methods that its path allows where its own is refused.
 ///
 /// # Errors
 ///
 /// Only where memory is refused.
-pub fn route(alloc: Global, routes: &Routes, message: &Message) -> Result<Routed, AllocError>
-    ensures request { IfOk result (λ route. request_of route.request ≡ asked message.now) }
-    ensures allow { IfOk result (λ route. option_map (λ methods. methods.now) route.allow ≡ allow_of message.now) }
+pub fn route(
+    alloc: Global,
+    routes: &Routes,
+    format: Format,
+    message: &Message,
+) -> Result<Routed, AllocError>
+    ensures request { IfOk result (λ route. request_of route.request ≡ asked format message.now) }
+    ensures allow { IfOk result (λ route. option_map (λ methods. methods.now) route.allow ≡ allow_of format message.now) }
 {
     let (path, query) = path_and_query(message.target());
-    match routes.place_of(alloc, path)? {
+    match routes.place_of(alloc, format, path)? {
         Some(place) => route_at(alloc, message, &place, query),
         None => Ok(Routed {
             request: Request::Refused(Refusal::NoSuchPath),

@@ -1,17 +1,18 @@
 //! The table of routes.
 
-ghost use Rattle.std.specs.Prelude.{◌≡◌, [], IfOk, OnOk, option_map, ◌||◌, string_bytes};
+ghost use Rattle.std.specs.Prelude.{◌≡◌, [], IfOk, OnOk, Some, None, option_map, if◌then◌else◌, ◌||◌, string_bytes};
 ghost use Rattle.matchit.specs.declared.router.Router.{Router};
 ghost use Rattle.requests.specs.Manifest.{namespace_at};
-ghost use Rattle.routes.specs.Path.{resource_at, in_scope, place_of, place_at, parts_of};
+ghost use Rattle.routes.specs.Path.{resource_of, in_scope, place_of, place_at, parts_of};
 ghost use Rattle.routes.specs.PlaceOf.{seen};
 ghost use Rattle.routes.specs.Allow.{allowed};
 ghost use Rattle.routes.specs.Table.{AnswersTable};
+ghost use Rattle.names.specs.Format.{has_resource};
 ghost use Rattle.names.specs.Resource.{row};
 
 use crate::path::{Pieces, literal, pieces_of};
 use matchit::{InsertError, Router};
-use names::{Resource, Scope};
+use names::{Format, Resource, Scope};
 use std::alloc::{AllocError, Global};
 use std::marker::Model;
 
@@ -69,19 +70,20 @@ impl Place<'_> {
     }
 }
 
-/// The routes that are served: the paths of the resources, without namespaces and names.
+/// The routes that stores of the formats serve: the paths of the resources, without namespaces and names.
 #[derive(Drop)]
 pub struct Routes {
     router: Router<Resource>,
     ghost answers: { AnswersTable router },
 }
 
-// Adds the path of each resource that is served. Separate from `router_of_resources`, so that no destructor is live at `?` (cheaper proof).
+// Adds the path of each resource. Separate from `router_of_resources`, so that no destructor is live at `?` (cheaper proof).
 fn add_resources(router: &mut Router<Resource>) -> Result<(), InsertError>
     requires empty { router.old ≡ [] }
     ensures { OnOk result (AnswersTable router.new) }
 {
     router.insert("/api/v1/configmaps", Resource::ConfigMap)?;
+    router.insert("/api/v1/namespaces", Resource::Namespace)?;
     router.insert("/api/v1/nodes", Resource::Node)?;
     router.insert("/api/v1/pods", Resource::Pod)?;
     router.insert("/api/v1/services", Resource::Service)?;
@@ -97,13 +99,24 @@ fn add_resources(router: &mut Router<Resource>) -> Result<(), InsertError>
     Ok(())
 }
 
-// The path of each resource that is served.
+// The path of each resource.
 fn router_of_resources(alloc: Global) -> Result<Router<Resource>, InsertError>
     ensures { IfOk result AnswersTable }
 {
     let mut router = Router::new(alloc);
     add_resources(&mut router)?;
     Ok(router)
+}
+
+// The resource, where a store of the format serves it.
+fn served_in(format: Format, resource: Resource) -> Option<Resource>
+    ensures { result ≡ if has_resource format resource then Some resource else None }
+{
+    if format.has(resource) {
+        Some(resource)
+    } else {
+        None
+    }
 }
 
 // A place of a resource, where its scope allows it.
@@ -146,12 +159,12 @@ impl Routes {
         }
     }
 
-    // The resource that is served at a literal path.
-    fn resource_at(&self, path: &str) -> Option<Resource>
-        ensures { result ≡ resource_at path.now }
+    // The resource that a store of a format serves at a literal path.
+    fn resource_of(&self, format: Format, path: &str) -> Option<Resource>
+        ensures { result ≡ resource_of format path.now }
     {
         match self.router.at(path) {
-            Ok(found) => Some(*found.value),
+            Ok(found) => served_in(format, *found.value),
             Err(_) => None,
         }
     }
@@ -160,30 +173,32 @@ impl Routes {
     fn place_at<'p>(
         &self,
         alloc: Global,
+        format: Format,
         pieces: &Pieces<'p>,
     ) -> Result<Option<Place<'p>>, AllocError>
-        ensures { IfOk result (λ place. option_map seen place ≡ place_of pieces.now) }
+        ensures { IfOk result (λ place. option_map seen place ≡ place_of format pieces.now) }
     {
         if pieces.leaves_out() {
             return Ok(None);
         }
         let literal = literal(alloc, pieces.group, pieces.version, pieces.plural)?;
-        Ok(match self.resource_at(&literal) {
+        Ok(match self.resource_of(format, &literal) {
             Some(resource) => in_scope(resource, pieces.namespace, pieces.name),
             None => None,
         })
     }
 
-    /// Where a path points, if that is served.
+    /// Where a path points, if a store of the format serves that.
     pub(crate) fn place_of<'p>(
         &self,
         alloc: Global,
+        format: Format,
         path: &'p str,
     ) -> Result<Option<Place<'p>>, AllocError>
-        ensures { IfOk result (λ place. option_map seen place ≡ place_at (parts_of path.now)) }
+        ensures { IfOk result (λ place. option_map seen place ≡ place_at format (parts_of path.now)) }
     {
         match pieces_of(alloc, path)? {
-            Some(pieces) => self.place_at(alloc, &pieces),
+            Some(pieces) => self.place_at(alloc, format, &pieces),
             None => Ok(None),
         }
     }
