@@ -4,6 +4,7 @@ pub mod Faults
 pub mod Progress
 pub mod Counting
 pub mod Standing
+mod Staying
 pub mod Placing
 pub mod Weights
 pub mod Shortness

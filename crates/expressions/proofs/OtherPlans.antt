@@ -3,7 +3,7 @@ use Rattle.std.proofs.Common.{◌≡◌, refl, ℕ, List, []}
 use Rattle.std.specs.Prelude.{◌≢◌}
 use Rattle.serde_json.specs.Data.{Data}
 use Rattle.names.specs.declared.resource.Resource.{Resource}
-use Rattle.names.specs.declared.resource.Resource.TheVariants.{ConfigMap, Node, Pod, Service, Deployment, ValidatingAdmissionPolicy, ValidatingAdmissionPolicyBinding}
+use Rattle.names.specs.declared.resource.Resource.TheVariants.{ConfigMap, Node, Pod, Service, Deployment, ValidatingAdmissionPolicy, ValidatingAdmissionPolicyBinding, Namespace}
 use Rattle.expressions.specs.Specification.{Plans, these, spoiled, plans_bytes, MayHavePlans}
 
 abbrev pub AreOther : Resource → Data → List ℕ → Type 0
@@ -22,3 +22,4 @@ others_have_none Service d bytes not other = other (these []) refl
 others_have_none Deployment d bytes not other = other (these []) refl
 others_have_none ValidatingAdmissionPolicy d bytes not other = absurd (not refl)
 others_have_none ValidatingAdmissionPolicyBinding d bytes not other = other (these []) refl
+others_have_none Namespace d bytes not other = other (these []) refl

@@ -1,12 +1,21 @@
--- Laws of policies as they are stored.
-use Rattle.std.specs.Prelude.{◌≡◌, ◌≤◌, ℕ, ◌+◌, List, [], ◌∷◌, length, Some}
+-- Laws of policies, as formats have them and as they are stored.
+use Rattle.std.specs.Prelude.{◌≡◌, ◌≤◌, ℕ, ◌+◌, List, [], ◌∷◌, length, Some, true}
 use Rattle.serde_json.specs.Data.{Data}
+use Rattle.celtree.specs.Tree.{Expr}
 use Rattle.documents.specs.Json.{text}
+use Rattle.names.specs.Format.{has_namespaces}
+use Rattle.names.specs.declared.format.Format.{Format}
 use Rattle.names.specs.declared.resource.Resource.{Resource}
 use Rattle.policy.specs.Policies.{policy_of}
 use Rattle.policy.specs.Spec.{Policy}
 use Rattle.expressions.specs.Expressions.{Source, sources}
-use Rattle.expressions.specs.Specification.{Plans, plans_bytes, MayHavePlans}
+use Rattle.expressions.specs.Specification.{IsSpecification, sound, Plans, plans_bytes, MayHavePlans}
+
+-- Trees that stand in an object in one format stand there in another too, provided that namespaces are objects in this one if they are in the first.
+abbrev pub SpecificationsStay : Type 0
+SpecificationsStay =
+    (f g : Format) (r : Resource) (d : Data) (trees : List Expr) → (has_namespaces f ≡ true → has_namespaces g ≡ true)
+    → IsSpecification f r d (sound trees) → IsSpecification g r d (sound trees)
 
 -- Plans that an object may have, with the same bytes, are the same.
 abbrev pub OneStoredList : Type 0

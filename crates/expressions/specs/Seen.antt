@@ -4,6 +4,7 @@ use Rattle.serde_json.specs.Data.{Data}
 use Rattle.celtree.specs.declared.tree.Tree.{Tree}
 use Rattle.celtree.specs.Tree.{Expr}
 use Rattle.celtree.specs.View.{view}
+use Rattle.names.specs.declared.format.Format.{Format}
 use Rattle.policy.specs.Spec.{Policy}
 use Rattle.expressions.specs.declared.fault.PolicyFault.{PolicyFault}
 use Rattle.expressions.specs.declared.fault.PolicyFault.TheVariants.{BadSpec, BadExpression, Memory}
@@ -27,13 +28,13 @@ abbrev pub trees_seen : List Tree → List Expr
 trees_seen ts = map view ts
 
 -- the fault is that of the document
-abbrev pub IsFaultOf : Data → PolicyFault → Type 0
-IsFaultOf document BadSpec = policy_in document ≡ None
-IsFaultOf document (BadExpression text) = HasBadExpression document (string_bytes text)
-IsFaultOf document Memory = Unit {0}
+abbrev pub IsFaultOf : Format → Data → PolicyFault → Type 0
+IsFaultOf f document BadSpec = policy_in document ≡ None
+IsFaultOf f document (BadExpression text) = HasBadExpression f document (string_bytes text)
+IsFaultOf f document Memory = Unit {0}
 
 -- the fault is that of the policy's expressions
-abbrev pub IsFaultAmong : Policy → List Source → PolicyFault → Type 0
-IsFaultAmong p ss BadSpec = ⊥
-IsFaultAmong p ss (BadExpression text) = IsFirstBad p [] ss (string_bytes text) × AreUntyped p ss
-IsFaultAmong p ss Memory = Unit {0}
+abbrev pub IsFaultAmong : Format → Policy → List Source → PolicyFault → Type 0
+IsFaultAmong f p ss BadSpec = ⊥
+IsFaultAmong f p ss (BadExpression text) = IsFirstBad f p [] ss (string_bytes text) × AreUntyped f p ss
+IsFaultAmong f p ss Memory = Unit {0}

@@ -1,11 +1,13 @@
 -- What stands in the `spec` of an object: those of policies and bindings have a form, and the expressions of a policy spell trees.
-use Rattle.std.specs.Prelude.{◌≡◌, ◌≢◌, ℕ, ◌+◌, ◌*◌, ◌^◌, ◌≤◌, Bool, if◌then◌else◌, List, [], length, Option, Some, None, IsTrue, is_some, is_none, option_and_then, string_bytes}
+use Rattle.std.specs.Prelude.{◌≡◌, ◌≢◌, ℕ, ◌+◌, ◌*◌, ◌^◌, ◌≤◌, Bool, ◌||◌, List, [], length, if◌then◌else◌, Option, Some, None, option_and_then, IsTrue, is_some, is_none, string_bytes}
 use Rattle.std.specs.Option.{option_map_or}
 use Rattle.serde_json.specs.Data.{Data}
 use Rattle.celtree.specs.Tree.{Expr}
 use Rattle.documents.specs.Json.{text}
+use Rattle.names.specs.declared.format.Format.{Format}
+use Rattle.names.specs.Format.{has_namespaces}
 use Rattle.names.specs.declared.resource.Resource.{Resource}
-use Rattle.names.specs.declared.resource.Resource.TheVariants.{ConfigMap, Node, Pod, Service, Deployment, ValidatingAdmissionPolicy, ValidatingAdmissionPolicyBinding}
+use Rattle.names.specs.declared.resource.Resource.TheVariants.{ConfigMap, Node, Pod, Service, Deployment, ValidatingAdmissionPolicy, ValidatingAdmissionPolicyBinding, Namespace}
 use Rattle.plancode.specs.Plans.{Judged}
 use Rattle.planlist.specs.Plans.{list_bytes, IsListFor}
 use Rattle.policy.specs.Bindings.{binding_of}
@@ -15,7 +17,7 @@ use Rattle.policy.specs.Rules.{MatchRules}
 use Rattle.policy.specs.Spec.{Policy, Binding}
 use Rattle.expressions.specs.Expressions.{sources}
 use Rattle.expressions.specs.Plans.{plans_of}
-use Rattle.expressions.specs.Typed.{AreTyped, IsFirstBad}
+use Rattle.expressions.specs.Typed.{AreTyped, AreSpelled, IsFirstBad}
 use Rattle.expressions.specs.Places.{places_of, policy_in}
 use Rattle.expressions.specs.declared.specification.Specification as code
 use Rattle.expressions.specs.declared.specification.Specification.TheVariants as specification
@@ -31,36 +33,48 @@ pub data Specification (T : Type 0) : Type 0 where
 
 -- ---- with trees
 
--- match rules may stand in an object where they have no selector of namespaces, since namespaces are no objects
-abbrev pub may_stand : MatchRules → Bool
-may_stand m = is_none m.namespaces
+-- match rules may stand in an object where they have no selector of namespaces, or namespaces are objects
+abbrev pub may_stand : Format → MatchRules → Bool
+may_stand f m = has_namespaces f || is_none m.namespaces
 
 -- the policy, and the binding, that a document spells and that may stand
-abbrev pub policy_for : Data → Option Policy
-policy_for d = option_and_then (λ p. if may_stand p.constraints then Some p else None) (policy_in d)
+abbrev pub policy_for : Format → Data → Option Policy
+policy_for f d = option_and_then (λ p. if may_stand f p.constraints then Some p else None) (policy_in d)
 
-abbrev pub binding_for : Data → Option Binding
-binding_for d = option_and_then (λ b. if may_stand b.resources then Some b else None) (binding_of d)
+abbrev pub binding_for : Format → Data → Option Binding
+binding_for f d = option_and_then (λ b. if may_stand f b.resources then Some b else None) (binding_of d)
 
-abbrev pub OfPolicy : Data → Specification Expr → Type 0
-OfPolicy d (sound trees) = (p : Policy) × (policy_for d ≡ Some p) × AreTyped p [] (sources p) trees
-OfPolicy d bad_spec = policy_for d ≡ None
-OfPolicy d (bad_expression text) = (p : Policy) × (policy_for d ≡ Some p) × IsFirstBad p [] (sources p) text
+abbrev pub OfPolicy : Format → Data → Specification Expr → Type 0
+OfPolicy f d (sound trees) = (p : Policy) × (policy_for f d ≡ Some p) × AreTyped f p [] (sources p) trees
+OfPolicy f d bad_spec = policy_for f d ≡ None
+OfPolicy f d (bad_expression text) = (p : Policy) × (policy_for f d ≡ Some p) × IsFirstBad f p [] (sources p) text
 
-abbrev pub OfBinding : Data → Specification Expr → Type 0
-OfBinding d (sound trees) = IsTrue (is_some (binding_for d)) × (trees ≡ [])
-OfBinding d bad_spec = binding_for d ≡ None
-OfBinding d (bad_expression text) = ⊥
+abbrev pub OfBinding : Format → Data → Specification Expr → Type 0
+OfBinding f d (sound trees) = IsTrue (is_some (binding_for f d)) × (trees ≡ [])
+OfBinding f d bad_spec = binding_for f d ≡ None
+OfBinding f d (bad_expression text) = ⊥
 
--- this stands in the object of a resource; those of other resources have no form
-abbrev pub IsSpecification : Resource → Data → Specification Expr → Type 0
-IsSpecification ValidatingAdmissionPolicy d s = OfPolicy d s
-IsSpecification ValidatingAdmissionPolicyBinding d s = OfBinding d s
-IsSpecification ConfigMap d s = s ≡ sound []
-IsSpecification Node d s = s ≡ sound []
-IsSpecification Pod d s = s ≡ sound []
-IsSpecification Service d s = s ≡ sound []
-IsSpecification Deployment d s = s ≡ sound []
+-- this stands in the object of a resource, as a format has it; those of other resources have no form
+abbrev pub IsSpecification : Format → Resource → Data → Specification Expr → Type 0
+IsSpecification f ValidatingAdmissionPolicy d s = OfPolicy f d s
+IsSpecification f ValidatingAdmissionPolicyBinding d s = OfBinding f d s
+IsSpecification f ConfigMap d s = s ≡ sound []
+IsSpecification f Node d s = s ≡ sound []
+IsSpecification f Pod d s = s ≡ sound []
+IsSpecification f Service d s = s ≡ sound []
+IsSpecification f Deployment d s = s ≡ sound []
+IsSpecification f Namespace d s = s ≡ sound []
+
+-- the expressions of the object spell these trees, whatever the format; those of other resources have none
+abbrev pub Spells : Resource → Data → List Expr → Type 0
+Spells ValidatingAdmissionPolicy d trees = (p : Policy) × (policy_in d ≡ Some p) × AreSpelled (sources p) trees
+Spells ValidatingAdmissionPolicyBinding d trees = trees ≡ []
+Spells ConfigMap d trees = trees ≡ []
+Spells Node d trees = trees ≡ []
+Spells Pod d trees = trees ≡ []
+Spells Service d trees = trees ≡ []
+Spells Deployment d trees = trees ≡ []
+Spells Namespace d trees = trees ≡ []
 
 -- ---- compiled
 
@@ -73,12 +87,13 @@ compiled d (sound trees) = sound (plans_in d trees)
 compiled d bad_spec = bad_spec
 compiled d (bad_expression text) = bad_expression text
 
--- It is what stands in the object, compiled. Where the expressions spell trees, it is these that stand there.
-pub record IsCompiled (r : Resource) (d : Data) (s : Specification Judged) : Type 0 where
+-- It is what stands in the object, compiled. Where the expressions spell trees, it is these that stand there, and they spell no others.
+pub record IsCompiled (f : Format) (r : Resource) (d : Data) (s : Specification Judged) : Type 0 where
   pub meant : Specification Expr
-  pub stands : IsSpecification r d meant
+  pub stands : IsSpecification f r d meant
   pub plans : s ≡ compiled d meant
-  pub alone : (trees : List Expr) → IsSpecification r d (sound trees) → meant ≡ sound trees
+  pub alone : (trees : List Expr) → IsSpecification f r d (sound trees) → meant ≡ sound trees
+  pub spelled : (trees other : List Expr) → meant ≡ sound trees → Spells r d other → other ≡ trees
 
 -- the list of the plans has at most 22 bytes for each byte of the document's text, and two for their number
 abbrev pub AreShort : Data → Specification Judged → Type 0
@@ -111,6 +126,7 @@ plans_bytes Node plans = []
 plans_bytes Pod plans = []
 plans_bytes Service plans = []
 plans_bytes Deployment plans = []
+plans_bytes Namespace plans = []
 
 -- a policy may have these plans, one for each expression
 abbrev pub FitsPolicy : Data → List Judged → Type 0
@@ -129,6 +145,7 @@ MayHavePlans Node d plans = plans ≡ these []
 MayHavePlans Pod d plans = plans ≡ these []
 MayHavePlans Service d plans = plans ≡ these []
 MayHavePlans Deployment d plans = plans ≡ these []
+MayHavePlans Namespace d plans = plans ≡ these []
 
 abbrev pub plans_seen : stored.StoredPlans → Plans
 plans_seen (stored_plans.Plans plans) = these plans.items

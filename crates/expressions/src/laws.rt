@@ -1,6 +1,16 @@
-//! Laws of policies as they are stored.
+//! Laws of policies, as formats have them and as they are stored.
 
-ghost use Rattle.expressions.specs.Laws.{OneStoredList, ExpressionsFitTheText};
+ghost use Rattle.expressions.specs.Laws.{SpecificationsStay, OneStoredList, ExpressionsFitTheText};
+
+use celtypes::types_stay;
+
+/// A law: trees that stand in an object in one format stand there in another too, provided that namespaces are objects in this one if they are in the
+/// first.
+pub fn specifications_stay()
+    ensures { SpecificationsStay }
+{
+    types_stay();
+}
 
 /// A law: plans that an object may have, with the same bytes, are the same.
 pub fn one_stored_list()

@@ -2,7 +2,7 @@
 //! typed and compiled; and where policies find what stands in a store.
 //!
 //! ```text
-//! match specification_of(alloc, resource, &document)? {
+//! match specification_of(alloc, format, resource, &document)? {
 //!     Specification::Sound(plans) => ..,                // the plans of a policy; none for the others
 //!     Specification::BadSpec => ..,
 //!     Specification::BadExpression(text) => ..,         // the first that is bad
@@ -16,6 +16,10 @@
 //! where each has a type as it must, and else tells the first that is bad: both directions stand in its contract, and no other trees
 //! are spelled. [`TypedPolicy::plans`] gives the code of each tree, after the variables that it may name. `specs/Specification.antt`
 //! says by these what stands in an object. Objects of the other resources have no form, so all of them are sound.
+//!
+//! The format of the store decides whether namespaces are objects. Where they are, a policy may have a selector of namespaces, and its
+//! expressions may name `namespaceObject`. [`specifications_stay`] is the law that what stands in an object stands there in each format that
+//! has as many resources.
 //!
 //! What policies, bindings and parameters there are is asked of a [`Lookup`], as it stands before a write: it lends what documents spell as
 //! policies, with their plans, and as bindings, so that none is read again or copied, and may read parameters from a device. `specs/Objects.antt` says what is held
@@ -46,7 +50,7 @@ mod typing;
 
 pub use bound::Bound;
 pub use fault::PolicyFault;
-pub use laws::{expressions_fit_the_text, one_stored_list};
+pub use laws::{expressions_fit_the_text, one_stored_list, specifications_stay};
 pub use lookup::{Found, Listed, Lookup};
 pub use specification::{Specification, specification_of};
 pub use stored::{StoredPlans, plans_bytes, stored_plans};

@@ -63,7 +63,8 @@ pub fn plans_bytes(
         | Resource::Node
         | Resource::Pod
         | Resource::Service
-        | Resource::Deployment => Ok(Vec::new(alloc)),
+        | Resource::Deployment
+        | Resource::Namespace => Ok(Vec::new(alloc)),
     }
 }
 
@@ -135,6 +136,7 @@ pub fn stored_plans(
         | Resource::Node
         | Resource::Pod
         | Resource::Service
-        | Resource::Deployment => no_plans(alloc, bytes),
+        | Resource::Deployment
+        | Resource::Namespace => no_plans(alloc, bytes),
     }
 }

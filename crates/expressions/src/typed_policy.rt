@@ -5,7 +5,7 @@ ghost use Rattle.celtree.specs.Tree.{Expr};
 ghost use Rattle.expressions.specs.Expressions.{sources};
 ghost use Rattle.expressions.specs.Plans.{plans_of};
 ghost use Rattle.expressions.specs.Seen.{IsFaultOf};
-ghost use Rattle.expressions.specs.Typed.{AreTyped, IsPolicy};
+ghost use Rattle.expressions.specs.Typed.{AreSpelled, IsPolicy};
 ghost use Rattle.policy.specs.Spec.{policy_seen};
 ghost use Rattle.serde_json.specs.View.{view};
 
@@ -14,6 +14,7 @@ use crate::places::counted_policy;
 use crate::planning::plans_of;
 use crate::reading::trees_of;
 use celtree::Tree;
+use names::Format;
 use plancode::Verified;
 use policy::Policy;
 use serde_json::Value as Json;
@@ -23,6 +24,7 @@ use std::marker::Model;
 /// A policy whose expressions are read and have the types that they must have.
 #[derive(Drop)]
 pub struct TypedPolicy {
+    format: Format,
     policy: Policy,
     trees: Vec<Tree>,
 }
@@ -38,13 +40,13 @@ impl Model for TypedPolicy {
 
     ghost coded = { Prim.hlevel (codes, coded_expr) };
 
-    ghost view = { λ p. record { policy = policy_seen p.policy; trees = trees_seen p.trees.items } };
+    ghost view = { λ p. record { format = p.format; policy = policy_seen p.policy; trees = trees_seen p.trees.items } };
 
-    ghost invariant = { λ p. AreCompilable (policy_seen p.policy) (trees_seen p.trees.items) };
+    ghost invariant = { λ p. AreCompilable p.format (policy_seen p.policy) (trees_seen p.trees.items) };
 }
 
 impl TypedPolicy {
-    /// The policy that a document spells, with its expressions read and typed.
+    /// The policy that a document spells, with its expressions read, and typed as a format has it.
     ///
     /// # Errors
     ///
@@ -52,18 +54,22 @@ impl TypedPolicy {
     /// expressions. [`PolicyFault::BadExpression`] with the text of the
     /// first expression that spells no tree, or has no type as it must: match conditions and validations are truth values, message
     /// expressions are strings, and variables are of any type. [`PolicyFault::Memory`] when out of memory.
-    pub fn read(alloc: Global, document: &Json) -> Result<TypedPolicy, PolicyFault>
-        ensures ok { IfOk result (λ p. IsPolicy (view document.now) p.policy p.trees) }
-        // The expressions spell no other trees.
-        ensures alone { IfOk result (λ p. (trees : List Expr) → AreTyped p.policy [] (sources p.policy) trees → trees ≡ p.trees) }
-        ensures fault { IfErr result (IsFaultOf (view document.now)) }
+    pub fn read(alloc: Global, format: Format, document: &Json) -> Result<TypedPolicy, PolicyFault>
+        ensures ok { IfOk result (λ p. IsPolicy format (view document.now) p.policy p.trees) }
+        // The expressions spell no other trees, whatever their types.
+        ensures alone { IfOk result (λ p. (trees : List Expr) → AreSpelled (sources p.policy) trees → trees ≡ p.trees) }
+        ensures fault { IfErr result (IsFaultOf format (view document.now)) }
     {
         let policy = match counted_policy(alloc, document)? {
             Some((policy, _)) => policy,
             None => return Err(PolicyFault::BadSpec),
         };
-        let trees = trees_of(alloc, &policy)?;
-        Ok(TypedPolicy { policy, trees })
+        let trees = trees_of(alloc, format, &policy)?;
+        Ok(TypedPolicy {
+            format,
+            policy,
+            trees,
+        })
     }
 
     /// What the policy asks for.
@@ -83,6 +89,6 @@ impl TypedPolicy {
         requires few { length self.now.policy.variables ≤ 65535 }
         ensures { IfOk result (λ v. v.items ≡ plans_of self.now.policy self.now.trees) }
     {
-        plans_of(alloc, &self.policy, &self.trees)
+        plans_of(alloc, self.format, &self.policy, &self.trees)
     }
 }

@@ -7,7 +7,7 @@ use Rattle.std.specs.Str.{bytes_eq}
 use Rattle.names.specs.Key.{Key}
 use Rattle.names.specs.Resource.{row}
 use Rattle.names.specs.declared.resource.Resource.{Resource}
-use Rattle.names.specs.declared.resource.Resource.TheVariants.{ConfigMap, Node, Pod, Service, Deployment, ValidatingAdmissionPolicy, ValidatingAdmissionPolicyBinding}
+use Rattle.names.specs.declared.resource.Resource.TheVariants.{ConfigMap, Node, Pod, Service, Deployment, ValidatingAdmissionPolicy, ValidatingAdmissionPolicyBinding, Namespace}
 use Rattle.names.specs.declared.resource.Scope.{Scope}
 use Rattle.names.specs.declared.resource.Scope.TheVariants as of_resource
 use Rattle.policy.specs.declared.match_rules.Operation.{Operation}
@@ -82,7 +82,9 @@ abbrev pub selects_home : List Requirement → Scope → Option Data → Bool
 selects_home requirements of_resource.Namespaced home = selects requirements (unwrap_or home null)
 selects_home requirements of_resource.Cluster home = true
 
+-- of a Namespace its own labels are, as it is to be stored, or as it was shown where it is deleted
 abbrev pub selects_namespace : List Requirement → Resource → Attempt → Bool
+selects_namespace requirements Namespace w = selects requirements (unwrap_or w.object (unwrap_or w.old_object null))
 selects_namespace requirements r w = selects_home requirements (row r).scope w.namespace
 
 -- no rule excludes the write, and the selectors take it: where there is none of namespaces, every namespace is taken
@@ -108,6 +110,18 @@ is_guarded Service = true
 is_guarded Deployment = true
 is_guarded ValidatingAdmissionPolicy = false
 is_guarded ValidatingAdmissionPolicyBinding = false
+is_guarded Namespace = true
+
+-- policies, bindings and namespaces are no parameters
+abbrev pub is_parameter : Resource → Bool
+is_parameter ConfigMap = true
+is_parameter Node = true
+is_parameter Pod = true
+is_parameter Service = true
+is_parameter Deployment = true
+is_parameter ValidatingAdmissionPolicy = false
+is_parameter ValidatingAdmissionPolicyBinding = false
+is_parameter Namespace = false
 
 -- a policy with these constraints, bound for these resources, is asked for the write
 abbrev pub is_matched : (constraints resources : MatchRules) → Attempt → Bool

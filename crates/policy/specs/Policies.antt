@@ -6,7 +6,7 @@ use Rattle.serde_json.specs.Find.{as_str}
 use Rattle.names.specs.Resource.{with_kind}
 use Rattle.names.specs.declared.resource.Resource.{Resource}
 use Rattle.celtokens.specs.Word.{is_identifier}
-use Rattle.policy.specs.Matching.{is_guarded}
+use Rattle.policy.specs.Matching.{is_parameter}
 use Rattle.policy.specs.Rules.{MatchRules}
 use Rattle.denials.specs.declared.asked.FailurePolicy.{FailurePolicy}
 use Rattle.denials.specs.declared.asked.FailurePolicy.TheVariants.{Fail, Ignore}
@@ -60,14 +60,14 @@ validation_of d =
 
 -- ---- policies
 
--- a ParamKind: policies and bindings are no parameters, so parameters are the objects that policies guard
+-- a ParamKind, whose objects may be parameters
 abbrev pub param_kind_of : Data → Option Resource
 param_kind_of d =
     provided (has_only (codes "apiVersion" ∷ codes "kind" ∷ []) d)
     (given (field (codes "apiVersion") as_str d) (λ version.
     given (field (codes "kind") as_str d) (λ kind.
     given (with_kind version kind) (λ resource.
-    provided (is_guarded resource) (Some resource)))))
+    provided (is_parameter resource) (Some resource)))))
 
 abbrev pub failure_policy_of : Data → Option FailurePolicy
 failure_policy_of = choice ((codes "Fail", Fail) ∷ (codes "Ignore", Ignore) ∷ [])

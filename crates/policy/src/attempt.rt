@@ -1,10 +1,11 @@
 //! A write that asks for admission, and whether rules match it.
 
-ghost use Rattle.std.specs.Prelude.{◌≡◌, map, option_map, string_bytes, true, false};
+ghost use Rattle.std.specs.Prelude.{◌≡◌, map, option_map, unwrap_or, string_bytes, true, false};
 ghost use Rattle.std.specs.List.{list_any};
 ghost use Rattle.std.specs.Option.{option_map_or};
+ghost use Rattle.serde_json.specs.Data.{null};
 ghost use Rattle.serde_json.specs.View.{view};
-ghost use Rattle.policy.specs.Matching.{is_guarded, holds_operation, holds_text, is_text, allows_name, fits, has_resource, has_object, meets_rule, selects_either, selects_home, selects_namespace, takes, is_constrained, is_bound, is_matched};
+ghost use Rattle.policy.specs.Matching.{is_guarded, is_parameter, holds_operation, holds_text, is_text, allows_name, fits, has_resource, has_object, meets_rule, selects_either, selects_home, selects_namespace, takes, is_constrained, is_bound, is_matched};
 ghost use Rattle.policy.specs.Rules.{attempt_seen, entry_seen, match_rules_seen, rule_seen};
 ghost use Rattle.documents.specs.Requirement.{requirement_seen};
 ghost use Rattle.documents.specs.Selecting.{selects};
@@ -36,6 +37,18 @@ pub fn is_guarded(resource: Resource) -> bool
     !matches!(
         resource,
         Resource::ValidatingAdmissionPolicy | Resource::ValidatingAdmissionPolicyBinding
+    )
+}
+
+/// Whether objects of the resource may be parameters of a policy: policies, bindings and namespaces are none.
+pub(crate) fn is_parameter(resource: Resource) -> bool
+    ensures { result ≡ is_parameter resource }
+{
+    !matches!(
+        resource,
+        Resource::ValidatingAdmissionPolicy
+            | Resource::ValidatingAdmissionPolicyBinding
+            | Resource::Namespace
     )
 }
 
@@ -82,14 +95,23 @@ fn takes_namespace(rules: &MatchRules, attempt: &Attempt<'_>) -> bool
     }
 }
 
+// Whether the labels of the namespace that an object stands in are selected, or the object's own where it is a Namespace.
 fn selects_namespace(requirements: &[Requirement], attempt: &Attempt<'_>) -> bool
     ensures { result ≡ selects_namespace (map requirement_seen requirements.now) (attempt_seen attempt.now).key.resource (attempt_seen attempt.now) }
 {
-    selects_home(
-        requirements,
-        attempt.key.resource().scope(),
-        attempt.namespace,
-    )
+    match attempt.key.resource() {
+        Resource::Namespace => selects_own(requirements, attempt),
+        resource => selects_home(requirements, resource.scope(), attempt.namespace),
+    }
+}
+
+// Whether the labels of the object are selected, as it is to be stored, or as it was shown where it is deleted.
+fn selects_own(requirements: &[Requirement], attempt: &Attempt<'_>) -> bool
+    ensures { result ≡ selects (map requirement_seen requirements.now) (unwrap_or (attempt_seen attempt.now).object (unwrap_or (attempt_seen attempt.now).old_object null)) }
+{
+    let absent = Value::Null;
+    let own = attempt.object.or(attempt.old_object).unwrap_or(&absent);
+    selects(requirements, own)
 }
 
 // Whether the labels of the namespace that an object stands in are selected, if it stands in one.

@@ -71,7 +71,8 @@ pub struct MatchRules {
     pub excluded: Vec<Rule>,
     /// The object, or the one before the write, is there and meets all of these.
     pub objects: Vec<Requirement>,
-    /// The Namespace that the object stands in meets all of these. Nothing is asked without them, nor of an object that stands in no namespace.
+    /// The Namespace that the object stands in meets all of these, and the object itself does where it is a Namespace. Nothing is asked without
+    /// them, nor of another object that stands in no namespace.
     pub namespaces: Option<Vec<Requirement>>,
 }
 

@@ -9,7 +9,7 @@ ghost use Rattle.policy.specs.Rules.{match_rules_seen};
 ghost use Rattle.policy.specs.Spec.{named_seen, policy_seen};
 ghost use Rattle.policy.specs.declared.form.FormFault.TheVariants as FormFault;
 
-use crate::attempt::is_guarded;
+use crate::attempt::is_parameter;
 use crate::form::{
     Form, FormFault, choice, has_only, optional, optional_list, optional_or, required,
     required_filled_list, spec_of,
@@ -103,9 +103,8 @@ impl Form for Resource {
         }
         let version: String = required(alloc, part, "apiVersion")?;
         let kind: String = required(alloc, part, "kind")?;
-        // Policies and bindings are no parameters: what is left are the objects that policies guard.
         match ResourceTable::with_kind(version.as_str(), kind.as_str()) {
-            Some(resource) if is_guarded(resource) => Ok(resource),
+            Some(resource) if is_parameter(resource) => Ok(resource),
             _ => Err(FormFault::BadForm),
         }
     }

@@ -13,7 +13,8 @@ abbrev pub value_or_null : Option Data → Value
 value_or_null d = option_map_or json_value d Null
 
 -- What expressions see: the object to be stored, the one shown before, the request, a parameter, and the Namespace that the object stands in. Match
--- conditions, and policies without a kind of parameters, see no parameter: their types let no expression name it. Nor do they let one name the Namespace.
+-- conditions, and policies without a kind of parameters, see no parameter: their types let no expression name it. Nor do types let one name the Namespace in
+-- match conditions, and where namespaces are no objects.
 abbrev pub seen : Attempt → (param : Option Data) → Environment
 seen w param = record {
   names =

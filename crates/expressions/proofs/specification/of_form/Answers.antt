@@ -21,18 +21,18 @@ use Rattle.expressions.proofs.specification.of_form.Goals as goal
 pub returns-in_ok-plans-in-Ok-clause-compiled : goal.returns-in_ok-plans-in-Ok-clause-compiled
 returns-in_ok-plans-in-Ok-clause-compiled c =
     let is = spelled_policy c.args.document.now c.in-Ok.policy.policy (search rules) in
-    let counted = counted_policy c.args.document.now (policy_seen c.args.form.now) c.requires.form in
+    let counted = counted_policy c.args.format c.args.document.now (policy_seen c.args.form.now) c.requires.form in
     let same = same_policy c.args.document.now c.in-Ok.policy.policy (policy_seen c.args.form.now) is counted in
-    sound_policy c.args.document.now c.in-Ok.policy.policy c.in-Ok.policy.trees c.in_ok-plans-in-Ok.plans.items (c.requires.form ∙ ap (λ (p : Policy). Some p) (sym same))
+    sound_policy c.args.format c.args.document.now c.in-Ok.policy.policy c.in-Ok.policy.trees c.in_ok-plans-in-Ok.plans.items (c.requires.form ∙ ap (λ (p : Policy). Some p) (sym same))
     c.in-Ok.ensures.ok.typed c.in-Ok.ensures.alone c.in_ok-plans-in-Ok.ensures
 
 pub returns-in_ok-plans-in-Ok-clause-short : goal.returns-in_ok-plans-in-Ok-clause-short
 returns-in_ok-plans-in-Ok-clause-short c =
     let is = spelled_policy c.args.document.now c.in-Ok.policy.policy (search rules) in
-    let counted = counted_policy c.args.document.now (policy_seen c.args.form.now) c.requires.form in
+    let counted = counted_policy c.args.format c.args.document.now (policy_seen c.args.form.now) c.requires.form in
     let same = same_policy c.args.document.now c.in-Ok.policy.policy (policy_seen c.args.form.now) is counted in
-    let P : Policy → Type 0 = λ p. AreTyped p [] (sources p) c.in-Ok.policy.trees in
-    let short = short_list c.args.document.now c.args.form.now c.in-Ok.policy.trees (spelled_policy c.args.document.now (policy_seen c.args.form.now) counted) (subst P same c.in-Ok.ensures.ok.typed) in
+    let P : Policy → Type 0 = λ p. AreTyped c.args.format p [] (sources p) c.in-Ok.policy.trees in
+    let short = short_list c.args.format c.args.document.now c.args.form.now c.in-Ok.policy.trees (spelled_policy c.args.document.now (policy_seen c.args.form.now) counted) (subst P same c.in-Ok.ensures.ok.typed) in
     let plans = c.in_ok-plans-in-Ok.ensures ∙ ap (λ (p : Policy). plans_of p c.in-Ok.policy.trees) same in
     let Q : List Judged → Type 0 = λ js. length (list_bytes js) ≤ 2 + 22 * length (text c.args.document.now) in
     subst Q (sym plans) short
@@ -40,10 +40,10 @@ returns-in_ok-plans-in-Ok-clause-short c =
 pub returns-in_ok-plans-in-Ok-clause-held : goal.returns-in_ok-plans-in-Ok-clause-held
 returns-in_ok-plans-in-Ok-clause-held c small =
     let is = spelled_policy c.args.document.now c.in-Ok.policy.policy (search rules) in
-    let counted = counted_policy c.args.document.now (policy_seen c.args.form.now) c.requires.form in
+    let counted = counted_policy c.args.format c.args.document.now (policy_seen c.args.form.now) c.requires.form in
     let same = same_policy c.args.document.now c.in-Ok.policy.policy (policy_seen c.args.form.now) is counted in
     let P : List Judged → Type 0 = λ js. AllByRecursion (λ j. IsVerified j.vars j.ops) js in
-    may_hold c.args.document.now c.in-Ok.policy.policy c.in-Ok.policy.trees c.in_ok-plans-in-Ok.plans.items (counted ∙ ap (λ (p : Policy). Some p) (sym same))
+    may_hold c.args.format c.args.document.now c.in-Ok.policy.policy c.in-Ok.policy.trees c.in_ok-plans-in-Ok.plans.items (counted ∙ ap (λ (p : Policy). Some p) (sym same))
     c.in-Ok.ensures.ok.typed c.in_ok-plans-in-Ok.ensures (subst P c.deref.ensures.value c.all_verified.ensures) (returns-in_ok-plans-in-Ok-clause-short c) small
 
 pub plans-requires : goal.plans-requires
@@ -54,10 +54,10 @@ plans-requires c =
 
 pub returns-in-Err-BadExpression-clause-compiled : goal.returns-in-Err-BadExpression-clause-compiled
 returns-in-Err-BadExpression-clause-compiled c =
-    let At : Data → Type 0 = λ d. IsFaultOf d c.in-Err-BadExpression.field-0 in
-    let fault : IsFaultOf c.args.document.now c.in-Err-BadExpression.field-0 = subst At c.value.ensures.value c.in-Err-BadExpression.ensures.fault in
-    let bad : HasBadExpression c.args.document.now (string_bytes c.in-Err-BadExpression.text) = rw c.in-Err-BadExpression.field-0-is at fault in
-    let made : IsCompiled ValidatingAdmissionPolicy c.args.document.now (bad_expression (string_bytes c.in-Err-BadExpression.text)) =
-    bad_expression_of c.args.document.now (policy_seen c.args.form.now) bad.policy (string_bytes c.in-Err-BadExpression.text) c.requires.form bad.form bad.bad bad.none
+    let At : Data → Type 0 = λ d. IsFaultOf c.args.format d c.in-Err-BadExpression.field-0 in
+    let fault : IsFaultOf c.args.format c.args.document.now c.in-Err-BadExpression.field-0 = subst At c.value.ensures.value c.in-Err-BadExpression.ensures.fault in
+    let bad : HasBadExpression c.args.format c.args.document.now (string_bytes c.in-Err-BadExpression.text) = rw c.in-Err-BadExpression.field-0-is at fault in
+    let made : IsCompiled c.args.format ValidatingAdmissionPolicy c.args.document.now (bad_expression (string_bytes c.in-Err-BadExpression.text)) =
+    bad_expression_of c.args.format c.args.document.now (policy_seen c.args.form.now) bad.policy (string_bytes c.in-Err-BadExpression.text) c.requires.form bad.form bad.bad bad.none
     in
     rw c.in-Err-BadExpression.field-0-is made

@@ -9,7 +9,7 @@ use Rattle.policy.specs.Policies.{policy_of}
 use Rattle.policy.specs.Spec.{Policy, Binding, policy_seen, binding_seen}
 use Rattle.expressions.specs.Plans.{plans_of}
 use Rattle.expressions.specs.Specification.{plans_in}
-use Rattle.verdict.specs.Ready.{AreReady}
+use Rattle.verdict.specs.Ready.{AreReady, AreTypedInSome}
 use Rattle.denials.specs.Seen.{denial_seen}
 use Rattle.expressions.specs.Objects.{Held, shown_objects}
 use Rattle.verdict.specs.OneBinding.{denial}
@@ -17,6 +17,7 @@ use Rattle.verdict.specs.Turns.{denial_by_policy}
 use Rattle.verdict.proofs.admission.denial_of.Goals as goal
 
 pub returns-in-Some-clause-found : goal.returns-in-Some-clause-found
+unfolding AreTypedInSome
 returns-in-Some-clause-found g c = λ objects object shows trees same.
     let p = policy_seen c.in-Some.policy.now in
     let b = c.args.bound.now in
