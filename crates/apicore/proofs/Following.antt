@@ -1,8 +1,9 @@
 -- What requests write may follow.
-use Rattle.std.proofs.Common.{◌≡◌, ◌≤◌, ◌^◌, List, [], ◌∷◌, ◌++◌, Bool, true, false, cond, map, is_some, IsTrue, not, refl, sym, ap, subst, ◌∙◌, append_assoc}
+use Rattle.std.proofs.Common.{◌≡◌, ◌≤◌, ◌^◌, List, [], ◌∷◌, ◌++◌, Bool, true, false, cond, map, is_some, IsTrue, refl, sym, ap, subst, ◌∙◌, append_assoc}
+use Rattle.names.specs.Format.{has_resource}
 use Rattle.names.specs.declared.format.Rules.{Rules}
 use Rattle.names.specs.Key.{is_key}
-use Rattle.requests.specs.declared.refusal.Refusal.TheVariants.{AlreadyExists, NotFound, VersionNotCurrent, BadSpec}
+use Rattle.requests.specs.declared.refusal.Refusal.TheVariants.{BadSpec}
 use Rattle.requests.specs.Codes.{document_in}
 use Rattle.requests.specs.Request.{Request, get, list, watch, create, replace, delete, refused, RequestHasForm}
 use Rattle.requests.specs.History as write
@@ -21,14 +22,15 @@ use Rattle.expressions.specs.Specification.{Specification, bad_spec, bad_express
 use Rattle.expressions.specs.Specification as beside
 use Rattle.recovery.specs.Standing.{Write, History, View, AllMayFollow, IsHistory}
 use Rattle.recovery.proofs.Following.{AllMayFollow-append}
-use Rattle.recovery.specs.Conditions.{known, with_bad_expression, asks_for, put_of, update_conflicts, deletion_conflicts}
+use Rattle.recovery.specs.Conditions.{known, with_bad_expression, place_conditions, create_conditions, replace_conditions, asks_for, put_of, update_conflicts, deletion_conflicts}
 use Rattle.apicore.specs.Prepared.{IsReadOf, IsStepOf}
 use Rattle.apicore.specs.declared.prepared.Prepared.{Prepared}
-use Rattle.recovery.proofs.Conditions.{form_of, put_follows, replaced_follows, deleted_follows, nothing_follows, bad_form, bad_form_later}
+use Rattle.recovery.specs.Namespaces.{lacks_namespace, is_in_use}
+use Rattle.recovery.proofs.Conditions.{form_of, put_follows, replaced_follows, deleted_follows, nothing_follows, bad_form}
 use Rattle.apicore.specs.Step.{Asked, verdict_conditions, verdict_of, writes, refusal, reply, accepted, replies, step, runs}
 
 -- what a request writes may follow
-pub AllMayFollow-writes : (rules : Rules) (v : View) (r : Request) (s : Specification Expr) → rules.text_limit_bytes ≤ 2 ^ 24 → RequestHasForm r → IsReadOf r s
+pub AllMayFollow-writes : (rules : Rules) (v : View) (r : Request) (s : Specification Expr) → rules.text_limit_bytes ≤ 2 ^ 24 → RequestHasForm r → IsReadOf rules.format r s
     → AllMayFollow rules v (writes rules v (record { request = r; specification = s }))
 AllMayFollow-writes rules v (refused r) s limit form read = tt
 AllMayFollow-writes rules v (get k) s limit form read = nothing_follows rules v (is_some (refusal rules v (record { request = get k; specification = s })))
@@ -36,16 +38,20 @@ AllMayFollow-writes rules v (list c selector) s limit form read = nothing_follow
 AllMayFollow-writes rules v (watch c revision) s limit form read = nothing_follows rules v (is_some (refusal rules v (record { request = watch c revision; specification = s })))
 AllMayFollow-writes rules v (create m) (beside.sound trees) limit form read =
     put_follows rules v m.key (document_in m.body) trees (verdict_conditions (verdict_of v (asks_for (create m) (beside.sound trees)))) (form_of m.key m.body form) limit read
-    (exists v m.key) (is_too_large rules (document_in m.body)) (is_full rules v) (is_exhausted rules v) refl refl refl
-AllMayFollow-writes rules v (create m) bad_spec limit form read = bad_form rules v (exists v m.key) (known AlreadyExists) (known BadSpec) (asks_for (create m) bad_spec)
-AllMayFollow-writes rules v (create m) (bad_expression t) limit form read = bad_form rules v (exists v m.key) (known AlreadyExists) (with_bad_expression t) (asks_for (create m) (bad_expression t))
+    (has_resource rules.format m.key.resource) (lacks_namespace rules v m.key) (exists v m.key) (is_too_large rules (document_in m.body)) (is_full rules v) (is_exhausted rules v) refl refl refl refl
+AllMayFollow-writes rules v (create m) bad_spec limit form read =
+    bad_form rules v (place_conditions rules v m.key ++ create_conditions v m.key) (known BadSpec) (asks_for (create m) bad_spec)
+AllMayFollow-writes rules v (create m) (bad_expression t) limit form read =
+    bad_form rules v (place_conditions rules v m.key ++ create_conditions v m.key) (with_bad_expression t) (asks_for (create m) (bad_expression t))
 AllMayFollow-writes rules v (replace m) (beside.sound trees) limit form read =
     replaced_follows rules v m.key (document_in m.body) trees (verdict_conditions (verdict_of v (asks_for (replace m) (beside.sound trees)))) (form_of m.key m.body form) limit read
-    (exists v m.key) (update_conflicts v m.key m.version) (is_too_large rules (document_in m.body)) (is_exhausted rules v) refl refl refl
-AllMayFollow-writes rules v (replace m) bad_spec limit form read = bad_form_later rules v (not (exists v m.key)) (update_conflicts v m.key m.version) (known NotFound) (known VersionNotCurrent) (known BadSpec) (asks_for (replace m) bad_spec)
-AllMayFollow-writes rules v (replace m) (bad_expression t) limit form read = bad_form_later rules v (not (exists v m.key)) (update_conflicts v m.key m.version) (known NotFound) (known VersionNotCurrent) (with_bad_expression t) (asks_for (replace m) (bad_expression t))
+    (has_resource rules.format m.key.resource) (lacks_namespace rules v m.key) (exists v m.key) (update_conflicts v m.key m.version) (is_too_large rules (document_in m.body)) (is_exhausted rules v) refl refl refl refl
+AllMayFollow-writes rules v (replace m) bad_spec limit form read =
+    bad_form rules v (place_conditions rules v m.key ++ replace_conditions v m.key m.version) (known BadSpec) (asks_for (replace m) bad_spec)
+AllMayFollow-writes rules v (replace m) (bad_expression t) limit form read =
+    bad_form rules v (place_conditions rules v m.key ++ replace_conditions v m.key m.version) (with_bad_expression t) (asks_for (replace m) (bad_expression t))
 AllMayFollow-writes rules v (delete k asked) s limit form read =
-    deleted_follows rules v k (verdict_conditions (verdict_of v (asks_for (delete k asked) s))) (exists v k) (deletion_conflicts v k asked) (is_exhausted rules v) refl refl
+    deleted_follows rules v k (verdict_conditions (verdict_of v (asks_for (delete k asked) s))) (exists v k) (deletion_conflicts v k asked) (is_in_use v k) (is_exhausted rules v) refl refl
 
 -- ---- the key of a deletion
 
@@ -72,7 +78,7 @@ key_of_written rules v (delete k asked) s w form is = key_if (write.delete k) w 
 
 -- ---- histories
 
-pub IsHistory-step : (rules : Rules) (h : History) (a : Asked) → rules.text_limit_bytes ≤ 2 ^ 24 → IsHistory rules h → RequestHasForm a.request → IsReadOf a.request a.specification
+pub IsHistory-step : (rules : Rules) (h : History) (a : Asked) → rules.text_limit_bytes ≤ 2 ^ 24 → IsHistory rules h → RequestHasForm a.request → IsReadOf rules.format a.request a.specification
     → IsHistory rules (step rules h a).0
 IsHistory-step rules h a limit before form read =
     AllMayFollow-append rules empty h (writes rules (view rules h) a) before (AllMayFollow-writes rules (view rules h) a.request a.specification limit form read)

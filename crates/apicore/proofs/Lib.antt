@@ -1,4 +1,3 @@
 pub mod Admitting
 pub mod Following
 pub mod Deciding
-pub mod Faults

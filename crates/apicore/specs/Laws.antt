@@ -16,7 +16,7 @@ use Rattle.apicore.specs.Step.{Asked, accepted, step, runs}
 -- What a request writes may follow, so that a step makes a history of a history.
 abbrev pub WritesFollow : Type 0
 WritesFollow =
-    (rules : Rules) (h : History) (a : Asked) → rules.text_limit_bytes ≤ 2 ^ 24 → IsHistory rules h → RequestHasForm a.request → IsReadOf a.request a.specification
+    (rules : Rules) (h : History) (a : Asked) → rules.text_limit_bytes ≤ 2 ^ 24 → IsHistory rules h → RequestHasForm a.request → IsReadOf rules.format a.request a.specification
     → IsHistory rules (step rules h a).0
 
 -- Each accepted write was admitted by the policies, bindings and parameters just before it.

@@ -101,7 +101,7 @@ fn admitted_put(
     })
 }
 
-/// The put of a document that nothing but the policies may refuse, with the object at its key as it is shown, if one stands there.
+/// The put of a document that nothing but the policies may refuse, with the object at its key and its Namespace, as they are shown, where they are there.
 pub(crate) fn judged_put<'x, S: Source<Beside>>(
     core: &mut Core,
     alloc: Global,
@@ -109,19 +109,20 @@ pub(crate) fn judged_put<'x, S: Source<Beside>>(
     manifest: &'x Manifest,
     plans: Vec<Verified>,
     old_object: Option<&'x Value>,
+    namespace: Option<&'x Value>,
 ) -> Result<Prepared, LookupFault>
     requires { core.old.revision < core.old.rules.greatest_revision }
     ensures same { IsAsBefore core.old core.new }
     ensures ready { IfOk result (λ p. HasRoomFor core.new p.write) }
-    ensures judged { let old = option_map (λ d. view d.now) old_object.entry in
+    ensures judged { let old = option_map (λ d. view d.now) old_object.entry in let home = option_map (λ d. view d.now) namespace.entry in
         (held : Held BesideData) (v : View) (trees : List Expr) → IsOver (S.holds source.old) core.old held v → is_some old ≡ exists held manifest.now.key
         → plans.items ≡ plans_in (document_in manifest.now.body).json trees
         → IfOk result (IsJudged held (λ warnings. showing (if is_some old then 200 else 201) warnings (document_in manifest.now.body) (held.revision + 1))
         (put manifest.now.key (document_in manifest.now.body) trees)
-        (verdict (objects_of v) (record { operation = if is_some old then Update else Create; key = manifest.now.key; object = Some (document_in manifest.now.body).json; old_object = old; namespace = None }))) }
+        (verdict (objects_of v) (record { operation = if is_some old then Update else Create; key = manifest.now.key; object = Some (document_in manifest.now.body).json; old_object = old; namespace = home }))) }
     ensures looked { HasLooked S.holds S.goes_to S.failures S.unfailed core.old source.old source.new result }
 {
-    let attempt = put_attempt(manifest, old_object);
+    let attempt = put_attempt(manifest, old_object, namespace);
     match verdict_of(core, alloc, source, &attempt)? {
         Verdict::Admitted(warnings) => admitted_put(
             core,
@@ -167,7 +168,7 @@ fn admitted_delete(
     })
 }
 
-/// The deletion of an object that nothing but the policies may refuse, with what was found of it, and that as it is shown.
+/// The deletion of an object that nothing but the policies may refuse, with what was found of it, that as it is shown, and its Namespace, if it is there.
 pub(crate) fn judged_delete<'x, S: Source<Beside>>(
     core: &mut Core,
     alloc: Global,
@@ -175,13 +176,14 @@ pub(crate) fn judged_delete<'x, S: Source<Beside>>(
     key: &'x Key,
     found: Found,
     old_object: &'x Value,
+    namespace: Option<&'x Value>,
 ) -> Result<Prepared, LookupFault>
     requires { core.old.revision < core.old.rules.greatest_revision }
     ensures same { IsAsBefore core.old core.new }
     ensures ready { IfOk result (λ p. HasRoomFor core.new p.write) }
-    ensures judged { (held : Held BesideData) (v : View) → IsOver (S.holds source.old) core.old held v → option_map found_in (stored_at held key.now) ≡ Some found
+    ensures judged { let home = option_map (λ d. view d.now) namespace.entry in (held : Held BesideData) (v : View) → IsOver (S.holds source.old) core.old held v → option_map found_in (stored_at held key.now) ≡ Some found
         → IfOk result (IsJudged held (λ warnings. showing 200 warnings found.document (held.revision + 1)) (delete key.now)
-        (verdict (objects_of v) (record { operation = Delete; key = key.now; object = None; old_object = Some (view old_object.now); namespace = None }))) }
+        (verdict (objects_of v) (record { operation = Delete; key = key.now; object = None; old_object = Some (view old_object.now); namespace = home }))) }
     ensures looked { HasLooked S.holds S.goes_to S.failures S.unfailed core.old source.old source.new result }
 {
     let deletion = Attempt {
@@ -189,7 +191,7 @@ pub(crate) fn judged_delete<'x, S: Source<Beside>>(
         key,
         object: None,
         old_object: Some(old_object),
-        namespace: None,
+        namespace,
     };
     match verdict_of(core, alloc, source, &deletion)? {
         Verdict::Admitted(warnings) => {

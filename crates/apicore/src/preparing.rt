@@ -1,6 +1,7 @@
 // The step of a request, with all its memory.
 ghost use Rattle.std.specs.Prelude.{◌≡◌, ◌≤◌, ◌<◌, ◌⊎◌, List, Some, None, false, IsTrue, IfOk, OnOk, IsErrOf, option_map, string_bytes};
 ghost use Rattle.celtree.specs.Tree.{Expr};
+ghost use Rattle.serde_json.specs.View.{view};
 ghost use Rattle.names.specs.Key.{Key as KeyData, is_key};
 ghost use Rattle.objects.specs.Failing.{HasGrown};
 ghost use Rattle.objects.specs.declared.fault.Part.{Part};
@@ -19,6 +20,8 @@ ghost use Rattle.recovery.specs.Beside.{Beside as BesideData};
 ghost use Rattle.recovery.specs.Shown.{IsOver};
 ghost use Rattle.recovery.specs.Looked.{HasLooked, IsAsBefore};
 ghost use Rattle.apicore.specs.Prepared.{IsReadOf, IsPrepared, IsStepOf};
+ghost use Rattle.recovery.specs.Namespaces as place;
+ghost use Rattle.recovery.specs.Places.{IsIn};
 ghost use Rattle.recovery.specs.Standing.{View};
 ghost use Rattle.recovery.specs.Conditions.{first_of, replace_limits, update_conflicts_at, deletion_conflicts_at};
 
@@ -27,14 +30,17 @@ use crate::judging::{judged_delete, judged_put};
 use crate::prepared::Prepared;
 use crate::reading::{get, list, watch};
 use crate::refusing::{bad_expression, refused};
-use documents::shown_document;
+use documents::{Doc, shown_document};
 use expressions::Specification;
 use holdings::{Found, Source};
 use names::Key;
 use objects::LookupFault;
 use plancode::Verified;
-use recovery::{Beside, Core, create_limit, replace_limit, specified};
+use recovery::{
+    Beside, Core, Place, create_limit, is_in_use, namespace_of, place_of, replace_limit, specified,
+};
 use requests::{Manifest, Refusal, Request};
+use serde_json::Value;
 use std::alloc::Global;
 
 /// Prepares the step of a request over the objects that a source holds: takes all its memory, and leaves what is seen as it was, also where there is
@@ -68,7 +74,7 @@ pub fn prepare<S: Source<Beside>>(
     ensures damaged { (part : Part) → IsErrOf result (LookupFault.Damaged part) → (held : Held BesideData) (v : View) → IsOver (S.holds source.old) core.old held v → ⊥ }
 
     // What stands in the request's document was read before the look that failed.
-    ensures read { IsErrOf result LookupFault.Device ⊎ ((part : Part) × IsErrOf result (LookupFault.Damaged part)) → (s : SpecificationOf Expr) × IsReadOf (request_of request.now) s }
+    ensures read { IsErrOf result LookupFault.Device ⊎ ((part : Part) × IsErrOf result (LookupFault.Damaged part)) → (s : SpecificationOf Expr) × IsReadOf core.old.rules.format (request_of request.now) s }
 {
     match request {
         Request::Get(key) => get(core, alloc, source, key),
@@ -78,6 +84,16 @@ pub fn prepare<S: Source<Beside>>(
         Request::Replace(manifest) => prepare_replace(core, alloc, source, manifest),
         Request::Delete(key, version) => prepare_delete(core, alloc, source, key, version),
         Request::Refused(refusal) => refused(alloc, *refusal),
+    }
+}
+
+// The value of a document, if there is one.
+fn value_of(document: &Option<Doc>) -> Option<&Value>
+    ensures { option_map (λ d. view d.now) result ≡ document.now }
+{
+    match document {
+        Some(document) => Some(document.value()),
+        None => None,
     }
 }
 
@@ -93,14 +109,41 @@ fn prepare_create<S: Source<Beside>>(
     ensures ready { IfOk result (λ p. HasRoomFor core.new p.write) }
     ensures form { BodyHasForm manifest.now.key manifest.now.body }
     ensures looked { HasLooked S.holds S.goes_to S.failures S.unfailed core.old source.old source.new result }
-    ensures read { IsErrOf result LookupFault.Device ⊎ ((part : Part) × IsErrOf result (LookupFault.Damaged part)) → (s : SpecificationOf Expr) × IsReadOf (create manifest.now) s }
+    ensures read { IsErrOf result LookupFault.Device ⊎ ((part : Part) × IsErrOf result (LookupFault.Damaged part)) → (s : SpecificationOf Expr) × IsReadOf core.old.rules.format (create manifest.now) s }
 {
     // The document, of which the form speaks.
     let _document = manifest.document();
-    let specification = specified(alloc, manifest)?;
+    let format = core.rules().format;
+    let specification = specified(alloc, format, manifest)?;
+    let place = place_of(core, alloc, source, manifest.key())?;
+    match place {
+        Place::Refused(refusal) => refused(alloc, refusal),
+        Place::In(namespace) => {
+            let namespace = value_of(&namespace);
+            create_in(core, alloc, source, manifest, specification, namespace)
+        }
+    }
+}
+
+// The creation of an object, in whose document this stands, at a place that refuses none, with the Namespace that it stands in, as it is shown.
+fn create_in<S: Source<Beside>>(
+    core: &mut Core,
+    alloc: Global,
+    source: &mut S,
+    manifest: &Manifest,
+    specification: Specification,
+    namespace: Option<&Value>,
+) -> Result<Prepared, LookupFault>
+    ensures same { IsAsBefore core.old core.new }
+    ensures step { (s : SpecificationOf Expr) → specification_seen specification ≡ compiled (document_in manifest.now.body).json s
+        → (held : Held BesideData) (v : View) → IsOver (S.holds source.old) core.old held v → IsIn core.old.rules held manifest.now.key (option_map (λ d. view d.now) namespace.entry)
+        → IfOk result (IsStepOf core.old.rules held v (record { request = create manifest.now; specification = s })) }
+    ensures ready { IfOk result (λ p. HasRoomFor core.new p.write) }
+    ensures looked { HasLooked S.holds S.goes_to S.failures S.unfailed core.old source.old source.new result }
+{
     match core.find(alloc, source, manifest.key())? {
         Some(_) => refused(alloc, Refusal::AlreadyExists),
-        None => create_free(core, alloc, source, manifest, specification),
+        None => create_free(core, alloc, source, manifest, specification, namespace),
     }
 }
 
@@ -111,16 +154,20 @@ fn create_free<S: Source<Beside>>(
     source: &mut S,
     manifest: &Manifest,
     specification: Specification,
+    namespace: Option<&Value>,
 ) -> Result<Prepared, LookupFault>
     ensures same { IsAsBefore core.old core.new }
     ensures step { (s : SpecificationOf Expr) → specification_seen specification ≡ compiled (document_in manifest.now.body).json s
-        → (held : Held BesideData) (v : View) → IsOver (S.holds source.old) core.old held v → stored_at held manifest.now.key ≡ None
+        → (held : Held BesideData) (v : View) → IsOver (S.holds source.old) core.old held v → IsIn core.old.rules held manifest.now.key (option_map (λ d. view d.now) namespace.entry)
+        → stored_at held manifest.now.key ≡ None
         → IfOk result (IsStepOf core.old.rules held v (record { request = create manifest.now; specification = s })) }
     ensures ready { IfOk result (λ p. HasRoomFor core.new p.write) }
     ensures looked { HasLooked S.holds S.goes_to S.failures S.unfailed core.old source.old source.new result }
 {
     match specification {
-        Specification::Sound(plans) => create_sound(core, alloc, source, manifest, plans),
+        Specification::Sound(plans) => create_sound(
+            core, alloc, source, manifest, plans, namespace,
+        ),
         Specification::BadSpec => refused(alloc, Refusal::BadSpec),
         Specification::BadExpression(text) => bad_expression(alloc, text.as_str()),
     }
@@ -133,17 +180,19 @@ fn create_sound<S: Source<Beside>>(
     source: &mut S,
     manifest: &Manifest,
     plans: Vec<Verified>,
+    namespace: Option<&Value>,
 ) -> Result<Prepared, LookupFault>
     ensures same { IsAsBefore core.old core.new }
     ensures step { (trees : List Expr) → plans.items ≡ plans_in (document_in manifest.now.body).json trees
-        → (held : Held BesideData) (v : View) → IsOver (S.holds source.old) core.old held v → stored_at held manifest.now.key ≡ None
+        → (held : Held BesideData) (v : View) → IsOver (S.holds source.old) core.old held v → IsIn core.old.rules held manifest.now.key (option_map (λ d. view d.now) namespace.entry)
+        → stored_at held manifest.now.key ≡ None
         → IfOk result (IsStepOf core.old.rules held v (record { request = create manifest.now; specification = sound trees })) }
     ensures ready { IfOk result (λ p. HasRoomFor core.new p.write) }
     ensures looked { HasLooked S.holds S.goes_to S.failures S.unfailed core.old source.old source.new result }
 {
     match create_limit(core, manifest) {
         Some(refusal) => refused(alloc, refusal),
-        None => judged_put(core, alloc, source, manifest, plans, None),
+        None => judged_put(core, alloc, source, manifest, plans, None, namespace),
     }
 }
 
@@ -159,13 +208,48 @@ fn prepare_replace<S: Source<Beside>>(
     ensures ready { IfOk result (λ p. HasRoomFor core.new p.write) }
     ensures form { BodyHasForm manifest.now.key manifest.now.body }
     ensures looked { HasLooked S.holds S.goes_to S.failures S.unfailed core.old source.old source.new result }
-    ensures read { IsErrOf result LookupFault.Device ⊎ ((part : Part) × IsErrOf result (LookupFault.Damaged part)) → (s : SpecificationOf Expr) × IsReadOf (replace manifest.now) s }
+    ensures read { IsErrOf result LookupFault.Device ⊎ ((part : Part) × IsErrOf result (LookupFault.Damaged part)) → (s : SpecificationOf Expr) × IsReadOf core.old.rules.format (replace manifest.now) s }
 {
     // The document, of which the form speaks.
     let _document = manifest.document();
-    let specification = specified(alloc, manifest)?;
+    let format = core.rules().format;
+    let specification = specified(alloc, format, manifest)?;
+    let place = place_of(core, alloc, source, manifest.key())?;
+    match place {
+        Place::Refused(refusal) => refused(alloc, refusal),
+        Place::In(namespace) => {
+            let namespace = value_of(&namespace);
+            replace_in(core, alloc, source, manifest, specification, namespace)
+        }
+    }
+}
+
+// The replacement of an object by a document in which this stands, at a place that refuses none, with the Namespace that it stands in, as it is shown.
+fn replace_in<S: Source<Beside>>(
+    core: &mut Core,
+    alloc: Global,
+    source: &mut S,
+    manifest: &Manifest,
+    specification: Specification,
+    namespace: Option<&Value>,
+) -> Result<Prepared, LookupFault>
+    ensures same { IsAsBefore core.old core.new }
+    ensures step { (s : SpecificationOf Expr) → specification_seen specification ≡ compiled (document_in manifest.now.body).json s
+        → (held : Held BesideData) (v : View) → IsOver (S.holds source.old) core.old held v → IsIn core.old.rules held manifest.now.key (option_map (λ d. view d.now) namespace.entry)
+        → IfOk result (IsStepOf core.old.rules held v (record { request = replace manifest.now; specification = s })) }
+    ensures ready { IfOk result (λ p. HasRoomFor core.new p.write) }
+    ensures looked { HasLooked S.holds S.goes_to S.failures S.unfailed core.old source.old source.new result }
+{
     match core.find(alloc, source, manifest.key())? {
-        Some(found) => replace_of(core, alloc, source, manifest, specification, &found),
+        Some(found) => replace_of(
+            core,
+            alloc,
+            source,
+            manifest,
+            specification,
+            &found,
+            namespace,
+        ),
         None => refused(alloc, Refusal::NotFound),
     }
 }
@@ -178,10 +262,11 @@ fn replace_of<S: Source<Beside>>(
     manifest: &Manifest,
     specification: Specification,
     found: &Found,
+    namespace: Option<&Value>,
 ) -> Result<Prepared, LookupFault>
     ensures same { IsAsBefore core.old core.new }
     ensures step { (s : SpecificationOf Expr) → specification_seen specification ≡ compiled (document_in manifest.now.body).json s
-        → (held : Held BesideData) (v : View) → IsOver (S.holds source.old) core.old held v
+        → (held : Held BesideData) (v : View) → IsOver (S.holds source.old) core.old held v → IsIn core.old.rules held manifest.now.key (option_map (λ d. view d.now) namespace.entry)
         → option_map found_in (stored_at held manifest.now.key) ≡ Some found.now
         → IfOk result (IsStepOf core.old.rules held v (record { request = replace manifest.now; specification = s })) }
     ensures ready { IfOk result (λ p. HasRoomFor core.new p.write) }
@@ -190,7 +275,15 @@ fn replace_of<S: Source<Beside>>(
     if update_conflicts(alloc, manifest, found.revision)? {
         return refused(alloc, Refusal::VersionNotCurrent);
     }
-    replace_as(core, alloc, source, manifest, specification, found)
+    replace_as(
+        core,
+        alloc,
+        source,
+        manifest,
+        specification,
+        found,
+        namespace,
+    )
 }
 
 // The replacement of an object that was found as the manifest wants it.
@@ -201,18 +294,21 @@ fn replace_as<S: Source<Beside>>(
     manifest: &Manifest,
     specification: Specification,
     found: &Found,
+    namespace: Option<&Value>,
 ) -> Result<Prepared, LookupFault>
-    requires { update_conflicts_at found.now.revision manifest.now.version ≡ false }
+    requires conflicts { update_conflicts_at found.now.revision manifest.now.version ≡ false }
     ensures same { IsAsBefore core.old core.new }
     ensures step { (s : SpecificationOf Expr) → specification_seen specification ≡ compiled (document_in manifest.now.body).json s
-        → (held : Held BesideData) (v : View) → IsOver (S.holds source.old) core.old held v
+        → (held : Held BesideData) (v : View) → IsOver (S.holds source.old) core.old held v → IsIn core.old.rules held manifest.now.key (option_map (λ d. view d.now) namespace.entry)
         → option_map found_in (stored_at held manifest.now.key) ≡ Some found.now
         → IfOk result (IsStepOf core.old.rules held v (record { request = replace manifest.now; specification = s })) }
     ensures ready { IfOk result (λ p. HasRoomFor core.new p.write) }
     ensures looked { HasLooked S.holds S.goes_to S.failures S.unfailed core.old source.old source.new result }
 {
     match specification {
-        Specification::Sound(plans) => replace_sound(core, alloc, source, manifest, plans, found),
+        Specification::Sound(plans) => replace_sound(
+            core, alloc, source, manifest, plans, found, namespace,
+        ),
         Specification::BadSpec => refused(alloc, Refusal::BadSpec),
         Specification::BadExpression(text) => bad_expression(alloc, text.as_str()),
     }
@@ -226,11 +322,12 @@ fn replace_sound<S: Source<Beside>>(
     manifest: &Manifest,
     plans: Vec<Verified>,
     found: &Found,
+    namespace: Option<&Value>,
 ) -> Result<Prepared, LookupFault>
-    requires { update_conflicts_at found.now.revision manifest.now.version ≡ false }
+    requires conflicts { update_conflicts_at found.now.revision manifest.now.version ≡ false }
     ensures same { IsAsBefore core.old core.new }
     ensures step { (trees : List Expr) → plans.items ≡ plans_in (document_in manifest.now.body).json trees
-        → (held : Held BesideData) (v : View) → IsOver (S.holds source.old) core.old held v
+        → (held : Held BesideData) (v : View) → IsOver (S.holds source.old) core.old held v → IsIn core.old.rules held manifest.now.key (option_map (λ d. view d.now) namespace.entry)
         → option_map found_in (stored_at held manifest.now.key) ≡ Some found.now
         → IfOk result (IsStepOf core.old.rules held v (record { request = replace manifest.now; specification = sound trees })) }
     ensures ready { IfOk result (λ p. HasRoomFor core.new p.write) }
@@ -238,7 +335,7 @@ fn replace_sound<S: Source<Beside>>(
 {
     match replace_limit(core, manifest) {
         Some(refusal) => refused(alloc, refusal),
-        None => replace_there(core, alloc, source, manifest, plans, found),
+        None => replace_there(core, alloc, source, manifest, plans, found, namespace),
     }
 }
 
@@ -250,12 +347,13 @@ fn replace_there<S: Source<Beside>>(
     manifest: &Manifest,
     plans: Vec<Verified>,
     found: &Found,
+    namespace: Option<&Value>,
 ) -> Result<Prepared, LookupFault>
     requires conflicts { update_conflicts_at found.now.revision manifest.now.version ≡ false }
     requires room { core.old.revision < core.old.rules.greatest_revision }
     ensures same { IsAsBefore core.old core.new }
     ensures step { (trees : List Expr) → plans.items ≡ plans_in (document_in manifest.now.body).json trees
-        → (held : Held BesideData) (v : View) → IsOver (S.holds source.old) core.old held v
+        → (held : Held BesideData) (v : View) → IsOver (S.holds source.old) core.old held v → IsIn core.old.rules held manifest.now.key (option_map (λ d. view d.now) namespace.entry)
         → option_map found_in (stored_at held manifest.now.key) ≡ Some found.now → first_of (replace_limits core.old.rules held (document_in manifest.now.body)) ≡ None
         → IfOk result (IsStepOf core.old.rules held v (record { request = replace manifest.now; specification = sound trees })) }
     ensures ready { IfOk result (λ p. HasRoomFor core.new p.write) }
@@ -263,7 +361,7 @@ fn replace_there<S: Source<Beside>>(
 {
     let old = shown_document(alloc, &found.document, found.revision)?;
     let old_object = Some(old.value());
-    judged_put(core, alloc, source, manifest, plans, old_object)
+    judged_put(core, alloc, source, manifest, plans, old_object, namespace)
 }
 
 // The deletion of an object, which shows the object that it removes with the revision that it makes.
@@ -306,6 +404,10 @@ fn delete_found<S: Source<Beside>>(
     if deletion_conflicts(alloc, version, found.revision)? {
         return refused(alloc, Refusal::VersionNotCurrent);
     }
+    let is_in_use = is_in_use(core, alloc, source, key)?;
+    if is_in_use {
+        return refused(alloc, Refusal::NamespaceNotEmpty);
+    }
     if core.is_exhausted() {
         return refused(alloc, Refusal::RevisionExhausted);
     }
@@ -325,10 +427,20 @@ fn delete_there<S: Source<Beside>>(
     requires room { core.old.revision < core.old.rules.greatest_revision }
     ensures same { IsAsBefore core.old core.new }
     ensures step { (held : Held BesideData) (v : View) → IsOver (S.holds source.old) core.old held v → option_map found_in (stored_at held key.now) ≡ Some found
+        → place.is_in_use held key.now ≡ false
         → (s : SpecificationOf Expr) → IfOk result (IsStepOf core.old.rules held v (record { request = delete key.now (option_map string_bytes version.now); specification = s })) }
     ensures ready { IfOk result (λ p. HasRoomFor core.new p.write) }
     ensures looked { HasLooked S.holds S.goes_to S.failures S.unfailed core.old source.old source.new result }
 {
+    let namespace = namespace_of(core, alloc, source, key)?;
     let old = shown_document(alloc, &found.document, found.revision)?;
-    judged_delete(core, alloc, source, key, found, old.value())
+    judged_delete(
+        core,
+        alloc,
+        source,
+        key,
+        found,
+        old.value(),
+        value_of(&namespace),
+    )
 }

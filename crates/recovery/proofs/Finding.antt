@@ -9,7 +9,7 @@ use Rattle.celtree.specs.Tree.{Expr}
 use Rattle.names.specs.Key.{Key, key_cmp}
 use Rattle.names.specs.Resource.{row}
 use Rattle.names.specs.declared.resource.Resource.{Resource}
-use Rattle.names.specs.declared.resource.Resource.TheVariants.{ConfigMap, Node, Pod, Service, Deployment, ValidatingAdmissionPolicy, ValidatingAdmissionPolicyBinding}
+use Rattle.names.specs.declared.resource.Resource.TheVariants.{ConfigMap, Node, Pod, Service, Deployment, ValidatingAdmissionPolicy, ValidatingAdmissionPolicyBinding, Namespace}
 use Rattle.objects.specs.Objects.{value_at, is_of}
 use Rattle.objects.specs.Covered.{AreCovered}
 use Rattle.objects.specs.Merged.{over}
@@ -24,7 +24,9 @@ use Rattle.policy.specs.Policies.{policy_of}
 use Rattle.policy.specs.Spec.{Policy, Wanted}
 use Rattle.expressions.specs.Expressions.{sources}
 use Rattle.expressions.specs.Typed.{AreTyped}
+use Rattle.names.specs.declared.format.Format.{Format}
 use Rattle.expressions.specs.Places.{policy_in}
+use Rattle.expressions.proofs.Standing.{counted_policy}
 use Rattle.expressions.specs.Objects as asked
 use Rattle.expressions.specs.Objects.{Held, Objects, all_held, shown_objects}
 use Rattle.expressions.specs.Listed.{listed, wanted_of}
@@ -111,9 +113,9 @@ module _ {A B : Type 0} (f : A → B) where
       ap (λ (b : Bool). b && is_sorted key_cmp (map (λ p. (p.0, f p.1)) os)) (below_map o.0 os)
       ∙ ap (λ (b : Bool). below_all key_cmp o.0 os && b) (sorted_map os)
 
-pub sees_shown : (core : seen.View Beside) (v : View) → Shows core v → IsView v
+pub sees_shown : (f : Format) (core : seen.View Beside) (v : View) → Shows core v → IsView f v
     → (map entry_held core.objects ≡ all_held (objects_of v)) × IsTrue (is_sorted key_cmp (objects_of v))
-sees_shown core v shows is_view = (held_shown core v shows, sorted_map object_of v.objects ∙ is_view.ascends)
+sees_shown f core v shows is_view = (held_shown core v shows, sorted_map object_of v.objects ∙ is_view.ascends)
 
 -- ---- the trees of policies
 
@@ -126,21 +128,22 @@ policy_is d p q spelled stands =
     one_policy p q (nat_le (length (sources p)) 65535)
     (sym (ap (λ (o : Option Policy). option_and_then (λ x. if nat_le (length (sources x)) 65535 then Some x else None) o) spelled) ∙ stands)
 
-trees_of : (r : Resource) (o : Stored (List Expr)) → HasTrees r o.document.json o.beside → asked.HasTrees r (object_of o)
-trees_of ValidatingAdmissionPolicy o has = λ p spelled.
+trees_of : (f : Format) (r : Resource) (o : Stored (List Expr)) → HasTrees f r o.document.json o.beside → asked.HasTrees r (object_of o)
+trees_of f ValidatingAdmissionPolicy o has = λ p spelled.
     let stands = has.spelled in
-    subst (λ (q : Policy). AreTyped q [] (sources q) o.beside) (policy_is o.document.json p stands.0 spelled (counted_policy o.document.json stands.0 stands.1)) stands.2
-trees_of ConfigMap o has = tt
-trees_of Node o has = tt
-trees_of Pod o has = tt
-trees_of Service o has = tt
-trees_of Deployment o has = tt
-trees_of ValidatingAdmissionPolicyBinding o has = tt
+    (f, subst (λ (q : Policy). AreTyped f q [] (sources q) o.beside) (policy_is o.document.json p stands.0 spelled (counted_policy f o.document.json stands.0 stands.1)) stands.2)
+trees_of f ConfigMap o has = tt
+trees_of f Node o has = tt
+trees_of f Pod o has = tt
+trees_of f Service o has = tt
+trees_of f Deployment o has = tt
+trees_of f ValidatingAdmissionPolicyBinding o has = tt
+trees_of f Namespace o has = tt
 
-all_trees : (os : List (Key × Stored (List Expr))) → AllByRecursion (λ o. HasTrees o.0.resource o.1.document.json o.1.beside) os
+all_trees : (f : Format) (os : List (Key × Stored (List Expr))) → AllByRecursion (λ o. HasTrees f o.0.resource o.1.document.json o.1.beside) os
     → asked.HaveTrees (map (λ o. (o.0, object_of o.1)) os)
-all_trees [] have = tt
-all_trees (o ∷ os) have = (trees_of o.0.resource o.1 have.0, all_trees os have.1)
+all_trees f [] have = tt
+all_trees f (o ∷ os) have = (trees_of f o.0.resource o.1 have.0, all_trees f os have.1)
 
-pub have_trees : (v : View) → IsView v → asked.HaveTrees (objects_of v)
-have_trees v is_view = all_trees v.objects is_view.trees
+pub have_trees : (f : Format) (v : View) → IsView f v → asked.HaveTrees (objects_of v)
+have_trees f v is_view = all_trees f v.objects is_view.trees

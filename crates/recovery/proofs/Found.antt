@@ -4,7 +4,7 @@ use Rattle.std.specs.Option.{option_map_or}
 use Rattle.names.specs.declared.format.Rules.{Rules}
 use Rattle.names.specs.Key.{Key}
 use Rattle.documents.specs.Document.{Document}
-use Rattle.requests.specs.declared.refusal.Refusal.TheVariants.{NotFound, VersionNotCurrent, RevisionExhausted}
+use Rattle.requests.specs.declared.refusal.Refusal.TheVariants.{NotFound, VersionNotCurrent, NamespaceNotEmpty, RevisionExhausted}
 use Rattle.requests.specs.Reply as plain
 use Rattle.requests.specs.Reply.{showing}
 use Rattle.requests.specs.declared.stored.Stored.{Stored}
@@ -14,6 +14,7 @@ use Rattle.holdings.specs.Holdings.{State}
 use Rattle.holdings.specs.Sources.{found_in}
 use Rattle.holdings.specs.declared.source.Found.{Found}
 use Rattle.recovery.specs.Beside.{Beside}
+use Rattle.recovery.specs.Namespaces.{is_in_use}
 use Rattle.versions.specs.Version.{is_text_of}
 use Rattle.recovery.specs.Conditions.{Condition, known, first_of, replace_conditions, delete_conditions, update_conflicts, update_conflicts_at, deletion_conflicts, deletion_conflicts_at}
 use Rattle.recovery.proofs.Showing.{getting}
@@ -59,11 +60,13 @@ module _ (held : seen.View Beside) (k : Key) (f : Found) (is : IsFound (stored_a
   replace_found asked b conflicts = λ i.
       first_of ((known NotFound, not (there_found (stored_at held k) f is i)) ∷ (known VersionNotCurrent, (update_found asked ∙ conflicts) i) ∷ [])
 
-  pub delete_found : (rules : Rules) (asked : Option (List ℕ)) (b exhausted : Bool) → deletion_conflicts_at f.revision asked ≡ b → is_exhausted rules held ≡ exhausted
-      → first_of (delete_conditions rules held k asked) ≡ cond b (Some (known VersionNotCurrent)) (cond exhausted (Some (known RevisionExhausted)) None)
-  delete_found rules asked b exhausted conflicts is_exhausted = λ i.
+  pub delete_found : (rules : Rules) (asked : Option (List ℕ)) (b used exhausted : Bool) → deletion_conflicts_at f.revision asked ≡ b → is_in_use held k ≡ used → is_exhausted rules held ≡ exhausted
+      → first_of (delete_conditions rules held k asked)
+      ≡ cond b (Some (known VersionNotCurrent)) (cond used (Some (known NamespaceNotEmpty)) (cond exhausted (Some (known RevisionExhausted)) None))
+  delete_found rules asked b used exhausted conflicts in_use is_exhausted = λ i.
       first_of ((known NotFound, not (there_found (stored_at held k) f is i))
       ∷ (known VersionNotCurrent, (deletion_found asked ∙ conflicts) i)
+      ∷ (known NamespaceNotEmpty, in_use i)
       ∷ (known RevisionExhausted, is_exhausted i)
       ∷ [])
 

@@ -1,10 +1,11 @@
 -- What stands in a document, as it is read.
-use Rattle.std.proofs.Common.{◌≡◌, ◌∙◌, sym, ap, subst, ℕ, ◌+◌, ◌≤◌, ◌*◌, List, [], length, arith}
+use Rattle.std.proofs.Common.{◌≡◌, subst, ℕ, ◌+◌, ◌≤◌, ◌*◌, List, length, arith}
 use Rattle.serde_json.specs.Data.{Data}
 use Rattle.documents.specs.Json.{text}
 use Rattle.celtree.specs.Tree.{Expr}
+use Rattle.names.specs.declared.format.Format.{Format}
 use Rattle.names.specs.declared.resource.Resource.{Resource}
-use Rattle.names.specs.declared.resource.Resource.TheVariants.{ConfigMap, Node, Pod, Service, Deployment, ValidatingAdmissionPolicy, ValidatingAdmissionPolicyBinding}
+use Rattle.names.specs.declared.resource.Resource.TheVariants.{ConfigMap, Node, Pod, Service, Deployment, ValidatingAdmissionPolicy, ValidatingAdmissionPolicyBinding, Namespace}
 use Rattle.documents.specs.Document.{Document}
 use Rattle.plancode.specs.Plans.{Judged}
 use Rattle.planlist.specs.Plans.{list_bytes}
@@ -20,27 +21,23 @@ few_bytes Node d plans few = omega arith
 few_bytes Pod d plans few = omega arith
 few_bytes Service d plans few = omega arith
 few_bytes Deployment d plans few = omega arith
+few_bytes Namespace d plans few = omega arith
 
 held_of : (r : Resource) (d : Data) (s : Specification Expr) → AreShort d (compiled d s) → MayBeHeld r d (compiled d s) → AreHeld r d s
 held_of r d (stands.sound trees) short held = (held, few_bytes r d (plans_in d trees) short)
 held_of r d stands.bad_spec short held = tt
 held_of r d (stands.bad_expression t) short held = tt
 
-abbrev trees_in : Specification Expr → List Expr
-trees_in (stands.sound trees) = trees
-trees_in stands.bad_spec = []
-trees_in (stands.bad_expression t) = []
-
-pub read_of : (r : Resource) (d : Data) (found : Specification Judged) (is : IsCompiled r d found) → AreShort d found → MayBeHeld r d found → IsRead r d is.meant
-read_of r d found is short held = record {
+pub read_of : (f : Format) (r : Resource) (d : Data) (found : Specification Judged) (is : IsCompiled f r d found) → AreShort d found → MayBeHeld r d found → IsRead f r d is.meant
+read_of f r d found is short held = record {
   stands = is.stands;
-  alone = λ trees other same also. ap trees_in (sym (is.alone other also) ∙ same);
+  alone = is.spelled;
   held = held_of r d is.meant (subst (AreShort d) is.plans short) (subst (MayBeHeld r d) is.plans held);
 }
 
-pub found_of : (r : Resource) (d : Data) (found : Specification Judged) → IsCompiled r d found → AreShort d found → MayBeHeld r d found
-    → (s : Specification Expr) × IsRead r d s × (found ≡ compiled d s)
-found_of r d found is short held = (is.meant, read_of r d found is short held, is.plans)
+pub found_of : (f : Format) (r : Resource) (d : Data) (found : Specification Judged) → IsCompiled f r d found → AreShort d found → MayBeHeld r d found
+    → (s : Specification Expr) × IsRead f r d s × (found ≡ compiled d s)
+found_of f r d found is short held = (is.meant, read_of f r d found is short held, is.plans)
 
 -- ---- what was found is what stands there
 

@@ -1,12 +1,15 @@
 -- What a core says of the view that it shows.
-use Rattle.std.proofs.Common.{◌≡◌, ◌∙◌, sym, ap, refl, ℕ, List, [], ◌∷◌, map, length, Bool, true, false, cond, not, ◌&&◌, ◌==◌, nat_le, option_map, Option, Some, None, decimal, bytes_eq}
+use Rattle.std.proofs.Common.{◌≡◌, ◌∙◌, sym, ap, refl, ℕ, List, [], ◌∷◌, map, length, Bool, true, false, cond, not, ◌&&◌, ◌||◌, ◌==◌, nat_le, option_map, option_and_then, Option, Some, None, decimal, bytes_eq}
 use Rattle.std.proofs.lemmas.List.{length-map}
-use Rattle.std.specs.List.{filter}
+use Rattle.std.specs.List.{filter, list_any}
 use Rattle.std.specs.Option.{option_map_or}
 use Rattle.serde_json.specs.Data.{Data, null, array}
 use Rattle.serde_json.specs.View.{items_of}
 use Rattle.documents.specs.Json.{text}
 use Rattle.names.specs.declared.format.Rules.{Rules}
+use Rattle.names.specs.Format.{has_namespaces, has_resource}
+use Rattle.names.specs.declared.resource.Resource.{Resource}
+use Rattle.names.specs.declared.resource.Resource.TheVariants.{Namespace}
 use Rattle.names.specs.Key.{Key}
 use Rattle.objects.specs.Objects.{value_at}
 use Rattle.documents.specs.Document.{Document, shown}
@@ -14,7 +17,7 @@ use Rattle.requests.specs.Collection.{Collection, has_key}
 use Rattle.requests.specs.Refusal as table
 use Rattle.documents.specs.Requirement.{Requirement}
 use Rattle.requests.specs.Selector.{selects}
-use Rattle.requests.specs.declared.refusal.Refusal.TheVariants.{NotFound, VersionNotCurrent, ObjectTooLarge, TooManyObjects, RevisionExhausted}
+use Rattle.requests.specs.declared.refusal.Refusal.TheVariants.{NoSuchPath, NamespaceNotFound, NotFound, VersionNotCurrent, NamespaceNotEmpty, ObjectTooLarge, TooManyObjects, RevisionExhausted}
 use Rattle.requests.specs.declared.stored.Stored.{Stored}
 use Rattle.requests.specs.Listing.{shown_items, list_of, served, listing, watching, watch_conditions}
 use Rattle.requests.specs.Mapped.{each, one, mapped}
@@ -25,8 +28,8 @@ use Rattle.requests.proofs.Mapping.{value_each, there_mapped}
 use Rattle.recovery.specs.Beside.{Beside}
 use Rattle.recovery.specs.Shown.{plans_held, Shows}
 use Rattle.recovery.specs.Standing.{View, plans_beside}
-use Rattle.recovery.specs.Attempts.{shown_at}
-use Rattle.recovery.specs.Conditions.{known, is_current, update_conflicts, deletion_conflicts, replace_conditions, delete_conditions, create_limits, replace_limits}
+use Rattle.recovery.specs.Namespaces.{shown_at, namespace_key, namespace_shown, lacks_namespace, stands_in, holds_objects, is_kept, is_in_use}
+use Rattle.recovery.specs.Conditions.{known, is_current, update_conflicts, deletion_conflicts, place_conditions, replace_conditions, delete_conditions, create_limits, replace_limits}
 
 abbrev Held : Type 0
 Held = seen.View Beside
@@ -75,6 +78,35 @@ shown_at_shown core v k shows =
     ∙ ap (λ (u : Planned). shown_at u k) shows
     ∙ told_mapped plans_beside (λ s. shown s.document s.revision) (λ s. shown s.document s.revision) (λ s. refl) v k
 
+-- ---- namespaces
+
+namespace_at : (core : Held) (v : View) (o : Option Key) → Shows core v → option_and_then (λ home. shown_at core home) o ≡ option_and_then (λ home. shown_at v home) o
+namespace_at core v None shows = refl
+namespace_at core v (Some home) shows = shown_at_shown core v home shows
+
+pub namespace_shown_shown : (core : Held) (v : View) (k : Key) → Shows core v → namespace_shown core k ≡ namespace_shown v k
+namespace_shown_shown core v k shows = namespace_at core v (namespace_key k) shows
+
+lacking_at : (core : Held) (v : View) (o : Option Key) → Shows core v → option_map_or (λ home. not (exists core home)) o false ≡ option_map_or (λ home. not (exists v home)) o false
+lacking_at core v None shows = refl
+lacking_at core v (Some home) shows = ap not (exists_shown core v home shows)
+
+lacking_shown : (rules : Rules) (core : Held) (v : View) (k : Key) → Shows core v → lacks_namespace rules core k ≡ lacks_namespace rules v k
+lacking_shown rules core v k shows = ap (λ (b : Bool). has_namespaces rules.format && b) (lacking_at core v (namespace_key k) shows)
+
+module _ {A B : Type 0} (f : Document → A → B) where
+  any_each : (p : Key → Bool) (os : List (Key × Stored A)) → list_any (λ o. p o.0) (each f os) ≡ list_any (λ o. p o.0) os
+  any_each p [] = refl
+  any_each p (o ∷ os) = ap (λ (b : Bool). p o.0 || b) (any_each p os)
+
+pub holds_shown : (core : Held) (v : View) (name : List ℕ) → Shows core v → holds_objects core name ≡ holds_objects v name
+holds_shown core v name shows =
+    sym (any_each plans_held (stands_in name) core.objects) ∙ ap (λ (u : Planned). holds_objects u name) shows ∙ any_each plans_beside (stands_in name) v.objects
+
+kept_shown : (core : Held) (v : View) (r : Resource) (name : List ℕ) → Shows core v → is_kept core r name ≡ is_kept v r name
+kept_shown core v Namespace name shows = holds_shown core v name shows
+kept_shown core v r name shows = refl
+
 -- the reply to a GET
 abbrev pub getting : {P : Type 0} → seen.View P → Key → Reply
 getting v k = option_map_or (λ s. showing 200 [] s.document s.revision) (stored_at v k) (status NotFound)
@@ -111,10 +143,15 @@ pub replace_shown : (core : Held) (v : View) (k : Key) (asked : Option (List ℕ
 replace_shown core v k asked shows = λ i.
     (known NotFound, not (exists_shown core v k shows i)) ∷ (known VersionNotCurrent, update_shown core v k asked shows i) ∷ []
 
+pub place_shown : (rules : Rules) (core : Held) (v : View) (k : Key) → Shows core v → place_conditions rules core k ≡ place_conditions rules v k
+place_shown rules core v k shows = λ i.
+    (known NoSuchPath, not (has_resource rules.format k.resource)) ∷ (known NamespaceNotFound, lacking_shown rules core v k shows i) ∷ []
+
 pub delete_shown : (rules : Rules) (core : Held) (v : View) (k : Key) (asked : Option (List ℕ)) → Shows core v → delete_conditions rules core k asked ≡ delete_conditions rules v k asked
 delete_shown rules core v k asked shows = λ i.
     (known NotFound, not (exists_shown core v k shows i))
     ∷ (known VersionNotCurrent, deletion_shown core v k asked shows i)
+    ∷ (known NamespaceNotEmpty, kept_shown core v k.resource k.name shows i)
     ∷ (known RevisionExhausted, exhausted_shown rules core v shows i)
     ∷ []
 

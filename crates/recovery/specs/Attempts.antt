@@ -11,6 +11,7 @@ use Rattle.requests.specs.View.{stored_at, exists}
 use Rattle.policy.specs.Rules.{Attempt}
 use Rattle.policy.specs.declared.match_rules.Operation.TheVariants.{Create, Update, Delete}
 use Rattle.expressions.specs.Objects.{Object, Objects}
+use Rattle.recovery.specs.Namespaces.{shown_at, namespace_shown}
 use Rattle.recovery.specs.Standing.{Write, View}
 
 -- an object with its trees, as a verdict is given by it
@@ -20,11 +21,7 @@ object_of s = record { document = s.document; trees = s.beside; revision = s.rev
 abbrev pub objects_of : View → Objects
 objects_of v = map (λ o. (o.0, object_of o.1)) v.objects
 
--- the object at a key, as it is shown
-abbrev pub shown_at : {P : Type 0} → seen.View P → Key → Option Data
-shown_at v k = option_map (λ s. shown s.document s.revision) (stored_at v k)
-
--- what a write attempts: a put creates or updates, and a deletion tells what it removes. No Namespace is shown, since namespaces are no objects.
+-- what a write attempts, and in which Namespace: a put creates or updates, and a deletion tells what it removes
 abbrev pub attempt_of : View → Write → Attempt
-attempt_of v (put k d trees) = record { operation = if exists v k then Update else Create; key = k; object = Some d.json; old_object = shown_at v k; namespace = None }
-attempt_of v (delete k) = record { operation = Delete; key = k; object = None; old_object = shown_at v k; namespace = None }
+attempt_of v (put k d trees) = record { operation = if exists v k then Update else Create; key = k; object = Some d.json; old_object = shown_at v k; namespace = namespace_shown v k }
+attempt_of v (delete k) = record { operation = Delete; key = k; object = None; old_object = shown_at v k; namespace = namespace_shown v k }

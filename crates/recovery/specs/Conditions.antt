@@ -2,13 +2,14 @@
 use Rattle.std.specs.Prelude.{ℕ, List, [], ◌∷◌, ◌++◌, length, map, Bool, true, false, not, ◌&&◌, ◌==◌, if◌then◌else◌, Option, Some, None}
 use Rattle.std.specs.Option.{option_map_or}
 use Rattle.celtree.specs.Tree.{Expr}
+use Rattle.names.specs.Format.{has_resource}
 use Rattle.names.specs.declared.format.Rules.{Rules}
 use Rattle.names.specs.Key.{Key}
 use Rattle.documents.specs.Document.{Document}
 use Rattle.requests.specs.Codes.{document_in}
 use Rattle.requests.specs.Manifest.{Manifest}
 use Rattle.requests.specs.declared.refusal.Refusal as told
-use Rattle.requests.specs.declared.refusal.Refusal.TheVariants.{AlreadyExists, NotFound, VersionNotCurrent, BadSpec, ObjectTooLarge, TooManyObjects, RevisionExhausted}
+use Rattle.requests.specs.declared.refusal.Refusal.TheVariants.{NoSuchPath, NamespaceNotFound, AlreadyExists, NotFound, VersionNotCurrent, NamespaceNotEmpty, BadSpec, ObjectTooLarge, TooManyObjects, RevisionExhausted}
 use Rattle.requests.specs.Refusal as table
 use Rattle.requests.specs.Request.{Request, get, list, watch, create, replace, delete, refused}
 use Rattle.requests.specs.History as write
@@ -18,6 +19,7 @@ use Rattle.requests.specs.View.{stored_at, exists, is_too_large, is_full, is_exh
 use Rattle.denials.specs.declared.asked.Reason.{Reason}
 use Rattle.expressions.specs.Specification.{Specification, sound, bad_spec, bad_expression}
 use Rattle.versions.specs.Version.{is_text_of}
+use Rattle.recovery.specs.Namespaces.{lacks_namespace, is_in_use}
 use Rattle.recovery.specs.Standing.{Write, View}
 
 pub data Refusal : Type 0 where
@@ -66,6 +68,11 @@ update_conflicts v k asked = option_map_or (λ text. not (length text == 0) && n
 abbrev pub deletion_conflicts : {P : Type 0} → seen.View P → Key → (asked : Option (List ℕ)) → Bool
 deletion_conflicts v k asked = option_map_or (λ text. not (is_current v k text)) asked false
 
+-- what refuses a put for the place of its key: no path leads to the resource in this format, or the namespace is not there
+abbrev pub place_conditions : {P : Type 0} → Rules → seen.View P → Key → List Condition
+place_conditions rules v k =
+    (known NoSuchPath, not (has_resource rules.format k.resource)) ∷ (known NamespaceNotFound, lacks_namespace rules v k) ∷ []
+
 -- what refuses a creation, a replacement and a deletion for the object that stands at its key
 abbrev pub create_conditions : {P : Type 0} → seen.View P → Key → List Condition
 create_conditions v k = (known AlreadyExists, exists v k) ∷ []
@@ -77,6 +84,7 @@ abbrev pub delete_conditions : {P : Type 0} → Rules → seen.View P → Key �
 delete_conditions rules v k asked =
     (known NotFound, not (exists v k))
     ∷ (known VersionNotCurrent, deletion_conflicts v k asked)
+    ∷ (known NamespaceNotEmpty, is_in_use v k)
     ∷ (known RevisionExhausted, is_exhausted rules v)
     ∷ []
 
@@ -97,9 +105,10 @@ own_conditions rules v (refused r) s = (known r, true) ∷ []
 own_conditions rules v (get k) s = (known NotFound, not (exists v k)) ∷ []
 own_conditions rules v (list c selector) s = []
 own_conditions rules v (watch c revision) s = of_table (watch_conditions rules v revision)
-own_conditions rules v (create m) s = create_conditions v m.key ++ (form_conditions s ++ create_limits rules v (document_in m.body))
+own_conditions rules v (create m) s =
+    place_conditions rules v m.key ++ (create_conditions v m.key ++ (form_conditions s ++ create_limits rules v (document_in m.body)))
 own_conditions rules v (replace m) s =
-    replace_conditions v m.key m.version ++ (form_conditions s ++ replace_limits rules v (document_in m.body))
+    place_conditions rules v m.key ++ (replace_conditions v m.key m.version ++ (form_conditions s ++ replace_limits rules v (document_in m.body)))
 own_conditions rules v (delete k asked) s = delete_conditions rules v k asked
 
 -- ---- writes

@@ -21,17 +21,21 @@ fn put_operation(stands: bool) -> Operation
     }
 }
 
-/// What a put attempts, with the object at its key as it is shown, if one stands there.
+/// What a put attempts, with the object at its key as it is shown, if one stands there, and the Namespace that it stands in, if it stands in one.
 #[must_use]
-pub fn put_attempt<'x>(manifest: &'x Manifest, old_object: Option<&'x Value>) -> Attempt<'x>
-    ensures { let old = option_map (λ d. view d.now) old_object.entry in attempt_seen result
-        ≡ record { operation = if is_some old then Update else Create; key = manifest.now.key; object = Some (document_in manifest.now.body).json; old_object = old; namespace = None } }
+pub fn put_attempt<'x>(
+    manifest: &'x Manifest,
+    old_object: Option<&'x Value>,
+    namespace: Option<&'x Value>,
+) -> Attempt<'x>
+    ensures { let old = option_map (λ d. view d.now) old_object.entry in let home = option_map (λ d. view d.now) namespace.entry in attempt_seen result
+        ≡ record { operation = if is_some old then Update else Create; key = manifest.now.key; object = Some (document_in manifest.now.body).json; old_object = old; namespace = home } }
 {
     Attempt {
         operation: put_operation(old_object.is_some()),
         key: manifest.key(),
         object: Some(manifest.document().json().value()),
         old_object,
-        namespace: None,
+        namespace,
     }
 }

@@ -15,7 +15,7 @@ ghost use Rattle.recovery.specs.Standing.{View, IsView, HasTrees};
 
 use crate::beside::{Beside, Core};
 use expressions::{Specification, StoredPlans, plans_bytes, specification_of};
-use names::{Key, Resource};
+use names::{Format, Key, Resource};
 use objects::Entry;
 use requests::Stored;
 use std::alloc::{AllocError, Global};
@@ -41,12 +41,17 @@ fn have_same_bytes(
 }
 
 // Whether the plans of an object are those of its own expressions.
-fn has_own(alloc: Global, key: &Key, stored: &Stored<Beside>) -> Result<bool, AllocError>
-    ensures yes { IfOk result (λ has. IsTrue has → HasOwnPlans (key.now, stored.now)) }
-    ensures no { IfOk result (λ has. has ≡ false → (trees : List Expr) → HasTrees key.now.resource stored.now.document.json trees
+fn has_own(
+    alloc: Global,
+    format: Format,
+    key: &Key,
+    stored: &Stored<Beside>,
+) -> Result<bool, AllocError>
+    ensures yes { IfOk result (λ has. IsTrue has → HasOwnPlans format (key.now, stored.now)) }
+    ensures no { IfOk result (λ has. has ≡ false → (trees : List Expr) → HasTrees format key.now.resource stored.now.document.json trees
         → stored.now.beside ≡ beside_of stored.now.document.json trees → ⊥) }
 {
-    match specification_of(alloc, key.resource(), stored.document.json())? {
+    match specification_of(alloc, format, key.resource(), stored.document.json())? {
         Specification::Sound(plans) => have_same_bytes(
             alloc,
             key.resource(),
@@ -58,13 +63,17 @@ fn has_own(alloc: Global, key: &Key, stored: &Stored<Beside>) -> Result<bool, Al
 }
 
 // Whether the plans that a change puts are those of the object's own expressions. A removal puts none.
-fn puts_own(alloc: Global, change: &Entry<Option<Stored<Beside>>>) -> Result<bool, AllocError>
-    ensures yes { IfOk result (λ puts. IsTrue puts → PutsOwnPlans change.now) }
+fn puts_own(
+    alloc: Global,
+    format: Format,
+    change: &Entry<Option<Stored<Beside>>>,
+) -> Result<bool, AllocError>
+    ensures yes { IfOk result (λ puts. IsTrue puts → PutsOwnPlans format change.now) }
     ensures no { IfOk result (λ puts. puts ≡ false → (stored : StoredData BesideData) × (change.now.1 ≡ Some stored)
-        × ((trees : List Expr) → HasTrees change.now.0.resource stored.document.json trees → stored.beside ≡ beside_of stored.document.json trees → ⊥)) }
+        × ((trees : List Expr) → HasTrees format change.now.0.resource stored.document.json trees → stored.beside ≡ beside_of stored.document.json trees → ⊥)) }
 {
     match change.value() {
-        Some(stored) => has_own(alloc, change.key(), stored),
+        Some(stored) => has_own(alloc, format, change.key(), stored),
         None => Ok(true),
     }
 }
@@ -76,12 +85,13 @@ fn puts_own(alloc: Global, change: &Entry<Option<Stored<Beside>>>) -> Result<boo
 ///
 /// Out of memory.
 pub fn has_own_plans(alloc: Global, core: &Core) -> Result<bool, AllocError>
-    ensures yes { (base : List (KeyData × StoredData BesideData)) (held : Held BesideData) → Shows core.now base held → AllByRecursion HasOwnPlans base
-        → IfOk result (λ has. IsTrue has → AllByRecursion HasOwnPlans held.objects) }
-    ensures no { (base : List (KeyData × StoredData BesideData)) (v : View) → ShowsOver core.now base v → IsView v → IfOk result (λ has. has ≡ false → ⊥) }
+    ensures yes { (base : List (KeyData × StoredData BesideData)) (held : Held BesideData) → Shows core.now base held → AllByRecursion (HasOwnPlans core.now.rules.format) base
+        → IfOk result (λ has. IsTrue has → AllByRecursion (HasOwnPlans core.now.rules.format) held.objects) }
+    ensures no { (base : List (KeyData × StoredData BesideData)) (v : View) → ShowsOver core.now base v → IsView core.now.rules.format v → IfOk result (λ has. has ≡ false → ⊥) }
 {
+    let format = core.rules().format;
     for change in core.changes() {
-        if !puts_own(alloc, change)? {
+        if !puts_own(alloc, format, change)? {
             return Ok(false);
         }
     }

@@ -1,4 +1,4 @@
-//! The limits of the store, which refuse a write before the policies are asked.
+//! The rules of the store, which refuse a write before the policies are asked.
 
 ghost use Rattle.std.specs.Prelude.{◌≡◌, ◌<◌, List, None, option_map};
 ghost use Rattle.names.specs.Key.{Key as KeyData};

@@ -7,19 +7,24 @@ ghost use Rattle.expressions.specs.Specification.{Specification as Specification
 ghost use Rattle.recovery.specs.Read.{IsRead};
 
 use expressions::{Specification, specification_of};
+use names::Format;
 use requests::Manifest;
 use std::alloc::{AllocError, Global};
 
-/// What stands in the document of a manifest.
+/// What stands in the document of a manifest, as a format has it.
 ///
 /// # Errors
 ///
 /// Out of memory.
 #[tactic(auto, using(crate::proofs::Read::found_of))]
-pub fn specified(alloc: Global, manifest: &Manifest) -> Result<Specification, AllocError>
-    ensures { IfOk result (λ found. (s : SpecificationOf Expr) × IsRead manifest.now.key.resource (document_in manifest.now.body).json s
+pub fn specified(
+    alloc: Global,
+    format: Format,
+    manifest: &Manifest,
+) -> Result<Specification, AllocError>
+    ensures { IfOk result (λ found. (s : SpecificationOf Expr) × IsRead format manifest.now.key.resource (document_in manifest.now.body).json s
         × (specification_seen found ≡ compiled (document_in manifest.now.body).json s)) }
 {
     let document = manifest.document().json();
-    specification_of(alloc, manifest.key().resource(), document)
+    specification_of(alloc, format, manifest.key().resource(), document)
 }

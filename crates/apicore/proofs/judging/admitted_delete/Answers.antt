@@ -6,7 +6,7 @@ use Rattle.holdings.specs.Writes.{Deletion}
 use Rattle.holdings.specs.declared.prepared.PreparedWrite.TheVariants as prepared
 use Rattle.recovery.specs.Beside.{Beside}
 use Rattle.apicore.proofs.Deciding.{next_deletion, as_it_was}
-use Rattle.apicore.proofs.Faults.{only_memory}
+use Rattle.recovery.proofs.Faults.{only_memory}
 use Rattle.apicore.proofs.judging.admitted_delete.Goals as goal
 
 pub returns-in_err-reply : goal.returns-in_err-reply

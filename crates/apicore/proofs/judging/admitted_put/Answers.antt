@@ -10,7 +10,7 @@ use Rattle.holdings.specs.declared.prepared.PreparedWrite.TheVariants as prepare
 use Rattle.expressions.specs.Specification.{these}
 use Rattle.recovery.specs.Beside.{Beside, spelled}
 use Rattle.apicore.proofs.Deciding.{next_put, as_it_was}
-use Rattle.apicore.proofs.Faults.{only_memory}
+use Rattle.recovery.proofs.Faults.{only_memory}
 use Rattle.apicore.proofs.judging.admitted_put.Goals as goal
 
 pub returns-in_err-reply : goal.returns-in_err-reply

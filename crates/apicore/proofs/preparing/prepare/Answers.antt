@@ -30,7 +30,7 @@ returns-in-Watch g c =
       device = looked.device;
       memory = looked.memory;
       damaged = looked.damaged;
-      read = λ _. read_as _ _ (ap request_of c.in-Watch.is) (bad_spec, tt);
+      read = λ _. read_as _ _ _ (ap request_of c.in-Watch.is) (bad_spec, tt);
     }
 
 pub returns-in-Refused : goal.returns-in-Refused
@@ -55,7 +55,7 @@ returns-in-Refused g c =
       device = looked.device;
       memory = looked.memory;
       damaged = looked.damaged;
-      read = λ _. read_as _ _ (ap request_of c.in-Refused.is) (bad_spec, tt);
+      read = λ _. read_as _ _ _ (ap request_of c.in-Refused.is) (bad_spec, tt);
     }
 
 pub returns-in-Get : goal.returns-in-Get
@@ -77,7 +77,7 @@ returns-in-Get g c =
       device = told.looked.device;
       memory = told.looked.memory;
       damaged = told.looked.damaged;
-      read = λ _. read_as _ _ (ap request_of c.in-Get.is) (bad_spec, tt);
+      read = λ _. read_as _ _ _ (ap request_of c.in-Get.is) (bad_spec, tt);
     }
 
 pub returns-in-List : goal.returns-in-List
@@ -99,7 +99,7 @@ returns-in-List g c =
       device = told.looked.device;
       memory = told.looked.memory;
       damaged = told.looked.damaged;
-      read = λ _. read_as _ _ (ap request_of c.in-List.is) (bad_spec, tt);
+      read = λ _. read_as _ _ _ (ap request_of c.in-List.is) (bad_spec, tt);
     }
 
 pub returns-in-Create : goal.returns-in-Create
@@ -121,7 +121,7 @@ returns-in-Create g c =
       device = told.looked.device;
       memory = told.looked.memory;
       damaged = told.looked.damaged;
-      read = λ failed. read_as _ _ (ap request_of c.in-Create.is) (told.read failed);
+      read = λ failed. read_as _ _ _ (ap request_of c.in-Create.is) (told.read failed);
     }
 
 pub returns-in-Replace : goal.returns-in-Replace
@@ -143,7 +143,7 @@ returns-in-Replace g c =
       device = told.looked.device;
       memory = told.looked.memory;
       damaged = told.looked.damaged;
-      read = λ failed. read_as _ _ (ap request_of c.in-Replace.is) (told.read failed);
+      read = λ failed. read_as _ _ _ (ap request_of c.in-Replace.is) (told.read failed);
     }
 
 pub returns-in-Delete : goal.returns-in-Delete
@@ -165,5 +165,5 @@ returns-in-Delete g c =
       device = told.looked.device;
       memory = told.looked.memory;
       damaged = told.looked.damaged;
-      read = λ _. read_as _ _ (ap request_of c.in-Delete.is) (bad_spec, tt);
+      read = λ _. read_as _ _ _ (ap request_of c.in-Delete.is) (bad_spec, tt);
     }

@@ -6,7 +6,7 @@ use Rattle.recovery.specs.Conditions.{known}
 use Rattle.recovery.proofs.Looking.{looked_not}
 use Rattle.recovery.proofs.Own.{replace_conflicting}
 use Rattle.apicore.proofs.Deciding.{refused_own, refused_ready, as_it_was}
-use Rattle.apicore.proofs.Faults.{only_memory}
+use Rattle.recovery.proofs.Faults.{only_memory}
 use Rattle.apicore.proofs.preparing.replace_of.Goals as goal
 
 pub returns-in_err-update_conflicts : goal.returns-in_err-update_conflicts
@@ -16,7 +16,7 @@ returns-in_err-update_conflicts g c =
     let handed = c.from_residual in
     record {
       same = as_it_was core;
-      step = λ s is held v over found. IfOk-from_err handed.result _ handed.ensures.0;
+      step = λ s is held v over inside found. IfOk-from_err handed.result _ handed.ensures.0;
       ready = IfOk-from_err handed.result _ handed.ensures.0;
       looked = looked_not g.S.Source.holds g.S.Source.goes_to g.S.Source.failures g.S.Source.unfailed core source handed.result (g.met.S.Source.stays source) (g.met.S.Source.unfailed_itself source) (only_memory handed.result handed.ensures.1);
     }
@@ -27,9 +27,9 @@ returns-then-branch g c =
     let source = c.args.source.now in
     record {
       same = as_it_was core;
-      step = λ s is held v over found.
+      step = λ s is held v over inside found.
           refused_own core.rules held v (replace c.args.manifest.now) s c.refused.result _
-          (replace_conflicting core.rules held c.args.manifest.now v over.plans c.args.found.now found s (sym c.in_ok-update_conflicts.ensures ∙ c.if-branch.true)) c.refused.ensures.step;
+          (replace_conflicting core.rules held c.args.manifest.now v over.plans inside.placed c.args.found.now found s (sym c.in_ok-update_conflicts.ensures ∙ c.if-branch.true)) c.refused.ensures.step;
       ready = refused_ready core (known refusal.VersionNotCurrent) c.refused.result c.refused.ensures.step;
       looked = looked_not g.S.Source.holds g.S.Source.goes_to g.S.Source.failures g.S.Source.unfailed core source c.refused.result (g.met.S.Source.stays source) (g.met.S.Source.unfailed_itself source) c.refused.ensures.memory;
     }

@@ -9,15 +9,15 @@ use Rattle.apicore.proofs.Deciding.{refused_own}
 use Rattle.apicore.proofs.preparing.replace_sound.Goals as goal
 
 pub returns-in-Some-clause-step : goal.returns-in-Some-clause-step
-returns-in-Some-clause-step g c = λ trees same held v over found.
+returns-in-Some-clause-step g c = λ trees same held v over inside found.
     let m = c.args.manifest.now in
     refused_own c.args.core.now.rules held v (replace m) (sound trees) c.refused.result _
-    (replace_limited c.args.core.now.rules held m v over.plans trees c.in-Some.refusal (replace_found held m.key c.args.found.now found m.version false c.requires)
+    (replace_limited c.args.core.now.rules held m v over.plans inside.placed trees c.in-Some.refusal (replace_found held m.key c.args.found.now found m.version false c.requires.conflicts)
     (sym (ap (option_map known) c.in-Some.is) ∙ c.replace_limit.ensures.shown over.base held over.shows)) c.refused.ensures.step
 
 pub returns-in-None-clause-step : goal.returns-in-None-clause-step
-returns-in-None-clause-step g c = λ trees same held v over found.
-    c.replace_there.ensures.step trees same held v over found (sym (c.replace_limit.ensures.shown over.base held over.shows) ∙ ap (option_map known) c.in-None.is)
+returns-in-None-clause-step g c = λ trees same held v over inside found.
+    c.replace_there.ensures.step trees same held v over inside found (sym (c.replace_limit.ensures.shown over.base held over.shows) ∙ ap (option_map known) c.in-None.is)
 
 pub returns-in-Some-clause-looked : goal.returns-in-Some-clause-looked
 returns-in-Some-clause-looked g c =
