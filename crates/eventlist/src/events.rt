@@ -3,7 +3,7 @@ ghost use Rattle.checkpoint.specs.EntryList.{listed};
 ghost use Rattle.records.specs.Entries.{event_entry};
 
 use documents::Document;
-use objects::Events;
+use objects::Event;
 use records::event_entry;
 use std::alloc::{AllocError, Global};
 
@@ -15,9 +15,9 @@ use std::alloc::{AllocError, Global};
 pub fn add_events(
     alloc: Global,
     entries: &mut Vec<(Vec<u8>, Vec<u8>)>,
-    events: Events<'_, Document>,
+    events: &[&Event<Document>],
 ) -> Result<(), AllocError>
-    ensures { OnOk result (listed entries.new.items ≡ listed entries.old.items ++ map event_entry events.entry) }
+    ensures { OnOk result (listed entries.new.items ≡ listed entries.old.items ++ map event_entry (map (λ event. event.now) events.now)) }
 {
     for event in events {
         entries.push(event_entry(alloc, event)?.into_parts())?;

@@ -58,8 +58,8 @@ impl Paged {
         ensures form { RequestHasForm (request_of request.now) }
         ensures ran { Ran D.disk device.old device.new Same }
         ensures device { IsErrOf result LookupFault.Device → HasFailed D.disk device.old device.new }
-        ensures read { IsErrOf result LookupFault.Device ⊎ ((part : Part) × IsErrOf result (LookupFault.Damaged part)) → (s : Specification Expr) × IsReadOf (request_of request.now) s }
-        ensures damaged { (part : Part) → IsErrOf result (LookupFault.Damaged part) → (v : View) → IsShown D.disk device.old self.old v → IsView v → ⊥ }
+        ensures read { IsErrOf result LookupFault.Device ⊎ ((part : Part) × IsErrOf result (LookupFault.Damaged part)) → (s : Specification Expr) × IsReadOf self.old.core.rules.format (request_of request.now) s }
+        ensures damaged { (part : Part) → IsErrOf result (LookupFault.Damaged part) → (v : View) → IsShown D.disk device.old self.old v → IsView self.old.core.rules.format v → ⊥ }
     {
         let mut base = Base::new(device, &mut self.stock, Bare);
         prepare(&mut self.core, alloc, &mut base, request)

@@ -42,27 +42,31 @@ pub laid-length : (fields sector : List ℕ) → Laid fields sector → length s
 laid-length fields sector laid = ap length laid.is ∙ omega (arith, laid.inside, length-append fields (replicate (512 - length fields) 0), length-replicate {A = ℕ} (512 - length fields) 0)
 
 -- the fields of a root, one behind the other
+abbrev pub row_behind : (mark : List ℕ) (generation first pages revision : ℕ) → List ℕ
+row_behind mark generation first pages revision =
+    (((mark ++ big_bytes 8 generation) ++ big_bytes 8 first) ++ big_bytes 4 pages) ++ big_bytes 8 revision
+
 abbrev pub root_row : Format → (generation first pages revision : ℕ) → List ℕ
-root_row format generation first pages revision =
-    (((mark_of format ++ big_bytes 8 generation) ++ big_bytes 8 first) ++ big_bytes 4 pages) ++ big_bytes 8 revision
+root_row format generation first pages revision = row_behind (mark_of format) generation first pages revision
 
 -- what a sector spells with them
-record Tells (format : Format) (generation first pages revision : ℕ) (sector : List ℕ) : Type 0 where
-  mark : take 8 sector ≡ mark_of format
+record Tells (mark_is : List ℕ) (generation first pages revision : ℕ) (sector : List ℕ) : Type 0 where
+  mark : take 8 sector ≡ mark_is
   generation_is : big_number 8 (drop 8 sector) ≡ generation
   first_is : big_number 8 (drop 16 sector) ≡ first
   pages_are : big_number 4 (drop 24 sector) ≡ pages
   revision_is : big_number 8 (drop 28 sector) ≡ revision
   zeros : (k : ℕ) → 36 ≤ k → slice_index sector k ≡ 0
 
--- fields behind the mark of each format
 module _ (generation first pages revision : ℕ) (sector : List ℕ) (generation_fits : generation < 2 ^ 64) (first_fits : first < 2 ^ 64) (pages_fits : pages < 2 ^ 32)
     (revision_fits : revision < 2 ^ 64) where
   abbrev zeros_behind : List ℕ
   zeros_behind = replicate (512 - 36) 0
 
-  tells : (format : Format) → Laid (root_row format generation first pages revision) sector → Tells format generation first pages revision sector
-  tells First laid = record {
+  -- fields behind the eight bytes of a mark
+  tells_behind : (a b c d e f g h : ℕ) → Laid (row_behind (a ∷ b ∷ c ∷ d ∷ e ∷ f ∷ g ∷ h ∷ []) generation first pages revision) sector
+      → Tells (a ∷ b ∷ c ∷ d ∷ e ∷ f ∷ g ∷ h ∷ []) generation first pages revision sector
+  tells_behind a b c d e f g h laid = record {
     mark = ap (take 8) laid.is;
     generation_is = ap (λ (x : List ℕ). big_number 8 (drop 8 x)) laid.is
         ∙ big_number-reads_back 8 generation (((big_bytes 8 first ++ big_bytes 4 pages) ++ big_bytes 8 revision) ++ zeros_behind) generation_fits;
@@ -70,18 +74,12 @@ module _ (generation first pages revision : ℕ) (sector : List ℕ) (generation
         ∙ big_number-reads_back 8 first ((big_bytes 4 pages ++ big_bytes 8 revision) ++ zeros_behind) first_fits;
     pages_are = ap (λ (x : List ℕ). big_number 4 (drop 24 x)) laid.is ∙ big_number-reads_back 4 pages (big_bytes 8 revision ++ zeros_behind) pages_fits;
     revision_is = ap (λ (x : List ℕ). big_number 8 (drop 28 x)) laid.is ∙ big_number-reads_back 8 revision zeros_behind revision_fits;
-    zeros = laid-zeros 36 (root_row First generation first pages revision) sector laid refl;
+    zeros = laid-zeros 36 (row_behind (a ∷ b ∷ c ∷ d ∷ e ∷ f ∷ g ∷ h ∷ []) generation first pages revision) sector laid refl;
   }
-  tells Second laid = record {
-    mark = ap (take 8) laid.is;
-    generation_is = ap (λ (x : List ℕ). big_number 8 (drop 8 x)) laid.is
-        ∙ big_number-reads_back 8 generation (((big_bytes 8 first ++ big_bytes 4 pages) ++ big_bytes 8 revision) ++ zeros_behind) generation_fits;
-    first_is = ap (λ (x : List ℕ). big_number 8 (drop 16 x)) laid.is
-        ∙ big_number-reads_back 8 first ((big_bytes 4 pages ++ big_bytes 8 revision) ++ zeros_behind) first_fits;
-    pages_are = ap (λ (x : List ℕ). big_number 4 (drop 24 x)) laid.is ∙ big_number-reads_back 4 pages (big_bytes 8 revision ++ zeros_behind) pages_fits;
-    revision_is = ap (λ (x : List ℕ). big_number 8 (drop 28 x)) laid.is ∙ big_number-reads_back 8 revision zeros_behind revision_fits;
-    zeros = laid-zeros 36 (root_row Second generation first pages revision) sector laid refl;
-  }
+
+  tells : (format : Format) → Laid (root_row format generation first pages revision) sector → Tells (mark_of format) generation first pages revision sector
+  tells First laid = tells_behind _ _ _ _ _ _ _ _ laid
+  tells Second laid = tells_behind _ _ _ _ _ _ _ _ laid
 
 -- the row of a root's fields
 abbrev pub row_of : Root → List ℕ

@@ -3,7 +3,7 @@ pub mod LyingBelow
 pub mod InBytes
 pub mod Held
 mod Taking
-pub mod Shown
+pub mod Showing
 pub mod Histories
 pub mod Parts
 mod MadeAgain
@@ -11,6 +11,7 @@ mod Chosen
 pub mod Alone
 mod LyingApart
 pub mod Events
+pub mod Spelling
 pub mod Kept
 mod Prefixes
 mod BaseFaults

@@ -1,14 +1,15 @@
 //! What a checkpoint keeps of a store: from the core to its entries and back, and the objects as they lie in its pages, below what is held in memory.
 //!
 //! ```text
-//! let mut entries = entries_in(alloc, &core, &objects_below)?;  // to be written
-//! let written = write(alloc, &mut device, &root, last_gate, core.revision(), &mut entries)?;
+//! let view = shown(alloc, &core, &objects_below)?;              // to be kept
+//! let mut entries = entries_of(alloc, &view)?;                  // to be written
+//! let written = write(alloc, &mut device, &root, last_gate, label, &mut entries)?;
 //!
 //! let mut sieve = Sieve::new(alloc, &chosen);                   // to be read again
 //! scan(alloc, &mut device, &root, &mut sieve)?;
-//! let core = restored(alloc, rules, sieve.kept(), &below, sieve.objects(), root.revision)?;
+//! let core = restored(alloc, rules, sieve.kept(), &below, sieve.objects(), root.label.revision)?;
 //!
-//! let core = renewed(alloc, &core, &objects_below, &below)?;    // or held on once it is written
+//! let core = renewed(alloc, rules, view, &below)?;              // or held on once it is written
 //!
 //! let mut stock = Stock::new(alloc, shelf);                     // and the objects in its pages
 //! let stocked = stock.find(alloc, &mut device, &key)?;          // reads one page, or none
@@ -17,10 +18,10 @@
 //! let found = holdings.find(alloc, &mut base, &key)?;
 //! ```
 //!
-//! A checkpoint keeps the objects, the plans of their expressions as bytes, and the last events. `entries_in` gives the entries of what the core
-//! shows over the objects that lie below, and `restored` the core that shows what a checkpoint keeps over those of its objects that lie below, of which [`Below`] tells
+//! A checkpoint keeps the objects, the plans of their expressions as bytes, and the last events of a view. `shown` lends what the core shows over the
+//! objects that lie below, `entries_of` gives the entries of a view that is lent, and `restored` the core that shows what a checkpoint keeps over those of its objects that lie below, of which [`Below`] tells
 //! the resources. It reads all entries, or those of a chosen part: then each object that does not lie below is chosen. It answers damage only where no view that can be kept has these
-//! entries. `renewed` gives the same core without reading anything, of what was shown when the checkpoint was written. At most one view has them ([`entries_have_one_view`]); what a history shows can be kept ([`histories_are_kept`]).
+//! entries. `renewed` gives the same core without reading anything, of the view that was written. At most one view has them ([`entries_have_one_view`]); what a history shows can be kept ([`histories_are_kept`]).
 //!
 //! # The objects in the pages
 //!
@@ -39,6 +40,7 @@ mod below;
 mod fault;
 mod keys;
 mod laws;
+mod lent;
 mod listed;
 mod making;
 mod renewing;
@@ -54,6 +56,7 @@ pub use base::Base;
 pub use below::Below;
 pub use fault::SnapshotFault;
 pub use laws::{entries_ascend, entries_fit, entries_have_one_view, histories_are_kept};
+pub use lent::{LentView, shown};
 pub use making::FromDocument;
 pub use renewing::renewed;
 pub use restoring::restored;
@@ -62,4 +65,4 @@ pub use stock::{BYTES_IN_MEMORY, Stock};
 pub use stock_fault::StockFault;
 pub use stock_laws::{kept_are_of_a_view, views_hold_objects};
 pub use stocked::Stocked;
-pub use storing::entries_in;
+pub use storing::entries_of;

@@ -1,14 +1,17 @@
 use Rattle.std.proofs.Common.{◌≡◌, ◌∙◌, sym, ap, subst, List}
+use Rattle.names.specs.declared.format.Rules.{Rules}
 use Rattle.names.specs.Key.{Key}
 use Rattle.requests.specs.declared.stored.Stored.{Stored}
 use Rattle.requests.specs.View as seen
 use Rattle.holdings.specs.Holdings.{State, Shows}
-use Rattle.snapshots.specs.Keeping.{IsHeld}
+use Rattle.snapshots.specs.Keeping.{IsHeld, held_entries}
+use Rattle.paged.specs.Lying.{base_of}
+use Rattle.paged.specs.Paged.{Holds}
 use Rattle.recovery.specs.Beside.{Beside}
 use Rattle.std.proofs.lemmas.Result.{IfOk-from_err}
 use Rattle.objects.specs.declared.fault.LookupFault.TheVariants as LookupFault
 use Rattle.checkpoint.proofs.Faults.{no_fault}
-use Rattle.apicore.proofs.Faults.{same_fault}
+use Rattle.recovery.proofs.Faults.{same_fault}
 use Rattle.paged.proofs.Going.{no_want}
 use Rattle.paged.proofs.state.Paged.next.Goals as goal
 
@@ -26,6 +29,23 @@ returns-in_err-below g c =
       below = all.below;
       ran = all.ran;
       device = λ told. all.device (same_fault handed.ensures.1 c.in_err-below.was told);
+    }
+
+-- memory was refused once the pages had been read
+pub returns-in_err-view : goal.returns-in_err-view
+returns-in_err-view g c =
+    let handed = c.from_residual-in_err-view in
+    let all = c.all_below.ensures in
+    record {
+      entries = λ held holds. IfOk-from_err handed.result _ handed.ensures.0;
+      rules = IfOk-from_err handed.result _ handed.ensures.0;
+      held = λ held holds is. IfOk-from_err handed.result _ handed.ensures.0;
+      damaged = λ part told held holds is. no_want handed.result handed.ensures.1 (LookupFault.Damaged part) (λ is. cc) told;
+      core = all.core;
+      root = all.root;
+      below = all.below;
+      ran = all.ran;
+      device = λ told. no_want handed.result handed.ensures.1 LookupFault.Device (λ is. cc) told;
     }
 
 pub returns-in_err-entries : goal.returns-in_err-entries
@@ -51,8 +71,12 @@ shows_still old new base below held same lies shows =
     let By : State Beside → Type 0 = λ core. Shows core below held in
     subst By (sym same) (subst Over (sym lies) shows)
 
-held_still : (old new : State Beside) (held : seen.View Beside) → new ≡ old → IsHeld old.rules held → IsHeld new.rules held
-held_still old new held same is = let By : State Beside → Type 0 = λ core. IsHeld core.rules held in subst By (sym same) is
+-- the view that was lent is what is held
+abbrev Held : Rules → seen.View Beside → Type 0
+Held rules view = IsHeld rules view
+
+held_still : (rules other : Rules) (view held : seen.View Beside) → other ≡ rules → view ≡ held → IsHeld rules held → IsHeld other view
+held_still rules other view held same lent is = subst (λ (r : Rules). Held r view) (sym same) (subst (Held rules) (sym lent) is)
 
 pub returns-in_err-core : goal.returns-in_err-core
 returns-in_err-core g c =
@@ -66,9 +90,10 @@ returns-in_err-core g c =
       rules = IfOk-from_err handed.result _ handed.ensures.0;
       held = λ held holds is. IfOk-from_err handed.result _ handed.ensures.0;
       damaged = λ part told held holds is.
-          c.renewed_core.ensures.damaged part (same_fault handed.ensures.1 was told) held
-          (shows_still old new holds.base c.deref-2.result.now held all.core (c.deref-2.ensures.value ∙ c.in_ok-below.ensures.all holds.base holds.below) holds.shows)
-          (held_still old new held all.core is);
+          let lent = c.in_ok-view.ensures held
+          (shows_still old new holds.base c.deref.result.now held all.core (c.deref.ensures.value ∙ c.in_ok-below.ensures.all holds.base holds.below) holds.shows) in
+          c.renewed_core.ensures.damaged part (same_fault handed.ensures.1 was told)
+          (held_still old.rules _ _ held (c.rules.ensures ∙ ap (λ (core : State Beside). core.rules) all.core) lent is);
       core = all.core;
       root = all.root;
       below = all.below;
@@ -81,15 +106,17 @@ returns g c =
     let all = c.all_below.ensures in
     let old = c.args.self.now.core in
     let new = c.all_below.new.self.core in
+    let rules_are = c.rules.ensures ∙ ap (λ (core : State Beside). core.rules) all.core in
+    let lent : (held : seen.View Beside) → Holds g.D.Device.disk c.args.device.now c.args.self.now held → c.in_ok-view.view ≡ held =
+    λ held holds. c.in_ok-view.ensures held
+    (shows_still old new holds.base c.deref.result.now held all.core (c.deref.ensures.value ∙ c.in_ok-below.ensures.all holds.base holds.below) holds.shows)
+    in
     record {
-      entries = λ held holds.
-          c.in_ok-entries.ensures.held held
-          (shows_still old new holds.base c.deref.result.now held all.core (c.deref.ensures.value ∙ c.in_ok-below.ensures.all holds.base holds.below) holds.shows);
-      rules = c.in_ok-core.ensures.rules ∙ ap (λ (core : State Beside). core.rules) all.core;
+      entries = λ held holds. c.in_ok-entries.ensures.held ∙ ap held_entries (lent held holds);
+      rules = c.in_ok-core.ensures.rules ∙ rules_are;
       held = λ held holds is.
-          c.in_ok-core.ensures.held held
-          (shows_still old new holds.base c.deref-2.result.now held all.core (c.deref-2.ensures.value ∙ c.in_ok-below.ensures.all holds.base holds.below) holds.shows)
-          (held_still old new held all.core is);
+          let Shown : seen.View Beside → Type 0 = λ v. Shows c.in_ok-core.core (base_of v) v in
+          subst Shown (lent held holds) (c.in_ok-core.ensures.held (held_still old.rules _ _ held rules_are (lent held holds) is));
       damaged = λ part told. absurd (no_fault told);
       core = all.core;
       root = all.root;
