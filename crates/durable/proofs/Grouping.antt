@@ -32,13 +32,14 @@ use Rattle.durable.specs.Faults.{of_part, MayBeMet}
 use Rattle.durable.specs.Ready.{HoldsHistory}
 use Rattle.durable.specs.Recorded.{IsGroup}
 use Rattle.durable.specs.Gathered.{in_record, CanBeAppended, HasStepped, StaysAs, HasGathered, HasGatheredMore, HasServedMore, HasStoppedIn, HasAnswered}
+use Rattle.paged.specs.Paged as paged
 use Rattle.paged.specs.declared.state.Paged.{Paged}
-use Rattle.durable.specs.Settled.{LiesStill, added, AreAsked, IsFound, ServesAt, IsSettledAt, IsLeftAt, LeavesSome, HasReplied, HasFailedAt, HasServed, HasStopped, device_of, serves}
+use Rattle.durable.specs.Settled.{LiesStill, added, AreAsked, IsFound, ServesAt, IsSettledAt, IsLeftAt, LeavesSome, HasReplied, HasFailedAt, HasServed, HasStopped, device_of, root_of, format_of, serves}
 use Rattle.durable.proofs.Findings.{found_none}
 use Rattle.durable.proofs.Unwritten.{held_after, moments_read, left_read}
 use Rattle.durable.proofs.Answering.{held, serving_by, settled_from, settled_serves, settled_after}
 use Rattle.durable.proofs.Running.{accepted-append, replies-append, view_then, first_of}
-use Rattle.durable.proofs.Runs.{asked_then, run_none, run_then, run_stopped}
+use Rattle.durable.proofs.Runs.{asked_then, read_before, run_none, run_then, run_stopped}
 
 -- ---- what is gathered
 
@@ -62,6 +63,7 @@ pub gathered_none : {D : Type 0} {g : Ghosts D} (store : Store D g) (group : Gro
 gathered_none store group empty = record {
   asked = [];
   are = record { are = refl; read = tt };
+  root = refl;
   one_each = refl;
   few = omega (arith, empty.count);
   shown = λ rules v serving. record { answered = refl; serving = serving; appendable = record { follow = tt; storable = tt }; gathered = empty };
@@ -75,7 +77,9 @@ module _ {D : Type 0} {g : Ghosts D} (old mid new : Store D g) (before now : Gro
       let a : Asked = record { request = r; specification = next.specification } in
       record {
         asked = so_far.asked ++ a ∷ [];
-        are = asked_then done (r ∷ []) so_far.asked (a ∷ []) so_far.are (record { are = refl; read = (next.read, tt) });
+        are = asked_then (format_of old) done (r ∷ []) so_far.asked (a ∷ []) so_far.are
+            (record { are = refl; read = (read_before old mid so_far.root r next.specification next.read, tt) });
+        root = next.root ∙ so_far.root;
         one_each = length-append given (said ∷ []) ∙ ap (λ (n : ℕ). n + 1) so_far.one_each ∙ sym (length-append so_far.asked (a ∷ []));
         few = omega (arith, so_far.few, one_more, length-append given (said ∷ []));
         shown = λ rules v serving.
@@ -104,6 +108,7 @@ module _ {D : Type 0} {g : Ghosts D} (old mid new : Store D g) (before now : Gro
   gathered_still stays = record {
     asked = so_far.asked;
     are = so_far.are;
+    root = stays.root ∙ so_far.root;
     one_each = so_far.one_each;
     few = omega (arith, so_far.few, stays.counted);
     shown = λ rules v serving.
@@ -129,7 +134,7 @@ settled_still {D} {g} old new run serves rules h settled =
 
 -- a device that failed while a request was read has the history, and none of its writes
 pub failed_reading : {D : Type 0} {g : Ghosts D} (old new : Store D g) (r : Request) → Ran g.disk (device_of old) (device_of new) Same
-    → (s : Specification Expr) → IsReadOf r s → serves new ≡ false → HasFailedAt old new r
+    → (s : Specification Expr) → IsReadOf (format_of old) r s → serves new ≡ false → HasFailedAt old new r
 failed_reading old new r run s read stopped = record {
   specification = s;
   read = read;
@@ -174,7 +179,7 @@ module _ {D : Type 0} {g : Ghosts D} (old mid new : Store D g) (was is : Group) 
 
   -- the device failed while the next request was read, and nothing is written
   pub more_stopped : (r : Request) (i : ℕ) → length now ≡ length before + i → i < length all → length all ≤ group_limit → take (i + 1) all ≡ take i all ++ r ∷ []
-      → (s : Specification Expr) → IsReadOf r s → Ran g.disk (device_of old) (device_of new) Same → serves new ≡ false → HasStoppedIn old new all
+      → (s : Specification Expr) → IsReadOf (format_of mid) r s → Ran g.disk (device_of old) (device_of new) Same → serves new ≡ false → HasStoppedIn old new all
   more_stopped r i count inside few next s read run stops =
       let a : Asked = record { request = r; specification = s } in
       let failing : List Asked = so_far.gathered.asked ++ a ∷ [] in
@@ -183,7 +188,7 @@ module _ {D : Type 0} {g : Ghosts D} (old mid new : Store D g) (was is : Group) 
       let front : take (length so_far.more) all ++ r ∷ [] ≡ take (0 + length failing) all =
       ap (λ (n : ℕ). take n all ++ r ∷ []) index ∙ sym next ∙ ap (λ (n : ℕ). take n all) (let same : i + 1 ≡ 0 + length failing = omega (arith, many) in same)
       in
-      let Are : List Request → Type 0 = λ rs. AreAsked rs failing in
+      let Are : List Request → Type 0 = λ rs. AreAsked (format_of old) rs failing in
       record {
         stopped = record {
           asked = [];
@@ -191,7 +196,8 @@ module _ {D : Type 0} {g : Ghosts D} (old mid new : Store D g) (was is : Group) 
           some = omega (arith, many);
           few = omega (arith, many, inside, few);
           are = subst Are front
-              (asked_then (take (length so_far.more) all) (r ∷ []) so_far.gathered.asked (a ∷ []) so_far.gathered.are (record { are = refl; read = (read, tt) }));
+              (asked_then (format_of old) (take (length so_far.more) all) (r ∷ []) so_far.gathered.asked (a ∷ []) so_far.gathered.are
+              (record { are = refl; read = (read_before old mid so_far.gathered.root r s read, tt) }));
           shown = λ rules v serving. (refl, (λ none. run), accepted_admitted rules v failing);
           stopped = λ rules h settled.
               let ws : List Write = added rules h failing in
@@ -242,6 +248,10 @@ module _ {D : Type 0} {g : Ghosts D} (old mid new : Store D g) (group : Group) (
   pub still_held : (rules : Rules) (h : History) → IsSettledAt rules old h → HoldsHistory rules g.disk (device_of mid) h
   still_held rules h settled = held_after g.disk rules h (device_of old) (device_of mid) run (held rules old h settled)
 
+  -- its root stays
+  same_root : root_of new ≡ root_of mid
+  same_root = ap (λ (p : Paged). paged.root_of p) same
+
   -- and where nothing was gathered, it was read at most then
   pub read_still : new ≡ mid → Ran g.disk (device_of old) (device_of new) Same
   read_still is =
@@ -279,6 +289,7 @@ module _ {D : Type 0} {g : Ghosts D} (old mid new : Store D g) (group : Group) (
       record {
         specification = step.specification;
         read = step.read;
+        root = same_root ∙ step.root;
         shown = λ rules v serving.
             let at = step.shown rules v serving in
             record {
@@ -324,6 +335,7 @@ module _ {D : Type 0} {g : Ghosts D} (old mid new : Store D g) (group : Group) (
   served rs given gathered working nothing appended = record {
     asked = gathered.asked;
     are = gathered.are;
+    root = same_root ∙ gathered.root;
     shown = λ rules v serving.
         let at = gathered.shown rules v serving in
         record {
@@ -351,8 +363,8 @@ module _ {D : Type 0} {g : Ghosts D} (old mid new : Store D g) (group : Group) (
       some = omega (arith, some, gathered.few, gathered.one_each);
       few = omega (arith, within, few, gathered.one_each);
       are =
-          let Are : List Request → Type 0 = λ xs. AreAsked xs gathered.asked in
-          let First : ℕ → Type 0 = λ n. AreAsked (take n all) gathered.asked in
+          let Are : List Request → Type 0 = λ xs. AreAsked (format_of old) xs gathered.asked in
+          let First : ℕ → Type 0 = λ n. AreAsked (format_of old) (take n all) gathered.asked in
           let none_before : length gathered.asked ≡ 0 + length gathered.asked = omega arith in
           subst First none_before (subst Are (sym first) gathered.are);
       shown = λ rules v serving. (

@@ -3,12 +3,16 @@ use Rattle.std.proofs.Common.{arith, ◌≡◌, ◌≤◌, ◌<◌, ◌^◌, ◌
 use Rattle.names.specs.declared.format.Rules.{Rules}
 use Rattle.names.specs.Format.{rules_of}
 use Rattle.names.proofs.Formats.{numbers_small}
+use Rattle.device.specs.declared.device.Device.{Ghosts}
 use Rattle.roots.specs.declared.root.Label.{Label}
 use Rattle.requests.specs.View.{view}
 use Rattle.recovery.specs.Standing.{History, IsHistory}
 use Rattle.snapshots.specs.Keeping.{IsKeepable}
 use Rattle.snapshots.proofs.Histories.{histories_are_kept}
 use Rattle.durable.specs.Rules.{rules_by}
+use Rattle.durable.specs.Settled as settled
+use Rattle.durable.specs.Settled.{root_of, kept_rules}
+use Rattle.durable.specs.declared.store.Store.{Store}
 
 pub small_of : (label : Label) → (rules_by label).text_limit_bytes ≤ 2 ^ 24
 small_of label = omega (arith, (numbers_small label.format 0).texts)
@@ -27,6 +31,10 @@ format_by label = (numbers_small label.format 0).of_format
 
 pub format_of : (rules : Rules) (label : Label) → rules ≡ rules_by label → rules.format ≡ label.format
 format_of rules label numbers = ap (λ (r : Rules). r.format) numbers ∙ format_by label
+
+-- a store keeps to the rules of its file's format
+pub kept_format : {D : Type 0} {g : Ghosts D} (store : Store D g) → (kept_rules store).format ≡ settled.format_of store
+kept_format store = format_of (kept_rules store) (root_of store).label store.numbers
 
 -- the rules of a format are those of the format that they name
 pub by_own_format : (rules : Rules) (label : Label) → rules ≡ rules_by label → rules ≡ rules_of rules.format 0

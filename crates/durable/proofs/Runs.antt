@@ -3,30 +3,44 @@ use Rattle.std.proofs.Common.{arith, ◌≡◌, ◌∙◌, ap, sym, subst, ◌+�
 use Rattle.std.proofs.lemmas.List.{append_assoc, map-append, length-append, length-take-le, take-append-drop}
 use Rattle.std.specs.List.{AllByRecursion}
 use Rattle.device.specs.declared.device.Device.{Ghosts}
+use Rattle.names.specs.declared.format.Format.{Format}
 use Rattle.requests.specs.Request.{Request}
 use Rattle.requests.specs.Reply.{Reply}
 use Rattle.requests.specs.View.{after_all}
+use Rattle.celtree.specs.Tree.{Expr}
+use Rattle.expressions.specs.Specification.{Specification}
+use Rattle.roots.specs.declared.root.Root.{Root}
 use Rattle.apicore.specs.Step.{Asked, accepted}
 use Rattle.apicore.specs.Prepared.{IsReadOf}
 use Rattle.apicore.proofs.Admitting.{accepted_admitted}
 use Rattle.durable.specs.declared.store.Store.{Store}
-use Rattle.durable.specs.Settled.{added, AreAsked, HasStoppedAs, HasServed, HasStopped, device_of}
+use Rattle.durable.specs.Settled.{added, AreAsked, HasStoppedAs, HasServed, HasStopped, device_of, root_of, format_of}
 use Rattle.durable.proofs.Unwritten.{read_then}
 use Rattle.durable.proofs.Running.{served_none, served_then, stopped_then, replies-append, answered_none, answered_then, none_in_none, first_of}
 
-abbrev Read : Asked → Type 0
-Read a = IsReadOf a.request a.specification
+module _ (format : Format) where
+  abbrev Read : Asked → Type 0
+  Read a = IsReadOf format a.request a.specification
 
-read-append : (xs ys : List Asked) → AllByRecursion Read xs → AllByRecursion Read ys → AllByRecursion Read (xs ++ ys)
-read-append [] ys first more = more
-read-append (x ∷ xs) ys first more = (first.0, read-append xs ys first.1 more)
+  read-append : (xs ys : List Asked) → AllByRecursion Read xs → AllByRecursion Read ys → AllByRecursion Read (xs ++ ys)
+  read-append [] ys first more = more
+  read-append (x ∷ xs) ys first more = (first.0, read-append xs ys first.1 more)
 
--- requests of which the first and the others are asked
-pub asked_then : (requests more : List Request) (asked others : List Asked) → AreAsked requests asked → AreAsked more others → AreAsked (requests ++ more) (asked ++ others)
-asked_then requests more asked others are next = record {
-  are = map-append (λ (x : Asked). x.request) asked others ∙ (λ i. are.are i ++ next.are i);
-  read = read-append asked others are.read next.read;
-}
+  -- requests of which the first and the others are asked
+  pub asked_then : (requests more : List Request) (asked others : List Asked) → AreAsked format requests asked → AreAsked format more others
+      → AreAsked format (requests ++ more) (asked ++ others)
+  asked_then requests more asked others are next = record {
+    are = map-append (λ (x : Asked). x.request) asked others ∙ (λ i. are.are i ++ next.are i);
+    read = read-append asked others are.read next.read;
+  }
+
+-- A store with the same root has the same format.
+module _ {D : Type 0} {g : Ghosts D} (old mid : Store D g) (same : root_of mid ≡ root_of old) where
+  pub read_before : (r : Request) (s : Specification Expr) → IsReadOf (format_of mid) r s → IsReadOf (format_of old) r s
+  read_before r s read = let Read : Root → Type 0 = λ root. IsReadOf root.label.format r s in subst Read same read
+
+  pub asked_before : (requests : List Request) (asked : List Asked) → AreAsked (format_of mid) requests asked → AreAsked (format_of old) requests asked
+  asked_before requests asked are = let Are : Root → Type 0 = λ root. AreAsked root.label.format requests asked in subst Are same are
 
 -- nothing was asked
 pub run_none : {D : Type 0} {g : Ghosts D} (store : Store D g)
@@ -35,6 +49,7 @@ pub run_none : {D : Type 0} {g : Ghosts D} (store : Store D g)
 run_none store only_now = record {
   asked = [];
   are = record { are = refl; read = tt };
+  root = refl;
   shown = λ rules v serving. answered_none rules store v only_now serving;
   settled = λ rules h settled. served_none rules store h (λ c since. only_now c settled.keeps since) settled;
 }
@@ -44,7 +59,8 @@ module _ {D : Type 0} {g : Ghosts D} (old mid new : Store D g) (done : List Requ
   pub run_then : (more : List Request) → HasServed mid new more answers → HasServed old new (done ++ more) (given ++ answers)
   run_then more next = record {
     asked = so_far.asked ++ next.asked;
-    are = asked_then done more so_far.asked next.asked so_far.are next.are;
+    are = asked_then (format_of old) done more so_far.asked next.asked so_far.are (asked_before old mid so_far.root more next.asked next.are);
+    root = next.root ∙ so_far.root;
     shown = λ rules v serving.
         let before = so_far.shown rules v serving in
         answered_then rules old mid new v so_far.asked next.asked given answers before (next.shown rules (after_all rules v (accepted rules v so_far.asked)) before.serving);
@@ -64,7 +80,7 @@ module _ {D : Type 0} {g : Ghosts D} (old mid new : Store D g) (done : List Requ
       ∙ sym (append_assoc done (take count group) (drop count group ++ later)))
       (omega (arith, one_each, length-append given answers, length-append done (take count group), length-take-le count group within))
       in
-      let Are : List Request → List Asked → Type 0 = λ rs asked. AreAsked rs asked in
+      let Are : List Request → List Asked → Type 0 = λ rs asked. AreAsked (format_of old) rs asked in
       record {
         asked = so_far.asked ++ next.asked;
         failing = next.failing;
@@ -72,7 +88,8 @@ module _ {D : Type 0} {g : Ghosts D} (old mid new : Store D g) (done : List Requ
         few = next.few;
         are = subst (λ rs. Are rs ((so_far.asked ++ next.asked) ++ next.failing)) (sym reached)
             (subst (Are (done ++ take count group)) (sym (append_assoc so_far.asked next.asked next.failing))
-            (asked_then done (take count group) so_far.asked (next.asked ++ next.failing) so_far.are next.are));
+            (asked_then (format_of old) done (take count group) so_far.asked (next.asked ++ next.failing) so_far.are
+            (asked_before old mid so_far.root (take count group) (next.asked ++ next.failing) next.are)));
         shown = λ rules v serving.
             let before = so_far.shown rules v serving in
             let further = next.shown rules (after_all rules v (accepted rules v so_far.asked)) before.serving in

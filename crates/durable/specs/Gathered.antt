@@ -30,7 +30,7 @@ use Rattle.durable.specs.declared.fault.Fault.{Fault}
 use Rattle.durable.specs.declared.fault.Fault.TheVariants as Faults
 use Rattle.durable.specs.declared.store.Store.{Store}
 use Rattle.durable.specs.Faults.{MayBeMet}
-use Rattle.durable.specs.Settled.{device_of, serves, AreAsked, ServesAt, HasServed, HasStopped}
+use Rattle.durable.specs.Settled.{device_of, root_of, format_of, serves, AreAsked, ServesAt, HasServed, HasStopped}
 
 -- what a record says of writes
 abbrev pub in_record : List Write → List (plain.Write (List ℕ))
@@ -57,7 +57,8 @@ pub record HasSteppedAt {D : Type 0} {g : Ghosts D} (rules : Rules) (new : Store
 -- What a request does to a store and to what its group has gathered, with what stands in its document.
 pub record HasStepped {D : Type 0} {g : Ghosts D} (old new : Store D g) (before now : Group) (r : Request) (said : Reply) : Type 0 where
   pub specification : Specification Expr
-  pub read : IsReadOf r specification
+  pub read : IsReadOf (format_of old) r specification
+  pub root : root_of new ≡ root_of old
   pub shown : (rules : Rules) (v : View) → ServesAt rules old v → HasSteppedAt rules new before now v (record { request = r; specification = specification }) said
 
 -- Nothing is told of the store and of the group that was not told before.
@@ -65,6 +66,7 @@ pub record StaysAs {D : Type 0} {g : Ghosts D} (old new : Store D g) (before now
   pub serving : (rules : Rules) (v : View) → ServesAt rules old v → ServesAt rules new v
   pub gathered : (ws : List (plain.Write (List ℕ))) → Gathers before ws → Gathers now ws
   pub counted : count_of now ≡ count_of before
+  pub root : root_of new ≡ root_of old
 
 -- ---- the requests of a group
 
@@ -78,7 +80,8 @@ pub record HasGatheredAt {D : Type 0} {g : Ghosts D} (rules : Rules) (new : Stor
 -- These requests are answered, with what stands in their documents, and nothing of it is on the device yet.
 pub record HasGathered {D : Type 0} {g : Ghosts D} (old new : Store D g) (group : Group) (requests : List Request) (given : List Reply) : Type 0 where
   pub asked : List Asked
-  pub are : AreAsked requests asked
+  pub are : AreAsked (format_of old) requests asked
+  pub root : root_of new ≡ root_of old
   pub one_each : length given ≡ length asked
   pub few : count_of group ≤ length given
   pub shown : (rules : Rules) (v : View) → ServesAt rules old v → HasGatheredAt rules new group v asked given

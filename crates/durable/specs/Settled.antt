@@ -7,6 +7,7 @@ use Rattle.device.specs.Run.{Ran}
 use Rattle.device.specs.Step.{Same}
 use Rattle.gatelog.specs.declared.gate_log.Log.{Log}
 use Rattle.roots.specs.declared.root.Root.{Root}
+use Rattle.names.specs.declared.format.Format.{Format}
 use Rattle.names.specs.declared.format.Rules.{Rules}
 use Rattle.names.specs.Key.{Key}
 use Rattle.requests.specs.Request.{Request}
@@ -31,10 +32,10 @@ use Rattle.durable.specs.Stands.{StandsFor}
 abbrev pub added : Rules → History → List Asked → List Write
 added rules h asked = accepted rules (view rules h) asked
 
--- the requests, each with what stands in its document
-pub record AreAsked (requests : List Request) (asked : List Asked) : Type 0 where
+-- the requests, each with what stands in its document, as a format has it
+pub record AreAsked (format : Format) (requests : List Request) (asked : List Asked) : Type 0 where
   pub are : map (λ a. a.request) asked ≡ requests
-  pub read : AllByRecursion (λ a. IsReadOf a.request a.specification) asked
+  pub read : AllByRecursion (λ a. IsReadOf format a.request a.specification) asked
 
 -- The content stands for a history, followed by all the kept ones of its writes and perhaps by some of the next, in order, none skipped.
 pub record IsFound (rules : Rules) (h : History) (kept writes : List Write) (c : List ℕ) : Type 0 where
@@ -84,6 +85,10 @@ module _ {D : Type 0} {g : Ghosts D} where
   abbrev pub root_of : Store D g → Root
   root_of store = paged.root_of store.paged
 
+  -- the format of its file
+  abbrev pub format_of : Store D g → Format
+  format_of store = (root_of store).label.format
+
   -- the log behind the root's pages
   abbrev pub log_of : Store D g → Log
   log_of store = store.log
@@ -97,7 +102,7 @@ pub record ServesAt {D : Type 0} {g : Ghosts D} (rules : Rules) (store : Store D
   pub working : serves store ≡ true
   pub rules_are : kept_rules store ≡ rules
   pub shows : IsShown store v
-  pub seen : IsView v
+  pub seen : IsView rules.format v
 
 -- The store serves, keeps to these numbers and shows this history, and it would be found again, after a crash and without one.
 pub record IsSettledAt {D : Type 0} {g : Ghosts D} (rules : Rules) (store : Store D g) (h : History) : Type 0 where
@@ -133,7 +138,8 @@ pub record HasSettledAt {D : Type 0} {g : Ghosts D} (rules : Rules) (old new : S
 -- What a request does to a store, with what stands in its document.
 pub record HasReplied {D : Type 0} {g : Ghosts D} (old new : Store D g) (r : Request) (said : Reply) : Type 0 where
   pub specification : Specification Expr
-  pub read : IsReadOf r specification
+  pub read : IsReadOf (format_of old) r specification
+  pub root : root_of new ≡ root_of old
   -- at whatever view the store showed
   pub shown : (rules : Rules) (v : View) → ServesAt rules old v → HasReplyAt rules old new v (record { request = r; specification = specification }) said
   -- and where its device keeps the disk model
@@ -142,7 +148,7 @@ pub record HasReplied {D : Type 0} {g : Ghosts D} (old new : Store D g) (r : Req
 -- The device failed in the request: its write stands, or it does not.
 pub record HasFailedAt {D : Type 0} {g : Ghosts D} (old new : Store D g) (r : Request) : Type 0 where
   pub specification : Specification Expr
-  pub read : IsReadOf r specification
+  pub read : IsReadOf (format_of old) r specification
   pub untouched : (rules : Rules) (v : View) → ServesAt rules old v → writes rules v (record { request = r; specification = specification }) ≡ []
       → Ran g.disk (device_of old) (device_of new) Same
   pub left : (rules : Rules) (h : History) → IsSettledAt rules old h
@@ -168,7 +174,8 @@ pub record HasServedAs {D : Type 0} {g : Ghosts D} (rules : Rules) (old new : St
 -- A run from old has answered these requests, with what stands in their documents.
 pub record HasServed {D : Type 0} {g : Ghosts D} (old new : Store D g) (requests : List Request) (given : List Reply) : Type 0 where
   pub asked : List Asked
-  pub are : AreAsked requests asked
+  pub are : AreAsked (format_of old) requests asked
+  pub root : root_of new ≡ root_of old
   pub shown : (rules : Rules) (v : View) → ServesAt rules old v → HasAnsweredAt rules old new v asked given
   pub settled : (rules : Rules) (h : History) → IsSettledAt rules old h → HasServedAs rules old new h asked
 
@@ -184,7 +191,7 @@ pub record HasStopped {D : Type 0} {g : Ghosts D} (old new : Store D g) (request
   pub failing : List Asked
   pub some : 1 ≤ length failing
   pub few : length failing ≤ group_limit
-  pub are : AreAsked (take (length given + length failing) requests) (asked ++ failing)
+  pub are : AreAsked (format_of old) (take (length given + length failing) requests) (asked ++ failing)
   pub shown : (rules : Rules) (v : View) → ServesAt rules old v
       → (given ≡ replies rules v asked)
       × (accepted rules v (asked ++ failing) ≡ [] → Ran g.disk (device_of old) (device_of new) Same)

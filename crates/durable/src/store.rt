@@ -99,7 +99,7 @@ impl<D: Device> Store<D> {
     ghost use Rattle.durable.specs.Gathered.{in_record, CanBeAppended, HasStepped, StaysAs, HasGatheredMore, HasServedMore, HasStoppedIn, HasAnswered, HasMet};
     ghost use Rattle.durable.specs.Ready.{IsReadyAt, HoldsHistory};
     ghost use Rattle.durable.specs.Stands.{StandsFor};
-    ghost use Rattle.durable.specs.Settled.{device_of, paged_of, root_of, log_of, serves, kept_rules, revision_of, LiesUnder, LiesStill, Holds, IsShown, ServesAt, IsFound, IsSettledAt, IsLeftAt, LeavesSome, HasReplied, HasFailedAt, HasServed, HasStopped, HasFoundDamage};
+    ghost use Rattle.durable.specs.Settled.{device_of, paged_of, root_of, format_of, log_of, serves, kept_rules, revision_of, LiesUnder, LiesStill, Holds, IsShown, ServesAt, IsFound, IsSettledAt, IsLeftAt, LeavesSome, HasReplied, HasFailedAt, HasServed, HasStopped, HasFoundDamage};
 
     /// The store of what an opening found on a device: what is shown over the pages of the root that counts, and the log behind them. It serves.
     pub fn serving(device: D, paged: Paged, log: Log) -> Store<D>
@@ -199,14 +199,15 @@ impl<D: Device> Store<D> {
     fn prepare(&mut self, alloc: Global, request: &Request) -> Result<Prepared, Fault>
         requires serves { serves self.old ≡ true }
         ensures rules { kept_rules self.new ≡ kept_rules self.old }
+        ensures root { root_of self.new ≡ root_of self.old }
         ensures shows { ShowsSame self.old.paged.core self.new.paged.core }
         ensures lies { LiesStill self.old self.new }
         ensures step { IfOk result (IsPrepared (LiesUnder self.old) self.old.paged.core (request_of request.now)) }
         ensures ready { IfOk result (λ p. HasRoomFor self.new.paged.core p.write) }
         ensures form { RequestHasForm (request_of request.now) }
         ensures device { Ran D.disk (device_of self.old) (device_of self.new) Same }
-        ensures read { IsErrOf result Fault.Device → (s : Specification Expr) × IsReadOf (request_of request.now) s }
-        ensures damaged { (damage : Damage) → IsErrOf result (Fault.Damaged damage) → (v : View) → IsShown self.old v → IsView v → ⊥ }
+        ensures read { IsErrOf result Fault.Device → (s : Specification Expr) × IsReadOf (format_of self.old) (request_of request.now) s }
+        ensures damaged { (damage : Damage) → IsErrOf result (Fault.Damaged damage) → (v : View) → IsShown self.old v → IsView (kept_rules self.old).format v → ⊥ }
         ensures leaves { ServesOn self.old self.new result }
     {
         match self.paged.prepare(alloc, &mut self.device, request) {
@@ -222,7 +223,7 @@ impl<D: Device> Store<D> {
         ensures stepped { IfOk result (HasStepped self.old self.new group.old group.new (request_of request.now)) }
         ensures stays { IsErrOf result Fault.Memory → StaysAs self.old self.new group.old group.new }
         ensures device { Ran D.disk (device_of self.old) (device_of self.new) Same }
-        ensures read { IsErrOf result Fault.Device → (s : Specification Expr) × IsReadOf (request_of request.now) s }
+        ensures read { IsErrOf result Fault.Device → (s : Specification Expr) × IsReadOf (format_of self.old) (request_of request.now) s }
         ensures damaged { (damage : Damage) → IsErrOf result (Fault.Damaged damage) → (rules : Rules) (v : View) → ServesAt rules self.old v → ⊥ }
         ensures leaves { ServesOn self.old self.new result }
         ensures count { count_of group.new ≤ count_of group.old + 1 }
@@ -617,7 +618,7 @@ impl<D: Device> Store<D> {
             → IfOk result (λ c. (c.generation ≡ settled.read.root.generation) × (c.format ≡ settled.read.root.label.format)) }
         ensures told_settled { (rules : Rules) (h : History) (settled : IsSettledAt rules self.old h)
             → IfOk result (IsCheckOf settled.read.root (view rules h)) }
-        ensures plans { (held : seen.View Beside) → Holds self.old held → OnOk result (AllByRecursion HasOwnPlans held.objects) }
+        ensures plans { (held : seen.View Beside) → Holds self.old held → OnOk result (AllByRecursion (HasOwnPlans (format_of self.old)) held.objects) }
 
         // What is shown stays, unless the store stops.
         ensures serving { (rules : Rules) (v : View) → ServesAt rules self.old v → OnOk result (ServesAt rules self.new v) }

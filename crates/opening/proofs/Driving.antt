@@ -3,7 +3,9 @@ use Rattle.std.proofs.Common.{suc, arith, ◌≡◌, ◌∙◌, sym, ap, subst, 
 use Rattle.std.proofs.lemmas.List.{append-nil, append_assoc, take_all, length-map}
 use Rattle.std.specs.List.{AllByRecursion}
 use Rattle.device.specs.declared.device.Device.{Ghosts}
+use Rattle.names.specs.declared.format.Format.{Format}
 use Rattle.names.specs.declared.format.Rules.{Rules}
+use Rattle.requests.specs.Request.{Request}
 use Rattle.requests.specs.View.{view, after, after_all}
 use Rattle.apicore.specs.Prepared.{IsReadOf}
 use Rattle.recovery.specs.Standing.{Write, History, View}
@@ -19,9 +21,10 @@ use Rattle.durable.specs.declared.store.Store.{Store}
 use Rattle.durable.specs.Faults.{of_part, MayBeMet}
 use Rattle.opening.specs.Lives.{requests_of, IsEpisode, EpisodeLeaves, LivesFrom}
 use Rattle.durable.specs.Ready.{HoldsHistory}
-use Rattle.durable.specs.Settled.{added, device_of, serves, IsFound, IsSettledAt, IsLeftAt, HasServed, HasStopped}
+use Rattle.durable.specs.Settled.{added, device_of, format_of, serves, AreAsked, IsFound, IsSettledAt, IsLeftAt, HasServed, HasStopped}
 use Rattle.durable.specs.Stands.{StandsFor}
 use Rattle.durable.proofs.Answering.{held, settled_serves}
+use Rattle.durable.proofs.Numbers.{kept_format}
 
 -- ---- a compaction
 
@@ -68,6 +71,12 @@ device_only x not_memory not_damaged (inr (inr found)) = absurd (not_damaged (of
 -- A store that was settled at the history, then run, and then perhaps compacted.
 module _ {D : Type 0} {g : Ghosts D} (rules : Rules) (old mid new : Store D g) (h : History) (e : Episode) (f : Found) (settled : IsSettledAt rules old h)
     (holds : (x : History) → IsSettledAt rules mid x → HoldsHistory rules g.disk (device_of new) x) (stays : serves mid ≡ false → new ≡ mid) where
+  -- what was asked of it, by the rules of the history
+  asked_by : (rs : List Request) (asked : List Asked) → AreAsked (format_of old) rs asked → AreAsked rules.format rs asked
+  asked_by rs asked are =
+      let Are : Format → Type 0 = λ format. AreAsked format rs asked in
+      subst Are (sym (kept_format old) ∙ ap (λ (r : Rules). r.format) settled.rules_are) are
+
   module _ (revision : f.revision ≡ (view rules h).revision) (c : List ℕ) (left : g.disk.left (device_of new) c) where
     served_leaves : HasServed old mid (requests_of e) f.replies.items → EpisodeLeaves rules h e f c
     served_leaves served =
@@ -85,7 +94,8 @@ module _ {D : Type 0} {g : Ghosts D} (rules : Rules) (old mid new : Store D g) (
             few = omega arith;
             are = record {
               are = ap (map (λ (a : Asked). a.request)) (append-nil served.asked) ∙ served.are.are ∙ sym whole;
-              read = subst (λ asked. AllByRecursion (λ (a : Asked). IsReadOf a.request a.specification) asked) (sym (append-nil served.asked)) served.are.read;
+              read = subst (λ asked. AllByRecursion (λ (a : Asked). IsReadOf rules.format a.request a.specification) asked) (sym (append-nil served.asked))
+                  (asked_by (requests_of e) served.asked served.are).read;
             };
             all = inl count;
             replies = said.answered;
@@ -114,7 +124,7 @@ module _ {D : Type 0} {g : Ghosts D} (rules : Rules) (old mid new : Store D g) (
             answered = stopped.asked;
             failing = stopped.failing;
             few = stopped.few;
-            are = stopped.are;
+            are = asked_by (take (length f.replies.items + length stopped.failing) (requests_of e)) (stopped.asked ++ stopped.failing) stopped.are;
             all = inr stopped.some;
             replies = said.0;
             beyond = found.more;

@@ -10,7 +10,12 @@ use Rattle.recovery.specs.Beside.{Beside}
 use Rattle.recovery.specs.Shown.{ShowsOver}
 use Rattle.paged.proofs.Owning.{below_own}
 use Rattle.durable.specs.declared.fault.Fault.TheVariants as Faults
-use Rattle.durable.specs.Settled.{root_of}
+use Rattle.durable.specs.Settled.{root_of, format_of}
+use Rattle.durable.proofs.Numbers.{kept_format}
+use Rattle.recovery.specs.Compiled.{HasOwnPlans}
+use Rattle.recovery.specs.Standing.{IsView}
+use Rattle.std.specs.List.{AllByRecursion}
+use Rattle.names.specs.declared.format.Format.{Format}
 use Rattle.durable.proofs.Called.{serves_passed, serves_refused, serves_spoiled, passed_on, failed_alone, no_device, no_memory, no_damage, ran_met}
 use Rattle.durable.proofs.Checking.{checked_settled}
 use Rattle.durable.proofs.Keeping.{root_is}
@@ -112,7 +117,10 @@ returns-then-not-branch g c =
       damaged = λ damage is rules v serving keepable.
           let shown = serving.shows in
           let Over : State Beside → Type 0 = λ core. ShowsOver core shown.base v in
-          c.in_ok-has_own_plans.ensures.no shown.base v (subst Over (sym (c.core.ensures ∙ c.next.ensures.core)) shown.shows) serving.seen c.if-not-branch.true;
+          let Seen : Rules → Type 0 = λ r. IsView r.format v in
+          let same = c.core.ensures ∙ c.next.ensures.core in
+          c.in_ok-has_own_plans.ensures.no shown.base v (subst Over (sym same) shown.shows)
+          (subst Seen (sym (ap (λ (core : State Beside). core.rules) same ∙ serving.rules_are)) serving.seen) c.if-not-branch.true;
       refusal = λ serves. leaves.refusal;
       stops = leaves.stops;
       damaged_stops = leaves.damaged_stops;
@@ -135,8 +143,11 @@ returns g c =
           (ap (λ (r : Root). r.generation) (root ∙ same), format ∙ ap (λ (r : Root). r.label.format) same);
       plans = λ held holds.
           let Held : State Beside → Type 0 = λ core. Shows core holds.base held in
-          c.in_ok-has_own_plans.ensures.yes holds.base held (subst Held (sym (c.core.ensures ∙ c.next.ensures.core)) holds.shows)
-          (below_own g.D.Device.disk store.device store.paged holds.base holds.below) c.if-not-branch.false;
+          let Own : Format → Type 0 = λ format. AllByRecursion (HasOwnPlans format) held.objects in
+          let same = c.core.ensures ∙ c.next.ensures.core in
+          subst Own (ap (λ (core : State Beside). core.rules.format) same ∙ kept_format store)
+          (c.in_ok-has_own_plans.ensures.yes holds.base held (subst Held (sym same) holds.shows)
+          (below_own c.core.result.now.rules.format g.D.Device.disk store.device store.paged holds.base holds.below) c.if-not-branch.false);
       serving = λ rules v serving. serves_between store mid mid c.next.ensures.device c.next.ensures.core c.next.ensures.lies working rules v serving;
       memory = λ rules v serving is. absurd (no_fault is);
       settled = λ rules h settled. settled_between store mid mid c.next.ensures.device c.next.ensures.core c.next.ensures.lies working rules h settled;

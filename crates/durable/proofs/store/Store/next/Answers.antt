@@ -8,7 +8,7 @@ use Rattle.checkpoint.specs.EntryList.{entries_of as in_list}
 use Rattle.snapshots.specs.Keeping.{entries_of}
 use Rattle.snapshots.proofs.Alone.{kept_held}
 use Rattle.snapshots.proofs.Kept.{entries_ascend}
-use Rattle.snapshots.proofs.Shown.{held_as_it_is, entries_shown}
+use Rattle.snapshots.proofs.Showing.{held_as_it_is, entries_shown}
 use Rattle.recovery.specs.Beside.{Beside}
 use Rattle.recovery.specs.Standing.{with_plans}
 use Rattle.paged.specs.declared.state.Paged.{Paged}

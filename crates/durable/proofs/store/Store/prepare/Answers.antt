@@ -1,7 +1,12 @@
 use Rattle.std.proofs.Common.{sym, ap, subst, ◌∙◌, inl, Err}
 use Rattle.checkpoint.proofs.Faults.{no_fault}
+use Rattle.names.specs.declared.format.Format.{Format}
+use Rattle.requests.specs.RequestOf.{request_of}
+use Rattle.apicore.specs.Prepared.{IsReadOf}
+use Rattle.paged.specs.Paged as paged
 use Rattle.holdings.specs.Holdings.{ShowsSame}
 use Rattle.paged.specs.declared.state.Paged.{Paged}
+use Rattle.durable.proofs.Numbers.{kept_format}
 use Rattle.durable.specs.Settled.{root_of}
 use Rattle.durable.proofs.Called.{err_same, serves_value, serves_met, look_device, look_damaged, lies_met, ran_met, failed_met}
 use Rattle.durable.proofs.Compacting.{still_ready}
@@ -28,6 +33,7 @@ invariant_of-self g c =
 pub returns-in-Ok : goal.returns-in-Ok
 returns-in-Ok g c = record {
   rules = c.prepare.ensures.rules;
+  root = c.prepare.ensures.root;
   shows = c.prepare.ensures.shows;
   lies = c.prepare.ensures.below;
   step = c.in-Ok.ensures.step;
@@ -47,13 +53,17 @@ returns-in-Err g c =
     let Shown : Paged → Type 0 = λ p. ShowsSame store.paged.core p.core in
     record {
       rules = ap (λ (p : Paged). p.core.rules) c.met.ensures.paged ∙ c.prepare.ensures.rules;
+      root = ap (λ (p : Paged). paged.root_of p) c.met.ensures.paged ∙ c.prepare.ensures.root;
       shows = subst Shown (sym c.met.ensures.paged) c.prepare.ensures.shows;
       lies = λ base below. lies_met new device _ c.met.ensures.device c.met.ensures.paged base (c.prepare.ensures.below base below);
       step = tt;
       ready = tt;
       form = c.prepare.ensures.form;
       device = ran_met new device _ c.met.ensures.device c.met.ensures.paged store.device c.prepare.ensures.ran;
-      read = λ is. c.in-Err.ensures.read (inl (ap Err (look_device c.in-Err.fault (sym (err_same is) ∙ c.met.ensures.fault))));
+      read = λ is.
+          let read = c.in-Err.ensures.read (inl (ap Err (look_device c.in-Err.fault (sym (err_same is) ∙ c.met.ensures.fault)))) in
+          let As : Format → Type 0 = λ format. IsReadOf format (request_of c.args.request.now) read.0 in
+          (read.0, subst As (kept_format store) read.1);
       damaged = λ damage is v shown is_view.
           let found = look_damaged c.in-Err.fault damage (sym (err_same is) ∙ c.met.ensures.fault) in
           c.in-Err.ensures.damaged found.0 (ap Err found.1) v shown is_view;
