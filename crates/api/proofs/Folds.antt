@@ -4,6 +4,7 @@ use Rattle.std.proofs.lemmas.List.{append-nil, map-append}
 use Rattle.std.specs.List.{AllByRecursion}
 use Rattle.device.specs.declared.device.Device.{Ghosts}
 use Rattle.device.proofs.Moments.{followed_by}
+use Rattle.names.specs.declared.format.Format.{Format}
 use Rattle.names.specs.declared.format.Rules.{Rules}
 use Rattle.recovery.specs.Standing.{Write, History, View}
 use Rattle.apicore.specs.Admitted.{AreAdmitted}
@@ -44,7 +45,7 @@ module _ (rules : Rules) where
       let w : List Write = writes_of rules v x in
       let u : View = after_all rules v w in
       let more : List Write = all_writes rules u xs in
-      let bytes : List ℕ = reply_bytes x.message (reply_of rules v x) in
+      let bytes : List ℕ = reply_bytes rules.format x.message (reply_of rules v x) in
       ap (λ r. bytes ++ r) (all_bytes-append u xs ys)
       ∙ sym (append_assoc bytes (all_bytes rules u xs) (all_bytes rules (after_all rules u more) ys))
       ∙ ap (λ z. (bytes ++ all_bytes rules u xs) ++ all_bytes rules z ys) (sym (after_all-append rules v w more))
@@ -55,9 +56,9 @@ module _ (rules : Rules) where
 none_then : (xs ys : List Answered) → xs ≡ [] → ys ≡ [] → xs ++ ys ≡ []
 none_then xs ys first second = ap (λ (z : List Answered). z ++ ys) first ∙ second
 
-read_then : (xs ys : List Answered) → AreRead xs → AreRead ys → AreRead (xs ++ ys)
-read_then [] ys first second = second
-read_then (x ∷ xs) ys first second = (first.0, read_then xs ys first.1 second)
+read_then : (format : Format) (xs ys : List Answered) → AreRead format xs → AreRead format ys → AreRead format (xs ++ ys)
+read_then format [] ys first second = second
+read_then format (x ∷ xs) ys first second = (first.0, read_then format xs ys first.1 second)
 
 module _ (rules : Rules) where
   -- the writes of some answers, and then of others
@@ -130,7 +131,7 @@ module _ {D : Type 0} {g : Ghosts D} (rules : Rules) where
             let first = before.failed stopped in
             let second = after.failed (before.serving ∙ stopped) in
             (second.0 ∙ first.0, none_then xs ys first.1 second.1);
-        specified = read_then xs ys before.specified after.specified;
+        specified = read_then rules.format xs ys before.specified after.specified;
         admitted = admitted_then rules v xs ys before.admitted after.admitted;
         settled = λ h is settled. subst (IsSettledAt rules new) (append_assoc h us ws ∙ ap (λ w. h ++ w) (sym writes))
             (after.settled (h ++ us) (seen_view rules v h us is) (before.settled h is settled));
@@ -171,7 +172,7 @@ module _ {D : Type 0} {g : Ghosts D} (rules : Rules) where
             let earlier = before.failed stopped in
             let then_ = after.failed (before.serving ∙ stopped) in
             (then_.0 ∙ earlier.0, none_then xs ys earlier.1 then_.1);
-        specified = subst AreRead (sym (append_assoc xs ys last)) (read_then xs (ys ++ last) before.specified after.specified);
+        specified = subst (AreRead rules.format) (sym (append_assoc xs ys last)) (read_then rules.format xs (ys ++ last) before.specified after.specified);
         admitted = subst (λ zs. AreAdmitted rules v (all_writes rules v zs)) (sym (append_assoc xs ys last))
             (admitted_then rules v xs (ys ++ last) before.admitted after.admitted);
         left = λ h is settled. subst (λ k. IsLeftAt rules new h k (all_writes rules v ((xs ++ ys) ++ last))) kept

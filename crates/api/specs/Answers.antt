@@ -15,6 +15,7 @@ use Rattle.apicore.specs.Prepared.{IsReadOf}
 use Rattle.requests.specs.View.{view, after_all}
 use Rattle.durable.specs.declared.fault.Damage.{Damage}
 use Rattle.durable.specs.declared.store.Store.{Store}
+use Rattle.names.specs.declared.format.Format.{Format}
 use Rattle.names.specs.declared.format.Rules.{Rules}
 use Rattle.durable.specs.Settled.{serves, ServesAt, IsSettledAt, IsLeftAt, LeavesSome}
 use Rattle.httpmsg.specs.Flow.{TookSome}
@@ -35,26 +36,26 @@ pub record Answered : Type 0 where
 abbrev pub served : Message → Specification Expr → Answered
 served m s = record { message = m; specification = s; is_served = true }
 
--- its request, with what stands in its document
-abbrev pub asked_of : Answered → Asked
-asked_of a = record { request = asked a.message; specification = a.specification }
+-- the request that it is to a store of a format, with what stands in its document
+abbrev pub asked_of : Format → Answered → Asked
+asked_of format a = record { request = asked format a.message; specification = a.specification }
 
 abbrev pub messages : List Answered → List Message
 messages answered = map (λ a. a.message) answered
 
 -- in the document of each message that was served stands what is said, and no other trees
-abbrev pub AreRead : List Answered → Type 0
-AreRead answered = AllByRecursion (λ a. a.is_served ≡ true → IsReadOf (asked a.message) a.specification) answered
+abbrev pub AreRead : Format → List Answered → Type 0
+AreRead format answered = AllByRecursion (λ a. a.is_served ≡ true → IsReadOf format (asked format a.message) a.specification) answered
 
 -- ---- one message, where v is shown under these numbers
 
 -- the writes of its request: none where it was not served
 abbrev pub writes_of : Rules → View → Answered → List Write
-writes_of rules v a = if a.is_served then writes rules v (asked_of a) else []
+writes_of rules v a = if a.is_served then writes rules v (asked_of rules.format a) else []
 
 -- the reply to its request, or that memory was refused to it
 abbrev pub reply_of : Rules → View → Answered → Reply
-reply_of rules v a = if a.is_served then reply rules v (asked_of a) else status OutOfMemory
+reply_of rules v a = if a.is_served then reply rules v (asked_of rules.format a) else status OutOfMemory
 
 -- ---- messages, one after another
 
@@ -64,7 +65,7 @@ all_writes rules v (a ∷ more) = writes_of rules v a ++ all_writes rules (after
 
 abbrev pub all_bytes : Rules → View → List Answered → List ℕ
 all_bytes rules v [] = []
-all_bytes rules v (a ∷ more) = reply_bytes a.message (reply_of rules v a) ++ all_bytes rules (after_all rules v (writes_of rules v a)) more
+all_bytes rules v (a ∷ more) = reply_bytes rules.format a.message (reply_of rules v a) ++ all_bytes rules (after_all rules v (writes_of rules v a)) more
 
 -- ---- what a call that answers messages leaves
 
@@ -83,7 +84,7 @@ pub record HasApplied {D : Type 0} {g : Ghosts D} (rules : Rules) (old new : Sto
   pub serving : serves new ≡ serves old
   pub shows : ShowsAt rules new (after_all rules v (all_writes rules v answered))
   pub failed : serves old ≡ false → (new ≡ old) × (answered ≡ [])
-  pub specified : AreRead answered
+  pub specified : AreRead rules.format answered
   pub admitted : AreAdmitted rules v (all_writes rules v answered)
   pub settled : WhereSettled rules old v (λ h. IsSettledAt rules new (h ++ all_writes rules v answered))
   pub moments : WhereSettled rules old v (λ h. LeavesSome rules old new h (all_writes rules v answered))
@@ -97,7 +98,7 @@ pub record HasFailedIn {D : Type 0} {g : Ghosts D} (rules : Rules) (old new : St
   pub tried : AllByRecursion (λ a. a.is_served ≡ serves old) failing
   pub stopped : serves new ≡ false
   pub failed : serves old ≡ false → (new ≡ old) × (answered ≡ [])
-  pub specified : AreRead (answered ++ failing)
+  pub specified : AreRead rules.format (answered ++ failing)
   pub admitted : AreAdmitted rules v (all_writes rules v (answered ++ failing))
   pub left : WhereSettled rules old v (λ h. IsLeftAt rules new h (all_writes rules v answered) (all_writes rules v (answered ++ failing)))
   pub moments : WhereSettled rules old v (λ h. LeavesSome rules old new h (all_writes rules v (answered ++ failing)))

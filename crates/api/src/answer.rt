@@ -89,7 +89,7 @@ fn answer_front<O: Output, D: Device>(
     ensures causes { HasCauses (O.failures output.old) (O.failures output.new) (D.disk.failures (device_of store.old))
         (D.disk.failures (device_of store.new)) (serves store.old) (serves store.new) result }
 {
-    let front = route_front(alloc, routes, messages);
+    let front = route_front(alloc, routes, store.format(), messages);
     match replies_to(alloc, &front.requests, store) {
         Ok(replies) => {
             let count = answered_count(replies.len(), messages.len());

@@ -45,7 +45,7 @@ found_kept rules h kept c stands =
 module _ {D : Type 0} (rules : Rules) (disk : Disk D) (old new : D) (h : History) (device_failed output_failed : Type 0) where
   -- What stands on the device where all of these messages were tried, and the first of them answered.
   record Stands (answered all : List Answered) : Type 0 where
-    specified : AreRead all
+    specified : AreRead rules.format all
     admitted : AreAdmitted rules (view rules h) (all_writes rules (view rules h) all)
     found : IsFound rules h (all_writes rules (view rules h) answered) (all_writes rules (view rules h) all) (disk.content new)
     left : (c : List ℕ) → disk.left new c → IsFound rules h (all_writes rules (view rules h) answered) (all_writes rules (view rules h) all) c
@@ -55,7 +55,7 @@ module _ {D : Type 0} (rules : Rules) (disk : Disk D) (old new : D) (h : History
   ended_sound : {read written : List ℕ} (answered : List Answered) (waiting : List Message) (cut uncut : List ℕ) → read ≡ cut ++ uncut → (progress : Progress)
       → IsCut cut (messages answered ++ waiting) progress → (closing : List ℕ) → (closing ≡ []) ⊎ ((waiting ≡ []) × IsClosing cut (messages answered) closing)
       → (unwritten : List ℕ) → all_bytes rules (view rules h) answered ++ closing ≡ written ++ unwritten → (unwritten ≡ []) ⊎ output_failed
-      → AreRead answered → AreAdmitted rules (view rules h) (all_writes rules (view rules h) answered) → HoldsHistory rules disk new (h ++ all_writes rules (view rules h) answered)
+      → AreRead rules.format answered → AreAdmitted rules (view rules h) (all_writes rules (view rules h) answered) → HoldsHistory rules disk new (h ++ all_writes rules (view rules h) answered)
       → LeavesOnly disk old new (IsFound rules h [] (all_writes rules (view rules h) answered))
       → HasEndedEarly rules disk old new h device_failed output_failed read written
   ended_sound answered waiting cut uncut parts progress stream closing closes unwritten text whole specified admitted holds moments =

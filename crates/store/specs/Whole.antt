@@ -50,7 +50,7 @@ module _ {D : Type 0} (rules : Rules) (disk : Disk D) (old new : D) (h : History
     pub end : End
     pub stream : Ends ended read (messages answered) end
     pub text : written ≡ all_bytes rules (view rules h) answered ++ end_bytes end
-    pub specified : AreRead answered
+    pub specified : AreRead rules.format answered
     pub admitted : AreAdmitted rules (view rules h) (all_writes rules (view rules h) answered)
     pub found : HoldsHistory rules disk new (h ++ all_writes rules (view rules h) answered)
     pub moments : LeavesOnly disk old new (IsFound rules h [] (all_writes rules (view rules h) answered))
@@ -73,7 +73,7 @@ module _ {D : Type 0} (rules : Rules) (disk : Disk D) (old new : D) (h : History
     pub unwritten : List ℕ
     pub text : all_bytes rules (view rules h) answered ++ closing ≡ written ++ unwritten
     pub whole : (unwritten ≡ []) ⊎ output_failed
-    pub specified : AreRead (answered ++ failing)
+    pub specified : AreRead rules.format (answered ++ failing)
     pub admitted : AreAdmitted rules (view rules h) (all_writes rules (view rules h) (answered ++ failing))
     pub keeps : disk.keeps new
     pub found : IsKept rules h answered failing (disk.content new)

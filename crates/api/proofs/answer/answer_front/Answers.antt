@@ -1,13 +1,15 @@
-use Rattle.std.proofs.Common.{arith, ◌≤◌, ◌∙◌, ap, refl, sym, subst, ℕ, List, length, map, take, Option, Bor, Err, false}
+use Rattle.std.proofs.Common.{arith, ◌≡◌, ◌≤◌, ◌∙◌, ap, refl, sym, subst, ℕ, List, length, map, take, Option, Bor, Err, false}
 use Rattle.requests.specs.Request.{Request}
 use Rattle.requests.specs.RequestOf.{request_of}
 use Rattle.requests.specs.Reply.{Reply}
 use Rattle.requests.specs.declared.refusal.Refusal.TheVariants.{StorageFailed}
+use Rattle.names.specs.declared.format.Format.{Format}
 use Rattle.names.specs.declared.format.Rules.{Rules}
 use Rattle.recovery.specs.Standing.{View}
 use Rattle.durable.specs.Settled.{ServesAt, HasServed}
 use Rattle.httpmsg.specs.Flow.{TookSome}
 use Rattle.httpmsg.specs.Stream.{Message}
+use Rattle.routes.specs.Allow.{allow_of}
 use Rattle.routes.specs.Asked.{asked}
 use Rattle.routes.specs.ReplyBytes.{closing_bytes}
 use Rattle.routes.specs.AnswerBytes.{answers_bytes, CanAnswerAll}
@@ -20,13 +22,15 @@ use Rattle.api.proofs.answer.answer_front.Goals.{After-write_answers}
 use Rattle.api.proofs.answer.answer_front.Goals as goal
 
 -- what the store replied to the messages that were routed
-said_of : (g : Over) (c : After-write_answers g) (rules : Rules) (v : View) → ServesAt rules c.args.store.now v
+said_of : (g : Over) (c : After-write_answers g) (rules : Rules) (v : View) → ServesAt rules c.args.store.now v → c.format.result ≡ rules.format
     → HasServed c.args.store.now c.replies_to.new.store
-    (take (length c.in-Ok.replies.items) (map asked (take (length c.route_front-front.result.requests.items) c.args.messages.now))) c.in-Ok.replies.items
-said_of g c rules v serving =
+    (take (length c.in-Ok.replies.items) (map (asked rules.format) (take (length c.route_front-front.result.requests.items) c.args.messages.now))) c.in-Ok.replies.items
+said_of g c rules v serving fits =
     let given = c.in-Ok.replies.items in
     let Said : List Request → Type 0 = λ rs. HasServed c.args.store.now c.replies_to.new.store (take (length given) rs) given in
-    subst Said (ap (map request_of) c.deref.ensures.value ∙ c.route_front-front.ensures.requests) (c.in-Ok.ensures.served rules v serving)
+    let front = take (length c.route_front-front.result.requests.items) c.args.messages.now in
+    subst Said (ap (map request_of) c.deref.ensures.value ∙ c.route_front-front.ensures.requests ∙ ap (λ (f : Format). map (asked f) front) fits)
+    (c.in-Ok.ensures.served rules v serving)
 
 -- no fewer messages are answered
 counted : (g : Over) (c : After-write_answers g) → length c.in-Ok.replies.items ≤ length c.args.messages.now
@@ -35,49 +39,54 @@ counted g c few =
     omega (arith, few, c.in-Ok.replies.ok.0, c.len.ensures, c.answered_count-count.ensures.replies (omega (arith, few, c.in-Ok.replies.ok.0, c.len.ensures)))
 
 -- the replies can be written
-can_write : (g : Over) (c : After-write_answers g) (rules : Rules) (v : View) → ServesAt rules c.args.store.now v
-    → CanAnswerAll (take c.answered_count-count.result c.args.messages.now) c.deref-in-Ok.result.now c.deref-in-Ok-2.result.now
-can_write g c rules v serving =
+can_write : (g : Over) (c : After-write_answers g) (rules : Rules) (v : View) → ServesAt rules c.args.store.now v → c.format.result ≡ rules.format
+    → CanAnswerAll rules.format (take c.answered_count-count.result c.args.messages.now) c.deref-in-Ok.result.now c.deref-in-Ok-2.result.now
+can_write g c rules v serving fits =
     let ms : List Message = take c.answered_count-count.result c.args.messages.now in
-    let With : List Reply → Type 0 = λ rs. CanAnswerAll ms rs c.deref-in-Ok-2.result.now in
-    let Beside : List (Option (Bor (List ℕ))) → Type 0 = λ allows. CanAnswerAll ms c.in-Ok.replies.items allows in
+    let front = take (length c.route_front-front.result.requests.items) c.args.messages.now in
+    let With : List Reply → Type 0 = λ rs. CanAnswerAll rules.format ms rs c.deref-in-Ok-2.result.now in
+    let Beside : List (Option (Bor (List ℕ))) → Type 0 = λ allows. CanAnswerAll rules.format ms c.in-Ok.replies.items allows in
     subst With (sym c.deref-in-Ok.ensures.value)
     (subst Beside (sym c.deref-in-Ok-2.ensures.value)
     (front_can_answer rules c.args.store.now c.replies_to.new.store v c.args.messages.now (length c.route_front-front.result.requests.items) c.answered_count-count.result
-    c.in-Ok.replies.items c.route_front-front.ensures.few (counted g c) serving (said_of g c rules v serving) c.route_front-front.result.allows.items
-    c.route_front-front.ensures.allows))
+    c.in-Ok.replies.items c.route_front-front.ensures.few (counted g c) serving (said_of g c rules v serving fits) c.route_front-front.result.allows.items
+    (c.route_front-front.ensures.allows ∙ ap (λ (f : Format). map (allow_of f) front) fits)))
 
 pub returns-in-Ok-write_answers-clause-outcome : goal.returns-in-Ok-write_answers-clause-outcome
 returns-in-Ok-write_answers-clause-outcome g c rules v shows =
     let here = (goal.at.returns-in-Ok-write_answers-clause-outcome g c).After-write_answers in
     let serving = shows c.in-Ok.ensures.serves in
+    let fits = c.format.ensures.value ∙ ap (λ (r : Rules). r.format) serving.rules_are in
     let Written : List Reply → Type 0 =
-    λ rs. g.O.Output.took c.args.output.now c.write_answers.new.output (answers_bytes (take c.answered_count-count.result c.args.messages.now) rs)
+    λ rs. g.O.Output.took c.args.output.now c.write_answers.new.output (answers_bytes rules.format (take c.answered_count-count.result c.args.messages.now) rs)
     in
     front_answers rules c.args.store.now c.replies_to.new.store v c.args.messages.now (length c.route_front-front.result.requests.items) c.answered_count-count.result
-    c.in-Ok.replies.items c.route_front-front.ensures.few (counted g here) serving (said_of g here rules v serving) g.O.Output.took c.args.output.now c.write_answers.new.output
-    (subst Written c.deref-in-Ok.ensures.value (c.in-Ok-write_answers.ensures.writes (can_write g here rules v serving)))
+    c.in-Ok.replies.items c.route_front-front.ensures.few (counted g here) serving (said_of g here rules v serving fits) g.O.Output.took c.args.output.now c.write_answers.new.output
+    (subst Written c.deref-in-Ok.ensures.value (c.in-Ok-write_answers.ensures.writes rules.format (can_write g here rules v serving fits)))
 
 pub returns-in-Ok-clause-outcome : goal.returns-in-Ok-clause-outcome
 returns-in-Ok-clause-outcome g c rules v shows =
     let here = (goal.at.returns-in-Ok-clause-outcome g c).After-write_answers in
     let serving = shows c.in-Ok.ensures.serves in
+    let fits = c.format.ensures.value ∙ ap (λ (r : Rules). r.format) serving.rules_are in
     let Written : List Reply → Type 0 =
-    λ rs. TookSome g.O.Output.took c.args.output.now c.write_answers.new.output (answers_bytes (take c.answered_count-count.result c.args.messages.now) rs)
+    λ rs. TookSome g.O.Output.took c.args.output.now c.write_answers.new.output (answers_bytes rules.format (take c.answered_count-count.result c.args.messages.now) rs)
     in
     front_writes_some rules c.args.store.now c.replies_to.new.store v c.args.messages.now (length c.route_front-front.result.requests.items) c.answered_count-count.result
-    c.in-Ok.replies.items c.route_front-front.ensures.few (counted g here) serving (said_of g here rules v serving) g.O.Output.took c.args.output.now c.write_answers.new.output
-    (subst Written c.deref-in-Ok.ensures.value (c.in-Err-write_answers.ensures.writes (can_write g here rules v serving)))
+    c.in-Ok.replies.items c.route_front-front.ensures.few (counted g here) serving (said_of g here rules v serving fits) g.O.Output.took c.args.output.now c.write_answers.new.output
+    (subst Written c.deref-in-Ok.ensures.value (c.in-Err-write_answers.ensures.writes rules.format (can_write g here rules v serving fits)))
 
 pub returns-clause-outcome : goal.returns-clause-outcome
 returns-clause-outcome g c rules v shows =
+    let front = take (length c.route_front-front.result.requests.items) c.args.messages.now in
     front_stops rules g.O.Output.took g.O.Output.failures c.args.output.now c.write_storage_failed.new.output c.args.store.now c.replies_to.new.store v c.args.messages.now
     (took_some_of g.O.Output.took c.args.output.now c.write_storage_failed.new.output (closing_bytes false StorageFailed) c.write_storage_failed.result c.write_storage_failed.ensures.writes)
     (took_whole g.O.Output.took c.args.output.now c.write_storage_failed.new.output (closing_bytes false StorageFailed) c.write_storage_failed.result
     (g.O.Output.failures c.args.output.now) (g.O.Output.failures c.write_storage_failed.new.output) c.write_storage_failed.ensures.writes c.write_storage_failed.ensures.cause)
     c.in-Err.fault
     (front_stopped rules c.args.store.now c.replies_to.new.store v c.args.messages.now (length c.route_front-front.result.requests.items) (map request_of c.deref.result.now) c.in-Err.fault
-    (ap (map request_of) c.deref.ensures.value ∙ c.route_front-front.ensures.requests) c.requires.some c.requires.few shows
+    (λ working. ap (map request_of) c.deref.ensures.value ∙ c.route_front-front.ensures.requests ∙ ap (λ (f : Format). map (asked f) front)
+    (c.format.ensures.value ∙ ap (λ (r : Rules). r.format) (shows working).rules_are)) c.requires.some c.requires.few shows
     (λ is. c.in-Err.ensures.stopped (ap Err is)) (λ is. c.in-Err.ensures.stops (ap Err is))
     (λ damage is. c.in-Err.ensures.damaged damage (ap Err is) rules v (shows (c.in-Err.ensures.damaged_stops damage (ap Err is)).0)) (λ is. c.in-Err.ensures.failed (ap Err is)) c.in-Err.ensures.refusal)
 
