@@ -1,6 +1,6 @@
 //! What all clients are served with, by turns.
 
-ghost use Rattle.std.specs.Prelude.{◌≡◌, ◌<◌, [], length, MatchResult};
+ghost use Rattle.std.specs.Prelude.{◌≡◌, ◌<◌, [], true, length, IfOk, MatchResult};
 ghost use Rattle.names.specs.declared.format.Rules.{Rules};
 ghost use Rattle.recovery.specs.Standing.{View};
 ghost use Rattle.durable.specs.Settled.{device_of, serves};
@@ -8,14 +8,26 @@ ghost use Rattle.api.specs.Answers.{ShowsAt, HasCauses};
 ghost use Rattle.sessions.specs.Batch.{held};
 ghost use Rattle.clients.specs.Serving.{AnswersGroup, StopsAtGroup};
 
+use crate::journal::Journal;
 use api::ServeFault;
 use device::Device;
 use durable::Store;
-use sessions::{Batch, Session, Tools};
+use sessions::{Batch, Note, Session, Tools};
 use std::alloc::{AllocError, Global};
 
 // How many bytes are read of a client at once.
 const BUFFER_BYTES: usize = 8192;
+
+// The tools of sessions, which keep notes of replies where there is a log.
+fn tools(alloc: Global, is_logged: bool) -> Result<Tools, AllocError>
+    ensures { IfOk result (λ tools. is_logged ≡ true → tools.notes.is_kept ≡ true) }
+{
+    let mut tools = Tools::new(alloc)?;
+    if is_logged {
+        tools.keep_notes();
+    }
+    Ok(tools)
+}
 
 // Copies places. There is room for those of one batch, so none is left out.
 fn copy_places(copied: &mut Vec<usize>, places: &[usize]) {
@@ -23,11 +35,12 @@ fn copy_places(copied: &mut Vec<usize>, places: &[usize]) {
     let _ = copied.extend_from_slice(places);
 }
 
-/// What all clients are served with: the tools of sessions, a batch, which is empty between turns, and a buffer.
+/// What all clients are served with: the tools of sessions, a batch, which is empty between turns, a buffer, and the lines of a log.
 #[derive(Drop)]
 pub(crate) struct Desk {
     pub(crate) tools: Tools,
     pub(crate) buffer: Vec<u8>,
+    pub(crate) journal: Journal,
     batch: Batch,
     // The place that the next batch begins with.
     first: usize,
@@ -38,11 +51,12 @@ pub(crate) struct Desk {
 }
 
 impl Desk {
-    /// All its memory is taken here.
-    pub(crate) fn new(alloc: Global) -> Result<Desk, AllocError> {
+    /// All its memory is taken here, but that for lines of a log.
+    pub(crate) fn new(alloc: Global, is_logged: bool) -> Result<Desk, AllocError> {
         Ok(Desk {
-            tools: Tools::new(alloc)?,
+            tools: tools(alloc, is_logged)?,
             buffer: vec![in alloc; 0; BUFFER_BYTES]?,
+            journal: Journal::new(alloc, is_logged),
             batch: Batch::new(alloc)?,
             first: 0,
             answered: Vec::with_capacity(alloc, 64)?,
@@ -57,6 +71,41 @@ impl Desk {
     /// Whether there were such messages.
     pub(crate) fn has_answered(&self) -> bool {
         !self.answered.is_empty()
+    }
+
+    // What is told of the reply to one of the messages that were answered last. Where the store failed, a session is told so once, at the first
+    // of its messages that it failed to.
+    fn note_at(&mut self, index: usize, place: usize) -> Option<Note> {
+        let answered = self.tools.notes().len();
+        if index < answered {
+            return self.tools.notes().get(index).copied();
+        }
+        for before in answered..index {
+            if self.answered_at(before) == Some(place) {
+                return None;
+            }
+        }
+        Some(self.tools.note_of_failure())
+    }
+
+    /// Tells in the log of one of the messages that were answered last, and of its reply, which stands in what its session sends since this
+    /// many microseconds after the message was read.
+    pub(crate) fn tell(&mut self, alloc: Global, index: usize, peer: &str, microseconds: u64) {
+        let Some(place) = self.answered_at(index) else {
+            return;
+        };
+        let Some(note) = self.note_at(index, place) else {
+            return;
+        };
+        if let Some(message) = self.batch.answered().get(index) {
+            self.journal
+                .tell_answered(alloc, peer, message, note, microseconds);
+        }
+    }
+
+    /// Forgets the messages that were answered last.
+    pub(crate) fn forget(&mut self) {
+        self.batch.forget();
     }
 
     /// Takes messages that wait in sessions, by turns, and has the store answer them as one group. Each reply is put to what its session sends.

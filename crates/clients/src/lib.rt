@@ -2,7 +2,7 @@
 //!
 //! ```text
 //! let mut server = Server::bind(net, alloc, address, limits)?;   // listens, with all memory that is known beforehand
-//! server.run(clock, alloc, &mut store)?;                         // until as many connections as it may accept have ended
+//! server.run(clock, alloc, &mut store, &mut log)?;               // until as many connections as it may accept have ended
 //! ```
 //!
 //! Each client has a place: a [`sessions::Session`] and a socket that does not wait. Each turn of the loop sends what waits to be sent, reads
@@ -16,10 +16,13 @@
 
 mod desk;
 mod fault;
+mod journal;
+mod laws;
 mod line;
 mod moving;
 mod places;
 mod server;
 
 pub use crate::fault::ClientsFault;
+pub use crate::laws::texts_are_shown;
 pub use crate::server::{Limits, Server};

@@ -4,9 +4,10 @@ ghost use Rattle.std.specs.Prelude.{◌≡◌, ◌↔◌, [], true, IsTrue};
 ghost use Rattle.sessions.specs.State.{is_open};
 
 use crate::desk::Desk;
+use crate::journal::{Journal, status_in};
 use crate::moving::{Moved, failed, read_once, send_once};
 use mio::net::TcpStream;
-use sessions::Session;
+use sessions::{Note, Session};
 use std::alloc::Global;
 use std::io::Read;
 use std::net::Shutdown;
@@ -29,15 +30,33 @@ fn is_quiet(session: &Session) -> bool
     session.is_idle() && session.rest().is_empty()
 }
 
+// Tells in the log of the reply that closed a session, where it got one. Nothing waited to be sent before.
+fn tell_closing(alloc: Global, journal: &mut Journal, peer: &str, session: &Session) {
+    if session.is_open() {
+        return;
+    }
+    if let Some(status) = status_in(session.rest()) {
+        let note = Note {
+            status,
+            bytes: session.rest().len(),
+        };
+        journal.tell_refused(alloc, peer, note);
+    }
+}
+
 /// A socket, what it is ready for, and how far its client is.
 #[derive(Drop)]
 pub(crate) struct Line {
     stream: TcpStream,
+    // The client's address, where it is told in a log.
+    peer: Option<String>,
     // A read, or a write, did not yet have to wait since the system told of it.
     is_readable: bool,
     is_writable: bool,
     // When the client last did what it is waited for: it sent the first byte of a message, or the last, or it took bytes.
     since: Instant,
+    // When the messages that wait to be answered were read.
+    read_at: Instant,
     // A message has begun that is not whole.
     has_begun: bool,
     // The session was given messages, and nobody has looked at what stands behind them.
@@ -50,12 +69,14 @@ pub(crate) struct Line {
 
 impl Line {
     /// Of a connection that was accepted now.
-    pub(crate) fn new(stream: TcpStream, now: Instant) -> Line {
+    pub(crate) fn new(stream: TcpStream, peer: Option<String>, now: Instant) -> Line {
         Line {
             stream,
+            peer,
             is_readable: true,
             is_writable: true,
             since: now,
+            read_at: now,
             has_begun: false,
             looks_on: false,
             has_ended: false,
@@ -67,6 +88,20 @@ impl Line {
     pub(crate) fn mark(&mut self, is_readable: bool, is_writable: bool) {
         self.is_readable = self.is_readable || is_readable;
         self.is_writable = self.is_writable || is_writable;
+    }
+
+    /// The client's address, or `-` where it is not known.
+    pub(crate) fn peer(&self) -> &str {
+        match &self.peer {
+            Some(peer) => peer.as_str(),
+            None => "-",
+        }
+    }
+
+    /// How many microseconds there are since the messages that wait to be answered were read.
+    pub(crate) fn waited(&self, now: Instant) -> u64 {
+        let waited = now.saturating_duration_since(self.read_at);
+        u64::try_from(waited.as_micros()).unwrap_or(u64::MAX)
     }
 
     // Sends what waits, as far as the socket takes it now.
@@ -91,6 +126,7 @@ impl Line {
         let begins = session.has_begun() && !self.has_begun;
         if begins || !session.is_idle() {
             self.since = now;
+            self.read_at = now;
         }
         self.has_begun = session.has_begun();
         self.looks_on = !session.is_idle();
@@ -122,6 +158,7 @@ impl Line {
             Moved::Ended => self.has_ended = true,
             Moved::Failed => return Err(Gone),
         }
+        tell_closing(alloc, &mut desk.journal, self.peer(), session);
         Ok(())
     }
 
@@ -178,6 +215,7 @@ impl Line {
             return Ok(());
         }
         session.take_piece(alloc, &mut desk.tools, &[]);
+        tell_closing(alloc, &mut desk.journal, self.peer(), session);
         self.looks_on = !session.is_idle();
         self.send(alloc, session, now)
     }

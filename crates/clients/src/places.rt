@@ -47,9 +47,15 @@ impl Places {
     }
 
     /// A client comes to a place.
-    pub(crate) fn take(&mut self, place: usize, stream: TcpStream, now: Instant) {
+    pub(crate) fn take(
+        &mut self,
+        place: usize,
+        stream: TcpStream,
+        peer: Option<String>,
+        now: Instant,
+    ) {
         if let Some(line) = self.lines.get_mut(place) {
-            *line = Some(Line::new(stream, now));
+            *line = Some(Line::new(stream, peer, now));
         }
     }
 
@@ -109,6 +115,18 @@ impl Places {
             }
         }
         is_busy
+    }
+
+    /// Tells in the log of the messages that were answered last, whose replies stand in what their sessions send now.
+    pub(crate) fn tell_answered(&self, alloc: Global, desk: &mut Desk, now: Instant) {
+        for index in 0..self.lines.len() {
+            let Some(place) = desk.answered_at(index) else {
+                return;
+            };
+            if let Some(Some(line)) = self.lines.get(place) {
+                desk.tell(alloc, index, line.peer(), line.waited(now));
+            }
+        }
     }
 
     /// One turn more of each client whose messages were answered, so that the replies leave at once.

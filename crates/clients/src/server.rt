@@ -12,6 +12,7 @@ use crate::places::Places;
 use api::ServeFault;
 use device::Device;
 use durable::Store;
+use httpmsg::Output;
 use mio::net::{TcpListener, TcpStream};
 use mio::{Events, Interest, Poll, Token};
 use std::alloc::Global;
@@ -46,6 +47,8 @@ pub struct Limits {
     pub connections: Option<u16>,
     /// After which time a client that does not go on is let go; never where it is `None`.
     pub idle: Option<Duration>,
+    /// Whether a line is told of each message that is answered.
+    pub is_logged: bool,
 }
 
 // How long the system is asked to wait, in milliseconds: not at all where more can be done at once.
@@ -87,10 +90,15 @@ impl Server {
             poll,
             events: Events::with_capacity(alloc, EVENTS)?,
             places: Places::new(alloc, limits.at_once)?,
-            desk: Desk::new(alloc)?,
+            desk: Desk::new(alloc, limits.is_logged)?,
             limits,
             is_asked: true,
         })
+    }
+
+    /// The address that is listened on: with the port that the system gave, where port 0 was asked for. `None` where the system does not tell it.
+    pub fn address(&self) -> Option<SocketAddr> {
+        self.listener.local_addr().ok()
     }
 
     // Waits until the system tells that something is ready, and takes note of it. It gives the time.
@@ -119,8 +127,17 @@ impl Server {
         }
     }
 
+    // The text of a client's address, where there is a log to tell it in.
+    fn peer_text(&self, alloc: Global, address: SocketAddr) -> Option<String> {
+        if self.desk.journal.is_kept() {
+            format!(in alloc; "{address}").ok()
+        } else {
+            None
+        }
+    }
+
     // A connection was accepted, and comes to a place. One that the system will not watch is let go.
-    fn admit(&mut self, place: usize, stream: TcpStream, now: Instant) {
+    fn admit(&mut self, place: usize, stream: TcpStream, peer: Option<String>, now: Instant) {
         let mut stream = stream;
         if let Some(left) = self.limits.connections {
             self.limits.connections = Some(left.saturating_sub(1));
@@ -134,12 +151,12 @@ impl Server {
             .register(&mut stream, Token(place), both)
             .is_ok()
         {
-            self.places.take(place, stream, now);
+            self.places.take(place, stream, peer, now);
         }
     }
 
     // Accepts one connection, if one waits and there is a place for it. It tells whether another may wait.
-    fn accept_one(&mut self, now: Instant) -> bool {
+    fn accept_one(&mut self, alloc: Global, now: Instant) -> bool {
         if !self.is_asked || !self.has_left() {
             return false;
         }
@@ -147,8 +164,9 @@ impl Server {
             return false;
         };
         match self.listener.accept() {
-            Ok((stream, _)) => {
-                self.admit(place, stream, now);
+            Ok((stream, address)) => {
+                let peer = self.peer_text(alloc, address);
+                self.admit(place, stream, peer, now);
                 true
             }
             Err(error) => match error.kind() {
@@ -165,18 +183,29 @@ impl Server {
     }
 
     // Accepts connections that wait. It tells whether more may.
-    fn accept(&mut self, now: Instant) -> bool {
+    fn accept(&mut self, alloc: Global, now: Instant) -> bool {
         for _ in 0..ACCEPTS {
-            if !self.accept_one(now) {
+            if !self.accept_one(alloc, now) {
                 return false;
             }
         }
         true
     }
 
+    // Tells in the log of the messages that were answered last, and forgets them.
+    fn tell<C: Clock>(&mut self, clock: &C, alloc: Global) {
+        if self.desk.journal.is_kept() {
+            if let Ok(now) = Instant::now(clock) {
+                self.places.tell_answered(alloc, &mut self.desk, now);
+            }
+        }
+        self.desk.forget();
+    }
+
     // One turn: of each client, of the store, and of each client that it answered. It tells whether more can be done at once.
-    fn turn<D: Device>(
+    fn turn<C: Clock, D: Device>(
         &mut self,
+        clock: &C,
         alloc: Global,
         now: Instant,
         store: &mut Store<D>,
@@ -187,7 +216,9 @@ impl Server {
     {
         let idle = self.limits.idle;
         let is_busy = self.places.turn_all(alloc, &mut self.desk, now, idle);
-        match self.desk.answer(alloc, &mut self.places.sessions, store) {
+        let answered = self.desk.answer(alloc, &mut self.places.sessions, store);
+        self.tell(clock, alloc);
+        match answered {
             Ok(()) => {
                 self.places.turn_answered(alloc, &mut self.desk, now, idle);
                 Ok(is_busy | self.desk.has_answered())
@@ -221,11 +252,15 @@ impl Server {
     ///
     /// `Store` where the store failed: those whose messages are not answered are told so, for a second at most. `Network` where the system no
     /// longer tells what is ready, or what time it is.
-    pub fn run<C: Clock, D: Device>(
+    ///
+    /// Where the limits say so, a line is written to `log` for each message that is answered, after its reply was put to what is sent. A log that
+    /// cannot be written loses lines, and stops nothing.
+    pub fn run<C: Clock, D: Device, L: Output>(
         &mut self,
         clock: &C,
         alloc: Global,
         store: &mut Store<D>,
+        log: &mut L,
     ) -> Result<(), ClientsFault>
         ensures served { (rules : Rules) (v : View) → ShowsAt rules store.old v → MatchResult result
             (λ _. HasServedSome rules store.old store.new v)
@@ -239,8 +274,10 @@ impl Server {
             let Ok(now) = self.look(clock, wait) else {
                 return Err(ClientsFault::Network);
             };
-            let is_asked = self.accept(now);
-            match self.turn(alloc, now, store) {
+            let is_asked = self.accept(alloc, now);
+            let turned = self.turn(clock, alloc, now, store);
+            self.desk.journal.write_to(alloc, log);
+            match turned {
                 Ok(is_busy) => wait = wait_for(is_asked | is_busy),
                 Err(fault) => {
                     self.send_last(clock, alloc);

@@ -5,6 +5,7 @@ use Rattle.std.proofs.lemmas.List.{append-nil, append_assoc, drop-drop, get_or-d
 use Rattle.std.proofs.lemmas.Bool.{eqb-true, eqb-false}
 use Rattle.requests.specs.declared.refusal.Refusal.TheVariants.{OutOfMemory}
 use Rattle.requests.specs.Reply.{Reply, status}
+use Rattle.names.specs.declared.format.Format.{Format}
 use Rattle.httpmsg.specs.Stream.{Message}
 use Rattle.routes.specs.ReplyBytes.{reply_bytes}
 use Rattle.sessions.specs.State.{State, is_lost, GoesOnWith}
@@ -64,49 +65,49 @@ gains_then a b c x y before after = on (is_lost b.phase) refl
 -- ---- one answer of several
 
 -- the bytes of one answer, for the session at a place
-abbrev pub one_to : ℕ → (place : ℕ) → Message → Reply → List ℕ
-one_to i p m r = if p == i then reply_bytes m r else []
+abbrev pub one_to : Format → ℕ → (place : ℕ) → Message → Reply → List ℕ
+one_to format i p m r = if p == i then reply_bytes format m r else []
 
-answers_first : (i : ℕ) (ps : List ℕ) (ms : List Message) (rs : List Reply) (d : Message) → 0 < length ps → length ps ≡ length ms
-    → answers_to i ps ms rs ≡ one_to i (get_or ps 0 0) (get_or ms 0 d) (get_or rs 0 (status OutOfMemory)) ++ answers_to i (drop 1 ps) (drop 1 ms) (drop 1 rs)
-answers_first i [] ms rs d some same = absurd (omega (arith, some))
-answers_first i (p ∷ ps) [] rs d some same = absurd (omega (arith, same))
-answers_first i (p ∷ ps) (m ∷ ms) [] d some same = refl
-answers_first i (p ∷ ps) (m ∷ ms) (r ∷ rs) d some same = refl
+answers_first : (format : Format) (i : ℕ) (ps : List ℕ) (ms : List Message) (rs : List Reply) (d : Message) → 0 < length ps → length ps ≡ length ms
+    → answers_to format i ps ms rs ≡ one_to format i (get_or ps 0 0) (get_or ms 0 d) (get_or rs 0 (status OutOfMemory)) ++ answers_to format i (drop 1 ps) (drop 1 ms) (drop 1 rs)
+answers_first format i [] ms rs d some same = absurd (omega (arith, some))
+answers_first format i (p ∷ ps) [] rs d some same = absurd (omega (arith, same))
+answers_first format i (p ∷ ps) (m ∷ ms) [] d some same = refl
+answers_first format i (p ∷ ps) (m ∷ ms) (r ∷ rs) d some same = refl
 
-pub answers_more : (i : ℕ) (ps : List ℕ) (ms : List Message) (rs : List Reply) (k : ℕ) (d : Message) → k < length ps → length ps ≡ length ms
-    → answers_to i (drop k ps) (drop k ms) (drop k rs)
-    ≡ one_to i (get_or ps k 0) (get_or ms k d) (get_or rs k (status OutOfMemory)) ++ answers_to i (drop (k + 1) ps) (drop (k + 1) ms) (drop (k + 1) rs)
-answers_more i ps ms rs k d below same =
+pub answers_more : (format : Format) (i : ℕ) (ps : List ℕ) (ms : List Message) (rs : List Reply) (k : ℕ) (d : Message) → k < length ps → length ps ≡ length ms
+    → answers_to format i (drop k ps) (drop k ms) (drop k rs)
+    ≡ one_to format i (get_or ps k 0) (get_or ms k d) (get_or rs k (status OutOfMemory)) ++ answers_to format i (drop (k + 1) ps) (drop (k + 1) ms) (drop (k + 1) rs)
+answers_more format i ps ms rs k d below same =
     let none : Reply = status OutOfMemory in
     let some : 0 < length (drop k ps) = omega (arith, length-drop k ps, below) in
     let alike : length (drop k ps) ≡ length (drop k ms) = omega (arith, length-drop k ps, length-drop k ms, same) in
     let at : k + 0 ≡ k = omega arith in
-    let back : List ℕ → List Message → List Reply → List ℕ = answers_to i in
+    let back : List ℕ → List Message → List Reply → List ℕ = answers_to format i in
     let more : List ℕ = back (drop 1 (drop k ps)) (drop 1 (drop k ms)) (drop 1 (drop k rs)) in
-    answers_first i (drop k ps) (drop k ms) (drop k rs) d some alike
-    ∙ ap (λ q. one_to i q (get_or (drop k ms) 0 d) (get_or (drop k rs) 0 none) ++ more) (get_or-drop k ps 0 0 ∙ ap (λ n. get_or ps n 0) at)
-    ∙ ap (λ m. one_to i (get_or ps k 0) m (get_or (drop k rs) 0 none) ++ more) (get_or-drop k ms 0 d ∙ ap (λ n. get_or ms n d) at)
-    ∙ ap (λ r. one_to i (get_or ps k 0) (get_or ms k d) r ++ more) (get_or-drop k rs 0 none ∙ ap (λ n. get_or rs n none) at)
-    ∙ ap (λ x. one_to i (get_or ps k 0) (get_or ms k d) (get_or rs k none) ++ back x (drop 1 (drop k ms)) (drop 1 (drop k rs))) (drop-drop 1 k ps)
-    ∙ ap (λ x. one_to i (get_or ps k 0) (get_or ms k d) (get_or rs k none) ++ back (drop (k + 1) ps) x (drop 1 (drop k rs))) (drop-drop 1 k ms)
-    ∙ ap (λ x. one_to i (get_or ps k 0) (get_or ms k d) (get_or rs k none) ++ back (drop (k + 1) ps) (drop (k + 1) ms) x) (drop-drop 1 k rs)
+    answers_first format i (drop k ps) (drop k ms) (drop k rs) d some alike
+    ∙ ap (λ q. one_to format i q (get_or (drop k ms) 0 d) (get_or (drop k rs) 0 none) ++ more) (get_or-drop k ps 0 0 ∙ ap (λ n. get_or ps n 0) at)
+    ∙ ap (λ m. one_to format i (get_or ps k 0) m (get_or (drop k rs) 0 none) ++ more) (get_or-drop k ms 0 d ∙ ap (λ n. get_or ms n d) at)
+    ∙ ap (λ r. one_to format i (get_or ps k 0) (get_or ms k d) r ++ more) (get_or-drop k rs 0 none ∙ ap (λ n. get_or rs n none) at)
+    ∙ ap (λ x. one_to format i (get_or ps k 0) (get_or ms k d) (get_or rs k none) ++ back x (drop 1 (drop k ms)) (drop 1 (drop k rs))) (drop-drop 1 k ps)
+    ∙ ap (λ x. one_to format i (get_or ps k 0) (get_or ms k d) (get_or rs k none) ++ back (drop (k + 1) ps) x (drop 1 (drop k rs))) (drop-drop 1 k ms)
+    ∙ ap (λ x. one_to format i (get_or ps k 0) (get_or ms k d) (get_or rs k none) ++ back (drop (k + 1) ps) (drop (k + 1) ms) x) (drop-drop 1 k rs)
 
-pub answers_end : (i k : ℕ) (ps : List ℕ) (ms : List Message) (rs : List Reply) → length ps ≤ k → answers_to i (drop k ps) (drop k ms) (drop k rs) ≡ []
-answers_end i k ps ms rs past = ap (λ x. answers_to i x (drop k ms) (drop k rs)) (drop_all k ps past)
+pub answers_end : (format : Format) (i k : ℕ) (ps : List ℕ) (ms : List Message) (rs : List Reply) → length ps ≤ k → answers_to format i (drop k ps) (drop k ms) (drop k rs) ≡ []
+answers_end format i k ps ms rs past = ap (λ x. answers_to format i x (drop k ms) (drop k rs)) (drop_all k ps past)
 
 -- one session of several gains its bytes, the others nothing
-pub one_gains : (all : List State) (p : ℕ) (s t : State) (m : Message) (r : Reply) → p < length all → s ≡ get_or all p s
-    → GoesOnWith s t (reply_bytes m r) → (i : ℕ) (d : State) → i < length all → GoesOnWith (get_or all i d) (get_or (set all p t) i d) (one_to i p m r)
-one_gains all p s t m r known is gains i d below = on (p == i) refl
+pub one_gains : (format : Format) (all : List State) (p : ℕ) (s t : State) (m : Message) (r : Reply) → p < length all → s ≡ get_or all p s
+    → GoesOnWith s t (reply_bytes format m r) → (i : ℕ) (d : State) → i < length all → GoesOnWith (get_or all i d) (get_or (set all p t) i d) (one_to format i p m r)
+one_gains format all p s t m r known is gains i d below = on (p == i) refl
   where
-    on : (b : Bool) → (p == i) ≡ b → GoesOnWith (get_or all i d) (get_or (set all p t) i d) (cond b (reply_bytes m r) [])
+    on : (b : Bool) → (p == i) ≡ b → GoesOnWith (get_or all i d) (get_or (set all p t) i d) (cond b (reply_bytes format m r) [])
     on true same =
         let at : p ≡ i = eqb-true p i same in
         let old : get_or all i d ≡ s = ap (λ n. get_or all n d) (sym at) ∙ get_or_default all p d s known ∙ sym is in
         let new : get_or (set all p t) i d ≡ t = ap (λ n. get_or (set all p t) n d) (sym at) ∙ get_or-set_same all p t d known in
-        let From : State → Type 0 = λ x. GoesOnWith x (get_or (set all p t) i d) (reply_bytes m r) in
-        let To : State → Type 0 = λ x. GoesOnWith s x (reply_bytes m r) in
+        let From : State → Type 0 = λ x. GoesOnWith x (get_or (set all p t) i d) (reply_bytes format m r) in
+        let To : State → Type 0 = λ x. GoesOnWith s x (reply_bytes format m r) in
         subst From (sym old) (subst To (sym new) gains)
     on false other =
         let stays : get_or (set all p t) i d ≡ get_or all i d = get_or-set_other all p i t d (λ same. eqb-false p i other (sym same)) in

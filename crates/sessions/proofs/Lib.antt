@@ -5,3 +5,5 @@ pub mod Refusals
 pub mod Turning
 pub mod Fronts
 pub mod Turns
+pub mod Counting
+pub mod Noting

@@ -21,16 +21,16 @@ use Rattle.sessions.proofs.Gaining.{gains_then}
 
 module _ (rules : Rules) where
   -- the bytes of one session's answers are those of the replies to its messages
-  pub bytes_of-served_as : (v : View) (i : ℕ) (ps : List ℕ) (ms : List Message) (xs : List Asked) → AskedFirst xs ms
-      → bytes_of rules v i ps (served_as ms xs) ≡ answers_to i ps ms (replies rules v xs)
+  pub bytes_of-served_as : (v : View) (i : ℕ) (ps : List ℕ) (ms : List Message) (xs : List Asked) → AskedFirst rules.format xs ms
+      → bytes_of rules v i ps (served_as ms xs) ≡ answers_to rules.format i ps ms (replies rules v xs)
   bytes_of-served_as v i [] ms xs first = refl
   bytes_of-served_as v i (p ∷ ps) [] [] first = refl
   bytes_of-served_as v i (p ∷ ps) [] (x ∷ xs) first = absurd first
   bytes_of-served_as v i (p ∷ ps) (m ∷ ms) [] first =
-      ap (λ z. cond (p == i) (reply_bytes m (status OutOfMemory)) [] ++ z) (bytes_of-served_as v i ps ms [] tt)
+      ap (λ z. cond (p == i) (reply_bytes rules.format m (status OutOfMemory)) [] ++ z) (bytes_of-served_as v i ps ms [] tt)
   bytes_of-served_as v i (p ∷ ps) (m ∷ ms) (x ∷ xs) first =
-      ap (λ y. cond (p == i) (reply_bytes m (reply rules v y)) [] ++ bytes_of rules (after_all rules v (writes rules v y)) i ps (served_as ms xs)) (same_asked m x first.0)
-      ∙ ap (λ z. cond (p == i) (reply_bytes m (reply rules v x)) [] ++ z) (bytes_of-served_as (after_all rules v (writes rules v x)) i ps ms xs first.1)
+      ap (λ y. cond (p == i) (reply_bytes rules.format m (reply rules v y)) [] ++ bytes_of rules (after_all rules v (writes rules v y)) i ps (served_as ms xs)) (same_asked rules.format m x first.0)
+      ∙ ap (λ z. cond (p == i) (reply_bytes rules.format m (reply rules v x)) [] ++ z) (bytes_of-served_as (after_all rules v (writes rules v x)) i ps ms xs first.1)
 
   -- some answers, and then others
   pub bytes_of-append : (v : View) (i : ℕ) (ps qs : List ℕ) (xs ys : List Answered) → length ps ≡ length xs
@@ -41,13 +41,13 @@ module _ (rules : Rules) where
   bytes_of-append v i (p ∷ ps) qs (x ∷ xs) ys same =
       let w : List Write = writes_of rules v x in
       let u : View = after_all rules v w in
-      let one : List ℕ = cond (p == i) (reply_bytes x.message (reply_of rules v x)) [] in
+      let one : List ℕ = cond (p == i) (reply_bytes rules.format x.message (reply_of rules v x)) [] in
       ap (λ z. one ++ z) (bytes_of-append u i ps qs xs ys (omega (arith, same)))
       ∙ sym (append_assoc one (bytes_of rules u i ps xs) (bytes_of rules (after_all rules u (all_writes rules u xs)) i qs ys))
       ∙ ap (λ z. (one ++ bytes_of rules u i ps xs) ++ bytes_of rules z i qs ys) (sym (after_all-append rules v w (all_writes rules u xs)))
 
 -- one turn, and then another
-pub turned_then : {D : Type 0} {g : Ghosts D} (rules : Rules) (old mid new : Store D g) (v : View) (ps qs : List ℕ) (ms ns : List Message) (a b c : List State)
+unfoldable pub turned_then : {D : Type 0} {g : Ghosts D} (rules : Rules) (old mid new : Store D g) (v : View) (ps qs : List ℕ) (ms ns : List Message) (a b c : List State)
     → length ps ≡ length ms → length b ≡ length a
     → (before : Turned rules old mid v ps ms a b) → Turned rules mid new (seen rules v before.answered) qs ns b c → Turned rules old new v (ps ++ qs) (ms ++ ns) a c
 turned_then rules old mid new v ps qs ms ns a b c same kept before after =

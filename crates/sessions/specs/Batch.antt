@@ -13,6 +13,10 @@ held b = b.messages.items
 abbrev pub places_of : Batch → List ℕ
 places_of b = b.places.items
 
+-- the messages that were answered last, until they are forgotten
+abbrev pub last_answered : Batch → List Message
+last_answered b = b.answered.items
+
 -- the messages of the session at one place, where beside each stands the place of its session
 abbrev pub messages_of : ℕ → (places : List ℕ) → List Message → List Message
 messages_of i [] ms = []

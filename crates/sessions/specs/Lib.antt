@@ -1,8 +1,10 @@
 pub mod Outbox
+pub mod Tally
 pub mod State
 pub mod Pieces
 pub mod Batch
 pub mod Turn
+pub mod Notes
 pub mod Refusing
 pub mod Stops
 pub mod Laws

@@ -8,6 +8,7 @@ ghost use Rattle.recovery.specs.Standing.{View};
 ghost use Rattle.durable.specs.Settled.{device_of, serves};
 ghost use Rattle.api.specs.Answers.{ShowsAt, HasCauses};
 ghost use Rattle.sessions.specs.Turn.{Turned};
+ghost use Rattle.sessions.specs.Notes.{listed, Tells};
 ghost use Rattle.sessions.specs.Stops.{TurnStops};
 
 use crate::session::{Session, Tools};
@@ -18,6 +19,7 @@ use durable::Store;
 use httpmsg::Message;
 use records::GROUP_LIMIT;
 use std::alloc::{AllocError, Global};
+use std::mem::swap;
 
 /// A client with this many bytes that wait to be sent gets no further message answered until it takes some.
 pub const UNSENT_LIMIT: usize = 65536;
@@ -27,15 +29,18 @@ pub const UNSENT_LIMIT: usize = 65536;
 pub struct Batch {
     messages: Vec<Message>,
     places: Vec<usize>,
+    // Those that were answered last, until they are forgotten.
+    answered: Vec<Message>,
     ghost room: { group_limit ≤ vec_capacity messages },
     ghost places_room: { group_limit ≤ vec_capacity places },
+    ghost answered_room: { group_limit ≤ vec_capacity answered },
     ghost alike: { length places.items ≡ length messages.items },
     ghost few: { length messages.items ≤ group_limit },
 }
 
 impl Batch {
     ghost use Rattle.sessions.specs.State.{State};
-    ghost use Rattle.sessions.specs.Batch.{Takes, AllKept, IsPassedOver, places_of, held};
+    ghost use Rattle.sessions.specs.Batch.{Takes, AllKept, IsPassedOver, places_of, held, last_answered};
 
     /// An empty one. All its memory is taken here.
     pub fn new(alloc: Global) -> Result<Batch, AllocError>
@@ -44,6 +49,7 @@ impl Batch {
         Ok(Batch {
             messages: Vec::with_capacity(alloc, GROUP_LIMIT)?,
             places: Vec::with_capacity(alloc, GROUP_LIMIT)?,
+            answered: Vec::with_capacity(alloc, GROUP_LIMIT)?,
         })
     }
 
@@ -52,6 +58,21 @@ impl Batch {
         ensures { result.now ≡ places_of self.now }
     {
         &self.places
+    }
+
+    /// The messages that were answered last, in their order, until they are forgotten.
+    pub fn answered(&self) -> &[Message]
+        ensures { result.now ≡ last_answered self.now }
+    {
+        &self.answered
+    }
+
+    /// Forgets the messages that were answered last, whose bodies take memory.
+    pub fn forget(&mut self)
+        ensures forgotten { last_answered self.new ≡ [] }
+        ensures held { held self.new ≡ held self.old }
+    {
+        self.answered.clear();
     }
 
     // Takes the first message that waits in a session, if there is one, and room for it, and its client does not leave too much unread.
@@ -142,10 +163,34 @@ impl Batch {
         ensures causes { HasCauses 0 0 (D.disk.failures (device_of store.old)) (D.disk.failures (device_of store.new))
             (serves store.old) (serves store.new) result }
         ensures empty { held self.new ≡ [] }
+        ensures answered { last_answered self.new ≡ held self.old }
+
+        // Where notes are kept, they tell of the reply to each of these messages.
+        ensures told { (rules : Rules) (v : View) → ShowsAt rules store.old v → IfOk result
+            (λ _. Tells rules store.old store.new v (places_of self.old) (held self.old) sessions.old sessions.new
+            tools.old.notes.is_kept [] (listed tools.new.notes)) }
+        ensures kept { tools.new.notes.is_kept ≡ tools.old.notes.is_kept }
     {
-        let answered = answer_all(alloc, tools, &self.messages, &self.places, sessions, store);
+        tools.notes.clear();
+        match answer_all(alloc, tools, &self.messages, &self.places, sessions, store) {
+            Ok(()) => {
+                self.keep_answered();
+                Ok(())
+            }
+            Err(fault) => {
+                self.keep_answered();
+                Err(fault)
+            }
+        }
+    }
+
+    // Keeps the messages as those that were answered last, and holds none any more.
+    fn keep_answered(&mut self)
+        ensures held { held self.new ≡ [] }
+        ensures answered { last_answered self.new ≡ held self.old }
+    {
+        swap(&mut self.messages, &mut self.answered);
         self.messages.clear();
         self.places.clear();
-        answered
     }
 }

@@ -12,17 +12,24 @@
 //! as a record of the store holds writes. The store answers them as one group, and each reply is put into the outbox of the session that
 //! asked, so none leaves before the group's writes are synced.
 //!
+//! Where a log is kept, [`Tools::keep_notes`] is called first: then a [`Note`] is kept of each reply of a batch, its status code and its length,
+//! beside the messages that were answered.
+//!
 //! A caller reads from a client only where the session is open and idle and has nothing to be sent. So what a session holds is bounded by
 //! one read of bytes, the messages of one read, and the replies to them.
 #![tactic(auto)]
 
 mod batch;
 mod laws;
+mod note;
+mod notes;
 mod outbox;
 mod session;
+mod tally;
 mod turn;
 
 pub use batch::{Batch, UNSENT_LIMIT};
 pub use laws::turns_are_runs;
+pub use note::Note;
 pub use outbox::Outbox;
 pub use session::{Session, Tools};

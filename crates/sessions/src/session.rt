@@ -2,15 +2,19 @@
 
 ghost use Rattle.std.specs.Prelude.{◌≡◌, ◌≤◌, ◌++◌, ◌↔◌, ℕ, List, [], length, drop, true, false, None, Some, IsTrue, IfNone, IfSome, option_map};
 ghost use Rattle.std.specs.Option.{option_to_list};
+ghost use Rattle.names.specs.declared.format.Format.{Format};
 ghost use Rattle.requests.specs.declared.refusal.Refusal.TheVariants as refusal;
 ghost use Rattle.routes.specs.AnswerBytes.{answer_bytes, CanAnswer};
 ghost use Rattle.routes.specs.ReplyBytes.{closing_bytes, end_bytes};
 ghost use Rattle.httpmsg.specs.Stream.{Message as MessageData, IsCut};
 ghost use Rattle.httpmsg.specs.declared.head.BrokenMessage.{BrokenMessage as BrokenMessageData};
 ghost use Rattle.httpmsg.specs.Cut.{end_of};
+ghost use Rattle.sessions.specs.Notes.{listed, closing_note};
 ghost use Rattle.sessions.specs.State.{is_open, is_lost, GoesOnWith, Closes};
 ghost use Rattle.sessions.specs.Pieces.{TakesPiece, EndsInput};
 
+use crate::note::{Note, note_of_failure};
+use crate::notes::Notes;
 use crate::outbox::Outbox;
 use cutter::{CutFault, Cutter, HeadRoom};
 use httpmsg::{BrokenMessage, End, Message, Sheet, StreamFault};
@@ -31,12 +35,13 @@ pub(crate) enum Phase {
     Lost,
 }
 
-/// What sessions need by turns: room for the fields of a head, a sheet for a reply, and the table of the paths.
+/// What sessions need by turns: room for the fields of a head, a sheet for a reply, the table of the paths, and what is told of answers.
 #[derive(Drop)]
 pub struct Tools {
     pub(crate) room: HeadRoom,
     pub(crate) sheet: Sheet,
     pub(crate) routes: Routes,
+    pub(crate) notes: Notes,
 }
 
 impl Tools {
@@ -46,7 +51,30 @@ impl Tools {
             room: HeadRoom::new(alloc)?,
             sheet: Sheet::new(alloc)?,
             routes: Routes::new(alloc)?,
+            notes: Notes::new(alloc)?,
         })
+    }
+
+    /// From now on a note is kept of each answer of a batch.
+    pub fn keep_notes(&mut self)
+        ensures { self.new.notes.is_kept ≡ true }
+    {
+        self.notes.keep();
+    }
+
+    /// What is told of the answers to the messages of the last batch, in their order, where notes are kept. Where the store failed, those to
+    /// which it failed have none.
+    pub fn notes(&self) -> &[Note]
+        ensures { result.now ≡ listed self.now.notes }
+    {
+        self.notes.list()
+    }
+
+    /// What is told of the refusal of a message at which the store failed.
+    pub fn note_of_failure(&mut self) -> Note
+        ensures { result ≡ closing_note refusal.StorageFailed }
+    {
+        note_of_failure(&mut self.sheet)
     }
 }
 
@@ -139,8 +167,8 @@ impl Session {
         reply: Option<&Reply>,
         allow: Option<&'static str>,
     )
-        ensures { IfSome reply.entry (λ r. CanAnswer message.now r.now allow.entry)
-            → GoesOnWith self.old self.new (answer_bytes message.now (option_map (λ r. r.now) reply.entry)) }
+        ensures { (format : Format) → IfSome reply.entry (λ r. CanAnswer format message.now r.now allow.entry)
+            → GoesOnWith self.old self.new (answer_bytes format message.now (option_map (λ r. r.now) reply.entry)) }
     {
         if self.is_lost() {
             return;

@@ -1,13 +1,15 @@
 //! The messages of a batch, answered by a store.
 
 ghost use Rattle.std.specs.Prelude.{◌≡◌, ◌<◌, ◌≤◌, All, length, take, IfOk, MatchResult};
+ghost use Rattle.names.specs.declared.format.Format.{Format};
 ghost use Rattle.names.specs.declared.format.Rules.{Rules};
 ghost use Rattle.records.specs.Payload.{group_limit};
 ghost use Rattle.recovery.specs.Standing.{View};
 ghost use Rattle.durable.specs.Settled.{device_of, serves};
 ghost use Rattle.api.specs.Answers.{ShowsAt, HasCauses};
 ghost use Rattle.routes.specs.AnswerBytes.{CanAnswerAll};
-ghost use Rattle.sessions.specs.Turn.{answers_to, AllGain, Turned};
+ghost use Rattle.sessions.specs.Notes.{listed, Tells};
+ghost use Rattle.sessions.specs.Turn.{answers_to, AllGain};
 ghost use Rattle.sessions.specs.Refusing.{AllRefuse};
 ghost use Rattle.sessions.specs.Stops.{TurnStops};
 
@@ -30,8 +32,8 @@ fn deliver(
 )
     requires counted { length places.now ≡ length messages.now }
     requires known { All (λ place. place < length sessions.old) places.now }
-    ensures { CanAnswerAll messages.now replies.now allows.now
-        → AllGain sessions.old sessions.new (λ i. answers_to i places.now messages.now replies.now) }
+    ensures { (format : Format) → CanAnswerAll format messages.now replies.now allows.now
+        → AllGain sessions.old sessions.new (λ i. answers_to format i places.now messages.now replies.now) }
 {
     for (index, place) in places.iter().enumerate() {
         let allow = methods_at(allows, index);
@@ -65,12 +67,14 @@ fn answer_front<D: Device>(
     requires known { All (λ place. place < length sessions.old) places.now }
     ensures count { IfOk result (λ count. (1 ≤ count) × (count ≤ length messages.now)) }
     ensures outcome { (rules : Rules) (v : View) → ShowsAt rules store.old v → MatchResult result
-        (λ count. Turned rules store.old store.new v (take count places.now) (take count messages.now) sessions.old sessions.new)
+        (λ count. Tells rules store.old store.new v (take count places.now) (take count messages.now) sessions.old sessions.new
+        tools.old.notes.is_kept (listed tools.old.notes) (listed tools.new.notes))
         (TurnStops rules store.old store.new v places.now messages.now sessions.old sessions.new) }
     ensures causes { HasCauses 0 0 (D.disk.failures (device_of store.old)) (D.disk.failures (device_of store.new))
         (serves store.old) (serves store.new) result }
+    ensures kept { tools.new.notes.is_kept ≡ tools.old.notes.is_kept }
 {
-    let front = route_front(alloc, &tools.routes, messages);
+    let front = route_front(alloc, &tools.routes, store.format(), messages);
     match replies_to(alloc, &front.requests, store) {
         Ok(replies) => {
             let count = answered_count(replies.len(), messages.len());
@@ -81,6 +85,9 @@ fn answer_front<D: Device>(
                 &front.allows,
                 sessions,
             );
+            tools
+                .notes
+                .take(&messages[..count], &replies, &front.allows);
             Ok(count)
         }
         Err(fault) => {
@@ -103,10 +110,12 @@ pub(crate) fn answer_all<D: Device>(
     requires counted { length places.now ≡ length messages.now }
     requires known { All (λ place. place < length sessions.old) places.now }
     ensures outcome { (rules : Rules) (v : View) → ShowsAt rules store.old v → MatchResult result
-        (λ _. Turned rules store.old store.new v places.now messages.now sessions.old sessions.new)
+        (λ _. Tells rules store.old store.new v places.now messages.now sessions.old sessions.new
+        tools.old.notes.is_kept (listed tools.old.notes) (listed tools.new.notes))
         (TurnStops rules store.old store.new v places.now messages.now sessions.old sessions.new) }
     ensures causes { HasCauses 0 0 (D.disk.failures (device_of store.old)) (D.disk.failures (device_of store.new))
         (serves store.old) (serves store.new) result }
+    ensures kept { tools.new.notes.is_kept ≡ tools.old.notes.is_kept }
 {
     let mut rest = messages;
     let mut left = places;
