@@ -375,11 +375,11 @@ top_is_bare W = ((λ is. cc), ((λ is. cc), tt))
 subs_are_bare : (W : List Text) → HaveBare W (codes "file") (built gated_line).subs
 unfolding gated_line
 subs_are_bare W = (
-  ((λ is. (refl, refl, refl, (λ name. refl), (λ x. refl))), ((λ is. cc), tt)),
+  ((λ is. (refl, refl, refl, (λ name. refl), (λ x. refl))), ((λ is. cc), ((λ is. cc), tt))),
   (
     ((λ is. (refl, refl, refl, (λ name. refl), (λ x. refl))), ((λ is. cc), tt)),
     (
-      ((λ is. (refl, refl, refl, (λ name. refl), (λ x. refl))), ((λ is. cc), ((λ is. cc), ((λ is. cc), ((λ is. cc), ((λ is. cc), tt)))))),
+      ((λ is. (refl, refl, refl, (λ name. refl), (λ x. refl))), ((λ is. cc), ((λ is. cc), ((λ is. cc), ((λ is. cc), ((λ is. cc), ((λ is. cc), tt))))))),
       (
         ((λ is. (refl, refl, refl, (λ name. refl), (λ x. refl))), ((λ is. cc), tt)),
         (((λ is. (refl, refl, refl, (λ name. refl), (λ x. refl))), ((λ is. cc), tt)), (((λ is. cc), tt), tt)),
@@ -402,8 +402,8 @@ file_in_words words verb asked = go verb asked
     fine name rows t is first = fine-first_of words (codes "file") rows t (rows_are_fine words name rows is) first
 
     go : (v : Verb) → AskFor words v → Contains words (file_of v)
-    go (Create file) a = fine a.0 a.1 file.now a.2 a.3.1
+    go (Create file format) a = fine a.0 a.1 file.now a.2 a.3.1
     go (Replay file) a = fine a.0 a.1 file.now a.2 a.3.1
-    go (Serve file address serving idle_seconds) a = fine a.0 a.1 file.now a.2 a.3.1
+    go (Serve file address serving idle_seconds is_logged) a = fine a.0 a.1 file.now a.2 a.3.1
     go (Compact file) a = fine a.0 a.1 file.now a.2 a.3.1
     go (Check file) a = fine a.0 a.1 file.now a.2 a.3.1

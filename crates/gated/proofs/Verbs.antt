@@ -1,5 +1,5 @@
 -- What is read of a command's arguments.
-use Rattle.std.proofs.Common.{◌≡◌, ◌∙◌, sym, refl, ℕ, List, Option, Some, None}
+use Rattle.std.proofs.Common.{◌≡◌, ◌∙◌, sym, refl, ℕ, Bool, true, false, List, Option, Some, None, codes}
 use Rattle.std.specs.Prelude.{option_map, Err, Ok, Result, Box}
 use Rattle.std.specs.Box.{box_value}
 use Rattle.std.specs.Str.Parse.{ParsesUnsigned}
@@ -9,7 +9,7 @@ use Rattle.clap.specs.declared.parser.matches.ArgMatches.TheViews.{out-ArgMatche
 use Rattle.clap.specs.declared.parser.matches.Found.{Found}
 use Rattle.clap.specs.declared.parser.matches.SubCommand.{SubCommand}
 use Rattle.clap.proofs.WalkLemmas.{one_text-rows}
-use Rattle.gated.specs.CommandLine.{HasNoNumber, HasNumber, MayHaveNumber}
+use Rattle.gated.specs.CommandLine.{HasNoNumber, HasNumber, IsFlag, MayHaveNumber}
 
 -- a number that was read
 pub number_read : (E : Type 0) (G : Text → Result ℕ E → Type 0) (k : ℕ) (f : Found) (name : Text) (r : Option ℕ) (n : ℕ)
@@ -37,6 +37,15 @@ pub number_may_be_read : (E : Type 0) (G : Text → Result ℕ E → Type 0) (f 
     → ((t : Text) → one_text f name ≡ Some t → ReadsOne G t r) → ((u : Text) (x : Result ℕ E) → G u x → ParsesUnsigned 16 10 u x) → MayHaveNumber name (rows_of f) r
 number_may_be_read E G f name None none value only = no_number_read E G f name None value only refl
 number_may_be_read E G f name (Some n) none value only = number_read E G 16 f name (Some n) n none value only refl
+
+-- a flag that was read
+pub flag_read : (f : Found) (name : Text) (r : Bool) → (one_text f name ≡ None → r ≡ false) → (one_text f name ≡ Some (codes "true") → r ≡ true)
+    → (one_text f name ≡ Some (codes "false") → r ≡ false) → IsFlag name (rows_of f) r
+flag_read f name r none given left_out = record {
+  none = λ is. none (one_text-rows f name ∙ is);
+  given = λ is. given (one_text-rows f name ∙ is);
+  left_out = λ is. left_out (one_text-rows f name ∙ is);
+}
 
 -- the command that was entered, and its rows
 entered : {Z : Type 0} (o : Option (Box SubCommand Z)) (name : Text) (rows : List Row)

@@ -3,8 +3,9 @@ use Rattle.std.specs.Prelude.{◌≡◌, ℕ, ◌<◌, ◌^◌, Bool, true, fals
 use Rattle.std.specs.Str.Parse.{IsNumeral, digits_value, without_leading_plus}
 use Rattle.clap.specs.Words.{App, Row, Rule, Shape, Text, first_of, new_rule, one_of, subcommand_of}
 use Rattle.clap.specs.Simple.{new_shape}
-use Rattle.clap.specs.declared.builder.action.ArgAction.TheVariants.{Set}
+use Rattle.clap.specs.declared.builder.action.ArgAction.TheVariants.{Set, SetTrue}
 use Rattle.clap.specs.declared.builder.value_parser.ValueParser.TheVariants as parser
+use Rattle.names.specs.Format.{number_of}
 use Rattle.gated.specs.declared.command.Serving.{Serving}
 use Rattle.gated.specs.declared.command.Serving.TheVariants.{OneByOne, AtOnce}
 use Rattle.gated.specs.declared.command.Verb.{Verb}
@@ -36,18 +37,29 @@ at_once_rule = record (option_rule (codes "at-once")) { parser = Some (parser.Un
 abbrev pub idle_rule : Rule
 idle_rule = record (option_rule (codes "idle")) { defaults = codes "60" ∷ []; parser = Some (parser.Unsigned 0 86400) }
 
+-- `--log`, a flag. It needs another option, which `is_free` says, and the line's code says which.
+abbrev pub log_rule : Rule
+log_rule = record (new_rule (codes "log")) { long = Some (codes "log"); action = Some SetTrue; is_free = false }
+
+-- `--format N`: 1 or 2, and 2 where it is left out
+abbrev pub format_rule : Rule
+format_rule = record (option_rule (codes "format")) { defaults = codes "2" ∷ []; parser = Some (parser.Unsigned 1 2) }
+
 -- a command of this name over a file
 abbrev pub over_file : Text → Shape
 over_file name = record (new_shape name) { rules = file_rule ∷ [] }
 
-abbrev pub serve_shape : Shape
-serve_shape = record (new_shape (codes "serve")) { rules = file_rule ∷ listen_rule ∷ conns_rule ∷ at_once_rule ∷ idle_rule ∷ [] }
+abbrev pub create_shape : Shape
+create_shape = record (new_shape (codes "create")) { rules = file_rule ∷ format_rule ∷ [] }
 
--- `gated COMMAND FILE`, where the command is create, replay, compact or check, and `gated serve FILE OPTION..`; `gated` alone is refused
+abbrev pub serve_shape : Shape
+serve_shape = record (new_shape (codes "serve")) { rules = file_rule ∷ listen_rule ∷ conns_rule ∷ at_once_rule ∷ idle_rule ∷ log_rule ∷ [] }
+
+-- `gated COMMAND FILE`, where the command is replay, compact or check, `gated create FILE OPTION` and `gated serve FILE OPTION..`; `gated` alone is refused
 unfoldable pub gated_line : App
 gated_line = record {
   top = record (new_shape (codes "gated")) { is_leaf = false; has_version = true; subcommand_required = true };
-  subs = over_file (codes "create") ∷ over_file (codes "replay") ∷ serve_shape ∷ over_file (codes "compact") ∷ over_file (codes "check") ∷ [];
+  subs = create_shape ∷ over_file (codes "replay") ∷ serve_shape ∷ over_file (codes "compact") ∷ over_file (codes "check") ∷ [];
 }
 
 -- ---- what is asked
@@ -71,13 +83,20 @@ abbrev pub IsServedAs : List Row → Serving → Type 0
 IsServedAs rows (OneByOne connections) = HasNoNumber (codes "at-once") rows × HasNumber (codes "conns") rows connections
 IsServedAs rows (AtOnce at_once connections) = HasNumber (codes "at-once") rows at_once × MayHaveNumber (codes "conns") rows connections
 
+-- whether an option without a value is there, as its row says
+pub record IsFlag (name : Text) (rows : List Row) (is_there : Bool) : Type 0 where
+  pub none : one_of name rows ≡ None → is_there ≡ false
+  pub given : one_of name rows ≡ Some (codes "true") → is_there ≡ true
+  pub left_out : one_of name rows ≡ Some (codes "false") → is_there ≡ false
+
 -- The verb is that of a command of this name whose arguments have these rows.
 abbrev pub IsAsked : Text → List Row → Verb → Type 0
-IsAsked name rows (Create file) = (name ≡ codes "create") × (first_of (codes "file") rows ≡ Some file.now)
+IsAsked name rows (Create file format) =
+    (name ≡ codes "create") × (first_of (codes "file") rows ≡ Some file.now) × HasNumber (codes "format") rows (number_of format)
 IsAsked name rows (Replay file) = (name ≡ codes "replay") × (first_of (codes "file") rows ≡ Some file.now)
-IsAsked name rows (Serve file address serving idle_seconds) =
+IsAsked name rows (Serve file address serving idle_seconds is_logged) =
     (name ≡ codes "serve") × (first_of (codes "file") rows ≡ Some file.now) × (first_of (codes "listen") rows ≡ Some address.now)
-    × IsServedAs rows serving × HasNumber (codes "idle") rows idle_seconds
+    × IsServedAs rows serving × HasNumber (codes "idle") rows idle_seconds × IsFlag (codes "log") rows is_logged
 IsAsked name rows (Compact file) = (name ≡ codes "compact") × (first_of (codes "file") rows ≡ Some file.now)
 IsAsked name rows (Check file) = (name ≡ codes "check") × (first_of (codes "file") rows ≡ Some file.now)
 
@@ -87,16 +106,24 @@ AskFor words verb = (name : Text) × (rows : List Row) × (subcommand_of gated_l
 
 -- Whether a verb is that of a check.
 abbrev pub is_check : Verb → Bool
-is_check (Create file) = false
+is_check (Create file format) = false
 is_check (Replay file) = false
-is_check (Serve file address serving idle_seconds) = false
+is_check (Serve file address serving idle_seconds is_logged) = false
 is_check (Compact file) = false
 is_check (Check file) = true
 
+-- Whether messages are told of in a log.
+abbrev pub is_logged : Verb → Bool
+is_logged (Create file format) = false
+is_logged (Replay file) = false
+is_logged (Serve file address serving idle_seconds told) = told
+is_logged (Compact file) = false
+is_logged (Check file) = false
+
 -- a verb's file
 abbrev pub file_of : Verb → Text
-file_of (Create file) = file.now
+file_of (Create file format) = file.now
 file_of (Replay file) = file.now
-file_of (Serve file address serving idle_seconds) = file.now
+file_of (Serve file address serving idle_seconds is_logged) = file.now
 file_of (Compact file) = file.now
 file_of (Check file) = file.now

@@ -2,7 +2,7 @@
 use Rattle.std.specs.Prelude.{ℕ, List, [], ◌++◌}
 use Rattle.device.specs.declared.device.Device.{Ghosts}
 use Rattle.device.specs.Disk.{Disk, LeavesOnly}
-use Rattle.names.specs.declared.format.Format.TheVariants.{First}
+use Rattle.names.specs.declared.format.Format.{Format}
 use Rattle.names.specs.declared.format.Rules.{Rules}
 use Rattle.names.specs.Format.{rules_of}
 use Rattle.requests.specs.View.{view}
@@ -22,7 +22,7 @@ use Rattle.store.specs.Whole.{HasAnswered}
 -- after it, and at every moment a crash leaves the history followed by some first ones of them.
 pub record HasServedAll {D : Type 0} (rules : Rules) (disk : Disk D) (old new : D) (h : History) : Type 0 where
   pub answered : List Answered
-  pub specified : AreRead answered
+  pub specified : AreRead rules.format answered
   pub admitted : AreAdmitted rules (view rules h) (all_writes rules (view rules h) answered)
   pub holds : HoldsHistory rules disk new (h ++ all_writes rules (view rules h) answered)
   pub moments : LeavesOnly disk old new (IsFound rules h [] (all_writes rules (view rules h) answered))
@@ -35,13 +35,13 @@ pub record IsOpened {S D : Type 0} {g : Ghosts D} (opened : S → List ℕ → D
   pub moments : g.disk.keeps found → LeavesOnly g.disk found (device_of store) (g.disk.left found)
 
 module _ {S D : Type 0} (disk : Disk D) (made opened closed : S → List ℕ → D → Type 0) (storage : S) (name : List ℕ) where
-  -- A device without a sector was made under the name, and holds a store of the first format without objects, after a crash too.
-  pub record MadeStore : Type 0 where
+  -- A device without a sector was made under the name, and holds a store of a format without objects, after a crash too.
+  pub record MadeStore (format : Format) : Type 0 where
     pub empty : D
     pub left : D
     pub was_made : made storage name empty
     pub was_closed : closed storage name left
-    pub holds : disk.keeps empty → HoldsHistory (rules_of First 0) disk left []
+    pub holds : disk.keeps empty → HoldsHistory (rules_of format 0) disk left []
 
   -- What the store on the device under the name was asked was answered: what was read and written is as the whole theorem says.
   pub record AnsweredAll {I O : Type 0} (gave : I → I → List ℕ → Type 0) (took : O → O → List ℕ → Type 0) (ended : Type 0) (input_old input_new : I) (output_old output_new : O)

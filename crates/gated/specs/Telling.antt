@@ -44,9 +44,9 @@ module _ {S D I O : Type 0} (disk : Disk D) (made opened closed : S → List ℕ
     (storage : S) (input_old input_new : I) (output_old output_new : O) where
   -- A verb was done: this became of the store behind its file, and this is told of it.
   abbrev pub HasDone : Verb → Type 0
-  HasDone (verb.Create file) = MadeStore disk made opened closed storage file.now × (output_new ≡ output_old)
+  HasDone (verb.Create file format) = MadeStore disk made opened closed storage file.now format × (output_new ≡ output_old)
   HasDone (verb.Replay file) = AnsweredAll disk made opened closed storage file.now gave took (ended input_new) input_old input_new output_old output_new
-  HasDone (verb.Serve file address serving idle_seconds) = ServedAll disk made opened closed storage file.now
+  HasDone (verb.Serve file address serving idle_seconds is_logged) = ServedAll disk made opened closed storage file.now
   HasDone (verb.Compact file) = (c : Compacted) × WroteAnew disk made opened closed storage file.now c × HasLine took output_old output_new (compacted_text c)
   HasDone (verb.Check file) = (c : Checked) × FoundWhole disk made opened closed storage file.now c × HasLine took output_old output_new (checked_text c)
 

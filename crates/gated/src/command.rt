@@ -1,15 +1,17 @@
 //! The command line.
 
-ghost use Rattle.std.specs.Prelude.{◌≡◌, false, List, [], map, Some, Contains, IfOk, IfSome};
+ghost use Rattle.std.specs.Prelude.{◌≡◌, false, List, [], map, Some, codes, Contains, IfOk, IfSome};
 ghost use Rattle.clap.specs.Words.{Row, Text, app_of, found_of, rows_of, rule_of, subcommand_rows_of, with_subcommand};
 ghost use Rattle.clap.specs.declared.builder.command.Command.TheViews.{out-Command};
-ghost use Rattle.gated.specs.CommandLine.{AskFor, IsAsked, IsServedAs, at_once_rule, conns_rule, file_of, gated_line, option_rule, over_file, serve_shape};
+ghost use Rattle.names.specs.Format.{number_of};
+ghost use Rattle.gated.specs.CommandLine.{AskFor, HasNumber, IsAsked, IsServedAs, at_once_rule, conns_rule, create_shape, file_of, gated_line, log_rule, option_rule, over_file, serve_shape};
 
 use clap::builder::ValueParser;
 use clap::error::ErrorKind;
 use clap::{Arg, ArgAction, ArgMatches, Command, Error};
 use std::alloc::{AllocError, Global};
 use std::convert::AsStr;
+use store::Format;
 
 /// How connections are served.
 #[derive(Clone, Copy)]
@@ -28,20 +30,23 @@ pub enum Serving {
 /// What the words ask for.
 #[derive(Clone, Copy)]
 pub enum Verb<'a> {
-    /// Make a store in a new file.
+    /// Make a store of a format in a new file.
     Create {
         file: &'a str,
+        format: Format,
     },
     /// Answer the requests on standard input.
     Replay {
         file: &'a str,
     },
-    /// Serve connections to an address, each of which is closed where it does not go on for this many seconds, or never (0).
+    /// Serve connections to an address, each of which is closed where it does not go on for this many seconds, or never (0). Each message may
+    /// be told in a log.
     Serve {
         file: &'a str,
         address: &'a str,
         serving: Serving,
         idle_seconds: u32,
+        is_logged: bool,
     },
     /// Write what the store shows as its next generation.
     Compact {
@@ -115,6 +120,20 @@ fn at_once_option<'a>(alloc: Global) -> Arg<'a>
     .value_parser(ValueParser::unsigned(1, 1024))
 }
 
+// `--log`, which needs `--at-once`.
+fn log_option<'a>(alloc: Global) -> Result<Arg<'a>, AllocError>
+    ensures rule { IfOk result (λ arg. rule_of arg ≡ log_rule) }
+    ensures local { IfOk result (λ arg. arg.global ≡ false) }
+{
+    let arg = Arg::new(alloc, "log")
+        .long("log")
+        .help(
+            "Tells of each message on standard error: peer, method, path, status, bytes, microseconds",
+        )
+        .action(ArgAction::SetTrue);
+    arg.requires_arg("at-once")
+}
+
 fn serve_line<'a>(alloc: Global) -> Result<Command<'a>, AllocError>
     ensures app { IfOk result (λ c. app_of c ≡ record { top = serve_shape; subs = [] }) }
     ensures local { IfOk result (λ c. (out-Command c).has_globals ≡ false) }
@@ -143,6 +162,29 @@ fn serve_line<'a>(alloc: Global) -> Result<Command<'a>, AllocError>
         )
         .default_value("60")
         .value_parser(ValueParser::unsigned(0, 86400)),
+    )?
+    .arg(log_option(alloc)?)
+}
+
+fn create_line<'a>(alloc: Global) -> Result<Command<'a>, AllocError>
+    ensures app { IfOk result (λ c. app_of c ≡ record { top = create_shape; subs = [] }) }
+    ensures local { IfOk result (λ c. (out-Command c).has_globals ≡ false) }
+{
+    over_file(
+        alloc,
+        "create",
+        "Makes a store in a new file",
+        "Example: gated create store.db",
+    )?
+    .arg(
+        option(
+            alloc,
+            "format",
+            "N",
+            "The format of the file: 1, or 2, in which namespaces are objects",
+        )
+        .default_value("2")
+        .value_parser(ValueParser::unsigned(1, 2)),
     )
 }
 
@@ -168,24 +210,25 @@ fn with_serve<'a>(alloc: Global, command: Command<'a>) -> Result<Command<'a>, Al
     command.subcommand(subcommand)
 }
 
+// The command, with `create` as a subcommand more.
+fn with_create<'a>(alloc: Global, command: Command<'a>) -> Result<Command<'a>, AllocError>
+    ensures { IfOk result (λ c. app_of c ≡ with_subcommand (app_of command.entry) create_shape) }
+{
+    let subcommand = create_line(alloc)?;
+    command.subcommand(subcommand)
+}
+
 // The line that the program understands.
 fn line<'a>(alloc: Global) -> Result<Command<'a>, AllocError>
     ensures { IfOk result (λ c. app_of c ≡ gated_line) }
 {
     let alone = Command::new(alloc, "gated")
         .about("A small Kubernetes-style API server over one crash-safe file")
-        .version("0.21.0")
+        .version("0.22.0")
         .subcommand_required(true);
-    let with_create = with_over_file(
-        alloc,
-        alone,
-        "create",
-        "Makes a store in a new file",
-        "Example: gated create store.db",
-    )?;
     let with_replay = with_over_file(
         alloc,
-        with_create,
+        with_create(alloc, alone)?,
         "replay",
         "Answers the HTTP requests on standard input",
         "Example: gated replay store.db < requests.http",
@@ -221,19 +264,34 @@ fn serving_of<'a>(matches: &ArgMatches<'a>) -> Option<Serving>
     }
 }
 
+// The format of the store that is to be made.
+fn format_of<'a>(matches: &ArgMatches<'a>) -> Option<Format>
+    ensures { IfSome result (λ format. HasNumber (codes "format") (rows_of (found_of matches.now)) (number_of format)) }
+{
+    match matches.get_one::<u16>("format")? {
+        1 => Some(Format::First),
+        2 => Some(Format::Second),
+        _ => None,
+    }
+}
+
 // The verb of a subcommand.
 fn verb_of<'a>(name: &str, matches: &ArgMatches<'a>) -> Option<Verb<'a>>
     ensures { IfSome result (IsAsked name.now (rows_of (found_of matches.now))) }
 {
     let file = matches.get_str("file")?;
     match name {
-        "create" => Some(Verb::Create { file }),
+        "create" => Some(Verb::Create {
+            file,
+            format: format_of(matches)?,
+        }),
         "replay" => Some(Verb::Replay { file }),
         "serve" => Some(Verb::Serve {
             file,
             address: matches.get_str("listen")?,
             serving: serving_of(matches)?,
             idle_seconds: matches.get_one::<u32>("idle")?,
+            is_logged: matches.get_flag("log"),
         }),
         "compact" => Some(Verb::Compact { file }),
         "check" => Some(Verb::Check { file }),

@@ -98,9 +98,31 @@ fn address_of(address: &str) -> Result<SocketAddr, Problem> {
     }
 }
 
-// Says that connections are accepted from now on.
-fn print_ready<O: Output>(output: &mut O) -> Result<(), Problem> {
-    if write_all(output, b"ready\n").is_err() {
+// What says that connections are accepted from now on: with the address that was taken, where the system chose its port.
+fn ready_text(
+    alloc: Global,
+    asked: SocketAddr,
+    taken: Option<SocketAddr>,
+) -> Result<String, Problem> {
+    let text = match taken {
+        Some(taken) if asked.port() == 0 => format!(in alloc; "ready {taken}\n"),
+        _ => String::from_str(alloc, "ready\n"),
+    };
+    match text {
+        Ok(text) => Ok(text),
+        Err(_) => Err(Problem::OutOfMemory),
+    }
+}
+
+// Says so.
+fn print_ready<O: Output>(
+    alloc: Global,
+    asked: SocketAddr,
+    taken: Option<SocketAddr>,
+    output: &mut O,
+) -> Result<(), Problem> {
+    let text = ready_text(alloc, asked, taken)?;
+    if write_all(output, text.as_bytes()).is_err() {
         return Err(Problem::StreamFailed);
     }
     Ok(())
@@ -126,25 +148,26 @@ pub(crate) fn serve_one_by_one<
     let Ok(listener) = TcpListener::bind(net, address) else {
         return Err(Problem::StreamFailed);
     };
-    print_ready(output)?;
+    print_ready(alloc, address, listener.local_addr().ok(), output)?;
     serve_connections(alloc, &listener, connections, idle, store)
 }
 
-/// Listens on an address, says so, and serves connections at once.
-pub(crate) fn serve_at_once<D: Device, R: Net + Clock, O: Output>(
+/// Listens on an address, says so, and serves connections at once. Where the limits say so, messages are told of in a log.
+pub(crate) fn serve_at_once<D: Device, R: Net + Clock, O: Output, L: Output>(
     net: &R,
     alloc: Global,
     address: &str,
     limits: Limits,
     store: &mut Store<D>,
     output: &mut O,
+    log: &mut L,
 ) -> Result<(), Problem>
     ensures served { (rules : Rules) (v : View) → ShowsAt rules store.old v → OnOk result (HasServedSome rules store.old store.new v) }
 {
     let address = address_of(address)?;
     let mut server = Server::bind(net, alloc, address, limits)?;
-    print_ready(output)?;
-    match server.run(net, alloc, store) {
+    print_ready(alloc, address, server.address(), output)?;
+    match server.run(net, alloc, store, log) {
         Ok(()) => Ok(()),
         Err(fault) => Err(Problem::from(fault)),
     }

@@ -55,6 +55,7 @@ fn run(runtime: &HostRuntime) -> Status {
             &mut Std::new(runtime.stdout()),
             &mut errors,
             terminal(runtime),
+            &mut Std::new(runtime.stderr()),
         ),
         Err(problem) => tell(problem, &mut errors),
     }

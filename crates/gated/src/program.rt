@@ -1,6 +1,6 @@
 //! The commands of the program.
 
-ghost use Rattle.std.specs.Prelude.{◌≡◌, ◌≢◌, ◌⊎◌, map, IfOk, OnOk, OnErr, IsErrOf};
+ghost use Rattle.std.specs.Prelude.{◌≡◌, ◌≢◌, ◌⊎◌, false, map, IfOk, OnOk, OnErr, IsErrOf};
 ghost use Rattle.clap.specs.Words.{kind_of};
 ghost use Rattle.names.specs.declared.format.Rules.{Rules};
 ghost use Rattle.recovery.specs.Standing.{View};
@@ -8,7 +8,7 @@ ghost use Rattle.durable.specs.declared.compacted.Compacted.{Compacted as Compac
 ghost use Rattle.durable.specs.declared.fault.Damage.{Damage};
 ghost use Rattle.api.specs.Answers.{ShowsAt};
 ghost use Rattle.gated.specs.declared.command.Verb.{Verb as VerbData};
-ghost use Rattle.gated.specs.CommandLine.{AskFor};
+ghost use Rattle.gated.specs.CommandLine.{AskFor, is_logged};
 ghost use Rattle.clients.specs.Serving.{HasServedSome};
 ghost use Rattle.gated.specs.Doing.{AnsweredAll, FoundDamaged, FoundWhole, IsOpened, MadeStore, ServedAll, WroteAnew};
 ghost use Rattle.gated.specs.Problem.{Tells};
@@ -22,7 +22,7 @@ use crate::status::Status;
 use clap::Error;
 use clap::error::ErrorKind;
 use clients::Limits;
-use httpmsg::write_all;
+use httpmsg::{StreamFault, write_all};
 use std::alloc::Global;
 use std::convert::AsStr;
 use std::net::{Net, TcpListener, TcpStream};
@@ -32,16 +32,20 @@ use store::{
     check as check_store, compact as compact_store, create, open,
 };
 
-// Makes a store in a new file. It allocates nothing, so it cannot run out of memory once there is a file. Where the store cannot be written, as on a
+// Makes a store of a format in a new file. It allocates nothing, so it cannot run out of memory once there is a file. Where the store cannot be written, as on a
 // full disk, the file is removed.
-fn create_store<D: Device, S: Storage<D>>(storage: &S, file: &str) -> Result<(), Problem>
-    ensures made { OnOk result (MadeStore D.disk S.made S.opened S.closed storage.now file.now) }
+fn create_store<D: Device, S: Storage<D>>(
+    storage: &S,
+    file: &str,
+    format: Format,
+) -> Result<(), Problem>
+    ensures made { OnOk result (MadeStore D.disk S.made S.opened S.closed storage.now file.now format) }
     ensures no_such_store { IsErrOf result Problem.NoStore → ⊥ }
     ensures no_stream { IsErrOf result Problem.StreamFailed → ⊥ }
     ensures no_damage { (damage : Damage) → IsErrOf result (Problem.Damaged damage) → ⊥ }
 {
     let mut device = storage.create(file)?;
-    match create(&mut device, Format::First) {
+    match create(&mut device, format) {
         Ok(()) => {
             storage.close(file, device);
             Ok(())
@@ -92,16 +96,44 @@ fn replay<D: Device, S: Storage<D>, I: Input, O: Output>(
     }
 }
 
-// Listens, says so, and serves connections against a store.
-fn serve_store<D: Device, R: Net<Stream = TcpStream, Listener = TcpListener> + Clock, O: Output>(
+// What drops all that is written to it.
+#[derive(Drop)]
+struct Silent;
+
+impl Output for Silent {
+    ghost use Rattle.std.specs.Prelude.{⊤};
+
+    ghost took = { λ old new bytes. ⊤ };
+
+    ghost failures = { λ s. 0 };
+
+    ghost took_none = { λ s. tt };
+
+    ghost took_then = { λ old mid new front back first second. tt };
+
+    fn write(&mut self, bytes: &[u8]) -> Result<usize, StreamFault> {
+        Ok(bytes.len())
+    }
+}
+
+// Listens, says so, and serves connections against a store. Messages are told of in the log where that is asked.
+fn serve_store<
+    D: Device,
+    R: Net<Stream = TcpStream, Listener = TcpListener> + Clock,
+    O: Output,
+    L: Output,
+>(
     net: &R,
     alloc: Global,
     address: &str,
     serving: Serving,
     idle_seconds: u32,
+    is_logged: bool,
     store: &mut Store<D>,
     output: &mut O,
+    log: &mut L,
 ) -> Result<(), Problem>
+    ensures silent { is_logged ≡ false → log.new ≡ log.old }
     ensures served { (rules : Rules) (v : View) → ShowsAt rules store.old v → OnOk result (HasServedSome rules store.old store.new v) }
 {
     let idle = match idle_seconds {
@@ -120,8 +152,13 @@ fn serve_store<D: Device, R: Net<Stream = TcpStream, Listener = TcpListener> + C
                 at_once,
                 connections,
                 idle,
+                is_logged,
             };
-            serve_at_once(net, alloc, address, limits, store, output)
+            if is_logged {
+                serve_at_once(net, alloc, address, limits, store, output, log)
+            } else {
+                serve_at_once(net, alloc, address, limits, store, output, &mut Silent)
+            }
         }
     }
 }
@@ -132,6 +169,7 @@ fn serve_file<
     S: Storage<D>,
     R: Net<Stream = TcpStream, Listener = TcpListener> + Clock,
     O: Output,
+    L: Output,
 >(
     storage: &S,
     net: &R,
@@ -140,8 +178,11 @@ fn serve_file<
     address: &str,
     serving: Serving,
     idle_seconds: u32,
+    is_logged: bool,
     output: &mut O,
+    log: &mut L,
 ) -> Result<(), Problem>
+    ensures silent { is_logged ≡ false → log.new ≡ log.old }
     ensures served { OnOk result (ServedAll D.disk S.made S.opened S.closed storage.now file.now) }
 {
     let mut store = open_store(storage, alloc, file)?;
@@ -151,8 +192,10 @@ fn serve_file<
         address,
         serving,
         idle_seconds,
+        is_logged,
         &mut store,
         output,
+        log,
     );
     storage.close(file, store.into_device());
     served
@@ -288,6 +331,7 @@ fn done<
     I: Input,
     O: Output,
     P: Output + Drop,
+    L: Output,
 >(
     storage: &S,
     net: &R,
@@ -296,17 +340,20 @@ fn done<
     input: &mut I,
     output: &mut O,
     progress: Option<P>,
+    log: &mut L,
 ) -> Result<Status, Problem>
-    ensures { IfOk result (λ status. IsDone D.disk S.made S.opened S.closed I.gave O.took I.has_ended storage.now input.old input.new output.old output.new verb.entry status) }
+    ensures silent { is_logged verb.entry ≡ false → log.new ≡ log.old }
+    ensures done { IfOk result (λ status. IsDone D.disk S.made S.opened S.closed I.gave O.took I.has_ended storage.now input.old input.new output.old output.new verb.entry status) }
 {
     match verb {
-        Verb::Create { file } => create_store(storage, file)?,
+        Verb::Create { file, format } => create_store(storage, file, format)?,
         Verb::Replay { file } => replay(storage, alloc, file, input, output)?,
         Verb::Serve {
             file,
             address,
             serving,
             idle_seconds,
+            is_logged,
         } => serve_file(
             storage,
             net,
@@ -315,7 +362,9 @@ fn done<
             address,
             serving,
             idle_seconds,
+            is_logged,
             output,
+            log,
         )?,
         Verb::Compact { file } => compact(storage, alloc, file, output, progress)?,
         Verb::Check { file } => return check(storage, alloc, file, output),
@@ -344,7 +393,8 @@ fn refuse<E: Output>(alloc: Global, error: &Error, errors: &mut E) -> Status
 
 /// Does what the words ask for, of which the first is the program's name, and says how the program ends. Nothing is told on `errors` where
 /// that was done, and where a check finds damage, which it tells on `output`; each other end is told on `errors`. A compaction shows on
-/// `progress`, if there is one, how far it is.
+/// `progress`, if there is one, how far it is. A server tells on `log` of each message that it answers, where the words ask for that, and
+/// else nothing is written there.
 ///
 /// What was done is said of the device that the storage has under the file's name: what became of its history, and which bytes were read and written.
 pub fn program<
@@ -356,6 +406,7 @@ pub fn program<
     O: Output,
     E: Output,
     P: Output + Drop,
+    L: Output,
 >(
     storage: &S,
     net: &R,
@@ -365,12 +416,14 @@ pub fn program<
     output: &mut O,
     errors: &mut E,
     progress: Option<P>,
+    log: &mut L,
 ) -> Status
-    ensures { ((errors.new ≡ errors.old) × (verb : VerbData) × AskFor (map W.text words.now) verb × IsDone D.disk S.made S.opened S.closed I.gave O.took I.has_ended storage.now input.old input.new output.old output.new verb result)
+    ensures silent { ((verb : VerbData) → AskFor (map W.text words.now) verb → is_logged verb ≡ false) → log.new ≡ log.old }
+    ensures done { ((errors.new ≡ errors.old) × (verb : VerbData) × AskFor (map W.text words.now) verb × IsDone D.disk S.made S.opened S.closed I.gave O.took I.has_ended storage.now input.old input.new output.old output.new verb result)
         ⊎ ((result ≢ Status.Success) × Tells E.took E.failures errors.old errors.new result) }
 {
     match command(alloc, words) {
-        Ok(verb) => match done(storage, net, alloc, verb, input, output, progress) {
+        Ok(verb) => match done(storage, net, alloc, verb, input, output, progress, log) {
             Ok(status) => status,
             Err(problem) => tell(problem, errors),
         },

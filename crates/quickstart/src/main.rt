@@ -26,7 +26,7 @@ fn main(rt: HostRuntime) -> ExitCode {
         Ok(device) => device,
         Err(fault) => return failed(&rt, fault),
     };
-    if let Err(fault) = create(&mut device, Format::First) {
+    if let Err(fault) = create(&mut device, Format::Second) {
         return failed(&rt, fault);
     }
     let mut requests = Std::new(rt.stdin());
