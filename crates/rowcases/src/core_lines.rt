@@ -86,17 +86,17 @@ pub fn redo(alloc: Global, line: &mut Line<'_>) {
     }
 }
 
-// What a message asks for.
-fn routed(alloc: Global, routes: &Routes, text: &str) -> Result<Routed, Wrong> {
+// What a message asks of a store of this format.
+fn routed(alloc: Global, routes: &Routes, format: Format, text: &str) -> Result<Routed, Wrong> {
     let sent = message(alloc, text)?;
-    routed_first(alloc, routes, sent.as_str())
+    routed_first(alloc, routes, format, sent.as_str())
 }
 
 // The step that a message asks for. Its request is dropped here, and so in no function that drops the step too.
 fn step(core: &mut Core, alloc: Global, routes: &Routes, text: &str) -> Result<Prepared, Wrong>
     ensures { IfOk result (λ p. HasRoomFor core.new p.write) }
 {
-    let routed = routed(alloc, routes, text)?;
+    let routed = routed(alloc, routes, core.rules().format, text)?;
     let prepared = prepare(core, alloc, &mut Nothing, &routed.request);
     drop(routed);
     match prepared {

@@ -112,7 +112,7 @@ pub fn selects(alloc: Global, text: &str) -> Result<String, Wrong> {
 /// What is asked of the document of an object, which stands last in the question.
 pub fn of_document(alloc: Global, word: &str, rest: &str) -> Result<String, Wrong> {
     let (part, json) = match word {
-        "has-kind" | "metadata" => first_word(rest),
+        "has-kind" | "has-metadata" | "metadata" => first_word(rest),
         _ => ("", rest),
     };
     let document = document(alloc, json.as_bytes())?;
@@ -121,7 +121,7 @@ pub fn of_document(alloc: Global, word: &str, rest: &str) -> Result<String, Wron
     answer
 }
 
-// `has-kind RESOURCE JSON`: whether the document is of that kind. `has-metadata JSON`: whether it has an object as its metadata.
+// `has-kind RESOURCE JSON`: whether the document is of that kind. `has-metadata RESOURCE JSON`: whether its metadata is that of an object of it.
 // `metadata NAME JSON`: that text of the metadata. `copied-metadata JSON`: the metadata, copied.
 fn answer(alloc: Global, word: &str, part: &str, document: &Doc) -> Result<String, Wrong> {
     match word {
@@ -129,7 +129,10 @@ fn answer(alloc: Global, word: &str, part: &str, document: &Doc) -> Result<Strin
             Ok(resource) => yes_or_no(alloc, has_kind(resource, document)),
             Err(wrong) => Err(wrong),
         },
-        "has-metadata" => yes_or_no(alloc, has_metadata(document)),
+        "has-metadata" => match resource(part) {
+            Ok(resource) => yes_or_no(alloc, has_metadata(resource, document)),
+            Err(wrong) => Err(wrong),
+        },
         "metadata" => text(alloc, metadata_text(document, part).unwrap_or("none")),
         _ => made_text(alloc, metadata_copy(document)),
     }

@@ -161,6 +161,20 @@ pub fn format(alloc: Global) -> Result<String, Wrong> {
     line.end()
 }
 
+/// `has FORMAT RESOURCE`: whether a store of the format may hold objects of the resource.
+pub fn has(alloc: Global, text: &str) -> Result<String, Wrong> {
+    let (number, plural) = first_word(text);
+    let format = match number {
+        "1" => Format::First,
+        "2" => Format::Second,
+        _ => return Err(Wrong::Told("no such format")),
+    };
+    match resource(plural) {
+        Ok(resource) => yes_or_no(alloc, format.has(resource)),
+        Err(wrong) => Err(wrong),
+    }
+}
+
 // Whether each way of finding the resource finds it.
 fn is_found(resource: Resource) -> bool {
     ResourceTable::numbered(resource.number()) == Some(resource)

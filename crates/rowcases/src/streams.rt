@@ -3,6 +3,7 @@
 use cases::Wrong;
 use cutter::{Cutter, HeadRoom};
 use httpmsg::{Message, MessageFault};
+use names::Format;
 use routes::{Routed, Routes, route};
 use std::alloc::Global;
 
@@ -32,11 +33,16 @@ pub fn fault_word(fault: MessageFault) -> &'static str {
     }
 }
 
-/// What the first message of a stream asks for.
-pub fn routed_first(alloc: Global, routes: &Routes, sent: &str) -> Result<Routed, Wrong> {
+/// What the first message of a stream asks of a store of this format.
+pub fn routed_first(
+    alloc: Global,
+    routes: &Routes,
+    format: Format,
+    sent: &str,
+) -> Result<Routed, Wrong> {
     let messages = messages_of(alloc, sent)?;
     let routed = match messages.first() {
-        Some(message) => match route(alloc, routes, message) {
+        Some(message) => match route(alloc, routes, format, message) {
             Ok(routed) => Ok(routed),
             Err(_) => Err(Wrong::Memory),
         },

@@ -8,6 +8,7 @@ use crate::streams::{cuts, readers, writers};
 use crate::trials::trials;
 use cases::{Wrong, shown, text};
 use diskcases::{Line, crash_words, on_store_device};
+use names::Format;
 use rowcases::{Service, message};
 use std::alloc::Global;
 
@@ -107,6 +108,16 @@ impl Stand {
         text(alloc, "ok")
     }
 
+    // `[FORMAT]`: makes a store on the device, of format 1 where none is said.
+    fn create(&mut self, alloc: Global, rest: &str) -> Result<String, Wrong> {
+        let mut line = Line::new(alloc, rest);
+        let format = line.format(Format::First);
+        // Nothing is shown, so what is wrong with the words is told here.
+        drop(line.end()?);
+        self.place.create(format);
+        self.place.answer()
+    }
+
     // Answers a line on the device, with the store shut.
     fn answer_of_device(&mut self, alloc: Global, word: &str, rest: &str) -> Result<String, Wrong> {
         match self.place.device() {
@@ -128,7 +139,7 @@ impl Stand {
             "compact" => self.place.compact(),
             "again" => self.place.again(),
             "check" => self.place.check(),
-            "create" => self.place.create(),
+            "create" => return self.create(alloc, rest),
             "crash" => return self.crash(alloc, rest),
             _ => return self.answer_of_device(alloc, word, rest),
         }

@@ -226,11 +226,11 @@ impl Place {
         }
     }
 
-    /// `create`: makes a store on the device.
-    pub fn create(&mut self) {
+    /// `create`: makes a store of a format on the device.
+    pub fn create(&mut self, format: Format) {
         let alloc = self.alloc;
         let told = match self.device() {
-            Some(device) => match create(device, Format::First) {
+            Some(device) => match create(device, format) {
                 Ok(()) => text(alloc, "ok"),
                 Err(fault) => shown(alloc, &fault),
             },

@@ -2,6 +2,7 @@
 
 use cases::Wrong;
 use device::Pick;
+use names::Format;
 use opening::Episode;
 use routes::Routes;
 use rowcases::routed_first;
@@ -40,7 +41,7 @@ fn push_step(
         "open" => {}
         _ => step
             .requests
-            .push(routed_first(alloc, routes, word)?.request)?,
+            .push(routed_first(alloc, routes, Format::First, word)?.request)?,
     }
     Ok(())
 }
