@@ -7,12 +7,15 @@ import socket
 
 ROOT = pathlib.Path(__file__).resolve().parent.parent
 BUILT = ROOT / "crates/gated/out/gated"
+# A new store of format 1, and one of format 2, which differ in the mark of their root.
 NEW_STORE = (ROOT / "examples/new-store.db").read_bytes()
+SECOND_STORE = NEW_STORE.replace(b"GATEROOT", b"GATEROO2")
 EXAMPLES = sorted((ROOT / "examples/policies").iterdir())
 SECONDS = 20
 
 ADMISSION = "admissionregistration.k8s.io/v1"
-CONFIG_MAPS = "/api/v1/namespaces/default/configmaps"
+NAMESPACES = "/api/v1/namespaces"
+CONFIG_MAPS = f"{NAMESPACES}/default/configmaps"
 DEPLOYMENTS = "/apis/apps/v1/namespaces/default/deployments"
 POLICIES = f"/apis/{ADMISSION}/validatingadmissionpolicies"
 BINDINGS = f"/apis/{ADMISSION}/validatingadmissionpolicybindings"
@@ -32,6 +35,10 @@ def message(method, path, body=None, *fields):
 
 def config_map(name, text, **metadata):
     return {"apiVersion": "v1", "kind": "ConfigMap", "metadata": {"name": name, **metadata}, "data": {"k": text}}
+
+
+def namespace(name, **metadata):
+    return {"apiVersion": "v1", "kind": "Namespace", "metadata": {"name": name, **metadata}}
 
 
 def deployment(name, replicas):
