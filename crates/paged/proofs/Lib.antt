@@ -5,3 +5,5 @@ pub mod Choosing
 pub mod Pages
 mod Going
 pub mod Owning
+mod Showing
+mod Upgrading

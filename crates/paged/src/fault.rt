@@ -1,6 +1,7 @@
 ghost use Rattle.std.specs.Prelude.{◌≡◌};
 
 use checkpoint::ScanFault;
+use objects::LookupFault;
 use snapshots::SnapshotFault;
 use std::alloc::AllocError;
 
@@ -17,6 +18,38 @@ pub enum ReadFault {
     Plans,
     /// Out of memory.
     Memory,
+}
+
+/// Why a store has no upgraded generation.
+#[derive(Clone, Copy)]
+pub enum NextFault {
+    /// What is stored cannot be read.
+    Lookup(LookupFault),
+    /// With the Namespaces there are more objects than a store holds.
+    TooManyObjects,
+    /// With their writes the revision is above the greatest.
+    RevisionExhausted,
+}
+
+impl From<LookupFault> for NextFault {
+    ghost use Rattle.paged.specs.declared.fault.NextFault.TheVariants.{Lookup};
+
+    ghost from_gives = { λ lookup_fault fault. fault ≡ Lookup lookup_fault };
+
+    fn from(fault: LookupFault) -> NextFault {
+        NextFault::Lookup(fault)
+    }
+}
+
+impl From<AllocError> for NextFault {
+    ghost use Rattle.objects.specs.declared.fault.LookupFault.TheVariants.{Memory};
+    ghost use Rattle.paged.specs.declared.fault.NextFault.TheVariants.{Lookup};
+
+    ghost from_gives = { λ _ fault. fault ≡ Lookup Memory };
+
+    fn from(_: AllocError) -> NextFault {
+        NextFault::Lookup(LookupFault::Memory)
+    }
 }
 
 impl From<ScanFault> for ReadFault {

@@ -16,6 +16,6 @@ mod reading;
 mod state;
 
 pub use bare::Bare;
-pub use compacting::Next;
-pub use fault::ReadFault;
+pub use compacting::{Next, NextUpgraded};
+pub use fault::{NextFault, ReadFault};
 pub use state::Paged;

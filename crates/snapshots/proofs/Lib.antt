@@ -21,3 +21,6 @@ pub mod Sieving
 mod Objects
 mod Lookups
 pub mod Lying
+mod NamesInUse
+pub mod Behind
+pub mod Upgrading

@@ -2,6 +2,7 @@ pub mod Keeping
 pub mod LyingBelow
 pub mod Faults
 pub mod Restoring
+pub mod Added
 pub mod Laws
 pub mod Stock
 pub mod StockFaults

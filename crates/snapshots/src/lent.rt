@@ -1,11 +1,14 @@
 //! A view whose parts are lent.
 
-ghost use Rattle.std.specs.Prelude.{◌≡◌, map, IfOk};
+ghost use Rattle.std.specs.Prelude.{◌≡◌, ◌+◌, ◌^◌, ◌<◌, ◌++◌, List, length, map, IfOk, OnOk};
+ghost use Rattle.circular_buffer.specs.Buffer.{keep_last};
 ghost use Rattle.requests.specs.View.{View};
 ghost use Rattle.holdings.specs.Holdings.{Shows};
 ghost use Rattle.recovery.specs.Beside.{Beside as BesideData};
+ghost use Rattle.snapshots.specs.Added.{AreAdded, NewObject, with_added};
 ghost use Rattle.snapshots.specs.LyingBelow.{apart_of};
 
+use crate::added::Added;
 use crate::below::Below;
 use documents::Document;
 use names::Key;
@@ -41,7 +44,50 @@ impl<'a> Model for LentView<'a> {
 }
 
 impl<'a> LentView<'a> {
-    // What of it does not lie below once all of it is written.
+    /// How many objects it has.
+    pub fn object_count(&self) -> usize
+        ensures { result ≡ length self.now.objects }
+    {
+        self.objects.len()
+    }
+
+    /// The revision of its last write, 1 where there was none.
+    pub fn revision(&self) -> u64
+        ensures { result ≡ self.now.revision }
+    {
+        self.revision
+    }
+
+    /// The view with objects that were added behind its revision, and of all events the last, as many as there are places. No object is copied.
+    ///
+    /// # Errors
+    ///
+    /// Out of memory.
+    pub fn with(
+        self,
+        alloc: Global,
+        added: &'a Added,
+        places: usize,
+    ) -> Result<LentView<'a>, AllocError>
+        requires { self.revision + length added.now.objects.items < 2 ^ 64 }
+        ensures { (news : List (NewObject BesideData)) → AreAdded added.now self.entry.revision news
+            → IfOk result (λ view. view ≡ with_added places self.entry news) }
+    {
+        let LentView {
+            mut objects,
+            mut events,
+            revision,
+        } = self;
+        lend_objects(&mut objects, &added.objects)?;
+        lend_events(&mut events, &added.events)?;
+        Ok(LentView {
+            objects,
+            events: last_of(events, places)?,
+            revision: revision + added.objects.len() as u64,
+        })
+    }
+
+    /// What of it does not lie below once all of it is written.
     pub(crate) fn apart<B: Below>(self, below: &B) -> LentView<'a>
         ensures { result ≡ apart_of (B.lies below.now) self.entry }
     {
@@ -57,6 +103,44 @@ impl<'a> LentView<'a> {
             revision,
         }
     }
+}
+
+// Lends objects, behind others.
+fn lend_objects<'a>(
+    lent: &mut Vec<Lent<'a, Stored<Beside>>>,
+    objects: &'a [(Key, Stored<Beside>)],
+) -> Result<(), AllocError>
+    ensures { OnOk result (lent.new.items ≡ lent.old.items ++ objects.now) }
+{
+    for (key, value) in objects {
+        lent.push(Lent { key, value })?;
+    }
+    Ok(())
+}
+
+// Lends events, behind others.
+fn lend_events<'a>(
+    lent: &mut Vec<&'a Event<Document>>,
+    events: &'a [Event<Document>],
+) -> Result<(), AllocError>
+    ensures { OnOk result (map (λ event. event.now) lent.new.items ≡ map (λ event. event.now) lent.old.items ++ events.now) }
+{
+    for event in events {
+        lent.push(event)?;
+    }
+    Ok(())
+}
+
+// The last of events, as many as there are places.
+fn last_of<'a>(
+    events: Vec<&'a Event<Document>>,
+    places: usize,
+) -> Result<Vec<&'a Event<Document>>, AllocError>
+    ensures { IfOk result (λ last. map (λ event. event.now) last.items ≡ keep_last places (map (λ event. event.now) events.entry.items)) }
+{
+    let mut events = events;
+    let surplus = events.len().saturating_sub(places);
+    events.split_off(surplus)
 }
 
 // The same events, as a list.

@@ -35,6 +35,7 @@
 //! [`holdings::Holdings`].
 #![tactic(auto)]
 
+mod added;
 mod base;
 mod below;
 mod fault;
@@ -52,6 +53,7 @@ mod stock_laws;
 mod stocked;
 mod storing;
 
+pub use added::{Added, new_namespaces};
 pub use base::Base;
 pub use below::Below;
 pub use fault::SnapshotFault;

@@ -1,7 +1,5 @@
-use Rattle.std.proofs.Common.{◌≡◌, ◌∙◌, sym, ap, subst, List}
+use Rattle.std.proofs.Common.{◌≡◌, ◌∙◌, sym, ap, subst}
 use Rattle.names.specs.declared.format.Rules.{Rules}
-use Rattle.names.specs.Key.{Key}
-use Rattle.requests.specs.declared.stored.Stored.{Stored}
 use Rattle.requests.specs.View as seen
 use Rattle.holdings.specs.Holdings.{State, Shows}
 use Rattle.snapshots.specs.Keeping.{IsHeld, held_entries}
@@ -13,6 +11,7 @@ use Rattle.objects.specs.declared.fault.LookupFault.TheVariants as LookupFault
 use Rattle.checkpoint.proofs.Faults.{no_fault}
 use Rattle.recovery.proofs.Faults.{same_fault}
 use Rattle.paged.proofs.Going.{no_want}
+use Rattle.paged.proofs.Showing.{shows_still}
 use Rattle.paged.proofs.state.Paged.next.Goals as goal
 
 pub returns-in_err-below : goal.returns-in_err-below
@@ -63,13 +62,6 @@ returns-in_err-entries g c =
       ran = all.ran;
       device = λ told. no_want handed.result handed.ensures.1 LookupFault.Device (λ is. cc) told;
     }
-
--- what a core shows over what lies below, as it is shown over the same
-shows_still : (old new : State Beside) (base below : List (Key × Stored Beside)) (held : seen.View Beside) → new ≡ old → below ≡ base → Shows old base held → Shows new below held
-shows_still old new base below held same lies shows =
-    let Over : List (Key × Stored Beside) → Type 0 = λ b. Shows old b held in
-    let By : State Beside → Type 0 = λ core. Shows core below held in
-    subst By (sym same) (subst Over (sym lies) shows)
 
 -- the view that was lent is what is held
 abbrev Held : Rules → seen.View Beside → Type 0

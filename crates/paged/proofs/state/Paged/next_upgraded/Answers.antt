@@ -1,0 +1,90 @@
+use Rattle.std.proofs.Common.{◌∙◌, subst}
+use Rattle.std.proofs.lemmas.Result.{IfOk-from_err, IfOk-weaker}
+use Rattle.objects.specs.declared.fault.LookupFault.{LookupFault}
+use Rattle.objects.specs.declared.fault.LookupFault.TheVariants as lookup
+use Rattle.requests.specs.View as seen
+use Rattle.recovery.specs.Beside.{Beside}
+use Rattle.paged.specs.Paged.{Holds}
+use Rattle.paged.specs.Upgrading.{IsNextUpgraded, IsUpgradeOf}
+use Rattle.paged.proofs.Showing.{shows_still}
+use Rattle.paged.proofs.Upgrading.{lookup_was, not_many, not_exhausted, only_memory}
+use Rattle.paged.proofs.state.Paged.next_upgraded.Goals as goal
+
+pub returns-in_err-below : goal.returns-in_err-below
+returns-in_err-below g c =
+    let handed = c.from_residual in
+    let r = handed.result in
+    let all = c.all_below.ensures in
+    let given : LookupFault = c.in_err-below.field-0.0 in
+    let was = c.in_err-below.was in
+    record {
+      entries = λ held holds older. IfOk-from_err r _ handed.ensures.0;
+      rules = IfOk-from_err r _ handed.ensures.0;
+      revision = λ held holds. IfOk-from_err r _ handed.ensures.0;
+      namespaces = λ held holds. IfOk-from_err r _ handed.ensures.0;
+      held = λ held holds older is. IfOk-from_err r _ handed.ensures.0;
+      form = λ held holds. IfOk-from_err r _ handed.ensures.0;
+      room = λ held holds. IfOk-from_err r _ handed.ensures.0;
+      too_many = λ held holds told. absurd (not_many r given handed.ensures.1 told);
+      exhausted = λ held holds told. absurd (not_exhausted r given handed.ensures.1 told);
+      damaged = λ part told held holds older may. all.damaged part (lookup_was r given handed.ensures.1 (lookup.Damaged part) was told) holds.base holds.below;
+      core = all.core;
+      root = all.root;
+      below = all.below;
+      ran = all.ran;
+      device = λ told. all.device (lookup_was r given handed.ensures.1 lookup.Device was told);
+    }
+
+-- memory was refused once the pages had been read
+pub returns-in_err-view : goal.returns-in_err-view
+returns-in_err-view g c =
+    let handed = c.from_residual-in_err-view in
+    let r = handed.result in
+    let all = c.all_below.ensures in
+    record {
+      entries = λ held holds older. IfOk-from_err r _ handed.ensures.0;
+      rules = IfOk-from_err r _ handed.ensures.0;
+      revision = λ held holds. IfOk-from_err r _ handed.ensures.0;
+      namespaces = λ held holds. IfOk-from_err r _ handed.ensures.0;
+      held = λ held holds older is. IfOk-from_err r _ handed.ensures.0;
+      form = λ held holds. IfOk-from_err r _ handed.ensures.0;
+      room = λ held holds. IfOk-from_err r _ handed.ensures.0;
+      too_many = λ held holds told. absurd (not_many r lookup.Memory handed.ensures.1 told);
+      exhausted = λ held holds told. absurd (not_exhausted r lookup.Memory handed.ensures.1 told);
+      damaged = λ part told held holds older may. only_memory r handed.ensures.1 (lookup.Damaged part) (λ is. cc) told;
+      core = all.core;
+      root = all.root;
+      below = all.below;
+      ran = all.ran;
+      device = λ told. absurd (only_memory r handed.ensures.1 lookup.Device (λ is. cc) told);
+    }
+
+pub returns : goal.returns
+returns g c =
+    let r = c.upgraded.result in
+    let all = c.all_below.ensures in
+    let old = c.args.self.now.core in
+    let new = c.all_below.new.self.core in
+    let tells : (held : seen.View Beside) → Holds g.D.Device.disk c.args.device.now c.args.self.now held → IsUpgradeOf held r =
+    λ held holds.
+    let lent = c.in_ok-view.ensures held
+    (shows_still old new holds.base c.deref.result.now held all.core (c.deref.ensures.value ∙ c.in_ok-below.ensures.all holds.base holds.below) holds.shows) in
+    subst (λ (v : seen.View Beside). IsUpgradeOf v r) lent c.upgraded.ensures
+    in
+    record {
+      entries = λ held holds older. IfOk-weaker r (IsNextUpgraded held) _ (λ n is. is.entries older) (tells held holds).next;
+      rules = IfOk-weaker r (IsNextUpgraded c.in_ok-view.view) _ (λ n is. is.rules) c.upgraded.ensures.next;
+      revision = λ held holds. IfOk-weaker r (IsNextUpgraded held) _ (λ n is. is.revision) (tells held holds).next;
+      namespaces = λ held holds. IfOk-weaker r (IsNextUpgraded held) _ (λ n is. is.namespaces) (tells held holds).next;
+      held = λ held holds older may. IfOk-weaker r (IsNextUpgraded held) _ (λ n is. is.held older may) (tells held holds).next;
+      form = λ held holds. IfOk-weaker r (IsNextUpgraded held) _ (λ n is. is.form) (tells held holds).next;
+      room = λ held holds. IfOk-weaker r (IsNextUpgraded held) _ (λ n is. is.room) (tells held holds).next;
+      too_many = λ held holds. (tells held holds).too_many;
+      exhausted = λ held holds. (tells held holds).exhausted;
+      damaged = λ part told held holds. (tells held holds).damaged part told;
+      core = all.core;
+      root = all.root;
+      below = all.below;
+      ran = all.ran;
+      device = λ told. absurd (c.upgraded.ensures.device told);
+    }

@@ -1,0 +1,147 @@
+-- What an upgrade leaves of a view.
+use Rattle.std.proofs.Common.{◌≡◌, ◌∙◌, refl, sym, ap, subst, ℕ, ◌+◌, ◌≤◌, Bool, true, false, ◌&&◌, List, [], ◌∷◌, ◌++◌, map, Option, Some, None, arith}
+use Rattle.std.specs.Cmp.Lexicographic.{slice_cmp, nat_list_cmp_total}
+use Rattle.std.specs.FinMap.{is_sorted}
+use Rattle.std.specs.FinMap.Entries.{below_all}
+use Rattle.std.specs.List.{AllByRecursion}
+use Rattle.std.specs.Option.{option_map_or}
+use Rattle.std.specs.Ordering.{nat_cmp, is_lt, ordering_then, ordering_reverse}
+use Rattle.std.specs.Prelude.{T}
+use Rattle.std.specs.declared.cmp.Ordering.{Ordering}
+use Rattle.std.specs.declared.cmp.Ordering.TheVariants.{Less, Equal, Greater}
+use Rattle.documents.specs.Document.{Document}
+use Rattle.names.proofs.Formats.{numbers_small}
+use Rattle.names.specs.Format.{has_resource}
+use Rattle.names.specs.declared.format.Format.TheVariants.{First}
+use Rattle.names.specs.declared.resource.Resource.{Resource}
+use Rattle.names.specs.declared.resource.Resource.TheVariants.{ConfigMap, Node, Pod, Service, Deployment, ValidatingAdmissionPolicy, ValidatingAdmissionPolicyBinding, Namespace}
+use Rattle.names.specs.Key.{Key, key_of, key_cmp}
+use Rattle.names.specs.Resource.{row}
+use Rattle.requests.specs.declared.stored.Stored.{Stored}
+use Rattle.requests.specs.History.{Write}
+use Rattle.requests.specs.Manifest.{Manifest, BodyHasForm}
+use Rattle.requests.specs.Namespaces.{namespace_puts, names_among, namespaces_in_use}
+use Rattle.requests.specs.View.{View, after_all}
+use Rattle.expressions.specs.Expressions.{Source, sources}
+use Rattle.expressions.specs.Plans.{each_plan}
+use Rattle.expressions.specs.Specification.{these, plans_in}
+use Rattle.recovery.specs.Beside.{Beside, beside_of, spelled}
+use Rattle.recovery.specs.Upgraded.{newest, upgraded_rules, upgraded_view, HaveForm, IsOfOlderFormat}
+use Rattle.snapshots.specs.Added.{NewObject, stored_from, with_added, put_of, IsBehind, StandBehind, new_of, namespace_manifest}
+use Rattle.snapshots.proofs.Behind.{all-behind}
+use Rattle.snapshots.proofs.NamesInUse.{Name, bytes_cmp, sorted_names}
+
+abbrev Object : Type 0
+Object = Key × Stored Beside
+
+-- the Namespaces of these names, as objects that were not there
+abbrev pub news_of : List (List ℕ) → List (NewObject Beside)
+news_of names = map new_of (map namespace_manifest names)
+
+-- ---- a Namespace is behind all objects of an older format
+
+number_below : (r : Resource) → has_resource First r ≡ true → nat_cmp 8 (row r).number ≡ Greater
+number_below ConfigMap is = refl
+number_below Node is = refl
+number_below Pod is = refl
+number_below Service is = refl
+number_below Deployment is = refl
+number_below ValidatingAdmissionPolicy is = refl
+number_below ValidatingAdmissionPolicyBinding is = refl
+number_below Namespace is = cc
+
+behind_older : (name : List ℕ) (k : Key) → has_resource First k.resource ≡ true → key_cmp (key_of Namespace [] name) k ≡ Greater
+behind_older name k is =
+    ap (λ (o : Ordering). ordering_then o (ordering_then (slice_cmp nat_cmp [] k.namespace) (slice_cmp nat_cmp name k.name))) (number_below k.resource is)
+
+is_behind : (name : List ℕ) (os : List Object) → AllByRecursion (λ (o : Object). has_resource First o.0.resource ≡ true) os → IsBehind (key_of Namespace [] name) os
+is_behind name [] older = tt
+is_behind name (o ∷ os) older = (behind_older name o.0 older.0, is_behind name os older.1)
+
+-- Each of these names is that of a Namespace behind the objects.
+abbrev AreBehind : List Object → List Name → Type 0
+AreBehind os names = AllByRecursion (λ (n : Name). IsBehind (key_of Namespace [] n.0) os) names
+
+are_behind : (os : List Object) → AllByRecursion (λ (o : Object). has_resource First o.0.resource ≡ true) os → (names : List Name) → AreBehind os names
+are_behind os older [] = tt
+are_behind os older (n ∷ ns) = (is_behind n.0 os older, are_behind os older ns)
+
+-- ---- and behind the Namespaces before it
+
+parts : (a b : Bool) → T (a && b) → T a × T b
+parts true b is = (tt, is)
+parts false b is = absurd is
+
+less_from : (o : Ordering) → T (is_lt o) → o ≡ Less
+less_from Less is = refl
+less_from Equal is = absurd is
+less_from Greater is = absurd is
+
+greater : (a b : List ℕ) → T (is_lt (bytes_cmp a b)) → key_cmp (key_of Namespace [] b) (key_of Namespace [] a) ≡ Greater
+greater a b below = nat_list_cmp_total.antisymm b a ∙ ap ordering_reverse (less_from (bytes_cmp a b) below)
+
+behind_one_more : (k : Key) (os : List Object) (o : Object) → IsBehind k os → key_cmp k o.0 ≡ Greater → IsBehind k (os ++ o ∷ [])
+behind_one_more k [] o behind last = (last, tt)
+behind_one_more k (x ∷ os) o behind last = (behind.0, behind_one_more k os o behind.1 last)
+
+behind_next : (os : List Object) (name : List ℕ) (s : Stored Beside) (ns : List Name) → T (below_all bytes_cmp name ns) → AreBehind os ns
+    → AreBehind (os ++ (key_of Namespace [] name, s) ∷ []) ns
+behind_next os name s [] below behind = tt
+behind_next os name s (n ∷ ns) below behind =
+    let both = parts (is_lt (bytes_cmp name n.0)) (below_all bytes_cmp name ns) below in (
+      behind_one_more (key_of Namespace [] n.0) os (key_of Namespace [] name, s) behind.0 (greater name n.0 both.0),
+      behind_next os name s ns both.1 behind.1,
+    )
+
+stand_behind : (os : List Object) (revision : ℕ) (names : List Name) → T (is_sorted bytes_cmp names) → AreBehind os names
+    → StandBehind os revision (news_of (map (λ n. n.0) names))
+stand_behind os revision [] ascend behind = tt
+stand_behind os revision (n ∷ ns) ascend behind =
+    let both = parts (below_all bytes_cmp n.0 ns) (is_sorted bytes_cmp ns) ascend in
+    let first : Object = stored_from revision (new_of (namespace_manifest n.0)) in (
+      behind.0,
+      stand_behind (os ++ first ∷ []) (revision + 1) ns both.1 (behind_next os n.0 first.1 ns both.0 behind.1),
+    )
+
+-- ---- no plans
+
+no_plans : (ss : List Source) → each_plan [] ss [] ≡ []
+no_plans [] = refl
+no_plans (s ∷ ss) = refl
+
+none_of : {A B : Type 0} (f : A → List B) → ((a : A) → f a ≡ []) → (o : Option A) → option_map_or f o [] ≡ []
+none_of f none None = refl
+none_of f none (Some a) = none a
+
+no_plans_in : (d : Document) → plans_in d.json [] ≡ []
+no_plans_in d = none_of _ (λ p. no_plans (sources p)) _
+
+spelled_bare : (d : Document) → spelled d.json (these []) ≡ beside_of d.json []
+spelled_bare d = ap (λ ps. spelled d.json (these ps)) (sym (no_plans_in d))
+
+same_puts : (names : List (List ℕ)) → map put_of (news_of names) ≡ namespace_puts (λ d. beside_of d.json []) names
+same_puts [] = refl
+same_puts (name ∷ names) =
+    let m : Manifest = namespace_manifest name in
+    let Put : Beside → Write Beside = λ b. put_of (record { key = (new_of m).key; document = (new_of m).document; beside = b }) in
+    λ i. Put (spelled_bare (new_of m).document i) ∷ same_puts names i
+
+-- ---- all of it
+
+-- An upgrade leaves a view of an older format with the Namespaces of its names.
+pub upgraded_is : (held : View Beside) → IsOfOlderFormat held → with_added upgraded_rules.window_events held (news_of (namespaces_in_use held)) ≡ upgraded_view held
+upgraded_is held older =
+    let names : List (List ℕ) = namespaces_in_use held in
+    let floor : upgraded_rules.floor ≤ held.revision = subst (λ (n : ℕ). n ≤ held.revision) (sym (numbers_small newest 0).of_floor) (omega arith) in
+    let stand = stand_behind held.objects held.revision (names_among held.objects) (sorted_names held.objects) (are_behind held.objects older.objects (names_among held.objects)) in
+    sym (all-behind upgraded_rules held (news_of names) floor stand older.events)
+    ∙ ap (after_all upgraded_rules held) (same_puts names)
+
+-- The documents of these manifests have their form.
+pub have_form : (names : List (List ℕ)) (ms : List Manifest) → ms ≡ map namespace_manifest names → AllByRecursion (λ m. BodyHasForm m.key m.body) ms → HaveForm names
+have_form names ms are form =
+    of_names names (subst (λ (all : List Manifest). AllByRecursion (λ (m : Manifest). BodyHasForm m.key m.body) all) are form)
+  where
+    of_names : (names : List (List ℕ)) → AllByRecursion (λ (m : Manifest). BodyHasForm m.key m.body) (map namespace_manifest names) → HaveForm names
+    of_names [] form = tt
+    of_names (name ∷ names) form = (form.0, of_names names form.1)
