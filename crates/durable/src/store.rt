@@ -9,15 +9,16 @@ ghost use Rattle.records.specs.Payload.{group_limit};
 use crate::compacted::{Checked, Compacted};
 use crate::fault::{Damage, Fault};
 use crate::record::gather;
+use crate::upgraded::{UpgradeFault, Upgraded};
 use apicore::Prepared;
 use checkpoint::{WriteFault, Written, write};
 use device::{Device, MemDevice};
 use gatelog::{Body, Log};
 use names::Format;
 use objects::LookupFault;
-use paged::{Next, Paged};
+use paged::{Next, NextFault, NextUpgraded, Paged};
 use records::{GROUP_LIMIT, Group};
-use recovery::{Core, has_own_plans};
+use recovery::{Core, has_own_plans, is_newest, upgrades_follow};
 use requests::{Reply, Request};
 use roots::Label;
 use std::alloc::Global;
@@ -60,7 +61,7 @@ pub struct Store<D: Device> {
 }
 
 impl<D: Device> Store<D> {
-    ghost use Rattle.device.specs.Disk.{HasCause, HasFailed};
+    ghost use Rattle.device.specs.Disk.{HasCause, HasFailed, LeavesOnly};
     ghost use Rattle.device.specs.Run.{Ran, Stands};
     ghost use Rattle.std.specs.FinMap.{is_sorted};
     ghost use Rattle.std.specs.List.{AllByRecursion};
@@ -76,6 +77,7 @@ impl<D: Device> Store<D> {
     ghost use Rattle.roots.specs.Root.{log_start, HoldsRoot};
     ghost use Rattle.names.specs.declared.format.Rules.{Rules};
     ghost use Rattle.requests.specs.Request.{RequestHasForm};
+    ghost use Rattle.requests.specs.Namespaces.{namespaces_in_use};
     ghost use Rattle.requests.specs.RequestOf.{request_of};
     ghost use Rattle.requests.specs.View as seen;
     ghost use Rattle.requests.specs.View.{view};
@@ -88,9 +90,13 @@ impl<D: Device> Store<D> {
     ghost use Rattle.apicore.specs.Prepared.{IsReadOf, IsPrepared};
     ghost use Rattle.recovery.specs.Standing.{Write, History, View, IsView, AllMayFollow, with_plans};
     ghost use Rattle.recovery.specs.Compiled.{HasOwnPlans};
+    ghost use Rattle.recovery.specs.Upgraded.{is_newest, upgraded_rules, upgraded_history, upgraded_revision, HasRoomForUpgrade};
     ghost use Rattle.paged.specs.Lying.{base_of};
     ghost use Rattle.durable.specs.declared.fault.Damage.{Damage};
     ghost use Rattle.durable.specs.declared.fault.Fault.TheVariants as Fault;
+    ghost use Rattle.durable.specs.declared.upgraded.UpgradeFault.{UpgradeFault as UpgradeFaultData};
+    ghost use Rattle.durable.specs.declared.upgraded.UpgradeFault.TheVariants as UpgradeFault;
+    ghost use Rattle.durable.specs.Upgraded.{StandsForEither, IsLeftEither, IsToldOfUpgrade, refusals, first_of, IsRefusal, IsUnchanged};
     ghost use Rattle.durable.specs.Called.{ServesOn};
     ghost use Rattle.durable.specs.Faults.{MayBeMet, of_lookup_fault, goes_on_after};
     ghost use Rattle.durable.specs.Compacted.{IsToldOf, IsCheckOf, Keeps};
@@ -141,6 +147,13 @@ impl<D: Device> Store<D> {
         ensures told { result ≡ (root_of self.now).label.format }
     {
         self.paged.root().label.format
+    }
+
+    // The generation of the root that counts.
+    fn generation(&self) -> u64
+        ensures { result ≡ (root_of self.now).generation }
+    {
+        self.paged.root().generation
     }
 
     /// The device, to be opened again.
@@ -463,6 +476,116 @@ impl<D: Device> Store<D> {
         }
         let next = self.next(alloc)?;
         self.write_next(alloc, next)
+    }
+
+    // What the next generation has where the store is upgraded. Where the device fails, or what is read of it is damaged, the store serves no more.
+    fn next_upgraded(&mut self, alloc: Global) -> Result<NextUpgraded, UpgradeFault>
+        requires serves { serves self.old ≡ true }
+        requires old { is_newest (format_of self.old) ≡ false }
+        ensures keeps { (rules : Rules) (h : History) → IsSettledAt rules self.old h → IfOk result (λ n. Keeps n.next upgraded_rules (upgraded_history rules h)) }
+        ensures held { (rules : Rules) (h : History) → IsSettledAt rules self.old h
+            → IfOk result (λ n. let v = view upgraded_rules (upgraded_history rules h) in Shows n.next.core (base_of (with_plans v)) (with_plans v)) }
+        ensures seen { (rules : Rules) (v : View) → ServesAt rules self.old v
+            → IfOk result (λ n. (n.revision ≡ upgraded_revision v) × (n.namespaces ≡ length (namespaces_in_use v))) }
+        ensures ascending { IfOk result (λ n. IsTrue (is_sorted bytes_cmp (in_list n.next.entries))) }
+        ensures rules { IfOk result (λ n. n.next.core.rules ≡ upgraded_rules) }
+        ensures refused { (rules : Rules) (v : View) → ServesAt rules self.old v → (f : UpgradeFaultData) → IsRefusal f → IsErrOf result f
+            → first_of (refusals v (root_of self.old)) ≡ Some f }
+        ensures room { (rules : Rules) (v : View) → ServesAt rules self.old v → OnOk result (HasRoomForUpgrade v) }
+        ensures damaged { (damage : Damage) → IsErrOf result (UpgradeFault.Damaged damage) → (rules : Rules) (h : History) → IsSettledAt rules self.old h → ⊥ }
+        ensures core { self.new.paged.core ≡ self.old.paged.core }
+        ensures root { root_of self.new ≡ root_of self.old }
+        ensures lies { LiesStill self.old self.new }
+        ensures device { Ran D.disk (device_of self.old) (device_of self.new) Same }
+        ensures goes_on { OnOk result (serves self.new ≡ true) }
+        ensures unchanged { IsUnchanged result → serves self.new ≡ true }
+        ensures stops { IsErrOf result UpgradeFault.Device → serves self.new ≡ false }
+        ensures damaged_stops { (damage : Damage) → IsErrOf result (UpgradeFault.Damaged damage) → serves self.new ≡ false }
+        ensures refusal { result ≢ Err UpgradeFault.Failed }
+        ensures cause { IsErrOf result UpgradeFault.Device → HasFailed D.disk (device_of self.old) (device_of self.new) }
+    {
+        upgrades_follow();
+        let upgraded = match self.paged.next_upgraded(alloc, &mut self.device) {
+            Ok(upgraded) => upgraded,
+            Err(NextFault::TooManyObjects) => return Err(UpgradeFault::TooManyObjects),
+            Err(NextFault::RevisionExhausted) => return Err(UpgradeFault::RevisionExhausted),
+            Err(NextFault::Lookup(fault)) => return Err(UpgradeFault::from(self.met(fault))),
+        };
+        if upgraded.next.entries.ascends() {
+            return Ok(upgraded);
+        }
+        drop(upgraded);
+        Err(UpgradeFault::from(self.stop_for(Fault::Damaged(Damage::Entry))))
+    }
+
+    /// Writes what the store shows as its next generation in the newest format, with an empty log, and with a Namespace for each that objects stand in.
+    ///
+    /// # Errors
+    ///
+    /// `NotOld`, `TooManyObjects` and `RevisionExhausted`, the first of these that holds, and `Memory`: nothing changed. `Device` only where the device failed
+    /// in this call: the store stands as it was, or upgraded. `Damaged` where what was read of the device is damaged, and never from a store that shows the
+    /// view of a history. From both on the store answers `Failed`. `Failed` after a failure, with no call of the device.
+    pub fn upgrade(&mut self, alloc: Global) -> Result<Upgraded, UpgradeFault>
+        ensures settled { (rules : Rules) (h : History) → IsSettledAt rules self.old h → OnOk result (IsSettledAt upgraded_rules self.new (upgraded_history rules h)) }
+
+        // At every moment a crash leaves the history as it was, or as it is upgraded.
+        ensures any_moment { (rules : Rules) (h : History) → IsSettledAt rules self.old h
+            → LeavesOnly D.disk (device_of self.old) (device_of self.new) (StandsForEither rules h) }
+        ensures device { (rules : Rules) (h : History) → IsSettledAt rules self.old h → IsErrOf result UpgradeFault.Device → IsLeftEither rules self.new h }
+
+        // What is told, and refused.
+        ensures told { (rules : Rules) (v : View) → ServesAt rules self.old v → IfOk result (IsToldOfUpgrade v (root_of self.new)) }
+        ensures refused { (rules : Rules) (v : View) → ServesAt rules self.old v → (f : UpgradeFaultData) → IsRefusal f → IsErrOf result f
+            → first_of (refusals v (root_of self.old)) ≡ Some f }
+        ensures unrefused { (rules : Rules) (v : View) → ServesAt rules self.old v → OnOk result (first_of (refusals v (root_of self.old)) ≡ None) }
+        ensures newest { serves self.old ≡ true → is_newest (format_of self.old) ≡ true → (result ≡ Err UpgradeFault.NotOld) × (self.new ≡ self.old) }
+
+        // The root that counts is the next one, of the newest format, and no record stands behind it.
+        ensures counts { (rules : Rules) (h : History) → IsSettledAt rules self.old h
+            → OnOk result (HoldsRoot (D.disk.content (device_of self.new)) (root_of self.new)
+            × HoldsLog (log_start (root_of self.new)) [] (log_start (root_of self.new)) (D.disk.content (device_of self.new))) }
+        ensures next { OnOk result ((root_of self.new).generation ≡ (root_of self.old).generation + 1) }
+        ensures format { OnOk result (is_newest (format_of self.new) ≡ true) }
+        ensures empty { OnOk result (((log_of self.new).start ≡ log_start (root_of self.new)) × ((log_of self.new).last ≡ (log_of self.new).start)) }
+
+        // Where nothing changed, nothing did at any moment.
+        ensures unchanged { IsUnchanged result → Ran D.disk (device_of self.old) (device_of self.new) Same × (serves self.new ≡ serves self.old) }
+        ensures unchanged_serving { (rules : Rules) (v : View) → ServesAt rules self.old v → IsUnchanged result → ServesAt rules self.new v }
+        ensures unchanged_settled { (rules : Rules) (h : History) → IsSettledAt rules self.old h → IsUnchanged result → IsSettledAt rules self.new h }
+
+        // Damage is found only where no history is shown, and nothing is written then.
+        ensures damaged { (damage : Damage) → IsErrOf result (UpgradeFault.Damaged damage) → (rules : Rules) (h : History) → IsSettledAt rules self.old h → ⊥ }
+        ensures damaged_ran { (damage : Damage) → IsErrOf result (UpgradeFault.Damaged damage) → D.disk.keeps (device_of self.old)
+            → Ran D.disk (device_of self.old) (device_of self.new) Same }
+
+        ensures failed { serves self.old ≡ false → IsErrOf result UpgradeFault.Failed × (self.new ≡ self.old) }
+        ensures failed_only { IsErrOf result UpgradeFault.Failed → serves self.old ≡ false }
+        ensures goes_on { OnOk result (serves self.new ≡ true) }
+        ensures stops { IsErrOf result UpgradeFault.Device → serves self.new ≡ false }
+        ensures damaged_stops { (damage : Damage) → IsErrOf result (UpgradeFault.Damaged damage) → serves self.new ≡ false }
+        ensures cause { IsErrOf result UpgradeFault.Device → HasFailed D.disk (device_of self.old) (device_of self.new) }
+        ensures count { D.disk.failures (device_of self.old) ≤ D.disk.failures (device_of self.new) }
+    {
+        if !self.serves {
+            return Err(UpgradeFault::Failed);
+        }
+        if is_newest(self.format()) {
+            return Err(UpgradeFault::NotOld);
+        }
+        let NextUpgraded {
+            next,
+            revision,
+            namespaces,
+        } = self.next_upgraded(alloc)?;
+        match self.write_next(alloc, next) {
+            Ok(_) => Ok(Upgraded {
+                format: self.format(),
+                generation: self.generation(),
+                revision,
+                namespaces,
+            }),
+            Err(fault) => Err(UpgradeFault::from(fault)),
+        }
     }
 
     // Stops serving, for this fault.
