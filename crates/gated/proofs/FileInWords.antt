@@ -20,7 +20,7 @@ use Rattle.clap.specs.declared.parser.matches.ValueSource.TheVariants.{DefaultVa
 use Rattle.clap.proofs.WalkLemmas.{both}
 use Rattle.gated.specs.CommandLine.{AskFor, file_of, gated_line}
 use Rattle.gated.specs.declared.command.Verb.{Verb}
-use Rattle.gated.specs.declared.command.Verb.TheVariants.{Create, Replay, Serve, Compact, Check}
+use Rattle.gated.specs.declared.command.Verb.TheVariants.{Create, Replay, Serve, Compact, Upgrade, Check}
 
 -- W are the words, and f is the id of an argument that takes whole words alone
 module _ (W : List Text) (f : Text) where
@@ -382,7 +382,10 @@ subs_are_bare W = (
       ((λ is. (refl, refl, refl, (λ name. refl), (λ x. refl))), ((λ is. cc), ((λ is. cc), ((λ is. cc), ((λ is. cc), ((λ is. cc), ((λ is. cc), tt))))))),
       (
         ((λ is. (refl, refl, refl, (λ name. refl), (λ x. refl))), ((λ is. cc), tt)),
-        (((λ is. (refl, refl, refl, (λ name. refl), (λ x. refl))), ((λ is. cc), tt)), (((λ is. cc), tt), tt)),
+        (
+          ((λ is. (refl, refl, refl, (λ name. refl), (λ x. refl))), ((λ is. cc), tt)),
+          (((λ is. (refl, refl, refl, (λ name. refl), (λ x. refl))), ((λ is. cc), tt)), (((λ is. cc), tt), tt)),
+        ),
       ),
     ),
   ),
@@ -406,4 +409,5 @@ file_in_words words verb asked = go verb asked
     go (Replay file) a = fine a.0 a.1 file.now a.2 a.3.1
     go (Serve file address serving idle_seconds is_logged) a = fine a.0 a.1 file.now a.2 a.3.1
     go (Compact file) a = fine a.0 a.1 file.now a.2 a.3.1
+    go (Upgrade file) a = fine a.0 a.1 file.now a.2 a.3.1
     go (Check file) a = fine a.0 a.1 file.now a.2 a.3.1

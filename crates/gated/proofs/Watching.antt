@@ -7,11 +7,12 @@ use Rattle.durable.specs.declared.compacted.Compacted.{Compacted}
 use Rattle.durable.specs.declared.fault.Damage.{Damage}
 use Rattle.durable.specs.declared.fault.Fault.{Fault}
 use Rattle.durable.specs.declared.fault.Fault.TheVariants as fault
+use Rattle.durable.specs.declared.upgraded.Upgraded.{Upgraded}
 use Rattle.durable.specs.Ready.{HoldsHistory}
-use Rattle.store.specs.Upkeep.{KeepsHistory, IsWrittenAnew}
+use Rattle.store.specs.Upkeep.{KeepsHistory, IsWrittenAnew, IsUpgraded, IsToldUpgraded}
 use Rattle.gated.specs.declared.problem.Problem.TheVariants as problem
 use Rattle.gated.specs.declared.progress.Watched.{Watched}
-use Rattle.gated.specs.Doing.{WroteAnew}
+use Rattle.gated.specs.Doing.{UpgradedStore, WroteAnew}
 use Rattle.gated.specs.Problem.{of_store}
 use Rattle.gated.specs.Progress.{watched_disk}
 
@@ -37,6 +38,26 @@ module _ {D P : Type 0} (disk : Disk D) where
     was_closed = subst (closed storage name) same was_closed;
     keeps = λ rules h holds. keeps_inside rules old new h (keeps rules h (holds_watched rules old h holds));
     written = λ rules h holds. written rules h (holds_watched rules old h holds);
+  }
+
+  upgraded_inside : (rules : Rules) (old new : Watched D P) (h : History) → IsUpgraded rules (watched_disk disk) old new h → IsUpgraded rules disk old.device new.device h
+  upgraded_inside rules old new h is = record {
+    holds = record { keeps = is.holds.keeps; read = is.holds.read; left = is.holds.left };
+    any_moment = record { later = is.any_moment.later; each = is.any_moment.each; before = is.any_moment.before };
+  }
+
+  pub upgraded_watched : {S : Type 0} (made opened closed : S → List ℕ → D → Type 0) (storage : S) (name : List ℕ) (found given : D) (old new : Watched D P) (u : Upgraded) → old.device ≡ found
+      → given ≡ new.device → opened storage name found → closed storage name given
+      → ((rules : Rules) (h : History) → HoldsHistory rules (watched_disk disk) old h → IsUpgraded rules (watched_disk disk) old new h)
+      → ((rules : Rules) (h : History) (holds : HoldsHistory rules (watched_disk disk) old h) → IsToldUpgraded rules h (disk.content new.device) holds.read.root u)
+      → UpgradedStore disk made opened closed storage name u
+  upgraded_watched made opened closed storage name found given old new u is same was_opened was_closed upgraded told = record {
+    found = old.device;
+    left = new.device;
+    was_opened = subst (opened storage name) (sym is) was_opened;
+    was_closed = subst (closed storage name) same was_closed;
+    upgraded = λ rules h holds. upgraded_inside rules old new h (upgraded rules h (holds_watched rules old h holds));
+    told = λ rules h holds. told rules h (holds_watched rules old h holds);
   }
 
 -- ---- damage

@@ -9,7 +9,7 @@ use Rattle.names.specs.Format.{number_of}
 use Rattle.gated.specs.declared.command.Serving.{Serving}
 use Rattle.gated.specs.declared.command.Serving.TheVariants.{OneByOne, AtOnce}
 use Rattle.gated.specs.declared.command.Verb.{Verb}
-use Rattle.gated.specs.declared.command.Verb.TheVariants.{Create, Replay, Serve, Compact, Check}
+use Rattle.gated.specs.declared.command.Verb.TheVariants.{Create, Replay, Serve, Compact, Upgrade, Check}
 
 -- ---- the line
 
@@ -55,11 +55,11 @@ create_shape = record (new_shape (codes "create")) { rules = file_rule ∷ forma
 abbrev pub serve_shape : Shape
 serve_shape = record (new_shape (codes "serve")) { rules = file_rule ∷ listen_rule ∷ conns_rule ∷ at_once_rule ∷ idle_rule ∷ log_rule ∷ [] }
 
--- `gated COMMAND FILE`, where the command is replay, compact or check, `gated create FILE OPTION` and `gated serve FILE OPTION..`; `gated` alone is refused
+-- `gated COMMAND FILE`, where the command is replay, compact, upgrade or check, `gated create FILE OPTION` and `gated serve FILE OPTION..`; `gated` alone is refused
 unfoldable pub gated_line : App
 gated_line = record {
   top = record (new_shape (codes "gated")) { is_leaf = false; has_version = true; subcommand_required = true };
-  subs = create_shape ∷ over_file (codes "replay") ∷ serve_shape ∷ over_file (codes "compact") ∷ over_file (codes "check") ∷ [];
+  subs = create_shape ∷ over_file (codes "replay") ∷ serve_shape ∷ over_file (codes "compact") ∷ over_file (codes "upgrade") ∷ over_file (codes "check") ∷ [];
 }
 
 -- ---- what is asked
@@ -98,6 +98,7 @@ IsAsked name rows (Serve file address serving idle_seconds is_logged) =
     (name ≡ codes "serve") × (first_of (codes "file") rows ≡ Some file.now) × (first_of (codes "listen") rows ≡ Some address.now)
     × IsServedAs rows serving × HasNumber (codes "idle") rows idle_seconds × IsFlag (codes "log") rows is_logged
 IsAsked name rows (Compact file) = (name ≡ codes "compact") × (first_of (codes "file") rows ≡ Some file.now)
+IsAsked name rows (Upgrade file) = (name ≡ codes "upgrade") × (first_of (codes "file") rows ≡ Some file.now)
 IsAsked name rows (Check file) = (name ≡ codes "check") × (first_of (codes "file") rows ≡ Some file.now)
 
 -- The words, of which the first is the program's name, name the verb's command, and its fields are what stands after the name.
@@ -110,6 +111,7 @@ is_check (Create file format) = false
 is_check (Replay file) = false
 is_check (Serve file address serving idle_seconds is_logged) = false
 is_check (Compact file) = false
+is_check (Upgrade file) = false
 is_check (Check file) = true
 
 -- Whether messages are told of in a log.
@@ -118,6 +120,7 @@ is_logged (Create file format) = false
 is_logged (Replay file) = false
 is_logged (Serve file address serving idle_seconds told) = told
 is_logged (Compact file) = false
+is_logged (Upgrade file) = false
 is_logged (Check file) = false
 
 -- a verb's file
@@ -126,4 +129,5 @@ file_of (Create file format) = file.now
 file_of (Replay file) = file.now
 file_of (Serve file address serving idle_seconds is_logged) = file.now
 file_of (Compact file) = file.now
+file_of (Upgrade file) = file.now
 file_of (Check file) = file.now

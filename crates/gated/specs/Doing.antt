@@ -11,11 +11,12 @@ use Rattle.apicore.specs.Admitted.{AreAdmitted}
 use Rattle.durable.specs.declared.compacted.Checked.{Checked}
 use Rattle.durable.specs.declared.compacted.Compacted.{Compacted}
 use Rattle.durable.specs.declared.store.Store.{Store}
+use Rattle.durable.specs.declared.upgraded.Upgraded.{Upgraded}
 use Rattle.durable.specs.Ready.{HoldsHistory}
 use Rattle.durable.specs.Settled.{device_of, IsFound, IsSettledAt}
 use Rattle.api.specs.Answers.{Answered, AreRead, all_writes}
 use Rattle.api.specs.Serving.{Exchanged}
-use Rattle.store.specs.Upkeep.{KeepsHistory, IsWrittenAnew, IsToldOfHistory}
+use Rattle.store.specs.Upkeep.{KeepsHistory, IsWrittenAnew, IsUpgraded, IsToldUpgraded, IsToldOfHistory}
 use Rattle.store.specs.Whole.{HasAnswered}
 
 -- Connections were served. Each write of theirs that was accepted was admitted by the policies just before it. The device holds the history with these writes
@@ -69,6 +70,15 @@ module _ {S D : Type 0} (disk : Disk D) (made opened closed : S → List ℕ →
     pub was_closed : closed storage name left
     pub keeps : (rules : Rules) (h : History) → HoldsHistory rules disk found h → KeepsHistory rules disk found left h
     pub written : (rules : Rules) (h : History) (holds : HoldsHistory rules disk found h) → IsWrittenAnew (disk.content left) holds.read.root c
+
+  -- The store on the device under the name was upgraded, and this is told of it. At every moment a crash left its history as it was, or as it is upgraded.
+  pub record UpgradedStore (u : Upgraded) : Type 0 where
+    pub found : D
+    pub left : D
+    pub was_opened : opened storage name found
+    pub was_closed : closed storage name left
+    pub upgraded : (rules : Rules) (h : History) → HoldsHistory rules disk found h → IsUpgraded rules disk found left h
+    pub told : (rules : Rules) (h : History) (holds : HoldsHistory rules disk found h) → IsToldUpgraded rules h (disk.content left) holds.read.root u
 
   -- The store on the device under the name is whole, and this is told of it.
   pub record FoundWhole (c : Checked) : Type 0 where

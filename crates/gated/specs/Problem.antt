@@ -12,6 +12,8 @@ use Rattle.device.specs.declared.file_device.OpenFault.TheVariants as file_open_
 use Rattle.durable.specs.declared.fault.Damage.TheVariants as damage
 use Rattle.durable.specs.declared.fault.Fault as store
 use Rattle.durable.specs.declared.fault.Fault.TheVariants as store_fault
+use Rattle.durable.specs.declared.upgraded.UpgradeFault as upgrade
+use Rattle.durable.specs.declared.upgraded.UpgradeFault.TheVariants as upgrade_fault
 use Rattle.opening.specs.declared.new_store.CreateFault as store_create
 use Rattle.opening.specs.declared.new_store.CreateFault.TheVariants as store_create_fault
 use Rattle.httpmsg.specs.Flow.{TookSome}
@@ -33,6 +35,9 @@ text_of (problem.Damaged damage.Entry) = codes "damaged: entry"
 text_of (problem.Damaged damage.Log) = codes "damaged: log"
 text_of (problem.Damaged damage.Plan) = codes "damaged: plan"
 text_of problem.Exhausted = codes "generation exhausted"
+text_of problem.TooManyObjects = codes "too many objects"
+text_of problem.RevisionExhausted = codes "revision exhausted"
+text_of problem.AlreadyUpgraded = codes "already upgraded"
 text_of problem.DeviceFailed = codes "device failed"
 text_of problem.StreamFailed = codes "input or output failed"
 text_of problem.OutOfMemory = codes "out of memory"
@@ -52,6 +57,9 @@ status_of problem.FileExists = status.NoStore
 status_of problem.NoStore = status.NoStore
 status_of (problem.Damaged d) = status.NoStore
 status_of problem.Exhausted = status.NoStore
+status_of problem.TooManyObjects = status.NoStore
+status_of problem.RevisionExhausted = status.NoStore
+status_of problem.AlreadyUpgraded = status.NoStore
 status_of problem.DeviceFailed = status.Failed
 status_of problem.StreamFailed = status.Failed
 status_of problem.OutOfMemory = status.OutOfMemory
@@ -87,6 +95,15 @@ of_store store_fault.Memory = problem.OutOfMemory
 of_store (store_fault.Damaged d) = problem.Damaged d
 of_store store_fault.Failed = problem.DeviceFailed
 of_store store_fault.Exhausted = problem.Exhausted
+
+abbrev pub of_upgrade : upgrade.UpgradeFault → Problem
+of_upgrade upgrade_fault.Device = problem.DeviceFailed
+of_upgrade upgrade_fault.Memory = problem.OutOfMemory
+of_upgrade (upgrade_fault.Damaged d) = problem.Damaged d
+of_upgrade upgrade_fault.Failed = problem.DeviceFailed
+of_upgrade upgrade_fault.TooManyObjects = problem.TooManyObjects
+of_upgrade upgrade_fault.RevisionExhausted = problem.RevisionExhausted
+of_upgrade upgrade_fault.NotOld = problem.AlreadyUpgraded
 
 abbrev pub of_serve : serve.ServeFault → Problem
 of_serve serve_fault.Read = problem.StreamFailed

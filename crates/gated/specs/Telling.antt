@@ -1,22 +1,29 @@
--- What the program tells on its output of a compaction, and of a check.
+-- What the program tells on its output of a compaction, of an upgrade, and of a check.
 use Rattle.std.specs.Prelude.{◌≡◌, ℕ, List, ◌++◌, ◌⊎◌, true, codes, decimal}
 use Rattle.device.specs.Disk.{Disk}
 use Rattle.names.specs.Format.{number_of}
 use Rattle.durable.specs.declared.compacted.Checked.{Checked}
 use Rattle.durable.specs.declared.compacted.Compacted.{Compacted}
 use Rattle.durable.specs.declared.fault.Damage.{Damage}
+use Rattle.durable.specs.declared.upgraded.Upgraded.{Upgraded}
 use Rattle.gated.specs.declared.command.Verb.{Verb}
 use Rattle.gated.specs.declared.command.Verb.TheVariants as verb
 use Rattle.gated.specs.declared.problem.Problem.TheVariants as problem
 use Rattle.gated.specs.declared.status.Status.{Status}
 use Rattle.gated.specs.declared.status.Status.TheVariants as status
 use Rattle.gated.specs.CommandLine.{is_check, file_of}
-use Rattle.gated.specs.Doing.{MadeStore, AnsweredAll, ServedAll, WroteAnew, FoundWhole, FoundDamaged}
+use Rattle.gated.specs.Doing.{MadeStore, AnsweredAll, ServedAll, WroteAnew, UpgradedStore, FoundWhole, FoundDamaged}
 use Rattle.gated.specs.Problem.{text_of}
 
 -- of a generation that was written
 abbrev pub compacted_text : Compacted → List ℕ
 compacted_text c = codes "generation " ++ decimal c.generation ++ codes ", " ++ decimal c.pages ++ codes " pages at sector " ++ decimal c.first
+
+-- of a store that was upgraded
+abbrev pub upgraded_text : Upgraded → List ℕ
+upgraded_text u =
+    codes "format " ++ decimal (number_of u.format) ++ codes ", generation " ++ decimal u.generation ++ codes ", revision " ++ decimal u.revision ++ codes ", " ++ decimal u.namespaces
+    ++ codes " namespaces"
 
 -- of a store that is whole
 abbrev pub checked_text : Checked → List ℕ
@@ -48,6 +55,7 @@ module _ {S D I O : Type 0} (disk : Disk D) (made opened closed : S → List ℕ
   HasDone (verb.Replay file) = AnsweredAll disk made opened closed storage file.now gave took (ended input_new) input_old input_new output_old output_new
   HasDone (verb.Serve file address serving idle_seconds is_logged) = ServedAll disk made opened closed storage file.now
   HasDone (verb.Compact file) = (c : Compacted) × WroteAnew disk made opened closed storage file.now c × HasLine took output_old output_new (compacted_text c)
+  HasDone (verb.Upgrade file) = (u : Upgraded) × UpgradedStore disk made opened closed storage file.now u × HasLine took output_old output_new (upgraded_text u)
   HasDone (verb.Check file) = (c : Checked) × FoundWhole disk made opened closed storage file.now c × HasLine took output_old output_new (checked_text c)
 
   -- A verb was done, or it was that of a check that finds damage.

@@ -52,6 +52,10 @@ pub enum Verb<'a> {
     Compact {
         file: &'a str,
     },
+    /// Bring the store to the newest format.
+    Upgrade {
+        file: &'a str,
+    },
     /// Tell whether the store is whole.
     Check {
         file: &'a str,
@@ -224,7 +228,7 @@ fn line<'a>(alloc: Global) -> Result<Command<'a>, AllocError>
 {
     let alone = Command::new(alloc, "gated")
         .about("A small Kubernetes-style API server over one crash-safe file")
-        .version("0.22.0")
+        .version("0.23.0")
         .subcommand_required(true);
     let with_replay = with_over_file(
         alloc,
@@ -240,9 +244,16 @@ fn line<'a>(alloc: Global) -> Result<Command<'a>, AllocError>
         "Writes what the store holds anew, without the writes that led there",
         "Example: gated compact store.db",
     )?;
-    with_over_file(
+    let with_upgrade = with_over_file(
         alloc,
         with_compact,
+        "upgrade",
+        "Brings a store of format 1 to format 2, with an object for each namespace in use",
+        "Example: gated upgrade store.db",
+    )?;
+    with_over_file(
+        alloc,
+        with_upgrade,
         "check",
         "Reads the store and tells whether it is whole",
         "Example: gated check store.db",
@@ -294,6 +305,7 @@ fn verb_of<'a>(name: &str, matches: &ArgMatches<'a>) -> Option<Verb<'a>>
             is_logged: matches.get_flag("log"),
         }),
         "compact" => Some(Verb::Compact { file }),
+        "upgrade" => Some(Verb::Upgrade { file }),
         "check" => Some(Verb::Check { file }),
         _ => None,
     }

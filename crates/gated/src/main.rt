@@ -28,7 +28,7 @@ use std::io::{IsTerminal, Stderr};
 use std::process::ExitCode;
 use store::{FileStorage, Std};
 
-// Where it is shown how far a compaction is: on standard error where that is a terminal, and nowhere else.
+// Where it is shown how far a compaction, or an upgrade, is: on standard error where that is a terminal, and nowhere else.
 fn terminal(runtime: &HostRuntime) -> Option<Std<Stderr>> {
     let errors = runtime.stderr();
     if errors.is_terminal() {

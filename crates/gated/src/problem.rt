@@ -2,14 +2,14 @@
 
 ghost use Rattle.std.specs.Prelude.{◌≡◌, codes, ◌++◌, OnOk, OnErr};
 ghost use Rattle.gated.specs.Telling.{HasLine};
-ghost use Rattle.gated.specs.Problem.{text_of, line_of, TellsAll, status_of, of_file_create, of_file_open, of_store_create, of_store, of_serve, of_answer, of_clients};
+ghost use Rattle.gated.specs.Problem.{text_of, line_of, TellsAll, status_of, of_file_create, of_file_open, of_store_create, of_store, of_upgrade, of_serve, of_answer, of_clients};
 ghost use Rattle.httpmsg.specs.Flow.{HasCause, Writes};
 
 use crate::status::Status;
 use clients::ClientsFault;
 use device::{CreateFault as FileCreateFault, OpenFault};
 use httpmsg::{StreamFault, write_all};
-use store::{AnswerFault, CreateFault, Damage, Fault, Output, ServeFault};
+use store::{AnswerFault, CreateFault, Damage, Fault, Output, ServeFault, UpgradeFault};
 
 /// Why the program did not do what it was asked.
 #[derive(Clone, Copy)]
@@ -19,6 +19,12 @@ pub enum Problem {
     Damaged(Damage),
     /// The store's generation is the greatest one, so that no next one can be written.
     Exhausted,
+    /// With the Namespaces of an upgrade there would be more objects than a store holds.
+    TooManyObjects,
+    /// The revision, or the generation, behind an upgrade would be above the greatest one.
+    RevisionExhausted,
+    /// The store is of the newest format already.
+    AlreadyUpgraded,
     DeviceFailed,
     /// The input or the output failed.
     StreamFailed,
@@ -40,6 +46,9 @@ impl Problem {
             Problem::Damaged(Damage::Log) => "damaged: log",
             Problem::Damaged(Damage::Plan) => "damaged: plan",
             Problem::Exhausted => "generation exhausted",
+            Problem::TooManyObjects => "too many objects",
+            Problem::RevisionExhausted => "revision exhausted",
+            Problem::AlreadyUpgraded => "already upgraded",
             Problem::DeviceFailed => "device failed",
             Problem::StreamFailed => "input or output failed",
             Problem::OutOfMemory => "out of memory",
@@ -53,6 +62,8 @@ impl Problem {
         match self {
             Problem::FileExists | Problem::NoStore => Status::NoStore,
             Problem::Damaged(_) | Problem::Exhausted => Status::NoStore,
+            Problem::TooManyObjects | Problem::RevisionExhausted => Status::NoStore,
+            Problem::AlreadyUpgraded => Status::NoStore,
             Problem::DeviceFailed | Problem::StreamFailed => Status::Failed,
             Problem::OutOfMemory => Status::OutOfMemory,
         }
@@ -103,6 +114,21 @@ impl From<Fault> for Problem {
             Fault::Memory => Problem::OutOfMemory,
             Fault::Damaged(damage) => Problem::Damaged(damage),
             Fault::Exhausted => Problem::Exhausted,
+        }
+    }
+}
+
+impl From<UpgradeFault> for Problem {
+    ghost from_gives = { λ fault problem. problem ≡ of_upgrade fault };
+
+    fn from(fault: UpgradeFault) -> Problem {
+        match fault {
+            UpgradeFault::Device | UpgradeFault::Failed => Problem::DeviceFailed,
+            UpgradeFault::Memory => Problem::OutOfMemory,
+            UpgradeFault::Damaged(damage) => Problem::Damaged(damage),
+            UpgradeFault::TooManyObjects => Problem::TooManyObjects,
+            UpgradeFault::RevisionExhausted => Problem::RevisionExhausted,
+            UpgradeFault::NotOld => Problem::AlreadyUpgraded,
         }
     }
 }

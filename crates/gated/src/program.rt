@@ -6,13 +6,14 @@ ghost use Rattle.names.specs.declared.format.Rules.{Rules};
 ghost use Rattle.recovery.specs.Standing.{View};
 ghost use Rattle.durable.specs.declared.compacted.Compacted.{Compacted as CompactedData};
 ghost use Rattle.durable.specs.declared.fault.Damage.{Damage};
+ghost use Rattle.durable.specs.declared.upgraded.Upgraded.{Upgraded as UpgradedData};
 ghost use Rattle.api.specs.Answers.{ShowsAt};
 ghost use Rattle.gated.specs.declared.command.Verb.{Verb as VerbData};
 ghost use Rattle.gated.specs.CommandLine.{AskFor, is_logged};
 ghost use Rattle.clients.specs.Serving.{HasServedSome};
-ghost use Rattle.gated.specs.Doing.{AnsweredAll, FoundDamaged, FoundWhole, IsOpened, MadeStore, ServedAll, WroteAnew};
+ghost use Rattle.gated.specs.Doing.{AnsweredAll, FoundDamaged, FoundWhole, IsOpened, MadeStore, ServedAll, UpgradedStore, WroteAnew};
 ghost use Rattle.gated.specs.Problem.{Tells};
-ghost use Rattle.gated.specs.Telling.{HasLine, EndsCheck, IsDone, checked_text, compacted_text};
+ghost use Rattle.gated.specs.Telling.{HasLine, EndsCheck, IsDone, checked_text, compacted_text, upgraded_text};
 
 use crate::command::{Serving, Verb, command};
 use crate::listening::{serve_at_once, serve_one_by_one};
@@ -28,8 +29,8 @@ use std::convert::AsStr;
 use std::net::{Net, TcpListener, TcpStream};
 use std::time::{Clock, Duration};
 use store::{
-    Checked, Compacted, Device, Format, Input, Output, Storage, Store, answer,
-    check as check_store, compact as compact_store, create, open,
+    Checked, Compacted, Device, Format, Input, Output, Storage, Store, Upgraded, answer,
+    check as check_store, compact as compact_store, create, open, upgrade as upgrade_store,
 };
 
 // Makes a store of a format in a new file. It allocates nothing, so it cannot run out of memory once there is a file. Where the store cannot be written, as on a
@@ -258,6 +259,67 @@ fn compact<D: Device, S: Storage<D>, O: Output, P: Output + Drop>(
     print_compacted(alloc, &compacted, output)
 }
 
+// Tells of a store that was upgraded.
+fn print_upgraded<O: Output>(
+    alloc: Global,
+    upgraded: &Upgraded,
+    output: &mut O,
+) -> Result<(), Problem>
+    ensures line { OnOk result (HasLine O.took output.old output.new (upgraded_text upgraded.now)) }
+    ensures refusal { OnErr result (IsErrOf result Problem.StreamFailed ⊎ IsErrOf result Problem.OutOfMemory) }
+{
+    let Upgraded {
+        format,
+        generation,
+        revision,
+        namespaces,
+    } = *upgraded;
+    let number = format.number();
+    match format!(in alloc;
+        "format {number}, generation {generation}, revision {revision}, {namespaces} namespaces"
+    ) {
+        Ok(line) => print(output, line.as_str()),
+        Err(_) => Err(Problem::OutOfMemory),
+    }
+}
+
+// Upgrades the store in a file. When it ends, so does the line of its progress.
+fn upgrade_file<D: Device, S: Storage<D>, P: Output + Drop>(
+    storage: &S,
+    alloc: Global,
+    file: &str,
+    progress: Option<P>,
+) -> Result<Upgraded, Problem>
+    ensures upgraded { IfOk result (λ u. UpgradedStore D.disk S.made S.opened S.closed storage.now file.now u) }
+    ensures no_file_made { IsErrOf result Problem.FileExists → ⊥ }
+    ensures no_stream { IsErrOf result Problem.StreamFailed → ⊥ }
+{
+    let device = storage.open(file)?;
+    let watched = Watched::new(device, Progress::new(alloc, progress));
+    match upgrade_store(alloc, watched) {
+        Ok((upgraded, watched)) => {
+            storage.close(file, watched.into_device());
+            Ok(upgraded)
+        }
+        Err((fault, _)) => Err(Problem::from(fault)),
+    }
+}
+
+// Upgrades the store in a file, and tells of it on the output.
+fn upgrade<D: Device, S: Storage<D>, O: Output, P: Output + Drop>(
+    storage: &S,
+    alloc: Global,
+    file: &str,
+    output: &mut O,
+    progress: Option<P>,
+) -> Result<(), Problem>
+    ensures done { OnOk result ((u : UpgradedData) × UpgradedStore D.disk S.made S.opened S.closed storage.now file.now u × HasLine O.took output.old output.new (upgraded_text u)) }
+    ensures no_file_made { IsErrOf result Problem.FileExists → ⊥ }
+{
+    let upgraded = upgrade_file(storage, alloc, file, progress)?;
+    print_upgraded(alloc, &upgraded, output)
+}
+
 // What is found of the store in a file.
 fn look<D: Device, S: Storage<D>>(
     storage: &S,
@@ -367,6 +429,7 @@ fn done<
             log,
         )?,
         Verb::Compact { file } => compact(storage, alloc, file, output, progress)?,
+        Verb::Upgrade { file } => upgrade(storage, alloc, file, output, progress)?,
         Verb::Check { file } => return check(storage, alloc, file, output),
     }
     Ok(Status::Success)
@@ -392,7 +455,7 @@ fn refuse<E: Output>(alloc: Global, error: &Error, errors: &mut E) -> Status
 }
 
 /// Does what the words ask for, of which the first is the program's name, and says how the program ends. Nothing is told on `errors` where
-/// that was done, and where a check finds damage, which it tells on `output`; each other end is told on `errors`. A compaction shows on
+/// that was done, and where a check finds damage, which it tells on `output`; each other end is told on `errors`. A compaction, and an upgrade, shows on
 /// `progress`, if there is one, how far it is. A server tells on `log` of each message that it answers, where the words ask for that, and
 /// else nothing is written there.
 ///

@@ -1,4 +1,4 @@
-//! The progress of a compaction.
+//! The progress of a compaction, or of an upgrade.
 
 ghost use Rattle.std.specs.Prelude.{◌≡◌, ◌+◌, ◌-◌, ◌^◌, ◌<◌, min, false};
 ghost use Rattle.gated.specs.Progress.{Shows, progress_text, watched_disk};

@@ -7,7 +7,8 @@ pub enum Status {
     Success,
     /// The command line was not understood, or asked for help.
     Usage,
-    /// There is no store, or a damaged one, or one where a new one was to be made, or one without a next generation.
+    /// There is no store, or a damaged one, or one where a new one was to be made, or one without a next generation,
+    /// or one that cannot be upgraded.
     NoStore,
     /// A device, the input or the output failed.
     Failed,

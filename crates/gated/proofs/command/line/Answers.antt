@@ -21,4 +21,5 @@ returns c =
     let with_replay = c.in_ok-with_replay.ensures ∙ ap (with (codes "replay")) with_create in
     let with_serve = c.in_ok-with_serve.ensures ∙ ap (λ (line : App). with_subcommand line serve_shape) with_replay in
     let with_compact = c.in_ok-with_compact.ensures ∙ ap (with (codes "compact")) with_serve in
-    IfOk-weaker c.with_over_file-3.result _ _ (λ r h. h ∙ ap (with (codes "check")) with_compact) c.with_over_file-3.ensures
+    let with_upgrade = c.in_ok-with_upgrade.ensures ∙ ap (with (codes "upgrade")) with_compact in
+    IfOk-weaker c.with_over_file-4.result _ _ (λ r h. h ∙ ap (with (codes "check")) with_upgrade) c.with_over_file-4.ensures

@@ -21,6 +21,11 @@ returns-in-compact c =
     let file : option_map (λ s. s.now) c.get_str.result ≡ Some c.in_ok-file.file.now = search rules in
     (search rules, sym (first_value-rows (found_of c.args.matches.now) (codes "file")) ∙ sym c.get_str.ensures ∙ file)
 
+pub returns-in-upgrade : goal.returns-in-upgrade
+returns-in-upgrade c =
+    let file : option_map (λ s. s.now) c.get_str.result ≡ Some c.in_ok-file.file.now = search rules in
+    (search rules, sym (first_value-rows (found_of c.args.matches.now) (codes "file")) ∙ sym c.get_str.ensures ∙ file)
+
 pub returns-in-check : goal.returns-in-check
 returns-in-check c =
     let file : option_map (λ s. s.now) c.get_str.result ≡ Some c.in_ok-file.file.now = search rules in
