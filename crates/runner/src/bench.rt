@@ -67,6 +67,8 @@ impl Service for Stand {
             | "group-stops"
             | "compaction-stops"
             | "compaction-failures"
+            | "upgrade-stops"
+            | "upgrade-failures"
             | "script-stops"
             | "script-failures" => { trials(alloc, word, &self.writes, &self.steps, rest) }
             "compaction-damage" => compaction_damage(alloc, &self.writes, rest),
@@ -137,6 +139,7 @@ impl Stand {
             "open" => self.place.open(),
             "settled" => self.place.settled(),
             "compact" => self.place.compact(),
+            "upgrade" => self.place.upgrade(),
             "again" => self.place.again(),
             "check" => self.place.check(),
             "create" => return self.create(alloc, rest),

@@ -20,8 +20,8 @@ fn compact(place: &mut Place) {
     place.note(is_compacted, "the store is not compacted");
 }
 
-// A new store with these writes, compacted this many times, and what it shows.
-fn begun(alloc: Global, writes: &[String], times: u64, looks: &mut Vec<String>) -> Place {
+/// A new store with these writes, compacted this many times.
+pub fn made(alloc: Global, writes: &[String], times: u64) -> Place {
     let mut place = Place::new(alloc, ROOM_SECTORS);
     place.open();
     for write in writes {
@@ -30,6 +30,12 @@ fn begun(alloc: Global, writes: &[String], times: u64, looks: &mut Vec<String>) 
     for _ in 0..times {
         compact(&mut place);
     }
+    place
+}
+
+// Such a store, and what it shows.
+fn begun(alloc: Global, writes: &[String], times: u64, looks: &mut Vec<String>) -> Place {
+    let mut place = made(alloc, writes, times);
     push_look(&mut place, looks);
     place
 }

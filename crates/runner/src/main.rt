@@ -21,6 +21,7 @@ mod steps;
 mod stops;
 mod streams;
 mod trials;
+mod upgrades;
 
 use api::answers_are_runs;
 use bench::Stand;

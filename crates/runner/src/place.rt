@@ -7,7 +7,7 @@ use crate::streams::{Parted, Taker};
 use api::serve;
 use cases::{TextBuilder, Wrong, shown, text, yes_or_no};
 use device::{MemDevice, Pick};
-use durable::{Checked, Compacted, Fault, Store};
+use durable::{Checked, Compacted, Fault, Store, Upgraded};
 use httpmsg::Std;
 use names::Format;
 use opening::{Episode, Found, create, drive, open};
@@ -15,9 +15,9 @@ use requests::{Reply, Request};
 use std::alloc::Global;
 use std::mem::replace;
 
-// Asks for the lists of what cases write, and for the events of configmaps and policies.
+// Asks for the lists of what cases write, and for the events of configmaps, policies and namespaces. A store of format 1 has no path of namespaces, and says so.
 const LOOK: &str =
-    "GET /api/v1/configmaps HTTP/1.1\r\nHost: x\r\n\r\nGET /apis/apps/v1/deployments HTTP/1.1\r\nHost: x\r\n\r\nGET /apis/admissionregistration.k8s.io/v1/validatingadmissionpolicies HTTP/1.1\r\nHost: x\r\n\r\nGET /apis/admissionregistration.k8s.io/v1/validatingadmissionpolicybindings HTTP/1.1\r\nHost: x\r\n\r\nGET /api/v1/configmaps?watch=1&resourceVersion=1 HTTP/1.1\r\nHost: x\r\n\r\nGET /apis/admissionregistration.k8s.io/v1/validatingadmissionpolicies?watch=1&resourceVersion=1 HTTP/1.1\r\nHost: x\r\n\r\n";
+    "GET /api/v1/configmaps HTTP/1.1\r\nHost: x\r\n\r\nGET /apis/apps/v1/deployments HTTP/1.1\r\nHost: x\r\n\r\nGET /apis/admissionregistration.k8s.io/v1/validatingadmissionpolicies HTTP/1.1\r\nHost: x\r\n\r\nGET /apis/admissionregistration.k8s.io/v1/validatingadmissionpolicybindings HTTP/1.1\r\nHost: x\r\n\r\nGET /api/v1/configmaps?watch=1&resourceVersion=1 HTTP/1.1\r\nHost: x\r\n\r\nGET /apis/admissionregistration.k8s.io/v1/validatingadmissionpolicies?watch=1&resourceVersion=1 HTTP/1.1\r\nHost: x\r\n\r\nGET /api/v1/namespaces HTTP/1.1\r\nHost: x\r\n\r\nGET /api/v1/namespaces?watch=1&resourceVersion=1 HTTP/1.1\r\nHost: x\r\n\r\n";
 
 const NOT_OPEN: &str = "the store is not open";
 
@@ -60,6 +60,21 @@ fn compacted_text(alloc: Global, told: Compacted) -> Result<String, Wrong> {
     line.show(&told.pages);
     line.push(" pages at sector ");
     line.show(&told.first);
+    line.end()
+}
+
+// `format F, generation G, revision R, N namespaces`
+fn upgraded_text(alloc: Global, told: Upgraded) -> Result<String, Wrong> {
+    let mut line = TextBuilder::new(alloc);
+    line.push("format ");
+    line.show(&told.format.number());
+    line.push(", generation ");
+    line.show(&told.generation);
+    line.push(", revision ");
+    line.show(&told.revision);
+    line.push(", ");
+    line.show(&told.namespaces);
+    line.push(" namespaces");
     line.end()
 }
 
@@ -270,6 +285,19 @@ impl Place {
         self.tell(told);
     }
 
+    /// `upgrade`: brings the open store to the newest format, and tells of it.
+    pub fn upgrade(&mut self) {
+        let alloc = self.alloc;
+        let Some(store) = self.store() else {
+            return self.note(false, NOT_OPEN);
+        };
+        let told = match store.upgrade(alloc) {
+            Ok(told) => upgraded_text(alloc, told),
+            Err(fault) => shown(alloc, &fault),
+        };
+        self.tell(told);
+    }
+
     /// `again`: compacts the open store, and opens it again on its device.
     pub fn again(&mut self) {
         self.compact();
@@ -332,7 +360,7 @@ impl Place {
         self.serve(reader, Taker::new(self.alloc, usize::MAX, 0));
     }
 
-    /// Tells the lists of configmaps, deployments, policies and bindings, and the events of configmaps and policies, as they are shown.
+    /// Tells the lists of configmaps, deployments, policies, bindings and namespaces, and the events of configmaps, policies and namespaces, as they are shown.
     pub fn look(&mut self) {
         self.send(LOOK);
         let is_shown = self.told.starts_with("HTTP/1.1 200 ");

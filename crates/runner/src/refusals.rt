@@ -2,7 +2,7 @@
 
 use api::{ServeFault, fault_body};
 use cases::{Wrong, first_word, shown, text};
-use durable::{Damage, Fault};
+use durable::{Damage, Fault, UpgradeFault};
 use httpmsg::MessageFault;
 use opening::CreateFault;
 use requests::Reply;
@@ -68,6 +68,18 @@ fn opening_fault(word: &str) -> Option<Fault> {
     }
 }
 
+fn upgrade_fault(word: &str) -> Option<UpgradeFault> {
+    match word {
+        "device" => Some(UpgradeFault::Device),
+        "memory" => Some(UpgradeFault::Memory),
+        "failed" => Some(UpgradeFault::Failed),
+        "objects" => Some(UpgradeFault::TooManyObjects),
+        "revision" => Some(UpgradeFault::RevisionExhausted),
+        "upgraded" => Some(UpgradeFault::NotOld),
+        _ => Some(UpgradeFault::Damaged(damage(word)?)),
+    }
+}
+
 fn create_fault(word: &str) -> Option<CreateFault> {
     match word {
         "device" => Some(CreateFault::Device),
@@ -95,10 +107,11 @@ fn told<E: Display + Drop>(alloc: Global, fault: Option<E>) -> Result<String, Wr
     }
 }
 
-/// `fault opening WORD`, `fault create WORD`, `fault connection WORD`: what people are told of it.
+/// `fault opening WORD`, `fault upgrade WORD`, `fault create WORD`, `fault connection WORD`: what people are told of it.
 pub fn fault(alloc: Global, words: &str) -> Result<String, Wrong> {
     match first_word(words) {
         ("opening", word) => told(alloc, opening_fault(word)),
+        ("upgrade", word) => told(alloc, upgrade_fault(word)),
         ("create", word) => told(alloc, create_fault(word)),
         ("connection", word) => told(alloc, connection_fault(word)),
         _ => Err(Wrong::Told("no such fault")),

@@ -4,6 +4,7 @@ use crate::compactions::{compaction_failed, compaction_stopped};
 use crate::scripts::{PROBE, push_script_looks, script_failed, script_stopped};
 use crate::steps::{Stop, push_steps, stop_step};
 use crate::stops::{push_write_looks, writes_stopped};
+use crate::upgrades::{push_upgrade_looks, upgrade_failed, upgrade_stopped};
 use cases::{WordReader, Wrong, shown};
 use device::Pick;
 use opening::Episode;
@@ -45,6 +46,14 @@ enum Kind {
     // `compaction-failures A B TIMES`: the same with one call that fails, and no crash before what is found: where the opening does not fail, the
     // compaction must, and then the store is neither compacted nor checked any more.
     CompactionFailures(u64),
+    // `upgrade-stops A B TIMES ALONE`: opens and upgrades a new store of format 1 with these writes, which was compacted this many times before, with a
+    // stop at each call from the A-th to the B-th, and crashes: the sectors that may change become all alike, or one of the first this many alone, with
+    // the least and the greatest length. What is found is what was shown before, or what the upgraded store shows, the same after a second crash, and
+    // the second after an upgrade that follows. Each of the calls must be one of the opening or of the upgrade.
+    UpgradeStops { times: u64, alone: u64 },
+    // `upgrade-failures A B TIMES`: the same with one call that fails, and no crash before what is found: where the opening does not fail, the upgrade
+    // must, and then the store is neither upgraded nor checked any more.
+    UpgradeFailures(u64),
     // `script-stops A B ALONE`: takes the steps of this case on a new store, with a stop at each call from the A-th to the B-th, an opening's first
     // being 1, and crashes: the sectors that may change become all alike, or one of the first this many alone, as they were or not, with the least and
     // the greatest length. How often a step met the stop; what is found must be what was told, or that and the step, after a second crash too, and a
@@ -91,6 +100,9 @@ impl<'a> Trial<'a> {
     fn prepare(&mut self, alloc: Global, script: &[String]) -> Result<u64, Wrong> {
         match self.kind {
             Kind::CompactionStops(_) | Kind::CompactionFailures(_) => Ok(0),
+            Kind::UpgradeStops { times, alone: _ } | Kind::UpgradeFailures(times) => {
+                push_upgrade_looks(alloc, self.writes, times, &mut self.looks)
+            }
             Kind::Stops | Kind::GroupStops => {
                 let is_group = matches!(self.kind, Kind::GroupStops);
                 push_steps(alloc, self.writes, &[], is_group, &mut self.steps)?;
@@ -164,6 +176,37 @@ impl<'a> Trial<'a> {
         Ok(met)
     }
 
+    // A stop of an upgrade at a call, and each crash: how many hold.
+    fn upgrade_stops(
+        &self,
+        alloc: Global,
+        call: u64,
+        times: u64,
+        alone: u64,
+    ) -> Result<u64, Wrong> {
+        let mut held = 0_u64;
+        for pick in [Pick::Old, Pick::New, Pick::Fill(0xA5), Pick::Fill(0)] {
+            for number in 0..=alone {
+                let picks = picks_of(alloc, pick, number as usize)?;
+                for length in [0, u64::MAX] {
+                    let stop = Stop {
+                        call,
+                        picks: &picks,
+                        length,
+                    };
+                    held = held.saturating_add(upgrade_stopped(
+                        alloc,
+                        self.writes,
+                        times,
+                        &self.looks,
+                        stop,
+                    )?);
+                }
+            }
+        }
+        Ok(held)
+    }
+
     // All trials of a call: how many hold, or met the stop or the failure.
     fn at(&mut self, alloc: Global, call: u64) -> Result<u64, Wrong> {
         match self.kind {
@@ -173,6 +216,10 @@ impl<'a> Trial<'a> {
                 script_failed(alloc, script, &self.looks, call)
             }
             Kind::ScriptStops(alone) => self.script_stops(alloc, call, alone),
+            Kind::UpgradeStops { times, alone } => self.upgrade_stops(alloc, call, times, alone),
+            Kind::UpgradeFailures(times) => {
+                upgrade_failed(alloc, self.writes, times, &self.looks, call)
+            }
             _ => self.stops(alloc, call),
         }
     }
@@ -194,6 +241,11 @@ pub fn trials(
         "group-stops" => Kind::GroupStops,
         "compaction-stops" => Kind::CompactionStops(words.number()),
         "compaction-failures" => Kind::CompactionFailures(words.number()),
+        "upgrade-stops" => Kind::UpgradeStops {
+            times: words.number(),
+            alone: words.number(),
+        },
+        "upgrade-failures" => Kind::UpgradeFailures(words.number()),
         "script-stops" => Kind::ScriptStops(words.number()),
         _ => Kind::ScriptFailures,
     };
