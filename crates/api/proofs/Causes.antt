@@ -2,7 +2,7 @@
 use Rattle.std.proofs.Common.{arith, ◌≡◌, ◌∙◌, refl, sym, ap, subst, ◌≤◌, ◌⊎◌, inl, inr, ℕ, Bool, true, false, Option, Some, None, IfSome, Result, Ok, Err, IfErr, OnOk, IsErrOf, List}
 use Rattle.objects.specs.Failing.{HasGrown}
 use Rattle.httpmsg.specs.declared.head.BrokenMessage.{BrokenMessage}
-use Rattle.cutter.specs.declared.cutting.CutFault.TheVariants as Cuts
+use Rattle.httpmsg.specs.declared.cutter.CutFault.TheVariants as Cuts
 use Rattle.durable.specs.declared.fault.Damage.{Damage}
 use Rattle.durable.specs.declared.fault.Fault.{Fault}
 use Rattle.durable.specs.declared.fault.Fault.TheVariants as Stored

@@ -6,11 +6,11 @@ use Rattle.device.specs.declared.device.Device.{Ghosts}
 use Rattle.device.proofs.Moments.{followed_by}
 use Rattle.names.specs.declared.format.Format.{Format}
 use Rattle.names.specs.declared.format.Rules.{Rules}
-use Rattle.recovery.specs.Standing.{Write, History, View}
+use Rattle.decoded.specs.Standing.{Write, History, View}
 use Rattle.apicore.specs.Admitted.{AreAdmitted}
 use Rattle.apicore.proofs.Admitting.{AreAdmitted-append}
-use Rattle.requests.specs.View.{view, after_all}
-use Rattle.requests.proofs.ViewLemmas.{after_all-append}
+use Rattle.histories.specs.View.{view, after_all}
+use Rattle.histories.proofs.ViewLemmas.{after_all-append}
 use Rattle.durable.specs.declared.store.Store.{Store}
 use Rattle.durable.specs.Stands.{StandsFor}
 use Rattle.durable.specs.Settled.{device_of, IsFound, IsSettledAt, IsLeftAt, LeavesSome}

@@ -12,12 +12,12 @@ use Rattle.names.specs.declared.format.Format.{Format}
 use Rattle.names.specs.declared.format.Rules.{Rules}
 use Rattle.records.specs.Payload.{group_limit}
 use Rattle.expressions.specs.Specification.{sound}
-use Rattle.recovery.specs.Standing.{Write, History, View}
+use Rattle.decoded.specs.Standing.{Write, History, View}
 use Rattle.apicore.specs.Admitted.{AreAdmitted}
 use Rattle.apicore.specs.Prepared.{IsReadOf}
 use Rattle.apicore.specs.Step.{Asked, writes, reply, accepted, replies}
 use Rattle.requests.specs.Reply.{Reply, status}
-use Rattle.requests.specs.View.{view, after_all}
+use Rattle.histories.specs.View.{view, after_all}
 use Rattle.durable.specs.declared.fault.Damage.{Damage}
 use Rattle.durable.specs.declared.store.Store.{Store}
 use Rattle.durable.specs.Settled.{added, device_of, format_of, serves, ServesAt, IsSettledAt, IsLeftAt, LeavesSome, HasAnsweredAt, HasServedAs, HasServed, HasStopped}

@@ -4,7 +4,7 @@ use Rattle.std.proofs.lemmas.List.{append-nil}
 use Rattle.device.specs.declared.device.Device.{Ghosts}
 use Rattle.requests.specs.declared.refusal.Refusal.TheVariants.{OutOfMemory}
 use Rattle.names.specs.declared.format.Rules.{Rules}
-use Rattle.recovery.specs.Standing.{View}
+use Rattle.decoded.specs.Standing.{View}
 use Rattle.durable.specs.declared.store.Store.{Store}
 use Rattle.durable.specs.Settled.{device_of}
 use Rattle.httpmsg.specs.declared.head.End.{End}

@@ -6,13 +6,13 @@ use Rattle.device.specs.declared.device.Device.{Ghosts}
 use Rattle.objects.specs.Failing.{HasGrown}
 use Rattle.requests.specs.declared.refusal.Refusal.TheVariants.{OutOfMemory, StorageFailed}
 use Rattle.expressions.specs.Specification.{Specification}
-use Rattle.recovery.specs.Standing.{Write, History, View}
+use Rattle.decoded.specs.Standing.{Write, History, View}
 use Rattle.apicore.specs.Admitted.{AreAdmitted}
 use Rattle.requests.specs.Reply.{Reply, status}
 use Rattle.records.specs.Payload.{group_limit}
 use Rattle.apicore.specs.Step.{Asked, writes, reply}
 use Rattle.apicore.specs.Prepared.{IsReadOf}
-use Rattle.requests.specs.View.{view, after_all}
+use Rattle.histories.specs.View.{view, after_all}
 use Rattle.durable.specs.declared.fault.Damage.{Damage}
 use Rattle.durable.specs.declared.store.Store.{Store}
 use Rattle.names.specs.declared.format.Format.{Format}

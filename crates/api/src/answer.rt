@@ -4,7 +4,7 @@ ghost use Rattle.std.specs.Prelude.{◌≡◌, ◌≤◌, ◌⊎◌, ◌+◌, []
 ghost use Rattle.requests.specs.RequestOf.{request_of};
 ghost use Rattle.names.specs.declared.format.Rules.{Rules};
 ghost use Rattle.records.specs.Payload.{group_limit};
-ghost use Rattle.recovery.specs.Standing.{View};
+ghost use Rattle.decoded.specs.Standing.{View};
 ghost use Rattle.requests.specs.Reply.{Reply as ReplyData};
 ghost use Rattle.device.specs.Disk.{HasFailed};
 ghost use Rattle.durable.specs.declared.fault.Damage.{Damage};

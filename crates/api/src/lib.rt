@@ -1,7 +1,7 @@
 //! From the bytes of a connection to the bytes of its replies.
 //!
 //! ```text
-//! let mut store = open(alloc, device)?;
+//! let mut store = Store::open(alloc, device)?;
 //! let end = serve(alloc, &mut input, &mut output, &mut store)?;
 //! ```
 //!
@@ -20,5 +20,6 @@ mod piece;
 pub use answer::{answered_count, replies_to};
 pub use connection::serve;
 pub use fault::ServeFault;
+pub use httpmsg::{Input, Output, Std};
 pub use laws::answers_are_runs;
-pub use routes::fault_body;
+pub use routes::{Routes, fault_body, route};

@@ -3,7 +3,7 @@
 ghost use Rattle.std.specs.Prelude.{◌≡◌, ◌≢◌, ◌<◌, ◌≤◌, ◌⊎◌, ℕ, List, [], length, take, false, Some, None, IfOk, OnOk, IfErr, IsErrOf, MatchResult};
 ghost use Rattle.requests.specs.declared.refusal.Refusal.TheVariants as refusal;
 ghost use Rattle.names.specs.declared.format.Rules.{Rules};
-ghost use Rattle.recovery.specs.Standing.{View};
+ghost use Rattle.decoded.specs.Standing.{View};
 ghost use Rattle.durable.specs.Settled.{device_of, serves};
 ghost use Rattle.durable.specs.declared.fault.Damage.{Damage as DamageData};
 ghost use Rattle.httpmsg.specs.declared.head.BrokenMessage.{BrokenMessage as BrokenData};
@@ -18,10 +18,9 @@ ghost use Rattle.api.specs.Piece.{Tells, Breaks, Steps, StepsWrong, Finishes, Fi
 
 use crate::answer::answer_all;
 use crate::fault::ServeFault;
-use cutter::{CutFault, Cutter, HeadRoom};
 use device::Device;
 use durable::Store;
-use httpmsg::{End, Input, Message, Output, Sheet};
+use httpmsg::{CutFault, Cutter, End, HeadRoom, Input, Message, Output, Sheet};
 use routes::{Routes, write_fault, write_no_more};
 use std::alloc::{AllocError, Global};
 

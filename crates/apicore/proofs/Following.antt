@@ -6,27 +6,27 @@ use Rattle.names.specs.Key.{is_key}
 use Rattle.requests.specs.declared.refusal.Refusal.TheVariants.{BadSpec}
 use Rattle.requests.specs.Codes.{document_in}
 use Rattle.requests.specs.Request.{Request, get, list, watch, create, replace, delete, refused, RequestHasForm}
-use Rattle.requests.specs.History as write
-use Rattle.requests.specs.History.{put}
-use Rattle.requests.specs.View as seen
-use Rattle.requests.specs.Mapped.{mapped_write}
-use Rattle.requests.proofs.Mapping.{all_mapped}
+use Rattle.histories.specs.History as write
+use Rattle.histories.specs.History.{put}
+use Rattle.histories.specs.View as seen
+use Rattle.histories.specs.Mapped.{mapped_write}
+use Rattle.histories.proofs.Mapping.{all_mapped}
 use Rattle.holdings.specs.Prepared.{writes_of}
-use Rattle.recovery.specs.Beside.{Beside}
-use Rattle.recovery.specs.Shown.{plans_held, Shows}
-use Rattle.recovery.specs.Standing.{plans_beside, with_plans}
-use Rattle.requests.specs.View.{exists, is_too_large, is_full, is_exhausted, after_all, empty, view}
-use Rattle.requests.proofs.ViewLemmas.{after_all-append}
+use Rattle.decoded.specs.Decoded.{Decoded}
+use Rattle.decoded.specs.Shown.{plans_held, Shows}
+use Rattle.decoded.specs.Standing.{plans_beside, with_plans}
+use Rattle.histories.specs.View.{exists, is_too_large, is_full, is_exhausted, after_all, empty, view}
+use Rattle.histories.proofs.ViewLemmas.{after_all-append}
 use Rattle.celtree.specs.Tree.{Expr}
 use Rattle.expressions.specs.Specification.{Specification, bad_spec, bad_expression}
 use Rattle.expressions.specs.Specification as beside
-use Rattle.recovery.specs.Standing.{Write, History, View, AllMayFollow, IsHistory}
-use Rattle.recovery.proofs.Following.{AllMayFollow-append}
-use Rattle.recovery.specs.Conditions.{known, with_bad_expression, place_conditions, create_conditions, replace_conditions, asks_for, put_of, update_conflicts, deletion_conflicts}
+use Rattle.decoded.specs.Standing.{Write, History, View, AllMayFollow, IsHistory}
+use Rattle.decoded.proofs.Following.{AllMayFollow-append}
+use Rattle.apicore.specs.Conditions.{known, with_bad_expression, place_conditions, create_conditions, replace_conditions, asks_for, put_of, update_conflicts, deletion_conflicts}
 use Rattle.apicore.specs.Prepared.{IsReadOf, IsStepOf}
 use Rattle.apicore.specs.declared.prepared.Prepared.{Prepared}
-use Rattle.recovery.specs.Namespaces.{lacks_namespace, is_in_use}
-use Rattle.recovery.proofs.Conditions.{form_of, put_follows, replaced_follows, deleted_follows, nothing_follows, bad_form}
+use Rattle.apicore.specs.Namespaces.{lacks_namespace, is_in_use}
+use Rattle.apicore.proofs.Conditions.{form_of, put_follows, replaced_follows, deleted_follows, nothing_follows, bad_form}
 use Rattle.apicore.specs.Step.{Asked, verdict_conditions, verdict_of, writes, refusal, reply, accepted, replies, step, runs}
 
 -- what a request writes may follow
@@ -103,14 +103,14 @@ runs_are_steps rules h a rest =
       ap (λ v. reply rules (view rules h) a ∷ replies rules v rest) (sym seen),
     )
 
-pub prepared_step : (rules : Rules) (h : History) (held : seen.View Beside) (a : Asked) (p : Prepared) → Shows held (view rules h) → IsStepOf rules held (view rules h) a p
+pub prepared_step : (rules : Rules) (h : History) (held : seen.View Decoded) (a : Asked) (p : Prepared) → Shows held (view rules h) → IsStepOf rules held (view rules h) a p
     → (p.reply ≡ (step rules h a).1) × Shows (after_all rules held (writes_of p.write)) (view rules (step rules h a).0)
 prepared_step rules h held a p shows is =
     let v = view rules h in (
       is.reply,
       all_mapped plans_held rules held (writes_of p.write)
-          ∙ ap (λ (u : seen.View Beside). after_all rules u (map (mapped_write plans_held) (writes_of p.write))) shows
-          ∙ ap (λ (ws : List (write.Write Beside)). after_all rules (with_plans v) ws) is.writes
+          ∙ ap (λ (u : seen.View Decoded). after_all rules u (map (mapped_write plans_held) (writes_of p.write))) shows
+          ∙ ap (λ (ws : List (write.Write Decoded)). after_all rules (with_plans v) ws) is.writes
           ∙ sym (all_mapped plans_beside rules v (writes rules v a))
           ∙ ap (λ (u : View). with_plans u) (sym (view-step rules h a)),
     )

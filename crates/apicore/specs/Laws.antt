@@ -2,12 +2,12 @@
 use Rattle.std.specs.Prelude.{◌≡◌, ◌≤◌, ◌^◌, List, ◌∷◌}
 use Rattle.names.specs.declared.format.Rules.{Rules}
 use Rattle.requests.specs.Request.{RequestHasForm}
-use Rattle.requests.specs.View as seen
-use Rattle.requests.specs.View.{view, after_all}
+use Rattle.histories.specs.View as seen
+use Rattle.histories.specs.View.{view, after_all}
 use Rattle.holdings.specs.Prepared.{writes_of}
-use Rattle.recovery.specs.Beside.{Beside}
-use Rattle.recovery.specs.Shown.{Shows}
-use Rattle.recovery.specs.Standing.{View, History, IsHistory}
+use Rattle.decoded.specs.Decoded.{Decoded}
+use Rattle.decoded.specs.Shown.{Shows}
+use Rattle.decoded.specs.Standing.{View, History, IsHistory}
 use Rattle.apicore.specs.Prepared.{IsReadOf, IsStepOf}
 use Rattle.apicore.specs.declared.prepared.Prepared.{Prepared}
 use Rattle.apicore.specs.Admitted.{AreAdmitted}
@@ -39,5 +39,5 @@ ViewDecides =
 -- A prepared step whose write is taken is one step of the model: its reply is the model's, and what is held then is the view of the history after it.
 abbrev pub PreparedIsStep : Type 0
 PreparedIsStep =
-    (rules : Rules) (h : History) (held : seen.View Beside) (a : Asked) (p : Prepared) → Shows held (view rules h) → IsStepOf rules held (view rules h) a p
+    (rules : Rules) (h : History) (held : seen.View Decoded) (a : Asked) (p : Prepared) → Shows held (view rules h) → IsStepOf rules held (view rules h) a p
     → (p.reply ≡ (step rules h a).1) × Shows (after_all rules held (writes_of p.write)) (view rules (step rules h a).0)

@@ -1,3 +1,11 @@
+pub mod Namespaces
+pub mod Conditions
+pub mod Places
+pub mod Read
+pub mod Looked
+pub mod Attempts
+pub mod Wanted
+pub mod StoreLookups
 pub mod Admitted
 pub mod Step
 pub mod Prepared

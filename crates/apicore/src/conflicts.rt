@@ -1,10 +1,9 @@
 // Whether a request asks for another revision than that of the object which is stored.
 ghost use Rattle.std.specs.Prelude.{◌≡◌, IfOk, option_map, string_bytes};
-ghost use Rattle.recovery.specs.Conditions.{update_conflicts_at, deletion_conflicts_at};
+ghost use Rattle.apicore.specs.Conditions.{update_conflicts_at, deletion_conflicts_at};
 
-use requests::Manifest;
+use requests::{Manifest, is_text_of};
 use std::alloc::{AllocError, Global};
-use versions::is_text_of;
 
 /// Whether the manifest asks for another revision than this one.
 pub(crate) fn update_conflicts(

@@ -10,57 +10,58 @@ ghost use Rattle.objects.specs.Failing.{HasGrown};
 ghost use Rattle.objects.specs.declared.fault.Part.{Part};
 ghost use Rattle.objects.specs.declared.fault.LookupFault.TheVariants as LookupFault;
 ghost use Rattle.requests.specs.Codes.{document_in};
-ghost use Rattle.requests.specs.declared.stored.Stored.{Stored as StoredData};
-ghost use Rattle.requests.specs.History.{put, delete};
+ghost use Rattle.histories.specs.declared.stored.Stored.{Stored as StoredData};
+ghost use Rattle.histories.specs.History.{put, delete};
 ghost use Rattle.requests.specs.Reply.{showing};
-ghost use Rattle.requests.specs.View.{View as Held, stored_at, exists};
+ghost use Rattle.histories.specs.View.{View as Held, stored_at, exists};
 ghost use Rattle.holdings.specs.Prepared.{writes_of, AreNext, HasRoomFor};
 ghost use Rattle.holdings.specs.Sources.{found_in};
 ghost use Rattle.expressions.specs.Specification.{these, plans_in};
 ghost use Rattle.verdict.specs.Admission.{verdict};
-ghost use Rattle.denials.specs.Seen.{verdict_seen};
-ghost use Rattle.recovery.specs.Beside.{Beside as BesideData, spelled};
+ghost use Rattle.verdict.specs.DenialSeen.{verdict_seen};
+ghost use Rattle.decoded.specs.Decoded.{Decoded as DecodedData, spelled};
 ghost use Rattle.apicore.specs.Judged.{IsJudged};
-ghost use Rattle.recovery.specs.Looked.{HasLooked, IsAsBefore};
-ghost use Rattle.recovery.specs.Shown.{IsOver};
-ghost use Rattle.recovery.specs.Standing.{View};
-ghost use Rattle.recovery.specs.Attempts.{objects_of};
+ghost use Rattle.apicore.specs.Looked.{HasLooked, IsAsBefore};
+ghost use Rattle.decoded.specs.Shown.{IsOver};
+ghost use Rattle.decoded.specs.Standing.{View};
+ghost use Rattle.apicore.specs.Attempts.{objects_of};
 
+use crate::attempts::put_attempt;
 use crate::prepared::Prepared;
 use crate::refusing::denied;
-use denials::Verdict;
+use crate::store_lookup::StoreLookup;
+use decoded::{Core, Decoded};
 use documents::Document;
 use expressions::StoredPlans;
-use holdings::{Found, PreparedWrite, Source};
+use holdings::{FoundDocument, PreparedWrite, Source};
 use names::Key;
 use objects::LookupFault;
 use plancode::Verified;
 use policy::{Attempt, Operation};
-use recovery::{Beside, Core, Sight, put_attempt};
 use requests::{Manifest, Reply};
 use serde_json::Value;
 use std::alloc::Global;
-use verdict::admit;
+use verdict::{Verdict, admit};
 
 // The verdict of what the core shows on a write.
-fn verdict_of<S: Source<Beside>>(
+fn verdict_of<S: Source<Decoded>>(
     core: &Core,
     alloc: Global,
     source: &mut S,
     attempt: &Attempt<'_>,
 ) -> Result<Verdict, LookupFault>
-    ensures verdict { (held : Held BesideData) (v : View) → IsOver (S.holds source.old) core.now held v
+    ensures verdict { (held : Held DecodedData) (v : View) → IsOver (S.holds source.old) core.now held v
         → IfOk result (λ x. verdict_seen x ≡ verdict (objects_of v) (attempt_seen attempt.now)) }
-    ensures kept { (base : List (KeyData × StoredData BesideData)) → S.holds source.old base → S.holds source.new base }
+    ensures kept { (base : List (KeyData × StoredData DecodedData)) → S.holds source.old base → S.holds source.new base }
     ensures goes { S.goes_to source.old source.new }
     ensures counts { S.failures source.old ≤ S.failures source.new }
     ensures steady { OnOk result (S.unfailed source.old source.new) }
     ensures device { IsErrOf result LookupFault.Device → HasGrown (S.failures source.old) (S.failures source.new) }
     ensures memory { IsErrOf result LookupFault.Memory → S.unfailed source.old source.new }
-    ensures damaged { (part : Part) → IsErrOf result (LookupFault.Damaged part) → (held : Held BesideData) (v : View) → IsOver (S.holds source.old) core.now held v → ⊥ }
+    ensures damaged { (part : Part) → IsErrOf result (LookupFault.Damaged part) → (held : Held DecodedData) (v : View) → IsOver (S.holds source.old) core.now held v → ⊥ }
 {
-    let mut sight = Sight { core, source };
-    admit(alloc, &mut sight, attempt)
+    let mut lookup = StoreLookup { core, source };
+    admit(alloc, &mut lookup, attempt)
 }
 
 // The code that shows a put: of an object that changes, or of a new one.
@@ -84,7 +85,7 @@ fn admitted_put(
     ensures reply { IfOk result
         (λ p. p.reply ≡ showing (if stands then 200 else 201) (map string_bytes warnings.items) (document_in manifest.now.body) (core.old.revision + 1)) }
     ensures write { IfOk result (λ p. writes_of p.write ≡ put manifest.now.key (document_in manifest.now.body) (spelled (document_in manifest.now.body).json (these plans.items)) ∷ []) }
-    ensures next { (held : Held BesideData) → core.old.revision ≡ held.revision → stands ≡ exists held manifest.now.key → IfOk result (λ p. AreNext held p.write) }
+    ensures next { (held : Held DecodedData) → core.old.revision ≡ held.revision → stands ≡ exists held manifest.now.key → IfOk result (λ p. AreNext held p.write) }
     ensures ready { IfOk result (λ p. HasRoomFor core.new p.write) }
     ensures memory { OnErr result (IsErrOf result LookupFault.Memory) }
 {
@@ -93,7 +94,7 @@ fn admitted_put(
     let revision = core.revision() + 1;
     let document = manifest.document();
     let reply = Reply::showing(alloc, put_code(stands), warnings, document, revision)?;
-    let beside = Beside::of(alloc, document.json(), StoredPlans::Plans(plans))?;
+    let beside = Decoded::of(alloc, document.json(), StoredPlans::Plans(plans))?;
     let put = core.prepare_put(alloc, manifest, beside, stands)?;
     Ok(Prepared {
         reply,
@@ -102,7 +103,7 @@ fn admitted_put(
 }
 
 /// The put of a document that nothing but the policies may refuse, with the object at its key and its Namespace, as they are shown, where they are there.
-pub(crate) fn judged_put<'x, S: Source<Beside>>(
+pub(crate) fn judged_put<'x, S: Source<Decoded>>(
     core: &mut Core,
     alloc: Global,
     source: &mut S,
@@ -115,7 +116,7 @@ pub(crate) fn judged_put<'x, S: Source<Beside>>(
     ensures same { IsAsBefore core.old core.new }
     ensures ready { IfOk result (λ p. HasRoomFor core.new p.write) }
     ensures judged { let old = option_map (λ d. view d.now) old_object.entry in let home = option_map (λ d. view d.now) namespace.entry in
-        (held : Held BesideData) (v : View) (trees : List Expr) → IsOver (S.holds source.old) core.old held v → is_some old ≡ exists held manifest.now.key
+        (held : Held DecodedData) (v : View) (trees : List Expr) → IsOver (S.holds source.old) core.old held v → is_some old ≡ exists held manifest.now.key
         → plans.items ≡ plans_in (document_in manifest.now.body).json trees
         → IfOk result (IsJudged held (λ warnings. showing (if is_some old then 200 else 201) warnings (document_in manifest.now.body) (held.revision + 1))
         (put manifest.now.key (document_in manifest.now.body) trees)
@@ -153,7 +154,7 @@ fn admitted_delete(
     ensures same { IsAsBefore core.old core.new }
     ensures reply { IfOk result (λ p. p.reply ≡ showing 200 (map string_bytes warnings.items) document (core.old.revision + 1)) }
     ensures write { IfOk result (λ p. writes_of p.write ≡ delete key.now ∷ []) }
-    ensures next { (held : Held BesideData) (s : StoredData BesideData) → stored_at held key.now ≡ Some s → s.document ≡ document → IfOk result (λ p. AreNext held p.write) }
+    ensures next { (held : Held DecodedData) (s : StoredData DecodedData) → stored_at held key.now ≡ Some s → s.document ≡ document → IfOk result (λ p. AreNext held p.write) }
     ensures ready { IfOk result (λ p. HasRoomFor core.new p.write) }
     ensures memory { OnErr result (IsErrOf result LookupFault.Memory) }
 {
@@ -169,19 +170,19 @@ fn admitted_delete(
 }
 
 /// The deletion of an object that nothing but the policies may refuse, with what was found of it, that as it is shown, and its Namespace, if it is there.
-pub(crate) fn judged_delete<'x, S: Source<Beside>>(
+pub(crate) fn judged_delete<'x, S: Source<Decoded>>(
     core: &mut Core,
     alloc: Global,
     source: &mut S,
     key: &'x Key,
-    found: Found,
+    found: FoundDocument,
     old_object: &'x Value,
     namespace: Option<&'x Value>,
 ) -> Result<Prepared, LookupFault>
     requires { core.old.revision < core.old.rules.greatest_revision }
     ensures same { IsAsBefore core.old core.new }
     ensures ready { IfOk result (λ p. HasRoomFor core.new p.write) }
-    ensures judged { let home = option_map (λ d. view d.now) namespace.entry in (held : Held BesideData) (v : View) → IsOver (S.holds source.old) core.old held v → option_map found_in (stored_at held key.now) ≡ Some found
+    ensures judged { let home = option_map (λ d. view d.now) namespace.entry in (held : Held DecodedData) (v : View) → IsOver (S.holds source.old) core.old held v → option_map found_in (stored_at held key.now) ≡ Some found
         → IfOk result (IsJudged held (λ warnings. showing 200 warnings found.document (held.revision + 1)) (delete key.now)
         (verdict (objects_of v) (record { operation = Delete; key = key.now; object = None; old_object = Some (view old_object.now); namespace = home }))) }
     ensures looked { HasLooked S.holds S.goes_to S.failures S.unfailed core.old source.old source.new result }

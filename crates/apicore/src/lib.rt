@@ -8,20 +8,32 @@
 //! A step takes a history and a request, with what stands in the document that it asks to be stored, to a history and a reply. Each
 //! write is asked of the policies and bindings that are stored just before it: one that they deny is refused, and stands nowhere.
 //! `prepare` takes all the memory of a step over the objects of a source and changes nothing that is seen, `Holdings::take` of `holdings` takes none; together they are one step.
-//! Beside each document the model has the trees of its expressions, and the core (`recovery::Core`) the plans of those trees, with what the document
+//! Beside each document the model has the trees of its expressions, and the core (`decoded::Core`) the plans of those trees, with what the document
 //! spells as a policy and as a binding.
+//!
+//! What refuses a request before the policies are asked is the table of `specs/Conditions.antt`: no path or no namespace, an object that stands there or does not, a revision that is not
+//! current, what stands in the document, and the limits of the store. The policies look objects up in the core over its source, as `specs/StoreLookups.antt` says.
 #![tactic(auto)]
 
+mod attempts;
 mod conflicts;
 mod judging;
 mod laws;
+mod limits;
+mod named;
+mod namespaces;
 mod prepared;
 mod preparing;
 mod reading;
 mod refusing;
+mod specification;
+mod store_lookup;
+mod wanted;
 
+pub use holdings::Holdings;
 pub use laws::{
     accepted_are_admitted, prepared_is_step, runs_are_steps, view_decides, writes_follow,
 };
 pub use prepared::Prepared;
 pub use preparing::prepare;
+pub use requests::{Reply, Request};

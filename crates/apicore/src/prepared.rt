@@ -1,14 +1,14 @@
 ghost use Rattle.std.specs.Prelude.{◌≡◌, None};
 
+use decoded::Decoded;
 use holdings::PreparedWrite;
-use recovery::Beside;
 use requests::Reply;
 
 /// A step that has all its memory: the reply, and the write that it makes if it makes one.
 #[derive(Drop)]
 pub struct Prepared {
     pub reply: Reply,
-    pub write: Option<PreparedWrite<Beside>>,
+    pub write: Option<PreparedWrite<Decoded>>,
 }
 
 impl Prepared {

@@ -10,35 +10,37 @@ ghost use Rattle.requests.specs.Codes.{document_in};
 ghost use Rattle.requests.specs.Manifest.{BodyHasForm};
 ghost use Rattle.requests.specs.Request.{create, replace, delete, RequestHasForm};
 ghost use Rattle.requests.specs.RequestOf.{request_of};
-ghost use Rattle.requests.specs.declared.stored.Stored.{Stored as StoredData};
-ghost use Rattle.requests.specs.View.{View as Held, stored_at};
+ghost use Rattle.histories.specs.declared.stored.Stored.{Stored as StoredData};
+ghost use Rattle.histories.specs.View.{View as Held, stored_at};
 ghost use Rattle.holdings.specs.Holdings.{ShowsSame};
 ghost use Rattle.holdings.specs.Prepared.{HasRoomFor};
 ghost use Rattle.holdings.specs.Sources.{found_in};
 ghost use Rattle.expressions.specs.Specification.{Specification as SpecificationOf, sound, compiled, plans_in, specification_seen};
-ghost use Rattle.recovery.specs.Beside.{Beside as BesideData};
-ghost use Rattle.recovery.specs.Shown.{IsOver};
-ghost use Rattle.recovery.specs.Looked.{HasLooked, IsAsBefore};
-ghost use Rattle.apicore.specs.Prepared.{IsReadOf, IsPrepared, IsStepOf};
-ghost use Rattle.recovery.specs.Namespaces as place;
-ghost use Rattle.recovery.specs.Places.{IsIn};
-ghost use Rattle.recovery.specs.Standing.{View};
-ghost use Rattle.recovery.specs.Conditions.{first_of, replace_limits, update_conflicts_at, deletion_conflicts_at};
+ghost use Rattle.decoded.specs.Decoded.{Decoded as DecodedData};
+ghost use Rattle.decoded.specs.Shown.{IsOver};
+ghost use Rattle.apicore.specs.Looked.{HasLooked, IsAsBefore};
+ghost use Rattle.apicore.specs.Prepared.{IsReadOf, IsPrepared, IsStepOf, put_request};
+ghost use Rattle.apicore.specs.Namespaces as place;
+ghost use Rattle.apicore.specs.Places.{IsIn};
+ghost use Rattle.decoded.specs.Standing.{View};
+ghost use Rattle.apicore.specs.Conditions.{first_of, replace_limits, update_conflicts_at, deletion_conflicts_at};
 
 use crate::conflicts::{deletion_conflicts, update_conflicts};
 use crate::judging::{judged_delete, judged_put};
+use crate::limits::{create_limit, replace_limit};
+use crate::namespaces::{NamespacePlace, is_in_use, namespace_of, place_of};
 use crate::prepared::Prepared;
 use crate::reading::{get, list, watch};
 use crate::refusing::{bad_expression, refused};
-use documents::{Doc, shown_document};
+use crate::specification::specified;
+use decoded::{Core, Decoded};
+use documents::shown_document;
 use expressions::Specification;
-use holdings::{Found, Source};
+use holdings::{FoundDocument, Source};
+use jsondoc::Doc;
 use names::Key;
 use objects::LookupFault;
 use plancode::Verified;
-use recovery::{
-    Beside, Core, Place, create_limit, is_in_use, namespace_of, place_of, replace_limit, specified,
-};
 use requests::{Manifest, Refusal, Request};
 use serde_json::Value;
 use std::alloc::Global;
@@ -49,7 +51,7 @@ use std::alloc::Global;
 /// # Errors
 ///
 /// Those of the source, and `Memory` when out of memory.
-pub fn prepare<S: Source<Beside>>(
+pub fn prepare<S: Source<Decoded>>(
     core: &mut Core,
     alloc: Global,
     source: &mut S,
@@ -65,13 +67,13 @@ pub fn prepare<S: Source<Beside>>(
     ensures form { RequestHasForm (request_of request.now) }
 
     // What looks leave of the source, whatever the answer.
-    ensures kept { (base : List (KeyData × StoredData BesideData)) → S.holds source.old base → S.holds source.new base }
+    ensures kept { (base : List (KeyData × StoredData DecodedData)) → S.holds source.old base → S.holds source.new base }
     ensures goes { S.goes_to source.old source.new }
     ensures counts { S.failures source.old ≤ S.failures source.new }
     ensures steady { OnOk result (S.unfailed source.old source.new) }
     ensures device { IsErrOf result LookupFault.Device → HasGrown (S.failures source.old) (S.failures source.new) }
     ensures memory { IsErrOf result LookupFault.Memory → S.unfailed source.old source.new }
-    ensures damaged { (part : Part) → IsErrOf result (LookupFault.Damaged part) → (held : Held BesideData) (v : View) → IsOver (S.holds source.old) core.old held v → ⊥ }
+    ensures damaged { (part : Part) → IsErrOf result (LookupFault.Damaged part) → (held : Held DecodedData) (v : View) → IsOver (S.holds source.old) core.old held v → ⊥ }
 
     // What stands in the request's document was read before the look that failed.
     ensures read { IsErrOf result LookupFault.Device ⊎ ((part : Part) × IsErrOf result (LookupFault.Damaged part)) → (s : SpecificationOf Expr) × IsReadOf core.old.rules.format (request_of request.now) s }
@@ -80,8 +82,8 @@ pub fn prepare<S: Source<Beside>>(
         Request::Get(key) => get(core, alloc, source, key),
         Request::List(collection, selector) => list(core, alloc, source, collection, selector),
         Request::Watch(collection, revision) => watch(core, alloc, collection, *revision),
-        Request::Create(manifest) => prepare_create(core, alloc, source, manifest),
-        Request::Replace(manifest) => prepare_replace(core, alloc, source, manifest),
+        Request::Create(manifest) => prepare_manifest(core, alloc, source, manifest, false),
+        Request::Replace(manifest) => prepare_manifest(core, alloc, source, manifest, true),
         Request::Delete(key, version) => prepare_delete(core, alloc, source, key, version),
         Request::Refused(refusal) => refused(alloc, *refusal),
     }
@@ -97,19 +99,20 @@ fn value_of(document: &Option<Doc>) -> Option<&Value>
     }
 }
 
-// The creation of an object.
-fn prepare_create<S: Source<Beside>>(
+// The step of a request that brings a manifest: it creates an object, or replaces the one at its key.
+fn prepare_manifest<S: Source<Decoded>>(
     core: &mut Core,
     alloc: Global,
     source: &mut S,
     manifest: &Manifest,
+    replaces: bool,
 ) -> Result<Prepared, LookupFault>
     ensures same { IsAsBefore core.old core.new }
-    ensures step { IfOk result (IsPrepared (S.holds source.old) core.old (create manifest.now)) }
+    ensures step { IfOk result (IsPrepared (S.holds source.old) core.old (put_request replaces manifest.now)) }
     ensures ready { IfOk result (λ p. HasRoomFor core.new p.write) }
     ensures form { BodyHasForm manifest.now.key manifest.now.body }
     ensures looked { HasLooked S.holds S.goes_to S.failures S.unfailed core.old source.old source.new result }
-    ensures read { IsErrOf result LookupFault.Device ⊎ ((part : Part) × IsErrOf result (LookupFault.Damaged part)) → (s : SpecificationOf Expr) × IsReadOf core.old.rules.format (create manifest.now) s }
+    ensures read { IsErrOf result LookupFault.Device ⊎ ((part : Part) × IsErrOf result (LookupFault.Damaged part)) → (s : SpecificationOf Expr) × IsReadOf core.old.rules.format (put_request replaces manifest.now) s }
 {
     // The document, of which the form speaks.
     let _document = manifest.document();
@@ -117,16 +120,20 @@ fn prepare_create<S: Source<Beside>>(
     let specification = specified(alloc, format, manifest)?;
     let place = place_of(core, alloc, source, manifest.key())?;
     match place {
-        Place::Refused(refusal) => refused(alloc, refusal),
-        Place::In(namespace) => {
+        NamespacePlace::Refused(refusal) => refused(alloc, refusal),
+        NamespacePlace::In(namespace) => {
             let namespace = value_of(&namespace);
-            create_in(core, alloc, source, manifest, specification, namespace)
+            if replaces {
+                replace_in(core, alloc, source, manifest, specification, namespace)
+            } else {
+                create_in(core, alloc, source, manifest, specification, namespace)
+            }
         }
     }
 }
 
 // The creation of an object, in whose document this stands, at a place that refuses none, with the Namespace that it stands in, as it is shown.
-fn create_in<S: Source<Beside>>(
+fn create_in<S: Source<Decoded>>(
     core: &mut Core,
     alloc: Global,
     source: &mut S,
@@ -136,7 +143,7 @@ fn create_in<S: Source<Beside>>(
 ) -> Result<Prepared, LookupFault>
     ensures same { IsAsBefore core.old core.new }
     ensures step { (s : SpecificationOf Expr) → specification_seen specification ≡ compiled (document_in manifest.now.body).json s
-        → (held : Held BesideData) (v : View) → IsOver (S.holds source.old) core.old held v → IsIn core.old.rules held manifest.now.key (option_map (λ d. view d.now) namespace.entry)
+        → (held : Held DecodedData) (v : View) → IsOver (S.holds source.old) core.old held v → IsIn core.old.rules held manifest.now.key (option_map (λ d. view d.now) namespace.entry)
         → IfOk result (IsStepOf core.old.rules held v (record { request = create manifest.now; specification = s })) }
     ensures ready { IfOk result (λ p. HasRoomFor core.new p.write) }
     ensures looked { HasLooked S.holds S.goes_to S.failures S.unfailed core.old source.old source.new result }
@@ -148,7 +155,7 @@ fn create_in<S: Source<Beside>>(
 }
 
 // The creation of an object, in whose document this stands, at a key that has none.
-fn create_free<S: Source<Beside>>(
+fn create_free<S: Source<Decoded>>(
     core: &mut Core,
     alloc: Global,
     source: &mut S,
@@ -158,7 +165,7 @@ fn create_free<S: Source<Beside>>(
 ) -> Result<Prepared, LookupFault>
     ensures same { IsAsBefore core.old core.new }
     ensures step { (s : SpecificationOf Expr) → specification_seen specification ≡ compiled (document_in manifest.now.body).json s
-        → (held : Held BesideData) (v : View) → IsOver (S.holds source.old) core.old held v → IsIn core.old.rules held manifest.now.key (option_map (λ d. view d.now) namespace.entry)
+        → (held : Held DecodedData) (v : View) → IsOver (S.holds source.old) core.old held v → IsIn core.old.rules held manifest.now.key (option_map (λ d. view d.now) namespace.entry)
         → stored_at held manifest.now.key ≡ None
         → IfOk result (IsStepOf core.old.rules held v (record { request = create manifest.now; specification = s })) }
     ensures ready { IfOk result (λ p. HasRoomFor core.new p.write) }
@@ -174,7 +181,7 @@ fn create_free<S: Source<Beside>>(
 }
 
 // The creation of an object at a key that has none, with these plans.
-fn create_sound<S: Source<Beside>>(
+fn create_sound<S: Source<Decoded>>(
     core: &mut Core,
     alloc: Global,
     source: &mut S,
@@ -184,7 +191,7 @@ fn create_sound<S: Source<Beside>>(
 ) -> Result<Prepared, LookupFault>
     ensures same { IsAsBefore core.old core.new }
     ensures step { (trees : List Expr) → plans.items ≡ plans_in (document_in manifest.now.body).json trees
-        → (held : Held BesideData) (v : View) → IsOver (S.holds source.old) core.old held v → IsIn core.old.rules held manifest.now.key (option_map (λ d. view d.now) namespace.entry)
+        → (held : Held DecodedData) (v : View) → IsOver (S.holds source.old) core.old held v → IsIn core.old.rules held manifest.now.key (option_map (λ d. view d.now) namespace.entry)
         → stored_at held manifest.now.key ≡ None
         → IfOk result (IsStepOf core.old.rules held v (record { request = create manifest.now; specification = sound trees })) }
     ensures ready { IfOk result (λ p. HasRoomFor core.new p.write) }
@@ -196,36 +203,8 @@ fn create_sound<S: Source<Beside>>(
     }
 }
 
-// The replacement of an object.
-fn prepare_replace<S: Source<Beside>>(
-    core: &mut Core,
-    alloc: Global,
-    source: &mut S,
-    manifest: &Manifest,
-) -> Result<Prepared, LookupFault>
-    ensures same { IsAsBefore core.old core.new }
-    ensures step { IfOk result (IsPrepared (S.holds source.old) core.old (replace manifest.now)) }
-    ensures ready { IfOk result (λ p. HasRoomFor core.new p.write) }
-    ensures form { BodyHasForm manifest.now.key manifest.now.body }
-    ensures looked { HasLooked S.holds S.goes_to S.failures S.unfailed core.old source.old source.new result }
-    ensures read { IsErrOf result LookupFault.Device ⊎ ((part : Part) × IsErrOf result (LookupFault.Damaged part)) → (s : SpecificationOf Expr) × IsReadOf core.old.rules.format (replace manifest.now) s }
-{
-    // The document, of which the form speaks.
-    let _document = manifest.document();
-    let format = core.rules().format;
-    let specification = specified(alloc, format, manifest)?;
-    let place = place_of(core, alloc, source, manifest.key())?;
-    match place {
-        Place::Refused(refusal) => refused(alloc, refusal),
-        Place::In(namespace) => {
-            let namespace = value_of(&namespace);
-            replace_in(core, alloc, source, manifest, specification, namespace)
-        }
-    }
-}
-
 // The replacement of an object by a document in which this stands, at a place that refuses none, with the Namespace that it stands in, as it is shown.
-fn replace_in<S: Source<Beside>>(
+fn replace_in<S: Source<Decoded>>(
     core: &mut Core,
     alloc: Global,
     source: &mut S,
@@ -235,7 +214,7 @@ fn replace_in<S: Source<Beside>>(
 ) -> Result<Prepared, LookupFault>
     ensures same { IsAsBefore core.old core.new }
     ensures step { (s : SpecificationOf Expr) → specification_seen specification ≡ compiled (document_in manifest.now.body).json s
-        → (held : Held BesideData) (v : View) → IsOver (S.holds source.old) core.old held v → IsIn core.old.rules held manifest.now.key (option_map (λ d. view d.now) namespace.entry)
+        → (held : Held DecodedData) (v : View) → IsOver (S.holds source.old) core.old held v → IsIn core.old.rules held manifest.now.key (option_map (λ d. view d.now) namespace.entry)
         → IfOk result (IsStepOf core.old.rules held v (record { request = replace manifest.now; specification = s })) }
     ensures ready { IfOk result (λ p. HasRoomFor core.new p.write) }
     ensures looked { HasLooked S.holds S.goes_to S.failures S.unfailed core.old source.old source.new result }
@@ -255,18 +234,18 @@ fn replace_in<S: Source<Beside>>(
 }
 
 // The replacement of an object that was found, by a document in which this stands.
-fn replace_of<S: Source<Beside>>(
+fn replace_of<S: Source<Decoded>>(
     core: &mut Core,
     alloc: Global,
     source: &mut S,
     manifest: &Manifest,
     specification: Specification,
-    found: &Found,
+    found: &FoundDocument,
     namespace: Option<&Value>,
 ) -> Result<Prepared, LookupFault>
     ensures same { IsAsBefore core.old core.new }
     ensures step { (s : SpecificationOf Expr) → specification_seen specification ≡ compiled (document_in manifest.now.body).json s
-        → (held : Held BesideData) (v : View) → IsOver (S.holds source.old) core.old held v → IsIn core.old.rules held manifest.now.key (option_map (λ d. view d.now) namespace.entry)
+        → (held : Held DecodedData) (v : View) → IsOver (S.holds source.old) core.old held v → IsIn core.old.rules held manifest.now.key (option_map (λ d. view d.now) namespace.entry)
         → option_map found_in (stored_at held manifest.now.key) ≡ Some found.now
         → IfOk result (IsStepOf core.old.rules held v (record { request = replace manifest.now; specification = s })) }
     ensures ready { IfOk result (λ p. HasRoomFor core.new p.write) }
@@ -287,19 +266,19 @@ fn replace_of<S: Source<Beside>>(
 }
 
 // The replacement of an object that was found as the manifest wants it.
-fn replace_as<S: Source<Beside>>(
+fn replace_as<S: Source<Decoded>>(
     core: &mut Core,
     alloc: Global,
     source: &mut S,
     manifest: &Manifest,
     specification: Specification,
-    found: &Found,
+    found: &FoundDocument,
     namespace: Option<&Value>,
 ) -> Result<Prepared, LookupFault>
     requires conflicts { update_conflicts_at found.now.revision manifest.now.version ≡ false }
     ensures same { IsAsBefore core.old core.new }
     ensures step { (s : SpecificationOf Expr) → specification_seen specification ≡ compiled (document_in manifest.now.body).json s
-        → (held : Held BesideData) (v : View) → IsOver (S.holds source.old) core.old held v → IsIn core.old.rules held manifest.now.key (option_map (λ d. view d.now) namespace.entry)
+        → (held : Held DecodedData) (v : View) → IsOver (S.holds source.old) core.old held v → IsIn core.old.rules held manifest.now.key (option_map (λ d. view d.now) namespace.entry)
         → option_map found_in (stored_at held manifest.now.key) ≡ Some found.now
         → IfOk result (IsStepOf core.old.rules held v (record { request = replace manifest.now; specification = s })) }
     ensures ready { IfOk result (λ p. HasRoomFor core.new p.write) }
@@ -315,19 +294,19 @@ fn replace_as<S: Source<Beside>>(
 }
 
 // The replacement of an object that was found as the manifest wants it, with these plans.
-fn replace_sound<S: Source<Beside>>(
+fn replace_sound<S: Source<Decoded>>(
     core: &mut Core,
     alloc: Global,
     source: &mut S,
     manifest: &Manifest,
     plans: Vec<Verified>,
-    found: &Found,
+    found: &FoundDocument,
     namespace: Option<&Value>,
 ) -> Result<Prepared, LookupFault>
     requires conflicts { update_conflicts_at found.now.revision manifest.now.version ≡ false }
     ensures same { IsAsBefore core.old core.new }
     ensures step { (trees : List Expr) → plans.items ≡ plans_in (document_in manifest.now.body).json trees
-        → (held : Held BesideData) (v : View) → IsOver (S.holds source.old) core.old held v → IsIn core.old.rules held manifest.now.key (option_map (λ d. view d.now) namespace.entry)
+        → (held : Held DecodedData) (v : View) → IsOver (S.holds source.old) core.old held v → IsIn core.old.rules held manifest.now.key (option_map (λ d. view d.now) namespace.entry)
         → option_map found_in (stored_at held manifest.now.key) ≡ Some found.now
         → IfOk result (IsStepOf core.old.rules held v (record { request = replace manifest.now; specification = sound trees })) }
     ensures ready { IfOk result (λ p. HasRoomFor core.new p.write) }
@@ -340,20 +319,20 @@ fn replace_sound<S: Source<Beside>>(
 }
 
 // The replacement of an object that nothing but the policies may refuse.
-fn replace_there<S: Source<Beside>>(
+fn replace_there<S: Source<Decoded>>(
     core: &mut Core,
     alloc: Global,
     source: &mut S,
     manifest: &Manifest,
     plans: Vec<Verified>,
-    found: &Found,
+    found: &FoundDocument,
     namespace: Option<&Value>,
 ) -> Result<Prepared, LookupFault>
     requires conflicts { update_conflicts_at found.now.revision manifest.now.version ≡ false }
     requires room { core.old.revision < core.old.rules.greatest_revision }
     ensures same { IsAsBefore core.old core.new }
     ensures step { (trees : List Expr) → plans.items ≡ plans_in (document_in manifest.now.body).json trees
-        → (held : Held BesideData) (v : View) → IsOver (S.holds source.old) core.old held v → IsIn core.old.rules held manifest.now.key (option_map (λ d. view d.now) namespace.entry)
+        → (held : Held DecodedData) (v : View) → IsOver (S.holds source.old) core.old held v → IsIn core.old.rules held manifest.now.key (option_map (λ d. view d.now) namespace.entry)
         → option_map found_in (stored_at held manifest.now.key) ≡ Some found.now → first_of (replace_limits core.old.rules held (document_in manifest.now.body)) ≡ None
         → IfOk result (IsStepOf core.old.rules held v (record { request = replace manifest.now; specification = sound trees })) }
     ensures ready { IfOk result (λ p. HasRoomFor core.new p.write) }
@@ -365,7 +344,7 @@ fn replace_there<S: Source<Beside>>(
 }
 
 // The deletion of an object, which shows the object that it removes with the revision that it makes.
-fn prepare_delete<S: Source<Beside>>(
+fn prepare_delete<S: Source<Decoded>>(
     core: &mut Core,
     alloc: Global,
     source: &mut S,
@@ -387,16 +366,16 @@ fn prepare_delete<S: Source<Beside>>(
 }
 
 // The deletion of an object that was found.
-fn delete_found<S: Source<Beside>>(
+fn delete_found<S: Source<Decoded>>(
     core: &mut Core,
     alloc: Global,
     source: &mut S,
     key: &Key,
     version: &Option<String>,
-    found: Found,
+    found: FoundDocument,
 ) -> Result<Prepared, LookupFault>
     ensures same { IsAsBefore core.old core.new }
-    ensures step { (held : Held BesideData) (v : View) → IsOver (S.holds source.old) core.old held v → option_map found_in (stored_at held key.now) ≡ Some found
+    ensures step { (held : Held DecodedData) (v : View) → IsOver (S.holds source.old) core.old held v → option_map found_in (stored_at held key.now) ≡ Some found
         → (s : SpecificationOf Expr) → IfOk result (IsStepOf core.old.rules held v (record { request = delete key.now (option_map string_bytes version.now); specification = s })) }
     ensures ready { IfOk result (λ p. HasRoomFor core.new p.write) }
     ensures looked { HasLooked S.holds S.goes_to S.failures S.unfailed core.old source.old source.new result }
@@ -415,18 +394,18 @@ fn delete_found<S: Source<Beside>>(
 }
 
 // The deletion of an object that was found, which nothing but the policies may refuse.
-fn delete_there<S: Source<Beside>>(
+fn delete_there<S: Source<Decoded>>(
     core: &mut Core,
     alloc: Global,
     source: &mut S,
     key: &Key,
     version: &Option<String>,
-    found: Found,
+    found: FoundDocument,
 ) -> Result<Prepared, LookupFault>
     requires conflicts { deletion_conflicts_at found.revision (option_map string_bytes version.now) ≡ false }
     requires room { core.old.revision < core.old.rules.greatest_revision }
     ensures same { IsAsBefore core.old core.new }
-    ensures step { (held : Held BesideData) (v : View) → IsOver (S.holds source.old) core.old held v → option_map found_in (stored_at held key.now) ≡ Some found
+    ensures step { (held : Held DecodedData) (v : View) → IsOver (S.holds source.old) core.old held v → option_map found_in (stored_at held key.now) ≡ Some found
         → place.is_in_use held key.now ≡ false
         → (s : SpecificationOf Expr) → IfOk result (IsStepOf core.old.rules held v (record { request = delete key.now (option_map string_bytes version.now); specification = s })) }
     ensures ready { IfOk result (λ p. HasRoomFor core.new p.write) }

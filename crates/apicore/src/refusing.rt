@@ -3,12 +3,12 @@
 ghost use Rattle.std.specs.Prelude.{◌≡◌, IfOk, OnErr, IsErrOf, string_bytes};
 ghost use Rattle.objects.specs.declared.fault.LookupFault.TheVariants as LookupFault;
 ghost use Rattle.apicore.specs.Judged.{IsRefused};
-ghost use Rattle.recovery.specs.Conditions.{known, with_bad_expression, denied_by};
+ghost use Rattle.apicore.specs.Conditions.{known, with_bad_expression, denied_by};
 ghost use Rattle.apicore.specs.Step.{reason_code, reason_word};
 
 use crate::prepared::Prepared;
-use denials::Reason;
 use objects::LookupFault;
+use policy::Reason;
 use requests::{Refusal, Reply};
 use std::alloc::Global;
 use verdict::denial_text;

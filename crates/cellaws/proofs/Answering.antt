@@ -10,7 +10,7 @@ use Rattle.celtree.specs.declared.tree.Macro.{Macro}
 use Rattle.instructions.specs.declared.fault.CodeFault.{CodeFault}
 use Rattle.instructions.specs.declared.fault.CodeFault.TheVariants as fault
 use Rattle.instructions.specs.Op.{Op, Over}
-use Rattle.instructions.specs.Judging.{Body, height_at, has_one, targets, takes, left, goes_past, is_fair, are_fair, is_named, goes_on, opens, runs, judged}
+use Rattle.instructions.specs.Judging.{OpenBody, height_at, has_one, targets, takes, left, goes_past, is_fair, are_fair, is_named, goes_on, opens, runs, judged}
 use Rattle.instructions.specs.WellFormed.{Among}
 use Rattle.instructions.proofs.Nested.{left_by, slice_get-drop, fair_says}
 use Rattle.instructions.proofs.Stepping.{ends_of}
@@ -34,23 +34,23 @@ fault_is f g e = cc
 
 -- ---- bodies that end
 
-one_outer : (code : List Op) (at : ℕ) (outer : List ℕ) (b : Body) (os : List Body) → Knows code at b os → has_one at b ≡ true
+one_outer : (code : List Op) (at : ℕ) (outer : List ℕ) (b : OpenBody) (os : List OpenBody) → Knows code at b os → has_one at b ≡ true
     → all_ends b os ≡ at ∷ outer → HasHeight code at at outer 1
 one_outer code at outer b os k one e =
     let f = first_end b.end at (ends_of os) outer e in
     subst (λ (o : List ℕ). HasHeight code at at o 1) f.1 (subst (λ (n : ℕ). HasHeight code at n (ends_of os) 1) f.0 (one_found code at b os k one))
 
 -- the body that ends here, with these around it, has its one outcome or is still to be left
-abbrev Ending : List Op → ℕ → List ℕ → Body → List Body → Type 0
+abbrev Ending : List Op → ℕ → List ℕ → OpenBody → List OpenBody → Type 0
 Ending code at outer b os = Knows code at b os × (HasHeight code at at outer 1 ⊎ Held at (at ∷ outer) b os)
 
-ending_move : (code : List Op) (at : ℕ) (outer : List ℕ) (b o : Body) (os : List Body) → b.end ≡ at → has_one at b ≡ true
+ending_move : (code : List Op) (at : ℕ) (outer : List ℕ) (b o : OpenBody) (os : List OpenBody) → b.end ≡ at → has_one at b ≡ true
     → Ending code at outer b (o ∷ os) → Ending code at outer o os
 ending_move code at outer b o os same one (k, inl done) = (knows_other code at b o os k, inl done)
 ending_move code at outer b o os same one (k, inr (inl e)) = (knows_other code at b o os k, inl (one_outer code at outer b (o ∷ os) k one e))
 ending_move code at outer b o os same one (k, inr (inr h)) = (knows_other code at b o os k, inr h.1)
 
-pub bodies_hold : (vars : ℕ) (code : List Op) (at : ℕ) (b : Body) (os : List Body) (x : Body × List Body) → Knows code at b os
+pub bodies_hold : (vars : ℕ) (code : List Op) (at : ℕ) (b : OpenBody) (os : List OpenBody) (x : OpenBody × List OpenBody) → Knows code at b os
     → Only code at b os → left at b os ≡ Ok x → at < x.0.end → Holds vars code at bodies
 bodies_hold vars code at b os x k only went lt outer stands =
     elim (left_by at (λ b os. Ending code at outer b os) (ending_move code at outer) b os x went (k, inr (only (at ∷ outer) stands))).1 [
@@ -58,19 +58,19 @@ bodies_hold vars code at b os x k only went lt outer stands =
       | inr h ↦ (let e : x.0.end ≡ at = (first_end x.0.end at (ends_of x.1) outer (held_here at at outer x.0 x.1 lt h)).0 in absurd (omega arith))
     ]
 
-not_one : (vars : ℕ) (code : List Op) (at : ℕ) (b : Body) (os : List Body) → Knows code at b os → Bodies code at (all_ends b os) → b.end ≡ at
+not_one : (vars : ℕ) (code : List Op) (at : ℕ) (b : OpenBody) (os : List OpenBody) → Knows code at b os → Bodies code at (all_ends b os) → b.end ≡ at
     → has_one at b ≡ false → Holds vars code at bodies → ⊥
 not_one vars code at b os k stands same none holds =
     let has = holds (ends_of os) (subst (λ (n : ℕ). Bodies code at (n ∷ ends_of os)) same stands) in
     let one = one_there code at b os k (subst (λ (n : ℕ). HasHeight code at n (ends_of os) 1) (sym same) has) in
     absurd cc
 
-pub bodies_fail : (vars : ℕ) (code : List Op) (at : ℕ) (f : CodeFault) (b : Body) (os : List Body) → Knows code at b os
+pub bodies_fail : (vars : ℕ) (code : List Op) (at : ℕ) (f : CodeFault) (b : OpenBody) (os : List OpenBody) → Knows code at b os
     → Bodies code at (all_ends b os) → b.end ≡ at → has_one at b ≡ false → f ≡ fault.BadStack → Fault vars code at f
 bodies_fail vars code at f b os k stands same none is =
     record { question = bodies; is = is; fails = not_one vars code at b os k stands same none; first = λ q lt. absurd (omega arith) }
 
-left_fails_at : (t h : Bool) (vars : ℕ) (code : List Op) (at : ℕ) (f : CodeFault) (b o : Body) (os : List Body) → (b.end == at) ≡ t → has_one at b ≡ h
+left_fails_at : (t h : Bool) (vars : ℕ) (code : List Op) (at : ℕ) (f : CodeFault) (b o : OpenBody) (os : List OpenBody) → (b.end == at) ≡ t → has_one at b ≡ h
     → Knows code at b (o ∷ os) → Bodies code at (all_ends b (o ∷ os))
     → (Bodies code at (all_ends o os) → left at o os ≡ Err f → Fault vars code at f)
     → cond t (cond h (left at o os) (Err fault.BadStack)) (Ok (b, o ∷ os)) ≡ Err f → Fault vars code at f
@@ -79,7 +79,7 @@ left_fails_at true false vars code at f b o os same none k stands more e =
     bodies_fail vars code at f b (o ∷ os) k stands (eqb-true _ _ same) none (sym (fault_is fault.BadStack f e))
 left_fails_at false h vars code at f b o os same one k stands more e = absurd cc
 
-pub left_fails : (vars : ℕ) (code : List Op) (at : ℕ) (f : CodeFault) (b : Body) (os : List Body) → Knows code at b os
+pub left_fails : (vars : ℕ) (code : List Op) (at : ℕ) (f : CodeFault) (b : OpenBody) (os : List OpenBody) → Knows code at b os
     → Bodies code at (all_ends b os) → left at b os ≡ Err f → Fault vars code at f
 left_fails vars code at f b [] k stands e = absurd cc
 left_fails vars code at f b (o ∷ os) k stands e =
@@ -89,25 +89,25 @@ left_fails vars code at f b (o ∷ os) k stands e =
 -- ---- an instruction
 
 -- the instruction, and the bodies that are open when those that end at its place have been left
-pub record Here (code : List Op) (at : ℕ) (op : Op) (b : Body) (os : List Body) : Type 0 where
+pub record Here (code : List Op) (at : ℕ) (op : Op) (b : OpenBody) (os : List OpenBody) : Type 0 where
   pub here : slice_get code at ≡ Some op
   pub inside : at < b.end
   pub knows : Knows code at b os
   pub bodies : Bodies code at (all_ends b os)
   pub around : (end : ℕ) (outer : List ℕ) → at < end → Bodies code at (end ∷ outer) → all_ends b os ≡ end ∷ outer
 
-record Same (op other : Op) (b : Body) (os : List Body) (end : ℕ) (outer : List ℕ) : Type 0 where
+record Same (op other : Op) (b : OpenBody) (os : List OpenBody) (end : ℕ) (outer : List ℕ) : Type 0 where
   op_is : op ≡ other
   end_is : b.end ≡ end
   outer_is : ends_of os ≡ outer
 
-same : (code : List Op) (at : ℕ) (op : Op) (b : Body) (os : List Body) → Here code at op b os → (other : Op) (end : ℕ) (outer : List ℕ)
+same : (code : List Op) (at : ℕ) (op : Op) (b : OpenBody) (os : List OpenBody) → Here code at op b os → (other : Op) (end : ℕ) (outer : List ℕ)
     → Stands code at other end outer → Same op other b os end outer
 same code at op b os h other end outer st =
     let f = first_end b.end end (ends_of os) outer (h.around end outer st.inside st.bodies) in
     record { op_is = same_Some op other (sym h.here ∙ st.here); end_is = f.0; outer_is = f.1 }
 
-standing : (code : List Op) (at : ℕ) (op : Op) (b : Body) (os : List Body) → Here code at op b os → Stands code at op b.end (ends_of os)
+standing : (code : List Op) (at : ℕ) (op : Op) (b : OpenBody) (os : List OpenBody) → Here code at op b os → Stands code at op b.end (ends_of os)
 standing code at op b os h = record { here = h.here; bodies = h.bodies; inside = h.inside }
 
 not_past : (target : ℕ) (op : Op) → ((m : Macro) (e : ℕ) → op ≡ Over m e → e ≤ target) → not (goes_past target op) ≡ true
@@ -126,7 +126,7 @@ fair_target code at end target f =
     not_past target op (λ m e over. f.outside ((at + 1) + i) e m (there ∙ ap (λ (o : Op). Some o) over) (omega arith) (omega arith))) in
     and_true (nat_lt at target) _ a (and_true (not (nat_lt end target)) _ b c)
 
-jumps_hold : (vars : ℕ) (code : List Op) (at : ℕ) (op : Op) (b : Body) (os : List Body) → Here code at op b os
+jumps_hold : (vars : ℕ) (code : List Op) (at : ℕ) (op : Op) (b : OpenBody) (os : List OpenBody) → Here code at op b os
     → are_fair at b.end (drop (at + 1) code) (targets op) ≡ true → Holds vars code at jumps
 jumps_hold vars code at op b os h fair other end target outer st m =
     let s = same code at op b os h other end outer st in
@@ -137,25 +137,25 @@ jumps_hold vars code at op b os h fair other end target outer st m =
       outside = λ between stop m is lt before. f.clear between stop m (omega arith) before is;
     }
 
-jumps_tell : (vars : ℕ) (code : List Op) (at : ℕ) (op : Op) (b : Body) (os : List Body) → Here code at op b os → Holds vars code at jumps
+jumps_tell : (vars : ℕ) (code : List Op) (at : ℕ) (op : Op) (b : OpenBody) (os : List OpenBody) → Here code at op b os → Holds vars code at jumps
     → are_fair at b.end (drop (at + 1) code) (targets op) ≡ true
 jumps_tell vars code at op b os h holds =
     all_from (is_fair at b.end (drop (at + 1) code)) (targets op)
     (λ target m. fair_target code at b.end target (holds op b.end target (ends_of os) (standing code at op b os h) m))
 
-names_hold : (vars : ℕ) (code : List Op) (at : ℕ) (op : Op) (b : Body) (os : List Body) → Here code at op b os → is_named vars (length os) op ≡ true
+names_hold : (vars : ℕ) (code : List Op) (at : ℕ) (op : Op) (b : OpenBody) (os : List OpenBody) → Here code at op b os → is_named vars (length os) op ≡ true
     → Holds vars code at names
 names_hold vars code at op b os h named other end outer st =
     let s = same code at op b os h other end outer st in
-    let depth : length os ≡ length outer = sym (length-map os (λ (x : Body). x.end)) ∙ ap (λ (o : List ℕ). length o) s.outer_is in
+    let depth : length os ≡ length outer = sym (length-map os (λ (x : OpenBody). x.end)) ∙ ap (λ (o : List ℕ). length o) s.outer_is in
     ap (λ (d : ℕ). is_named vars d other) (sym depth) ∙ ap (is_named vars (length os)) (sym s.op_is) ∙ named
 
-names_tell : (vars : ℕ) (code : List Op) (at : ℕ) (op : Op) (b : Body) (os : List Body) → Here code at op b os → Holds vars code at names
+names_tell : (vars : ℕ) (code : List Op) (at : ℕ) (op : Op) (b : OpenBody) (os : List OpenBody) → Here code at op b os → Holds vars code at names
     → is_named vars (length os) op ≡ true
 names_tell vars code at op b os h holds =
-    ap (λ (d : ℕ). is_named vars d op) (sym (length-map os (λ (x : Body). x.end))) ∙ holds op b.end (ends_of os) (standing code at op b os h)
+    ap (λ (d : ℕ). is_named vars d op) (sym (length-map os (λ (x : OpenBody). x.end))) ∙ holds op b.end (ends_of os) (standing code at op b os h)
 
-stack_hold : (vars : ℕ) (code : List Op) (at height : ℕ) (op : Op) (b : Body) (os : List Body) → Here code at op b os
+stack_hold : (vars : ℕ) (code : List Op) (at height : ℕ) (op : Op) (b : OpenBody) (os : List OpenBody) → Here code at op b os
     → height_at at b.awaited ≡ Some height → takes op ≤ height → Holds vars code at stack
 stack_hold vars code at height op b os h e enough other end outer st =
     let s = same code at op b os h other end outer st in
@@ -165,7 +165,7 @@ stack_hold vars code at height op b os h e enough other end outer st =
       subst (λ (o : Op). takes o ≤ height) s.op_is enough,
     )
 
-stack_tell : (vars : ℕ) (code : List Op) (at : ℕ) (op : Op) (b : Body) (os : List Body) → Here code at op b os → Holds vars code at stack
+stack_tell : (vars : ℕ) (code : List Op) (at : ℕ) (op : Op) (b : OpenBody) (os : List OpenBody) → Here code at op b os → Holds vars code at stack
     → (height : ℕ) × (height_at at b.awaited ≡ Some height) × (takes op ≤ height)
 stack_tell vars code at op b os h holds =
     let r = holds op b.end (ends_of os) (standing code at op b os h) in
@@ -173,7 +173,7 @@ stack_tell vars code at op b os h holds =
 
 -- ---- what a fault says
 
-pub all_hold : (vars : ℕ) (code : List Op) (at height : ℕ) (op : Op) (b : Body) (os : List Body) → Here code at op b os → Holds vars code at bodies
+pub all_hold : (vars : ℕ) (code : List Op) (at height : ℕ) (op : Op) (b : OpenBody) (os : List OpenBody) → Here code at op b os → Holds vars code at bodies
     → are_fair at b.end (drop (at + 1) code) (targets op) ≡ true → is_named vars (length os) op ≡ true
     → height_at at b.awaited ≡ Some height → takes op ≤ height → (q : Question) → Holds vars code at q
 all_hold vars code at height op b os h holds fair named e enough bodies = holds
@@ -201,11 +201,11 @@ below_stack vars code at first second third jumps lt = second
 below_stack vars code at first second third names lt = third
 below_stack vars code at first second third stack lt = absurd (omega arith)
 
-few : (t : Bool) (f : CodeFault) (y : Body × List Body) → cond t (Err fault.BadStack) (Ok y) ≡ Err f → (t ≡ true) × (f ≡ fault.BadStack)
+few : (t : Bool) (f : CodeFault) (y : OpenBody × List OpenBody) → cond t (Err fault.BadStack) (Ok y) ≡ Err f → (t ≡ true) × (f ≡ fault.BadStack)
 few true f y e = (refl, sym (fault_is fault.BadStack f e))
 few false f y e = absurd cc
 
-no_stack : (vars : ℕ) (code : List Op) (at : ℕ) (op : Op) (f : CodeFault) (b : Body) (os : List Body) → Here code at op b os → (o : Option ℕ)
+no_stack : (vars : ℕ) (code : List Op) (at : ℕ) (op : Op) (f : CodeFault) (b : OpenBody) (os : List OpenBody) → Here code at op b os → (o : Option ℕ)
     → height_at at b.awaited ≡ o → runs op at o b os ≡ Err f → (f ≡ fault.BadStack) × (Holds vars code at stack → ⊥)
 no_stack vars code at op f b os h None is e = (
   sym (fault_is fault.BadStack f e),
@@ -221,7 +221,7 @@ no_stack vars code at op f b os h (Some height) is e =
           absurd (omega arith),
     )
 
-judged_fails_at : (fair named : Bool) (vars : ℕ) (code : List Op) (at : ℕ) (op : Op) (f : CodeFault) (b : Body) (os : List Body)
+judged_fails_at : (fair named : Bool) (vars : ℕ) (code : List Op) (at : ℕ) (op : Op) (f : CodeFault) (b : OpenBody) (os : List OpenBody)
     → Here code at op b os → Holds vars code at bodies
     → are_fair at b.end (drop (at + 1) code) (targets op) ≡ fair → is_named vars (length os) op ≡ named
     → cond (not fair) (Err fault.BadJump) (cond (not named) (Err fault.BadName) (runs op at (height_at at b.awaited) b os)) ≡ Err f → Fault vars code at f
@@ -247,7 +247,7 @@ judged_fails_at true true vars code at op f b os h first p q e =
       first = below_stack vars code at first (jumps_hold vars code at op b os h p) (names_hold vars code at op b os h q);
     }
 
-pub judged_fails : (vars : ℕ) (code : List Op) (at : ℕ) (op : Op) (f : CodeFault) (b : Body) (os : List Body) → Here code at op b os
+pub judged_fails : (vars : ℕ) (code : List Op) (at : ℕ) (op : Op) (f : CodeFault) (b : OpenBody) (os : List OpenBody) → Here code at op b os
     → Holds vars code at bodies → judged vars at op (drop (at + 1) code) b os ≡ Err f → Fault vars code at f
 judged_fails vars code at op f b os h first e =
     judged_fails_at (are_fair at b.end (drop (at + 1) code) (targets op)) (is_named vars (length os) op) vars code at op f b os h first refl refl e

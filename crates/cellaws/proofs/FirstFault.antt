@@ -7,7 +7,7 @@ use Rattle.instructions.specs.declared.fault.CodeFault.{CodeFault}
 use Rattle.instructions.specs.declared.fault.CodeFault.TheVariants as fault
 use Rattle.instructions.specs.Op.{Op}
 use Rattle.instructions.specs.Faults.{◌>>=◌}
-use Rattle.instructions.specs.Judging.{Body, has_one, left, judged, step, ended, judge, whole, first_fault}
+use Rattle.instructions.specs.Judging.{OpenBody, has_one, left, judged, step, ended, judge, whole, first_fault}
 use Rattle.instructions.proofs.Nested.{Nested, nested_fine, nested_end, left_by, left_stays, left_nested, before_end, Steps, steps}
 use Rattle.instructions.proofs.Stepping.{nested_step}
 use Rattle.instructions.proofs.Reaching.{drop_here, start_fine}
@@ -19,7 +19,7 @@ use Rattle.cellaws.proofs.Going.{Sound, Complete, sound_start, complete_start, l
 use Rattle.cellaws.proofs.Answering.{Fault, fault_is, bodies_hold, bodies_fail, left_fails, Here, all_hold, judged_fails}
 
 -- the pass at a place: what is open and awaited there is as it should be, and each question before is answered with yes
-record State (vars : ℕ) (code : List Op) (at : ℕ) (b : Body) (os : List Body) : Type 0 where
+record State (vars : ℕ) (code : List Op) (at : ℕ) (b : OpenBody) (os : List OpenBody) : Type 0 where
   nested : Nested code at at b os
   sound : Sound code at b os
   complete : Complete code at b os
@@ -37,15 +37,15 @@ start vars code = record {
   before = λ n q lt. absurd (omega arith);
 }
 
-knows : (vars : ℕ) (code : List Op) (at : ℕ) (b : Body) (os : List Body) → State vars code at b os → Knows code at b os
+knows : (vars : ℕ) (code : List Op) (at : ℕ) (b : OpenBody) (os : List OpenBody) → State vars code at b os → Knows code at b os
 knows vars code at b os s = record { sound = s.sound; complete = λ c comes le deep. s.complete c comes le }
 
-knows_left : (vars : ℕ) (code : List Op) (at : ℕ) (b : Body) (os : List Body) (x : Body × List Body) → State vars code at b os → left at b os ≡ Ok x
+knows_left : (vars : ℕ) (code : List Op) (at : ℕ) (b : OpenBody) (os : List OpenBody) (x : OpenBody × List OpenBody) → State vars code at b os → left at b os ≡ Ok x
     → Knows code at x.0 x.1
 knows_left vars code at b os x s went =
     left_by at (λ b os. Knows code at b os) (λ b o os same one k. knows_other code at b o os k) b os x went (knows vars code at b os s)
 
-here_of : (vars : ℕ) (code : List Op) (at : ℕ) (op : Op) (b : Body) (os : List Body) (x : Body × List Body) → State vars code at b os
+here_of : (vars : ℕ) (code : List Op) (at : ℕ) (op : Op) (b : OpenBody) (os : List OpenBody) (x : OpenBody × List OpenBody) → State vars code at b os
     → slice_get code at ≡ Some op → at < length code → left at b os ≡ Ok x → Here code at op x.0 x.1
 here_of vars code at op b os x s here lt went =
     let inside : at < x.0.end = before_end code at x.0 x.1 lt (left_stays at b os x went) (left_nested code at b os x went s.nested) in
@@ -57,7 +57,7 @@ here_of vars code at op b os x s here lt went =
       around = λ end outer under stands. around code at end outer b os x s.only went inside under stands;
     }
 
-told : (vars : ℕ) (code : List Op) (at : ℕ) (f : CodeFault) (b : Body) (os : List Body) → State vars code at b os → at ≤ length code
+told : (vars : ℕ) (code : List Op) (at : ℕ) (f : CodeFault) (b : OpenBody) (os : List OpenBody) → State vars code at b os → at ≤ length code
     → Fault vars code at f → IsFirstFault vars code f
 told vars code at f b os s le g = record {
   place = at;
@@ -70,7 +70,7 @@ told vars code at f b os s le g = record {
 
 -- ---- one instruction
 
-further : (vars : ℕ) (code : List Op) (at : ℕ) (op : Op) (b : Body) (os : List Body) (y : Body × List Body) → State vars code at b os
+further : (vars : ℕ) (code : List Op) (at : ℕ) (op : Op) (b : OpenBody) (os : List OpenBody) (y : OpenBody × List OpenBody) → State vars code at b os
     → slice_get code at ≡ Some op → at < length code → Steps vars at op (drop (at + 1) code) b os y
     → State vars code (at + 1) y.0 y.1
 further vars code at op b os y s here lt t =
@@ -79,12 +79,12 @@ further vars code at op b os y s here lt t =
     let ended_well = bodies_hold vars code at b os t.stays (knows vars code at b os s) s.only t.went h.inside in
     record {
       nested = nested_step vars at op code b os y here s.nested t;
-      sound = subst (λ (z : Body × List Body). Sound code (at + 1) z.0 z.1) t.result
+      sound = subst (λ (z : OpenBody × List OpenBody). Sound code (at + 1) z.0 z.1) t.result
           (sound_on code at t.height op t.stays.0 t.stays.1 here h.inside has.comes (left_sound code at b os t.stays t.went s.sound));
       complete = complete_on vars at op code b os y here s.nested s.complete t;
-      bodies = subst (λ (z : Body × List Body). Bodies code (at + 1) (all_ends z.0 z.1)) t.result
+      bodies = subst (λ (z : OpenBody × List OpenBody). Bodies code (at + 1) (all_ends z.0 z.1)) t.result
           (bodies_on code at t.height op t.stays.0 t.stays.1 here h.inside h.bodies);
-      only = subst (λ (z : Body × List Body). Only code (at + 1) z.0 z.1) t.result (only_on code at t.height op b os t.stays here s.only t.went h.inside);
+      only = subst (λ (z : OpenBody × List OpenBody). Only code (at + 1) z.0 z.1) t.result (only_on code at t.height op b os t.stays here s.only t.went h.inside);
       before = λ n q less. elim (cases_lt n at) [
         | inl earlier ↦ s.before n q earlier
         | inr past ↦ (let same : at ≡ n = omega arith in
@@ -97,7 +97,7 @@ failed_in : {A B : Type 0} (r : Result A CodeFault) (k : A → Result B CodeFaul
 failed_in (Ok x) k f e = inr (x, refl, e)
 failed_in (Err d) k f e = inl (ap (λ (g : CodeFault). Err g) (fault_is d f e))
 
-step_fails : (vars : ℕ) (code : List Op) (at : ℕ) (op : Op) (f : CodeFault) (b : Body) (os : List Body) → State vars code at b os
+step_fails : (vars : ℕ) (code : List Op) (at : ℕ) (op : Op) (f : CodeFault) (b : OpenBody) (os : List OpenBody) → State vars code at b os
     → slice_get code at ≡ Some op → at < length code → step vars at op (drop (at + 1) code) b os ≡ Err f → Fault vars code at f
 step_fails vars code at op f b os s here lt e =
     elim (failed_in (left at b os) (λ x. judged vars at op (drop (at + 1) code) x.0 x.1) f e) [
@@ -112,7 +112,7 @@ not_ended : {A : Type 0} (t : Bool) (f : CodeFault) (y : A) → cond t (Ok y) (E
 not_ended true f y e = absurd cc
 not_ended false f y e = (refl, sym (fault_is fault.BadStack f e))
 
-end_fails : (vars : ℕ) (code : List Op) (at : ℕ) (f : CodeFault) (b : Body) (os : List Body) → State vars code at b os → at ≡ length code
+end_fails : (vars : ℕ) (code : List Op) (at : ℕ) (f : CodeFault) (b : OpenBody) (os : List OpenBody) → State vars code at b os → at ≡ length code
     → judge vars at [] b os ≡ Err f → Fault vars code at f
 end_fails vars code at f b os s same e =
     elim (failed_in (left at b os) (λ x. ended at x) f e) [
@@ -126,7 +126,7 @@ end_fails vars code at f b os s same e =
 
 -- ---- the whole plan
 
-pass : (vars : ℕ) (code : List Op) (f : CodeFault) (k at : ℕ) (b : Body) (os : List Body) → at + k ≡ length code → State vars code at b os
+pass : (vars : ℕ) (code : List Op) (f : CodeFault) (k at : ℕ) (b : OpenBody) (os : List OpenBody) → at + k ≡ length code → State vars code at b os
     → judge vars at (drop at code) b os ≡ Err f → IsFirstFault vars code f
 pass vars code f zero at b os same s e =
     let last : judge vars at [] b os ≡ Err f = ap (λ (ops : List Op). judge vars at ops b os) (sym (drop_all at code (omega arith))) ∙ e in

@@ -2,3 +2,11 @@ pub mod Nests
 pub mod Weights
 pub mod Sizes
 pub mod Alone
+pub mod Ending
+pub mod Chains
+pub mod Prefixes
+pub mod Suffixes
+pub mod Primaries
+pub mod Conditionals
+pub mod Lists
+pub mod Refusals

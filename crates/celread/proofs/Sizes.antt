@@ -16,8 +16,8 @@ use Rattle.celtree.specs.Calls.{macro_named, selection, variable, has_of, macro_
 use Rattle.celtokens.specs.Operators.{begins_with_int, after_prefix, selector}
 use Rattle.celtokens.specs.Literal.{literal_of, Literal, one_token, negative_int}
 use Rattle.celtokens.specs.Closing.{Ending, close, trailing}
-use Rattle.celparse.specs.Grammar as grammar
-use Rattle.celparse.specs.Grammar.{Level, Suffixes, Chain, Spells, Items, MoreItems, Entries, MoreEntries}
+use Rattle.celread.specs.Grammar as grammar
+use Rattle.celread.specs.Grammar.{Level, Suffixes, Chain, Spells, Items, MoreItems, Entries, MoreEntries}
 use Rattle.celread.specs.Reading.{IsReadAs}
 use Rattle.celtree.specs.Size.{nodes, nodes_of_items, nodes_of_pairs, text_bytes, text_bytes_of_items, text_bytes_of_pairs}
 use Rattle.celread.proofs.Weights.{bytes_are, weight, weights, lexed_weights}

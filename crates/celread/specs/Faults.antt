@@ -1,6 +1,6 @@
 -- Why a text is not read whose tokens are not.
-use Rattle.celparse.specs.declared.fault.ParseFault.{ParseFault}
-use Rattle.celparse.specs.declared.fault.ParseFault.TheVariants as parse_fault
+use Rattle.celread.specs.declared.parse_fault.ParseFault.{ParseFault}
+use Rattle.celread.specs.declared.parse_fault.ParseFault.TheVariants as parse_fault
 use Rattle.celread.specs.declared.fault.ReadFault.{ReadFault}
 use Rattle.celread.specs.declared.fault.ReadFault.TheVariants as fault
 

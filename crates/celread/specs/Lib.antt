@@ -1,3 +1,5 @@
 pub mod Limits
 pub mod Faults
 pub mod Reading
+pub mod Grammar
+pub mod Ends

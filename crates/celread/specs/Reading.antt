@@ -5,7 +5,7 @@ use Rattle.celtokens.specs.Lexes.{Lexes, HasNoTokens}
 use Rattle.celread.specs.declared.fault.ReadFault.{ReadFault}
 use Rattle.celread.specs.declared.fault.ReadFault.TheVariants as fault
 use Rattle.celtree.specs.Tree.{Expr}
-use Rattle.celparse.specs.Grammar.{IsSpelling}
+use Rattle.celread.specs.Grammar.{IsSpelling}
 use Rattle.celtree.specs.Nesting.{nests_within}
 use Rattle.celread.specs.Limits.{opens_too_many}
 

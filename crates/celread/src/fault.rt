@@ -2,7 +2,7 @@
 
 ghost use Rattle.std.specs.Prelude.{◌≡◌};
 
-use celparse::ParseFault;
+use crate::parse_fault::ParseFault;
 use std::alloc::{AllocError, AllocFailed};
 use thiserror::Error;
 

@@ -6,9 +6,9 @@ ghost use Rattle.celread.specs.Reading.{IsParse, IsParseFault, IsReadAs, IsRefus
 ghost use Rattle.celtree.specs.Size.{nodes, text_bytes};
 ghost use Rattle.celtree.specs.View.{view};
 
+use crate::descent::expression;
 use crate::fault::ReadFault;
 use crate::limits::{nests_within, opens_too_many};
-use celparse::expression;
 use celtokens::{Token, characters, one_reading, tokens};
 use celtree::Tree;
 use std::alloc::Global;

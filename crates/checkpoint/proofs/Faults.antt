@@ -41,6 +41,13 @@ back entries.Damaged = refl
 back entries.TooLong = refl
 back entries.Memory = refl
 
+-- no fault of entries is passed on as that no generation is left
+pub never_exhausted : (fault : EntriesFault) → Exhausted ≡ of_entries fault → ⊥
+never_exhausted entries.Device is = cc
+never_exhausted entries.Damaged is = cc
+never_exhausted entries.TooLong is = cc
+never_exhausted entries.Memory is = cc
+
 -- a fault of entries that is passed on as one of writing them
 pub entries_fault : {T U : Type 0} (r : Result T WriteFault) {q : Result U EntriesFault} {f : EntriesFault} (e : EntriesFault) → IsErrAnd r (λ x. x ≡ of_entries f)
     → q ≡ Err f → IsErrOf r (of_entries e) → IsErrOf q e

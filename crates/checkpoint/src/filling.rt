@@ -100,6 +100,7 @@ pub trait Entries {
         ensures damaged { D.disk.keeps device.old → IsErrOf result EntriesFault.Damaged
             → (entries : List Entry) → ahead self.old (D.disk.content device.old) entries → ⊥ }
         ensures refusal { OnErr result (IsErrOf result EntriesFault.Device ⊎ IsErrOf result EntriesFault.Damaged) }
+        ensures steady { OnOk result (D.disk.failures device.new ≡ D.disk.failures device.old) }
         ensures cause { IsErrOf result EntriesFault.Device → HasFailed D.disk device.old device.new };
 
     /// The key of the entry that it stands at.
@@ -215,6 +216,8 @@ pub fn first_keys<D: Device, E: Entries>(
     ensures reads { (k : ℕ) → E.reads entries.new k → E.reads entries.old k }
     ensures ran { Ran D.disk device.old device.new Same }
     ensures cause { IsErrOf result EntriesFault.Device → HasFailed D.disk device.old device.new }
+    ensures steady { OnOk result (D.disk.failures device.new ≡ D.disk.failures device.old) }
+    ensures memory { IsErrOf result EntriesFault.Memory → D.disk.failures device.new ≡ D.disk.failures device.old }
 {
     let mut filling = Filling::new(alloc);
     entries.rewind();

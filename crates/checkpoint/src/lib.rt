@@ -24,6 +24,7 @@ mod writing;
 
 pub use entry_list::EntryList;
 pub use filling::{Entries, EntriesFault, first_keys};
-pub use reader::{ReadFault, Reader};
+pub use reader::{Reader, ReaderFault};
+pub use roots::{counted_root, place};
 pub use scanning::{ScanFault, scan};
 pub use writing::{WriteFault, Written, write};

@@ -144,6 +144,7 @@ impl PageWriter {
         ensures refusal { OnErr result (IsErrOf result WriteFault.Device ⊎ IsErrOf result WriteFault.Damaged) }
         ensures ran { Ran D.disk device.old device.new (Torn (512 * self.old.at) (32768 * (self.old.filled + self.old.left))) }
         ensures cause { IsErrOf result WriteFault.Device → HasFailed D.disk device.old device.new }
+        ensures steady { OnOk result (D.disk.failures device.new ≡ D.disk.failures device.old) }
     {
         if self.left == 0 {
             return Err(WriteFault::Damaged);
@@ -171,6 +172,7 @@ impl PageWriter {
         ensures refusal { OnErr result (IsErrOf result WriteFault.Device ⊎ IsErrOf result WriteFault.Damaged) }
         ensures ran { Ran D.disk device.old device.new (Torn (512 * self.old.at) (32768 * (self.old.filled + self.old.left))) }
         ensures cause { IsErrOf result WriteFault.Device → HasFailed D.disk device.old device.new }
+        ensures steady { OnOk result (D.disk.failures device.new ≡ D.disk.failures device.old) }
     {
         if self.page.push(key, cell).is_ok() {
             return Ok(());
@@ -193,6 +195,7 @@ impl PageWriter {
         ensures refusal { OnErr result (IsErrOf result WriteFault.Device ⊎ IsErrOf result WriteFault.Damaged) }
         ensures ran { Ran D.disk device.old device.new (Torn (512 * self.old.at) (32768 * (self.old.filled + self.old.left))) }
         ensures cause { IsErrOf result WriteFault.Device → HasFailed D.disk device.old device.new }
+        ensures steady { OnOk result (D.disk.failures device.new ≡ D.disk.failures device.old) }
     {
         self.end_page(device)?;
         if self.left != 0 {

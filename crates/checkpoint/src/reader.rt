@@ -9,32 +9,32 @@ use std::alloc::{AllocError, AllocFailed, Global};
 
 /// Why a reader does not take an entry.
 #[derive(Clone, Copy)]
-pub enum ReadFault {
+pub enum ReaderFault {
     /// The reader refuses the entry.
     Entry,
     /// Out of memory.
     Memory,
 }
 
-impl From<AllocError> for ReadFault {
-    ghost use Rattle.checkpoint.specs.declared.reader.ReadFault.TheVariants.{Memory};
+impl From<AllocError> for ReaderFault {
+    ghost use Rattle.checkpoint.specs.declared.reader.ReaderFault.TheVariants.{Memory};
     ghost use Rattle.std.specs.Prelude.{◌≡◌};
 
     ghost from_gives = { λ _ fault. fault ≡ Memory };
 
-    fn from(_: AllocError) -> ReadFault {
-        ReadFault::Memory
+    fn from(_: AllocError) -> ReaderFault {
+        ReaderFault::Memory
     }
 }
 
-impl<T: Drop> From<AllocFailed<T>> for ReadFault {
-    ghost use Rattle.checkpoint.specs.declared.reader.ReadFault.TheVariants.{Memory};
+impl<T: Drop> From<AllocFailed<T>> for ReaderFault {
+    ghost use Rattle.checkpoint.specs.declared.reader.ReaderFault.TheVariants.{Memory};
     ghost use Rattle.std.specs.Prelude.{◌≡◌};
 
     ghost from_gives = { λ _ fault. fault ≡ Memory };
 
-    fn from(_: AllocFailed<T>) -> ReadFault {
-        ReadFault::Memory
+    fn from(_: AllocFailed<T>) -> ReaderFault {
+        ReaderFault::Memory
     }
 }
 
@@ -53,9 +53,9 @@ pub trait Reader {
     /// # Errors
     ///
     /// `Entry` where the reader refuses the entry. `Memory` where there was none. It is told nothing more then.
-    fn entry(&mut self, alloc: Global, key: &[u8], cell: &[u8]) -> Result<(), ReadFault>
+    fn entry(&mut self, alloc: Global, key: &[u8], cell: &[u8]) -> Result<(), ReaderFault>
         ensures told { OnOk result (told self.old self.new ((key.now, cell.now) ∷ [])) }
-        ensures refused { IsErrOf result ReadFault.Entry → refuses self.old (key.now, cell.now) };
+        ensures refused { IsErrOf result ReaderFault.Entry → refuses self.old (key.now, cell.now) };
 
     /// Between a state and itself it was told nothing.
     ghost told_none: { (reader : Self) → told reader reader [] };
@@ -65,9 +65,9 @@ pub trait Reader {
 }
 
 // Tells the entries of a page.
-fn tell_page<R: Reader>(alloc: Global, page: &Page<'_>, reader: &mut R) -> Result<(), ReadFault>
+fn tell_page<R: Reader>(alloc: Global, page: &Page<'_>, reader: &mut R) -> Result<(), ReaderFault>
     ensures told { OnOk result (R.told reader.old reader.new page.now) }
-    ensures refused { IsErrOf result ReadFault.Entry → IsRefused R.told R.refuses reader.old page.now }
+    ensures refused { IsErrOf result ReaderFault.Entry → IsRefused R.told R.refuses reader.old page.now }
 {
     for i in 0..page.len() {
         reader.entry(alloc, page.key(i), page.cell(i))?;
@@ -90,7 +90,7 @@ pub(crate) fn tell_unrefused<R: Reader>(
     }
     match tell_page(alloc, page, reader) {
         Ok(()) => Ok(false),
-        Err(ReadFault::Entry) => Ok(true),
-        Err(ReadFault::Memory) => Err(AllocError),
+        Err(ReaderFault::Entry) => Ok(true),
+        Err(ReaderFault::Memory) => Err(AllocError),
     }
 }

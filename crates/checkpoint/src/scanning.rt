@@ -118,6 +118,8 @@ fn take_pages<D: Device, R: Reader>(
     ensures refusal { IsErrOf result ScanFault.Entry → ⊥ }
     ensures ran { Ran D.disk device.old device.new Same }
     ensures cause { IsErrOf result ScanFault.Device → HasFailed D.disk device.old device.new }
+    ensures steady { OnOk result (D.disk.failures device.new ≡ D.disk.failures device.old) }
+    ensures memory { IsErrOf result ScanFault.Memory → D.disk.failures device.new ≡ D.disk.failures device.old }
 {
     let mut refused = false;
     for i in 0..root.pages {
@@ -157,6 +159,8 @@ pub fn scan<D: Device, R: Reader>(
     ensures refused { D.disk.keeps device.old → IsErrOf result ScanFault.Entry
         → IsRefused R.told R.refuses reader.old (joined (pages_of_root root.now (D.disk.content device.old))) }
     ensures cause { IsErrOf result ScanFault.Device → HasFailed D.disk device.old device.new }
+    ensures steady { OnOk result (D.disk.failures device.new ≡ D.disk.failures device.old) }
+    ensures memory { IsErrOf result ScanFault.Memory → D.disk.failures device.new ≡ D.disk.failures device.old }
 
     ensures ran { Ran D.disk device.old device.new Same }
 

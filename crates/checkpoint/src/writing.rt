@@ -114,6 +114,7 @@ fn write_pages<D: Device, E: Entries>(
     ensures refusal { OnErr result (IsErrOf result WriteFault.Device ⊎ IsErrOf result WriteFault.Damaged) }
     ensures ran { Ran D.disk device.old device.new (Torn (512 * writer.old.at) (32768 * writer.old.left)) }
     ensures cause { IsErrOf result WriteFault.Device → HasFailed D.disk device.old device.new }
+    ensures steady { OnOk result (D.disk.failures device.new ≡ D.disk.failures device.old) }
 {
     if writer.left == 0 {
         return Ok(());
@@ -191,6 +192,7 @@ fn write_generation<D: Device, E: Entries>(
     ensures had_kept { D.disk.keeps device.new → D.disk.keeps device.old }
     ensures count { D.disk.failures device.old ≤ D.disk.failures device.new }
     ensures cause { IsErrOf result WriteFault.Device → HasFailed D.disk device.old device.new }
+    ensures steady { OnOk result (D.disk.failures device.new ≡ D.disk.failures device.old) }
 {
     clear_slot(device, current)?;
     write_pages(device, entries, writer)?;
@@ -261,6 +263,8 @@ pub fn write<D: Device, E: Entries>(
         → IsSource E.gives E.reads current.now last_gate (D.disk.content device.old) entries.old all
         → IsErrOf result WriteFault.Damaged → ⊥ }
     ensures cause { IsErrOf result WriteFault.Device → HasFailed D.disk device.old device.new }
+    ensures steady { OnOk result (D.disk.failures device.new ≡ D.disk.failures device.old) }
+    ensures unfailed { IsErrOf result WriteFault.Memory ⊎ IsErrOf result WriteFault.Exhausted → D.disk.failures device.new ≡ D.disk.failures device.old }
 
     ensures gives { (content : List ℕ) (all : List Entry) → E.gives entries.old content all → E.gives entries.new content all }
     ensures kept { D.disk.keeps device.old → D.disk.keeps device.new }

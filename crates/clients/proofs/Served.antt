@@ -3,8 +3,8 @@ use Rattle.std.proofs.Common.{◌++◌, ℕ, List, [], Result, Ok, Err}
 use Rattle.std.specs.Prelude.{MatchResult}
 use Rattle.device.specs.declared.device.Device.{Ghosts}
 use Rattle.names.specs.declared.format.Rules.{Rules}
-use Rattle.requests.specs.View.{after_all}
-use Rattle.recovery.specs.Standing.{View}
+use Rattle.histories.specs.View.{after_all}
+use Rattle.decoded.specs.Standing.{View}
 use Rattle.durable.specs.declared.store.Store.{Store}
 use Rattle.durable.specs.Settled.{device_of}
 use Rattle.httpmsg.specs.Stream.{Message}

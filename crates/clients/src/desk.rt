@@ -2,7 +2,7 @@
 
 ghost use Rattle.std.specs.Prelude.{◌≡◌, ◌<◌, [], true, length, IfOk, MatchResult};
 ghost use Rattle.names.specs.declared.format.Rules.{Rules};
-ghost use Rattle.recovery.specs.Standing.{View};
+ghost use Rattle.decoded.specs.Standing.{View};
 ghost use Rattle.durable.specs.Settled.{device_of, serves};
 ghost use Rattle.api.specs.Answers.{ShowsAt, HasCauses};
 ghost use Rattle.sessions.specs.Batch.{held};

@@ -2,7 +2,7 @@
 
 ghost use Rattle.std.specs.Prelude.{MatchResult};
 ghost use Rattle.names.specs.declared.format.Rules.{Rules};
-ghost use Rattle.recovery.specs.Standing.{View};
+ghost use Rattle.decoded.specs.Standing.{View};
 ghost use Rattle.api.specs.Answers.{ShowsAt};
 ghost use Rattle.clients.specs.Serving.{HasServedSome, StopsServing, StopsClients};
 

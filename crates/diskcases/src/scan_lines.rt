@@ -7,7 +7,7 @@ ghost use Rattle.roots.specs.Root.{log_start};
 use crate::line::Line;
 use crate::page_lines::fill;
 use crate::writing_lines::push_keys;
-use checkpoint::{ReadFault, Reader, ScanFault, scan};
+use checkpoint::{Reader, ReaderFault, ScanFault, scan};
 use device::{Device, MemDevice};
 use names::Format;
 use pages::PageBuilder;
@@ -44,9 +44,9 @@ impl Reader for Listing<'_> {
 
     ghost told_then = { told_then };
 
-    fn entry(&mut self, alloc: Global, key: &[u8], cell: &[u8]) -> Result<(), ReadFault> {
+    fn entry(&mut self, alloc: Global, key: &[u8], cell: &[u8]) -> Result<(), ReaderFault> {
         if key[..] == self.refused[..] {
-            return Err(ReadFault::Entry);
+            return Err(ReaderFault::Entry);
         }
         let entry = Entry::new(key.to_vec(alloc)?, cell.to_vec(alloc)?);
         self.entries.push(entry)?;

@@ -4,8 +4,8 @@ use Rattle.std.specs.Cmp.Lexicographic.{slice_cmp}
 use Rattle.std.specs.Ordering.{match_ordering}
 use Rattle.serde_json.specs.Data.{Data, null, boolean, number, string, array, object, Members, no_members, member, put, depth, members_depth}
 use Rattle.serde_json.specs.Find.{get, get_member}
-use Rattle.documents.specs.Json.{with_member, without, without_member}
-use Rattle.documents.proofs.Json.{both, same_names}
+use Rattle.jsondoc.specs.Json.{with_member, without, without_member}
+use Rattle.jsondoc.proofs.Json.{both, same_names}
 use Rattle.documents.specs.Document.{each_member}
 
 -- ---- tests of each member

@@ -4,7 +4,7 @@ use Rattle.std.specs.Option.{option_map_or}
 use Rattle.std.specs.Str.{bytes_eq}
 use Rattle.serde_json.specs.Data.{Data, null, string, object, Members, no_members, member, put}
 use Rattle.serde_json.specs.Find.{get, as_str, as_object}
-use Rattle.documents.specs.Json.{with_member}
+use Rattle.jsondoc.specs.Json.{with_member}
 use Rattle.names.specs.declared.resource.Resource.{Resource}
 use Rattle.names.specs.Key.{is_name_of}
 use Rattle.names.specs.Name.{is_namespace, is_name}

@@ -2,7 +2,7 @@
 use Rattle.std.specs.Prelude.{refl}
 use Rattle.std.specs.Coded.{Coded, code_by}
 use Rattle.serde_json.specs.Data.{Data}
-use Rattle.documents.specs.DataCode.{coded_data}
+use Rattle.jsondoc.specs.DataCode.{coded_data}
 use Rattle.documents.specs.Document.{Document}
 
 abbrev pub coded_document : Coded Document

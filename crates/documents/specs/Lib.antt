@@ -2,6 +2,4 @@ pub mod Requirement
 pub mod Selecting
 pub mod Document
 pub mod DocumentCode
-pub mod DataCode
-pub mod Json
-pub mod Escapes
+pub mod Form

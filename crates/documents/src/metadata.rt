@@ -5,7 +5,7 @@ ghost use Rattle.serde_json.specs.View.{view, members_view};
 ghost use Rattle.names.specs.Key.{is_name_of};
 ghost use Rattle.documents.specs.Document.{metadata_of, metadata_text, is_metadata, is_metadata_of, each_member, is_metadata_member, is_text, are_texts, has_kind, has_text};
 
-use crate::doc::Doc;
+use jsondoc::Doc;
 use names::{Resource, check_name, check_name_of, check_namespace};
 use serde_json::{Map, Value};
 use std::alloc::AllocError;

@@ -1,9 +1,9 @@
 ghost use Rattle.std.specs.Prelude.{◌≡◌, IfOk};
 ghost use Rattle.documents.specs.Document.{shown};
 
-use crate::doc::Doc;
 use crate::metadata::metadata_copy;
 use crate::stored::Document;
+use jsondoc::Doc;
 use std::alloc::{AllocError, Global};
 
 /// The object as it is shown: the stored document with the revision of its last write as `metadata.resourceVersion`.

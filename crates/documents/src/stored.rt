@@ -1,6 +1,6 @@
 ghost use Rattle.std.specs.Prelude.{◌≡◌, IfOk};
 
-use crate::doc::Doc;
+use jsondoc::Doc;
 use std::alloc::AllocError;
 use std::marker::Model;
 

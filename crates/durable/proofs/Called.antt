@@ -10,15 +10,15 @@ use Rattle.objects.specs.declared.fault.LookupFault.{LookupFault}
 use Rattle.objects.specs.declared.fault.LookupFault.TheVariants as Looks
 use Rattle.objects.specs.declared.fault.Part.{Part}
 use Rattle.names.specs.Key.{Key}
-use Rattle.requests.specs.declared.stored.Stored.{Stored}
-use Rattle.recovery.specs.Beside.{Beside}
+use Rattle.histories.specs.declared.stored.Stored.{Stored}
+use Rattle.decoded.specs.Decoded.{Decoded}
 use Rattle.paged.specs.declared.state.Paged.{Paged}
 use Rattle.paged.specs.Paged.{Below}
 use Rattle.durable.specs.declared.fault.Damage.{Damage}
 use Rattle.durable.specs.declared.fault.Fault.{Fault}
 use Rattle.durable.specs.declared.fault.Fault.TheVariants as Faults
 use Rattle.durable.specs.declared.store.Store.{Store}
-use Rattle.durable.specs.Called.{ServesOn}
+use Rattle.durable.specs.Called.{IsSteady, ServesOn}
 use Rattle.durable.specs.Faults.{MayBeMet, of_part, of_lookup_fault, goes_on_after}
 use Rattle.durable.specs.Settled.{device_of, serves, LiesUnder}
 use Rattle.durable.proofs.Renewing.{failed_then, never_failed, never_exhausted}
@@ -51,24 +51,28 @@ pub no_damage : (damage : Damage) → Faults.Damaged damage ≡ Faults.Failed �
 no_damage damage is = cc
 
 module _ {D A : Type 0} {g : Ghosts D} (old new : Store D g) where
-  pub serves_value : (value : A) → serves new ≡ true → ServesOn old new (Ok value)
-  serves_value value working = record {
+  pub serves_value : (value : A) → serves new ≡ true → IsSteady old new → ServesOn old new (Ok value)
+  serves_value value working same = record {
     goes_on = working;
     memory_goes_on = λ is. working;
     stops = λ is. absurd (no_fault is);
     damaged_stops = λ damage is. absurd (no_fault is);
     refusal = tt;
     cause = λ is. absurd (no_fault is);
+    steady = same;
+    unfailed = λ is. same;
   }
 
-  serves_memory : serves new ≡ true → ServesOn {A = A} old new (Err Faults.Memory)
-  serves_memory working = record {
+  serves_memory : serves new ≡ true → IsSteady old new → ServesOn {A = A} old new (Err Faults.Memory)
+  serves_memory working same = record {
     goes_on = tt;
     memory_goes_on = λ is. working;
     stops = λ is. cc;
     damaged_stops = λ damage is. cc;
     refusal = inr (inl refl);
     cause = λ is. cc;
+    steady = tt;
+    unfailed = λ is. same;
   }
 
   serves_device : serves new ≡ false → HasFailed g.disk (device_of old) (device_of new) → ServesOn {A = A} old new (Err Faults.Device)
@@ -79,6 +83,8 @@ module _ {D A : Type 0} {g : Ghosts D} (old new : Store D g) where
     damaged_stops = λ damage is. stopped;
     refusal = inl refl;
     cause = λ is. failed;
+    steady = tt;
+    unfailed = λ is. cc;
   }
 
   serves_damaged : (part : Part) → serves new ≡ false → ServesOn {A = A} old new (Err (Faults.Damaged (of_part part)))
@@ -89,14 +95,16 @@ module _ {D A : Type 0} {g : Ghosts D} (old new : Store D g) where
     damaged_stops = λ other is. stopped;
     refusal = inr (inr (part, refl));
     cause = λ is. cc;
+    steady = tt;
+    unfailed = λ is. cc;
   }
 
   -- memory was refused
-  pub serves_refused : (r : Result A Fault) {f : Fault} → IsErrAnd r (λ e. e ≡ f) → f ≡ Faults.Memory → serves new ≡ true → ServesOn old new r
-  serves_refused (Ok value) told is working = absurd told
-  serves_refused (Err fault) told is working =
+  pub serves_refused : (r : Result A Fault) {f : Fault} → IsErrAnd r (λ e. e ≡ f) → f ≡ Faults.Memory → serves new ≡ true → IsSteady old new → ServesOn old new r
+  serves_refused (Ok value) told is working same = absurd told
+  serves_refused (Err fault) told is working same =
       let At : Fault → Type 0 = λ f. ServesOn {A = A} old new (Err f) in
-      subst At (sym (told ∙ is)) (serves_memory working)
+      subst At (sym (told ∙ is)) (serves_memory working same)
 
   -- the device failed
   pub serves_failed : (r : Result A Fault) {f : Fault} → IsErrAnd r (λ e. e ≡ f) → f ≡ Faults.Device → serves new ≡ false → HasFailed g.disk (device_of old) (device_of new) → ServesOn old new r
@@ -113,16 +121,16 @@ module _ {D A : Type 0} {g : Ghosts D} (old new : Store D g) where
 
   -- a look met a fault
   serves_by : (fault : LookupFault) → serves new ≡ goes_on_after fault → (fault ≡ Looks.Device → HasFailed g.disk (device_of old) (device_of new))
-      → ServesOn {A = A} old new (Err (of_lookup_fault fault))
-  serves_by Looks.Device goes failed = serves_device goes (failed refl)
-  serves_by Looks.Memory goes failed = serves_memory goes
-  serves_by (Looks.Damaged part) goes failed = serves_damaged part goes
+      → (fault ≡ Looks.Memory → IsSteady old new) → ServesOn {A = A} old new (Err (of_lookup_fault fault))
+  serves_by Looks.Device goes failed same = serves_device goes (failed refl)
+  serves_by Looks.Memory goes failed same = serves_memory goes (same refl)
+  serves_by (Looks.Damaged part) goes failed same = serves_damaged part goes
 
   pub serves_met : (fault : LookupFault) {told : Fault} → told ≡ of_lookup_fault fault → serves new ≡ goes_on_after fault
-      → (fault ≡ Looks.Device → HasFailed g.disk (device_of old) (device_of new)) → ServesOn {A = A} old new (Err told)
-  serves_met fault is goes failed =
+      → (fault ≡ Looks.Device → HasFailed g.disk (device_of old) (device_of new)) → (fault ≡ Looks.Memory → IsSteady old new) → ServesOn {A = A} old new (Err told)
+  serves_met fault is goes failed same =
       let At : Fault → Type 0 = λ f. ServesOn {A = A} old new (Err f) in
-      subst At (sym is) (serves_by fault goes failed)
+      subst At (sym is) (serves_by fault goes failed same)
 
 -- a fault of one call, handed on by another
 pub serves_passed : {D A B : Type 0} {g : Ghosts D} {old new : Store D g} (r : Result A Fault) {q : Result B Fault} {f : Fault} → IsErrAnd r (λ e. e ≡ f) → q ≡ Err f
@@ -139,12 +147,14 @@ serves_passed {A = A} {B = B} (Err fault) {q} {f} passed was on =
       damaged_stops = λ damage is. on.damaged_stops damage (told (Faults.Damaged damage) is);
       refusal = subst Met same on.refusal;
       cause = λ is. on.cause (told Faults.Device is);
+      steady = tt;
+      unfailed = λ is. on.unfailed (told Faults.Memory is);
     }
 
 -- a fault after reads
-pub serves_after : {D A B : Type 0} {g : Ghosts D} (old mid new : Store D g) (fault : Fault) → Ran g.disk (device_of old) (device_of mid) Same
+pub serves_after : {D A B : Type 0} {g : Ghosts D} (old mid new : Store D g) (fault : Fault) → Ran g.disk (device_of old) (device_of mid) Same → IsSteady old mid
     → ServesOn {A = A} mid new (Err fault) → ServesOn {A = B} old new (Err fault)
-serves_after {B = B} {g = g} old mid new fault run on =
+serves_after {B = B} {g = g} old mid new fault run same on =
     let here : ServesOn {A = B} mid new (Err fault) = serves_passed (Err fault) refl refl on in
     record {
       goes_on = tt;
@@ -153,6 +163,8 @@ serves_after {B = B} {g = g} old mid new fault run on =
       damaged_stops = here.damaged_stops;
       refusal = here.refusal;
       cause = λ is. failed_then g.disk (device_of old) (device_of mid) (device_of new) run (here.cause is);
+      steady = tt;
+      unfailed = λ is. here.unfailed is ∙ same;
     }
 
 -- what may be met is neither of these
@@ -176,7 +188,7 @@ look_damaged (Looks.Damaged part) damage is = (part, refl)
 
 -- A store that stops, or goes on, after a look has the device and the pages that the look left.
 module _ {D : Type 0} {g : Ghosts D} (new : Store D g) (device : D) (paged : Paged) (same_device : device_of new ≡ device) (same_pages : new.paged ≡ paged) where
-  pub lies_met : (base : List (Key × Stored Beside)) → Below g.disk device paged base → LiesUnder new base
+  pub lies_met : (base : List (Key × Stored Decoded)) → Below g.disk device paged base → LiesUnder new base
   lies_met base below =
       let On : D → Type 0 = λ d. Below g.disk d new.paged base in
       let In : Paged → Type 0 = λ p. Below g.disk device p base in
@@ -187,3 +199,6 @@ module _ {D : Type 0} {g : Ghosts D} (new : Store D g) (device : D) (paged : Pag
 
   pub failed_met : (old : D) → HasFailed g.disk old device → HasFailed g.disk old (device_of new)
   failed_met old failed = let To : D → Type 0 = λ d. HasFailed g.disk old d in subst To (sym same_device) failed
+
+  pub steady_met : (old : D) → g.disk.failures device ≡ g.disk.failures old → g.disk.failures (device_of new) ≡ g.disk.failures old
+  steady_met old same = ap (λ (d : D). g.disk.failures d) same_device ∙ same

@@ -11,19 +11,19 @@ use Rattle.device.proofs.Moments.{followed_by}
 use Rattle.device.proofs.Runs.{stands_now}
 use Rattle.names.specs.declared.format.Rules.{Rules}
 use Rattle.requests.specs.Request.{Request}
-use Rattle.requests.specs.History as plain
+use Rattle.histories.specs.History as plain
 use Rattle.requests.specs.Reply.{Reply}
-use Rattle.requests.specs.View.{view, after_all}
+use Rattle.histories.specs.View.{view, after_all}
 use Rattle.records.specs.Gathered.{Gathers, count_of}
 use Rattle.records.specs.Payload.{IsStorable, group_limit}
 use Rattle.records.specs.declared.group.Group.{Group}
 use Rattle.celtree.specs.Tree.{Expr}
 use Rattle.expressions.specs.Specification.{Specification}
 use Rattle.apicore.specs.Prepared.{IsReadOf}
-use Rattle.recovery.specs.Standing.{Write, History, View, write_with_plans, recorded}
+use Rattle.decoded.specs.Standing.{Write, History, View, write_with_plans, recorded}
 use Rattle.apicore.specs.Step.{Asked, writes, accepted, replies}
 use Rattle.apicore.proofs.Admitting.{written_admitted, accepted_admitted}
-use Rattle.recovery.proofs.Following.{AllMayFollow-append}
+use Rattle.decoded.proofs.Following.{AllMayFollow-append}
 use Rattle.durable.specs.declared.fault.Damage.{Damage}
 use Rattle.durable.specs.declared.fault.Fault.{Fault}
 use Rattle.durable.specs.declared.fault.Fault.TheVariants as Faults

@@ -5,8 +5,8 @@ use Rattle.names.specs.Format.{rules_of}
 use Rattle.names.proofs.Formats.{numbers_small}
 use Rattle.device.specs.declared.device.Device.{Ghosts}
 use Rattle.roots.specs.declared.root.Label.{Label}
-use Rattle.requests.specs.View.{view}
-use Rattle.recovery.specs.Standing.{History, IsHistory}
+use Rattle.histories.specs.View.{view}
+use Rattle.decoded.specs.Standing.{History, IsHistory}
 use Rattle.snapshots.specs.Keeping.{IsKeepable}
 use Rattle.snapshots.proofs.Histories.{histories_are_kept}
 use Rattle.durable.specs.Rules.{rules_by}

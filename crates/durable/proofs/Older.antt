@@ -14,23 +14,23 @@ use Rattle.names.specs.Resource.{row}
 use Rattle.roots.specs.declared.root.Label.{Label}
 use Rattle.roots.specs.declared.root.Root.{Root}
 use Rattle.pages.specs.Page.{Entry}
-use Rattle.requests.specs.declared.stored.Stored.{Stored}
-use Rattle.requests.specs.Mapped.{each}
+use Rattle.histories.specs.declared.stored.Stored.{Stored}
+use Rattle.histories.specs.Mapped.{each}
 use Rattle.requests.specs.Namespaces.{and_name, names_among, namespaces_in_use}
-use Rattle.requests.specs.View as seen
-use Rattle.requests.specs.View.{view}
+use Rattle.histories.specs.View as seen
+use Rattle.histories.specs.View.{view}
 use Rattle.holdings.specs.Holdings.{State, Shows}
-use Rattle.recovery.specs.Beside.{Beside}
-use Rattle.recovery.specs.Laws.{UpgradesFollow}
-use Rattle.recovery.specs.Standing.{History, IsHistory, View, plans_beside, with_plans}
-use Rattle.recovery.specs.Upgraded.{newest, is_newest, upgraded_rules, upgraded_history, upgraded_view, upgraded_count, upgraded_revision, HaveForm, HasRoomForUpgrade, IsOfOlderFormat}
-use Rattle.recovery.proofs.Staying.{histories_show}
-use Rattle.recovery.proofs.Upgrading.{upgrades_show}
+use Rattle.decoded.specs.Decoded.{Decoded}
+use Rattle.decoded.specs.Laws.{UpgradesFollow}
+use Rattle.decoded.specs.Standing.{History, IsHistory, View, plans_beside, with_plans}
+use Rattle.decoded.specs.Upgraded.{newest, is_newest, upgraded_rules, upgraded_history, upgraded_view, upgraded_count, upgraded_revision, HaveForm, HasRoomForUpgrade, IsOfOlderFormat}
+use Rattle.decoded.proofs.Staying.{histories_show}
+use Rattle.decoded.proofs.Upgrading.{upgrades_show}
 use Rattle.snapshots.specs.Keeping.{entries_of, held_entries, IsHeld, IsKeepable}
 use Rattle.snapshots.proofs.Alone.{kept_held}
 use Rattle.snapshots.proofs.Showing.{held_as_it_is, entries_shown}
 use Rattle.checkpoint.specs.EntryList.{entries_of as in_list}
-use Rattle.paged.specs.declared.compacting.Next.{Next}
+use Rattle.paged.specs.declared.compacting.NextCheckpoint.{NextCheckpoint}
 use Rattle.paged.specs.Lying.{base_of}
 use Rattle.durable.specs.declared.store.Store.{Store}
 use Rattle.durable.specs.declared.upgraded.UpgradeFault.{UpgradeFault}
@@ -60,11 +60,11 @@ abbrev pub newest_label : Label
 newest_label = record { format = newest; revision = 0 }
 
 -- a core that keeps to the rules behind an upgrade keeps to those of its format
-pub numbers_upgraded : (core : State Beside) → core.rules ≡ upgraded_rules → core.rules ≡ rules_by (label_of core)
+pub numbers_upgraded : (core : State Decoded) → core.rules ≡ upgraded_rules → core.rules ≡ rules_by (label_of core)
 numbers_upgraded core is = by_own_format core.rules newest_label is
 
 -- which is the newest one
-pub format_upgraded : (core : State Beside) → core.rules ≡ upgraded_rules → core.rules.format ≡ newest
+pub format_upgraded : (core : State Decoded) → core.rules ≡ upgraded_rules → core.rules.format ≡ newest
 format_upgraded core is = numbers.format_of core.rules newest_label is
 
 -- ---- what is held of a view
@@ -73,7 +73,7 @@ abbrev Planted : Type 0
 Planted = Key × Stored (List Expr)
 
 abbrev Kept : Type 0
-Kept = Key × Stored Beside
+Kept = Key × Stored Decoded
 
 served_held : (f : Format) (os : List Planted) → AllByRecursion (λ (o : Planted). has_resource f o.0.resource ≡ true) os
     → AllByRecursion (λ (o : Kept). has_resource f o.0.resource ≡ true) (each plans_beside os)
@@ -118,7 +118,7 @@ module _ {D : Type 0} {g : Ghosts D} (store : Store D g) (rules : Rules) (h : Hi
   pub root_here : root_of store ≡ settled.read.root
   root_here = root_is g.disk (device_of store) (root_of store) store.log (store.ready settled.working settled.keeps) settled.read.root settled.read.counts
 
-  abbrev pub held_here : seen.View Beside
+  abbrev pub held_here : seen.View Decoded
   held_here = with_plans (view rules h)
 
   abbrev pub view_then : View
@@ -148,17 +148,17 @@ module _ {D : Type 0} {g : Ghosts D} (store : Store D g) (rules : Rules) (h : Hi
     kept_then = history_kept upgraded_rules newest_label (upgraded_history rules h) refl history_then
 
     pub held_then : IsHeld upgraded_rules (upgraded_view held_here)
-    held_then = subst (λ (v : seen.View Beside). IsHeld upgraded_rules v) view_held (kept_held upgraded_rules view_then kept_then)
+    held_then = subst (λ (v : seen.View Decoded). IsHeld upgraded_rules v) view_held (kept_held upgraded_rules view_then kept_then)
 
   pub entries_then : (es : List Entry) → es ≡ held_entries (upgraded_view held_here) → es ≡ entries_of view_then
   entries_then es are =
-      are ∙ ap (λ (v : seen.View Beside). held_entries v) (sym view_held) ∙ entries_shown (with_plans view_then) view_then (held_as_it_is (with_plans view_then))
+      are ∙ ap (λ (v : seen.View Decoded). held_entries v) (sym view_held) ∙ entries_shown (with_plans view_then) view_then (held_as_it_is (with_plans view_then))
 
-  pub shows_then : (core : State Beside) → Shows core (base_of (upgraded_view held_here)) (upgraded_view held_here) → Shows core (base_of (with_plans view_then)) (with_plans view_then)
-  shows_then core shows = subst (λ (v : seen.View Beside). Shows core (base_of v) v) (sym view_held) shows
+  pub shows_then : (core : State Decoded) → Shows core (base_of (upgraded_view held_here)) (upgraded_view held_here) → Shows core (base_of (with_plans view_then)) (with_plans view_then)
+  shows_then core shows = subst (λ (v : seen.View Decoded). Shows core (base_of v) v) (sym view_held) shows
 
   -- The next generation keeps the upgraded history.
-  pub keeps_then : (next : Next) → next.core.rules ≡ upgraded_rules → in_list next.entries ≡ held_entries (upgraded_view held_here)
+  pub keeps_then : (next : NextCheckpoint) → next.core.rules ≡ upgraded_rules → in_list next.entries ≡ held_entries (upgraded_view held_here)
       → Shows next.core (base_of (upgraded_view held_here)) (upgraded_view held_here) → UpgradesFollow → HaveForm (namespaces_in_use held_here) → HasRoomForUpgrade held_here
       → Keeps next upgraded_rules (upgraded_history rules h)
   keeps_then next is entries shows follow form room = record {

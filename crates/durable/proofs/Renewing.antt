@@ -6,11 +6,11 @@ use Rattle.device.specs.Run.{Ran, Stands}
 use Rattle.device.specs.Step.{Same}
 use Rattle.device.proofs.Moments.{followed_by}
 use Rattle.names.specs.declared.format.Rules.{Rules}
-use Rattle.requests.specs.View.{view}
+use Rattle.histories.specs.View.{view}
 use Rattle.holdings.specs.Holdings.{State, Shows}
 use Rattle.snapshots.specs.Keeping.{IsKeepable}
-use Rattle.recovery.specs.Beside.{Beside}
-use Rattle.recovery.specs.Standing.{History, View, with_plans}
+use Rattle.decoded.specs.Decoded.{Decoded}
+use Rattle.decoded.specs.Standing.{History, View, with_plans}
 use Rattle.paged.specs.declared.state.Paged.{Paged}
 use Rattle.paged.specs.Lying.{base_of}
 use Rattle.paged.specs.Paged.{Below}
@@ -73,7 +73,7 @@ module _ {D : Type 0} {g : Ghosts D} (old mid new : Store D g) (run : Ran g.disk
 
   -- it has the revision of what it showed
   pub revision_between : (v : View) → IsShown old v → revision_of mid ≡ v.revision
-  revision_between v shown = ap (λ (s : State Beside). s.revision) core ∙ revision_is old v shown
+  revision_between v shown = ap (λ (s : State Decoded). s.revision) core ∙ revision_is old v shown
 
   -- where the writing changed nothing it serves, and is settled, as it was
   module _ (working : serves mid ≡ true) (same : new.paged ≡ mid.paged) (after : Ran g.disk (device_of mid) (device_of new) Same) (serving : serves new ≡ true) where
@@ -86,13 +86,13 @@ module _ {D : Type 0} {g : Ghosts D} (old mid new : Store D g) (run : Ran g.disk
         (settled_between working rules h was)).0
 
   -- the next generation shows what the old one showed
-  pub serves_renewed : (rules : Rules) (v : View) → ServesAt rules old v → (next : State Beside) → next.rules ≡ kept_rules old
+  pub serves_renewed : (rules : Rules) (v : View) → ServesAt rules old v → (next : State Decoded) → next.rules ≡ kept_rules old
       → Shows next (base_of (with_plans v)) (with_plans v) → LiesUnder new (base_of (with_plans v)) → new.paged.core ≡ next → serves new ≡ true → ServesAt rules new v
   serves_renewed rules v serving next numbers shows lies is working =
-      let Held : State Beside → Type 0 = λ s. Shows s (base_of (with_plans v)) (with_plans v) in
+      let Held : State Decoded → Type 0 = λ s. Shows s (base_of (with_plans v)) (with_plans v) in
       record {
         working = working;
-        rules_are = ap (λ (s : State Beside). s.rules) is ∙ numbers ∙ serving.rules_are;
+        rules_are = ap (λ (s : State Decoded). s.rules) is ∙ numbers ∙ serving.rules_are;
         shows = shown_anew new v lies (subst Held (sym is) shows);
         seen = serving.seen;
       }
@@ -111,7 +111,7 @@ module _ {D : Type 0} {g : Ghosts D} (old mid new : Store D g) (run : Ran g.disk
         (moments_read rules old mid h [] run settled) stands.moments (λ c found. found) (λ c found. found_none rules h [] c found)
 
     -- and the next generation is settled at it
-    pub settled_renewed : (next : State Beside) → next.rules ≡ kept_rules old → Shows next (base_of (with_plans (view rules h))) (with_plans (view rules h))
+    pub settled_renewed : (next : State Decoded) → next.rules ≡ kept_rules old → Shows next (base_of (with_plans (view rules h))) (with_plans (view rules h))
         → Stands g.disk (device_of mid) (device_of new) (λ c. StandsFor rules c h) (λ c. StandsFor rules c h)
         → LiesUnder new (base_of (with_plans (view rules h))) → new.paged.core ≡ next → serves new ≡ true → IsSettledAt rules new h
     settled_renewed next numbers shows stands lies is working =

@@ -7,9 +7,9 @@ use Rattle.device.specs.declared.device.Device.{Ghosts}
 use Rattle.device.proofs.Moments.{followed_by}
 use Rattle.names.specs.declared.format.Rules.{Rules}
 use Rattle.requests.specs.Reply.{Reply}
-use Rattle.requests.specs.View.{view, empty, after_all}
-use Rattle.requests.proofs.ViewLemmas.{after_all-append}
-use Rattle.recovery.specs.Standing.{Write, History, View}
+use Rattle.histories.specs.View.{view, empty, after_all}
+use Rattle.histories.proofs.ViewLemmas.{after_all-append}
+use Rattle.decoded.specs.Standing.{Write, History, View}
 use Rattle.apicore.specs.Step.{Asked, writes, reply, accepted, replies}
 use Rattle.apicore.proofs.Admitting.{accepted_admitted}
 use Rattle.durable.specs.declared.store.Store.{Store}

@@ -6,7 +6,7 @@ use Rattle.device.specs.declared.device.Device.{Ghosts}
 use Rattle.names.specs.declared.format.Format.{Format}
 use Rattle.requests.specs.Request.{Request}
 use Rattle.requests.specs.Reply.{Reply}
-use Rattle.requests.specs.View.{after_all}
+use Rattle.histories.specs.View.{after_all}
 use Rattle.celtree.specs.Tree.{Expr}
 use Rattle.expressions.specs.Specification.{Specification}
 use Rattle.roots.specs.declared.root.Root.{Root}

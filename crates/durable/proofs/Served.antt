@@ -9,10 +9,10 @@ use Rattle.names.specs.declared.format.Format.{Format}
 use Rattle.names.specs.declared.format.Rules.{Rules}
 use Rattle.names.specs.Key.{Key, key_cmp}
 use Rattle.objects.specs.Objects.{with_value, without_key}
-use Rattle.requests.specs.declared.stored.Stored.{Stored}
-use Rattle.requests.specs.History.{put, delete}
-use Rattle.requests.specs.View.{after, after_all}
-use Rattle.recovery.specs.Standing.{Write, View, MayFollow, AllMayFollow}
+use Rattle.histories.specs.declared.stored.Stored.{Stored}
+use Rattle.histories.specs.History.{put, delete}
+use Rattle.histories.specs.View.{after, after_all}
+use Rattle.decoded.specs.Standing.{Write, View, MayFollow, AllMayFollow}
 
 abbrev Planted : Type 0
 Planted = Key × Stored (List Expr)

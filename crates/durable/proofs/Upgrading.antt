@@ -9,12 +9,12 @@ use Rattle.names.specs.declared.format.Rules.{Rules}
 use Rattle.objects.specs.declared.fault.LookupFault.{LookupFault}
 use Rattle.objects.specs.declared.fault.LookupFault.TheVariants as Looks
 use Rattle.objects.specs.declared.fault.Part.{Part}
-use Rattle.requests.specs.View.{view}
+use Rattle.histories.specs.View.{view}
 use Rattle.holdings.specs.Holdings.{State, Shows}
-use Rattle.recovery.specs.Beside.{Beside}
-use Rattle.recovery.specs.Standing.{History, View, with_plans}
-use Rattle.recovery.specs.Upgraded.{upgraded_rules, upgraded_history}
-use Rattle.paged.specs.declared.compacting.Next.{Next}
+use Rattle.decoded.specs.Decoded.{Decoded}
+use Rattle.decoded.specs.Standing.{History, View, with_plans}
+use Rattle.decoded.specs.Upgraded.{upgraded_rules, upgraded_history}
+use Rattle.paged.specs.declared.compacting.NextCheckpoint.{NextCheckpoint}
 use Rattle.paged.specs.Lying.{base_of}
 use Rattle.durable.specs.declared.fault.Damage.{Damage}
 use Rattle.durable.specs.declared.fault.Fault.{Fault}
@@ -58,17 +58,17 @@ module _ {D : Type 0} {g : Ghosts D} (old mid new : Store D g) (run : Ran g.disk
   left_either stands stopped = record { stopped = stopped; keeps = stands.kept; read = stands.seen; left = stands.crash }
 
   -- Where all was written it is settled at the upgraded history.
-  pub settled_upgraded : (next : Next) → next.core.rules ≡ upgraded_rules
+  pub settled_upgraded : (next : NextCheckpoint) → next.core.rules ≡ upgraded_rules
       → Shows next.core (base_of (with_plans (view upgraded_rules (upgraded_history rules h)))) (with_plans (view upgraded_rules (upgraded_history rules h)))
       → Stands g.disk (device_of mid) (device_of new) Either (λ c. StandsFor upgraded_rules c (upgraded_history rules h))
       → LiesUnder new (base_of (with_plans (view upgraded_rules (upgraded_history rules h)))) → new.paged.core ≡ next.core → serves new ≡ true
       → IsSettledAt upgraded_rules new (upgraded_history rules h)
   settled_upgraded next numbers shows stands lies is working =
       let v : View = view upgraded_rules (upgraded_history rules h) in
-      let Held : State Beside → Type 0 = λ s. Shows s (base_of (with_plans v)) (with_plans v) in
+      let Held : State Decoded → Type 0 = λ s. Shows s (base_of (with_plans v)) (with_plans v) in
       record {
         working = working;
-        rules_are = ap (λ (s : State Beside). s.rules) is ∙ numbers;
+        rules_are = ap (λ (s : State Decoded). s.rules) is ∙ numbers;
         keeps = stands.kept;
         shows = shown_anew new v lies (subst Held (sym is) shows);
         read = stands.seen;
@@ -149,16 +149,20 @@ failed_unchanged (inr (inr (inr told))) = cc
 abbrev pub by_look : LookupFault → UpgradeFault
 by_look f = of_fault (of_lookup_fault f)
 
+-- one that changed nothing refused memory, and the store goes on
+pub look_refused : {T : Type 0} (f : LookupFault) → IsUnchanged {T = T} (Err (by_look f)) → f ≡ Looks.Memory
+look_refused Looks.Memory told = refl
+look_refused Looks.Device (inl told) = cc
+look_refused Looks.Device (inr (inl told)) = cc
+look_refused Looks.Device (inr (inr (inl told))) = cc
+look_refused Looks.Device (inr (inr (inr told))) = cc
+look_refused (Looks.Damaged part) (inl told) = cc
+look_refused (Looks.Damaged part) (inr (inl told)) = cc
+look_refused (Looks.Damaged part) (inr (inr (inl told))) = cc
+look_refused (Looks.Damaged part) (inr (inr (inr told))) = cc
+
 pub look_unchanged : {T : Type 0} (f : LookupFault) → IsUnchanged {T = T} (Err (by_look f)) → goes_on_after f ≡ true
-look_unchanged Looks.Memory told = refl
-look_unchanged Looks.Device (inl told) = cc
-look_unchanged Looks.Device (inr (inl told)) = cc
-look_unchanged Looks.Device (inr (inr (inl told))) = cc
-look_unchanged Looks.Device (inr (inr (inr told))) = cc
-look_unchanged (Looks.Damaged part) (inl told) = cc
-look_unchanged (Looks.Damaged part) (inr (inl told)) = cc
-look_unchanged (Looks.Damaged part) (inr (inr (inl told))) = cc
-look_unchanged (Looks.Damaged part) (inr (inr (inr told))) = cc
+look_unchanged f told = ap goes_on_after (look_refused f told)
 
 pub look_unrefused : (f : LookupFault) → IsRefusal (by_look f) → ⊥
 look_unrefused Looks.Memory (inl told) = cc

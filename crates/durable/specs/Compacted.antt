@@ -4,12 +4,12 @@ use Rattle.names.specs.declared.format.Rules.{Rules}
 use Rattle.roots.specs.declared.root.Label.{Label}
 use Rattle.roots.specs.declared.root.Root.{Root}
 use Rattle.checkpoint.specs.EntryList.{entries_of as in_list}
-use Rattle.requests.specs.View.{View, view}
+use Rattle.histories.specs.View.{View, view}
 use Rattle.snapshots.specs.Keeping.{entries_of}
 use Rattle.holdings.specs.Holdings.{State}
-use Rattle.recovery.specs.Beside.{Beside}
-use Rattle.recovery.specs.Standing.{History, IsHistory}
-use Rattle.paged.specs.declared.compacting.Next.{Next}
+use Rattle.decoded.specs.Decoded.{Decoded}
+use Rattle.decoded.specs.Standing.{History, IsHistory}
+use Rattle.paged.specs.declared.compacting.NextCheckpoint.{NextCheckpoint}
 use Rattle.durable.specs.Rules.{rules_by}
 use Rattle.durable.specs.declared.compacted.Compacted.{Compacted}
 use Rattle.durable.specs.declared.compacted.Checked.{Checked}
@@ -28,11 +28,11 @@ pub record IsCheckOf {B : Type 0} (root : Root) (held : View B) (c : Checked) : 
   pub format : c.format ≡ root.label.format
 
 -- the label of the root over whose pages this is held
-abbrev pub label_of : State Beside → Label
+abbrev pub label_of : State Decoded → Label
 label_of core = record { format = core.rules.format; revision = core.revision }
 
 -- The next generation keeps this history, by the rules of the format that its root is to tell.
-pub record Keeps (next : Next) (rules : Rules) (h : History) : Type 0 where
+pub record Keeps (next : NextCheckpoint) (rules : Rules) (h : History) : Type 0 where
   pub numbers : rules ≡ rules_by (label_of next.core)
   pub history : IsHistory rules h
   pub revision : next.core.revision ≡ (view rules h).revision

@@ -9,10 +9,10 @@ use Rattle.device.specs.Run.{Ran}
 use Rattle.device.specs.Step.{Same}
 use Rattle.names.specs.declared.format.Rules.{Rules}
 use Rattle.requests.specs.Request.{Request}
-use Rattle.requests.specs.History as plain
-use Rattle.requests.specs.Mapped.{mapped_write}
+use Rattle.histories.specs.History as plain
+use Rattle.histories.specs.Mapped.{mapped_write}
 use Rattle.requests.specs.Reply.{Reply}
-use Rattle.requests.specs.View.{after_all}
+use Rattle.histories.specs.View.{after_all}
 use Rattle.holdings.specs.Prepared.{writes_of}
 use Rattle.holdings.specs.declared.prepared.PreparedWrite.{PreparedWrite}
 use Rattle.records.specs.Gathered.{Gathers, count_of}
@@ -20,15 +20,16 @@ use Rattle.records.specs.Payload.{IsStorable}
 use Rattle.records.specs.declared.group.Group.{Group}
 use Rattle.celtree.specs.Tree.{Expr}
 use Rattle.expressions.specs.Specification.{Specification}
-use Rattle.recovery.specs.Beside.{Beside}
+use Rattle.decoded.specs.Decoded.{Decoded}
 use Rattle.apicore.specs.Prepared.{IsReadOf}
-use Rattle.recovery.specs.Shown.{plans_held}
-use Rattle.recovery.specs.Standing.{Write, View, AllMayFollow, write_with_plans, recorded}
+use Rattle.decoded.specs.Shown.{plans_held}
+use Rattle.decoded.specs.Standing.{Write, View, AllMayFollow, write_with_plans, recorded}
 use Rattle.apicore.specs.Step.{Asked, writes, reply, accepted, replies}
 use Rattle.durable.specs.declared.fault.Damage.{Damage}
 use Rattle.durable.specs.declared.fault.Fault.{Fault}
 use Rattle.durable.specs.declared.fault.Fault.TheVariants as Faults
 use Rattle.durable.specs.declared.store.Store.{Store}
+use Rattle.durable.specs.Called.{IsSteady}
 use Rattle.durable.specs.Faults.{MayBeMet}
 use Rattle.durable.specs.Settled.{device_of, root_of, format_of, serves, AreAsked, ServesAt, HasServed, HasStopped}
 
@@ -37,7 +38,7 @@ abbrev pub in_record : List Write → List (plain.Write (List ℕ))
 in_record ws = map recorded (map write_with_plans ws)
 
 -- and of a prepared one
-abbrev pub prepared_in_record : Option (PreparedWrite Beside) → List (plain.Write (List ℕ))
+abbrev pub prepared_in_record : Option (PreparedWrite Decoded) → List (plain.Write (List ℕ))
 prepared_in_record asked = map recorded (map (mapped_write plans_held) (writes_of asked))
 
 -- The writes may follow what is seen, and a record can hold each of them.
@@ -115,7 +116,7 @@ pub record HasAnswered {D : Type 0} {g : Ghosts D} (old new : Store D g) (reques
   pub stopped : stop ≡ Some Faults.Device → (stopped : HasStopped old new requests more) × (length more + length stopped.failing ≤ length requests)
 
 -- A group of this many requests has met this fault or none, and its replies stand after others. The store serves on unless its device fails, or damage is
--- found. That is only where no view is shown, and nothing is written then.
+-- found. That is only where no view is shown, and nothing is written then. Where all are answered, or memory was refused, no call of the device failed.
 pub record HasMet {D : Type 0} {g : Ghosts D} (old new : Store D g) (asked : ℕ) (before now : Vec Reply Global) (stop : Option Fault) : Type 0 where
   pub damaged : (damage : Damage) → stop ≡ Some (Faults.Damaged damage) → (rules : Rules) (v : View) → ServesAt rules old v → ⊥
   pub damaged_ran : (damage : Damage) → stop ≡ Some (Faults.Damaged damage) → Ran g.disk (device_of old) (device_of new) Same
@@ -127,3 +128,4 @@ pub record HasMet {D : Type 0} {g : Ghosts D} (old new : Store D g) (asked : ℕ
   pub refusal : IfSome stop MayBeMet
   pub cause : stop ≡ Some Faults.Device → HasFailed g.disk (device_of old) (device_of new)
   pub count : g.disk.failures (device_of old) ≤ g.disk.failures (device_of new)
+  pub steady : (stop ≡ None) ⊎ (stop ≡ Some Faults.Memory) → IsSteady old new

@@ -13,13 +13,13 @@ use Rattle.names.specs.Key.{Key}
 use Rattle.requests.specs.Request.{Request}
 use Rattle.requests.specs.Reply.{Reply}
 use Rattle.records.specs.Payload.{group_limit}
-use Rattle.requests.specs.View as seen
-use Rattle.requests.specs.View.{view, after_all}
-use Rattle.requests.specs.declared.stored.Stored.{Stored}
+use Rattle.histories.specs.View as seen
+use Rattle.histories.specs.View.{view, after_all}
+use Rattle.histories.specs.declared.stored.Stored.{Stored}
 use Rattle.celtree.specs.Tree.{Expr}
 use Rattle.expressions.specs.Specification.{Specification}
-use Rattle.recovery.specs.Beside.{Beside}
-use Rattle.recovery.specs.Standing.{Write, History, View, IsView}
+use Rattle.decoded.specs.Decoded.{Decoded}
+use Rattle.decoded.specs.Standing.{Write, History, View, IsView}
 use Rattle.apicore.specs.Admitted.{AreAdmitted}
 use Rattle.apicore.specs.Step.{Asked, writes, reply, accepted, replies}
 use Rattle.apicore.specs.Prepared.{IsReadOf}
@@ -62,15 +62,15 @@ module _ {D : Type 0} {g : Ghosts D} where
   kept_rules store = store.paged.core.rules
 
   -- these objects lie in its pages
-  abbrev pub LiesUnder : Store D g → List (Key × Stored Beside) → Type 0
+  abbrev pub LiesUnder : Store D g → List (Key × Stored Decoded) → Type 0
   LiesUnder store base = paged.Below g.disk (device_of store) store.paged base
 
   -- what lies under one store lies under the other
   abbrev pub LiesStill : (old new : Store D g) → Type 0
-  LiesStill old new = (base : List (Key × Stored Beside)) → LiesUnder old base → LiesUnder new base
+  LiesStill old new = (base : List (Key × Stored Decoded)) → LiesUnder old base → LiesUnder new base
 
   -- what a store holds of its objects, with their plans
-  abbrev pub Holds : Store D g → seen.View Beside → Type 0
+  abbrev pub Holds : Store D g → seen.View Decoded → Type 0
   Holds store held = paged.Holds g.disk (device_of store) store.paged held
 
   -- it shows a view

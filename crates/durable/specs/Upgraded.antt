@@ -4,8 +4,8 @@ use Rattle.device.specs.declared.device.Device.{Ghosts}
 use Rattle.names.specs.declared.format.Rules.{Rules}
 use Rattle.roots.specs.declared.root.Root.{Root}
 use Rattle.requests.specs.Namespaces.{namespaces_in_use}
-use Rattle.recovery.specs.Standing.{History, View}
-use Rattle.recovery.specs.Upgraded.{is_newest, upgraded_rules, upgraded_history, upgraded_count, upgraded_revision}
+use Rattle.decoded.specs.Standing.{History, View}
+use Rattle.decoded.specs.Upgraded.{is_newest, upgraded_rules, upgraded_history, upgraded_count, upgraded_revision}
 use Rattle.durable.specs.declared.fault.Fault.{Fault}
 use Rattle.durable.specs.declared.fault.Fault.TheVariants as fault
 use Rattle.durable.specs.declared.upgraded.Upgraded.{Upgraded}

@@ -3,7 +3,7 @@
 use names::Format;
 
 /// The generation that a compaction wrote.
-#[derive(Clone, Copy)]
+#[derive(Clone, Copy, Debug)]
 pub struct Compacted {
     pub generation: u64,
     /// How many pages it has, of 64 sectors each.
@@ -13,7 +13,7 @@ pub struct Compacted {
 }
 
 /// What was found of a store that is whole.
-#[derive(Clone, Copy)]
+#[derive(Clone, Copy, Debug)]
 pub struct Checked {
     /// That of the last write, 1 where there was none.
     pub revision: u64,

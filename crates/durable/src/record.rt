@@ -1,25 +1,25 @@
 //! The writes of a group of requests, gathered for one record.
 
 ghost use Rattle.std.specs.Prelude.{◌≡◌, ◌<◌, ◌≤◌, ◌+◌, ◌++◌, ℕ, List, Some, OnOk, OnErr};
-ghost use Rattle.requests.specs.History.{Write as Recorded};
+ghost use Rattle.histories.specs.History.{Write as Recorded};
 ghost use Rattle.records.specs.Gathered.{Gathers, count_of};
 ghost use Rattle.records.specs.Payload.{group_limit};
 ghost use Rattle.durable.specs.declared.fault.Fault.TheVariants as Fault;
 ghost use Rattle.durable.specs.Gathered.{prepared_in_record};
 
 use crate::Fault;
+use decoded::Decoded;
 use expressions::plans_bytes;
 use gatelog::LogFault;
 use holdings::PreparedWrite;
 use records::Group;
-use recovery::Beside;
 use std::alloc::Global;
 
 /// Gathers a write, if there is one. Where memory is refused the group stays as it was.
 pub(crate) fn gather(
     alloc: Global,
     group: &mut Group,
-    write: &Option<PreparedWrite<Beside>>,
+    write: &Option<PreparedWrite<Decoded>>,
 ) -> Result<(), Fault>
     requires { count_of group.old < group_limit }
     ensures gathered { (ws : List (Recorded (List ℕ))) → Gathers group.old ws → OnOk result (Gathers group.new (ws ++ prepared_in_record write.now)) }
@@ -39,7 +39,7 @@ pub(crate) fn gather(
 }
 
 // Adds a write to a group.
-fn add(alloc: Global, group: &mut Group, write: &PreparedWrite<Beside>) -> Result<(), LogFault>
+fn add(alloc: Global, group: &mut Group, write: &PreparedWrite<Decoded>) -> Result<(), LogFault>
     requires { count_of group.old < group_limit }
     ensures added { (ws : List (Recorded (List ℕ))) → Gathers group.old ws
         → OnOk result (Gathers group.new (ws ++ prepared_in_record (Some write.now))) }

@@ -7,18 +7,20 @@ ghost use Rattle.paged.specs.Paged.{root_of as paged_root};
 ghost use Rattle.records.specs.Payload.{group_limit};
 
 use crate::compacted::{Checked, Compacted};
+use crate::content::synced_store;
 use crate::fault::{Damage, Fault};
 use crate::record::gather;
 use crate::upgraded::{UpgradeFault, Upgraded};
 use apicore::Prepared;
 use checkpoint::{WriteFault, Written, write};
+use decoded::{Core, is_newest, upgrades_follow};
 use device::{Device, MemDevice};
 use gatelog::{Body, Log};
 use names::Format;
 use objects::LookupFault;
-use paged::{Next, NextFault, NextUpgraded, Paged};
+use paged::{NextCheckpoint, NextFault, NextUpgraded, Paged};
 use records::{GROUP_LIMIT, Group};
-use recovery::{Core, has_own_plans, is_newest, upgrades_follow};
+use recovery::has_own_plans;
 use requests::{Reply, Request};
 use roots::Label;
 use std::alloc::Global;
@@ -66,11 +68,12 @@ impl<D: Device> Store<D> {
     ghost use Rattle.std.specs.FinMap.{is_sorted};
     ghost use Rattle.std.specs.List.{AllByRecursion};
     ghost use Rattle.device.specs.Step.{Same};
-    ghost use Rattle.pages.specs.Page.{bytes_cmp};
+    ghost use Rattle.pages.specs.Page.{Entry, bytes_cmp};
     ghost use Rattle.checkpoint.specs.EntryList.{entries_of as in_list};
     ghost use Rattle.checkpoint.specs.Index.{keys_of};
     ghost use Rattle.checkpoint.specs.Pages.{HoldsEntries, IsIndex, pages_of_root};
     ghost use Rattle.snapshots.specs.Keeping.{entries_of, held_entries, IsHeld, IsKeepable};
+    ghost use Rattle.snapshots.specs.ObjectCache.{AreObjects};
     ghost use Rattle.gatelog.specs.Log.{HoldsLog};
     ghost use Rattle.gatelog.specs.Payload.{payload_of};
     ghost use Rattle.std.specs.Vec.{vec_capacity};
@@ -79,36 +82,86 @@ impl<D: Device> Store<D> {
     ghost use Rattle.requests.specs.Request.{RequestHasForm};
     ghost use Rattle.requests.specs.Namespaces.{namespaces_in_use};
     ghost use Rattle.requests.specs.RequestOf.{request_of};
-    ghost use Rattle.requests.specs.View as seen;
-    ghost use Rattle.requests.specs.View.{view};
+    ghost use Rattle.histories.specs.View as seen;
+    ghost use Rattle.histories.specs.View.{view};
     ghost use Rattle.holdings.specs.Holdings.{Shows, ShowsSame};
     ghost use Rattle.holdings.specs.Prepared.{HasRoomFor};
     ghost use Rattle.records.specs.Gathered.{Gathers, count_of};
     ghost use Rattle.celtree.specs.Tree.{Expr};
     ghost use Rattle.expressions.specs.Specification.{Specification};
-    ghost use Rattle.recovery.specs.Beside.{Beside};
+    ghost use Rattle.decoded.specs.Decoded.{Decoded};
     ghost use Rattle.apicore.specs.Prepared.{IsReadOf, IsPrepared};
-    ghost use Rattle.recovery.specs.Standing.{Write, History, View, IsView, AllMayFollow, with_plans};
+    ghost use Rattle.decoded.specs.Standing.{Write, History, View, IsView, AllMayFollow, with_plans};
     ghost use Rattle.recovery.specs.Compiled.{HasOwnPlans};
-    ghost use Rattle.recovery.specs.Upgraded.{is_newest, upgraded_rules, upgraded_history, upgraded_revision, HasRoomForUpgrade};
+    ghost use Rattle.decoded.specs.Upgraded.{is_newest, upgraded_rules, upgraded_history, upgraded_revision, HasRoomForUpgrade};
     ghost use Rattle.paged.specs.Lying.{base_of};
+    ghost use Rattle.paged.specs.Paged.{HasEntries};
     ghost use Rattle.durable.specs.declared.fault.Damage.{Damage};
     ghost use Rattle.durable.specs.declared.fault.Fault.TheVariants as Fault;
     ghost use Rattle.durable.specs.declared.upgraded.UpgradeFault.{UpgradeFault as UpgradeFaultData};
     ghost use Rattle.durable.specs.declared.upgraded.UpgradeFault.TheVariants as UpgradeFault;
     ghost use Rattle.durable.specs.Upgraded.{StandsForEither, IsLeftEither, IsToldOfUpgrade, refusals, first_of, IsRefusal, IsUnchanged};
-    ghost use Rattle.durable.specs.Called.{ServesOn};
+    ghost use Rattle.durable.specs.Called.{IsSteady, ServesOn};
     ghost use Rattle.durable.specs.Faults.{MayBeMet, of_lookup_fault, goes_on_after};
     ghost use Rattle.durable.specs.Compacted.{IsToldOf, IsCheckOf, Keeps};
     ghost use Rattle.durable.specs.Rules.{rules_by};
     ghost use Rattle.durable.specs.Recorded.{payload, IsGroup};
     ghost use Rattle.durable.specs.Gathered.{in_record, CanBeAppended, HasStepped, StaysAs, HasGatheredMore, HasServedMore, HasStoppedIn, HasAnswered, HasMet};
     ghost use Rattle.durable.specs.Ready.{IsReadyAt, HoldsHistory};
+    ghost use Rattle.durable.specs.Opened.{IsDamageOf, IsRedone};
+    ghost use Rattle.durable.specs.ReadWhole.{IsReadWhole};
     ghost use Rattle.durable.specs.Stands.{StandsFor};
     ghost use Rattle.durable.specs.Settled.{device_of, paged_of, root_of, format_of, log_of, serves, kept_rules, revision_of, LiesUnder, LiesStill, Holds, IsShown, ServesAt, IsFound, IsSettledAt, IsLeftAt, LeavesSome, HasReplied, HasFailedAt, HasServed, HasStopped, HasFoundDamage};
 
-    /// The store of what an opening found on a device: what is shown over the pages of the root that counts, and the log behind them. It serves.
-    pub fn serving(device: D, paged: Paged, log: Log) -> Store<D>
+    /// Opens the store on a device: syncs it, reads it, and writes nothing. With a refusal it gives the device back.
+    ///
+    /// # Errors
+    ///
+    /// `Device` only where the device failed in this call; `Memory`; `Damaged` only where the content stands for no history. It is `Header` where the first
+    /// sector is no header, or there are fewer than nine, and `Root` where there are these and no root counts. The others are told only of a root that
+    /// counts: `Page` and `Entry` where its pages hold what is seen of no history.
+    pub fn open(alloc: Global, device: D) -> Result<Store<D>, (Fault, D)>
+        ensures settled { (rules : Rules) (h : History) → D.disk.keeps device → StandsFor rules (D.disk.content device) h
+            → IfOk result (λ store. IsSettledAt rules store h) }
+        ensures serves { IfOk result (λ store. serves store ≡ true) }
+
+        // Whatever the device: it keeps to the rules of the format that its root tells, and where the root that counts has no pages, it shows what the writes
+        // that were read left, with their plans.
+        ensures rules { IfOk result (λ store. kept_rules store ≡ rules_at (root_of store)) }
+        ensures redone { IfOk result (λ store. (root_of store).pages ≡ 0 → (held : seen.View Decoded) × Holds store held × IsRedone (kept_rules store) held) }
+
+        // The pages of the root that counts are whole, and their entries are those that lie in its pages, whatever they are of.
+        ensures whole { D.disk.keeps device → IfOk result (λ store. IsReadWhole (D.disk.content device) D.disk (device_of store) (paged_of store)) }
+
+        // At every moment a crash leaves what it might have left before.
+        ensures any_moment { D.disk.keeps device → IfOk result (λ store. LeavesOnly D.disk device (device_of store) (D.disk.left device)) }
+        ensures any_moment_err { D.disk.keeps device → IfErr result (λ e. LeavesOnly D.disk device e.1 (D.disk.left device)) }
+
+        ensures content { D.disk.keeps device → IfOk result (λ store. D.disk.content (device_of store) ≡ D.disk.content device) }
+        ensures content_err { D.disk.keeps device → IfErr result (λ e. D.disk.keeps e.1 × (D.disk.content e.1 ≡ D.disk.content device)) }
+        ensures left_err { D.disk.keeps device → IfErr result (λ e. (c : List ℕ) → D.disk.left e.1 c → D.disk.left device c) }
+        ensures refusal { (rules : Rules) (h : History) → D.disk.keeps device → StandsFor rules (D.disk.content device) h
+            → IfErr result (λ e. (e.0 ≡ Fault.Device) ⊎ (e.0 ≡ Fault.Memory)) }
+
+        // What is told is what is damaged.
+        ensures told { D.disk.keeps device → (damage : Damage) → IfErr result (λ e. e.0 ≡ Fault.Damaged damage → IsDamageOf (D.disk.content device) damage) }
+
+        ensures never_failed { IfErr result (λ e. (e.0 ≢ Fault.Failed) × (e.0 ≢ Fault.Exhausted)) }
+        ensures cause { IfErr result (λ e. e.0 ≡ Fault.Device → HasFailed D.disk device e.1) }
+        ensures count { IfOk result (λ store. D.disk.failures device ≤ D.disk.failures (device_of store)) }
+        ensures steady { IfOk result (λ store. D.disk.failures (device_of store) ≡ D.disk.failures device) }
+        ensures unfailed { (rules : Rules) (h : History) → D.disk.keeps device → StandsFor rules (D.disk.content device) h
+            → IfErr result (λ e. e.0 ≡ Fault.Memory → D.disk.failures e.1 ≡ D.disk.failures device) }
+    {
+        let mut device = device;
+        match synced_store(alloc, &mut device) {
+            Ok(opened) => Ok(Store::serving(device, opened.paged, opened.log)),
+            Err(fault) => Err((fault, device)),
+        }
+    }
+
+    // The store of what an opening found on a device: what is shown over the pages of the root that counts, and the log behind them. It serves.
+    fn serving(device: D, paged: Paged, log: Log) -> Store<D>
         requires numbers { paged.core.rules ≡ rules_at (paged_root paged) }
         requires in_data { 8 ≤ log.start }
         requires works { log.failed ≡ false }
@@ -127,6 +180,7 @@ impl<D: Device> Store<D> {
     }
 
     /// Whether the store serves: it does until its device fails, or damage is found.
+    #[must_use]
     pub fn settled(&self) -> bool
         ensures { result ≡ serves self.now }
     {
@@ -134,6 +188,7 @@ impl<D: Device> Store<D> {
     }
 
     /// The revision that the store shows.
+    #[must_use]
     pub fn revision(&self) -> u64
         ensures value { result ≡ revision_of self.now }
         ensures shown { (rules : Rules) (v : View) → ServesAt rules self.now v → result ≡ v.revision }
@@ -142,6 +197,7 @@ impl<D: Device> Store<D> {
     }
 
     /// The format of the store's file, which its root tells.
+    #[must_use]
     pub fn format(&self) -> Format
         ensures value { result ≡ (kept_rules self.now).format }
         ensures told { result ≡ (root_of self.now).label.format }
@@ -157,6 +213,7 @@ impl<D: Device> Store<D> {
     }
 
     /// The device, to be opened again.
+    #[must_use]
     pub fn into_device(self) -> D
         ensures { result ≡ device_of self }
     {
@@ -198,6 +255,8 @@ impl<D: Device> Store<D> {
         ensures memory_goes_on { IsErrOf result Fault.Memory → serves self.new ≡ serves self.old }
         ensures cause { IsErrOf result Fault.Device → HasFailed D.disk (device_of self.old) (device_of self.new) }
         ensures count { D.disk.failures (device_of self.old) ≤ D.disk.failures (device_of self.new) }
+        ensures steady { OnOk result (IsSteady self.old self.new) }
+        ensures unfailed { IsErrOf result Fault.Memory → IsSteady self.old self.new }
     {
         if !self.serves {
             return Err(Fault::Failed);
@@ -381,6 +440,7 @@ impl<D: Device> Store<D> {
     /// As [`Store::apply`]: the fault is that of the request after those that were answered. There is memory for the replies of all
     /// requests before the first is applied, or the fault is `Memory` with no reply. A store that has failed answers `Failed`, also
     /// where there is no request.
+    #[must_use]
     pub fn run(&mut self, alloc: Global, requests: &[Request]) -> (Vec<Reply>, Option<Fault>)
         ensures all { result.1 ≡ None
             → HasServed self.old self.new (map request_of requests.now) result.0.items }
@@ -404,6 +464,7 @@ impl<D: Device> Store<D> {
         ensures damaged_stops { (damage : Damage) → result.1 ≡ Some (Fault.Damaged damage) → serves self.new ≡ false }
         ensures cause { result.1 ≡ Some Fault.Device → HasFailed D.disk (device_of self.old) (device_of self.new) }
         ensures count { D.disk.failures (device_of self.old) ≤ D.disk.failures (device_of self.new) }
+        ensures steady { (result.1 ≡ None) ⊎ (result.1 ≡ Some Fault.Memory) → IsSteady self.old self.new }
     {
         if !self.settled() {
             return (Vec::new(alloc), Some(Fault::Failed));
@@ -470,6 +531,8 @@ impl<D: Device> Store<D> {
         ensures damaged_stops { (damage : Damage) → IsErrOf result (Fault.Damaged damage) → serves self.new ≡ false }
         ensures cause { IsErrOf result Fault.Device → HasFailed D.disk (device_of self.old) (device_of self.new) }
         ensures count { D.disk.failures (device_of self.old) ≤ D.disk.failures (device_of self.new) }
+        ensures steady { OnOk result (IsSteady self.old self.new) }
+        ensures unfailed { IsErrOf result Fault.Memory ⊎ IsErrOf result Fault.Exhausted → IsSteady self.old self.new }
     {
         if !self.serves {
             return Err(Fault::Failed);
@@ -503,6 +566,8 @@ impl<D: Device> Store<D> {
         ensures damaged_stops { (damage : Damage) → IsErrOf result (UpgradeFault.Damaged damage) → serves self.new ≡ false }
         ensures refusal { result ≢ Err UpgradeFault.Failed }
         ensures cause { IsErrOf result UpgradeFault.Device → HasFailed D.disk (device_of self.old) (device_of self.new) }
+        ensures steady { OnOk result (IsSteady self.old self.new) }
+        ensures unfailed { IsUnchanged result → IsSteady self.old self.new }
     {
         upgrades_follow();
         let upgraded = match self.paged.next_upgraded(alloc, &mut self.device) {
@@ -565,6 +630,8 @@ impl<D: Device> Store<D> {
         ensures damaged_stops { (damage : Damage) → IsErrOf result (UpgradeFault.Damaged damage) → serves self.new ≡ false }
         ensures cause { IsErrOf result UpgradeFault.Device → HasFailed D.disk (device_of self.old) (device_of self.new) }
         ensures count { D.disk.failures (device_of self.old) ≤ D.disk.failures (device_of self.new) }
+        ensures steady { OnOk result (IsSteady self.old self.new) }
+        ensures unfailed { IsUnchanged result → IsSteady self.old self.new }
     {
         if !self.serves {
             return Err(UpgradeFault::Failed);
@@ -615,13 +682,14 @@ impl<D: Device> Store<D> {
     }
 
     // What the next generation has. Where the device fails, or what is read of it is damaged, the store serves no more.
-    fn next(&mut self, alloc: Global) -> Result<Next, Fault>
+    fn next(&mut self, alloc: Global) -> Result<NextCheckpoint, Fault>
         requires serves { serves self.old ≡ true }
         ensures entries { (v : View) → IsShown self.old v → IfOk result (λ n. in_list n.entries ≡ entries_of v) }
         ensures ascending { IfOk result (λ n. IsTrue (is_sorted bytes_cmp (in_list n.entries))) }
         ensures rules { IfOk result (λ n. n.core.rules ≡ kept_rules self.old) }
         ensures held { (v : View) → IsShown self.old v → IsKeepable (kept_rules self.old) v
             → IfOk result (λ n. Shows n.core (base_of (with_plans v)) (with_plans v)) }
+        ensures are { (entries : List Entry) → HasEntries D.disk (device_of self.old) (paged_of self.old) entries → OnOk result (AreObjects entries) }
         ensures damaged { (damage : Damage) → IsErrOf result (Fault.Damaged damage) → (v : View) → IsShown self.old v → IsKeepable (kept_rules self.old) v → ⊥ }
         ensures core { self.new.paged.core ≡ self.old.paged.core }
         ensures root { root_of self.new ≡ root_of self.old }
@@ -642,7 +710,7 @@ impl<D: Device> Store<D> {
 
     // Writes the next generation, whose entries ascend: a crash leaves the history that stood, or the one that it keeps. After a failure the store serves
     // no more.
-    fn write_next(&mut self, alloc: Global, next: Next) -> Result<Compacted, Fault>
+    fn write_next(&mut self, alloc: Global, next: NextCheckpoint) -> Result<Compacted, Fault>
         requires serves { serves self.old ≡ true }
         requires ascending { IsTrue (is_sorted bytes_cmp (in_list next.entries)) }
         requires numbers { next.core.rules ≡ rules_by (label_of next.core) }
@@ -676,9 +744,11 @@ impl<D: Device> Store<D> {
         ensures refusal { result ≢ Err Fault.Failed }
         ensures cause { IsErrOf result Fault.Device → HasFailed D.disk (device_of self.old) (device_of self.new) }
         ensures count { D.disk.failures (device_of self.old) ≤ D.disk.failures (device_of self.new) }
+        ensures steady { OnOk result (IsSteady self.old self.new) }
+        ensures unfailed { IsErrOf result Fault.Memory ⊎ IsErrOf result Fault.Exhausted → IsSteady self.old self.new }
     {
         self.serves = false;
-        let Next { mut entries, core } = next;
+        let NextCheckpoint { mut entries, core } = next;
         let last_gate = self.log.last_gate();
         let label = label_of(&core);
         match write(
@@ -706,7 +776,7 @@ impl<D: Device> Store<D> {
         requires numbers { core.rules ≡ rules_at written.root }
         requires in_use { D.disk.keeps (device_of self.old) → ∥ IsReadyAt D.disk (device_of self.old) written.root ∥₁ }
         ensures core { self.new.paged.core ≡ core }
-        ensures lies { (rules : Rules) (held : seen.View Beside) → IsHeld rules held
+        ensures lies { (rules : Rules) (held : seen.View Decoded) → IsHeld rules held
             → IsIndex (keys_of written.first_keys.items) (pages_of_root written.root (D.disk.content (device_of self.old))) → D.disk.keeps (device_of self.old)
             → HoldsEntries (D.disk.content (device_of self.old)) written.root (held_entries held) → LiesUnder self.new (base_of held) }
         ensures device { device_of self.new ≡ device_of self.old }
@@ -736,12 +806,13 @@ impl<D: Device> Store<D> {
     /// their expressions, or no objects lie in the pages, and never from a store that shows the view of a history. From both on the store answers
     /// `Failed`. `Failed` after a failure, with no call of the device.
     pub fn check(&mut self, alloc: Global) -> Result<Checked, Fault>
-        ensures told { (held : seen.View Beside) → Holds self.old held → IfOk result (IsCheckOf (root_of self.old) held) }
+        ensures told { (held : seen.View Decoded) → Holds self.old held → IfOk result (IsCheckOf (root_of self.old) held) }
         ensures counted { (rules : Rules) (h : History) (settled : IsSettledAt rules self.old h)
             → IfOk result (λ c. (c.generation ≡ settled.read.root.generation) × (c.format ≡ settled.read.root.label.format)) }
         ensures told_settled { (rules : Rules) (h : History) (settled : IsSettledAt rules self.old h)
             → IfOk result (IsCheckOf settled.read.root (view rules h)) }
-        ensures plans { (held : seen.View Beside) → Holds self.old held → OnOk result (AllByRecursion (HasOwnPlans (format_of self.old)) held.objects) }
+        ensures plans { (held : seen.View Decoded) → Holds self.old held → OnOk result (AllByRecursion (HasOwnPlans (format_of self.old)) held.objects) }
+        ensures are { (entries : List Entry) → HasEntries D.disk (device_of self.old) (paged_of self.old) entries → OnOk result (AreObjects entries) }
 
         // What is shown stays, unless the store stops.
         ensures serving { (rules : Rules) (v : View) → ServesAt rules self.old v → OnOk result (ServesAt rules self.new v) }
@@ -756,6 +827,8 @@ impl<D: Device> Store<D> {
         ensures damaged_stops { (damage : Damage) → IsErrOf result (Fault.Damaged damage) → serves self.new ≡ false }
         ensures memory_goes_on { IsErrOf result Fault.Memory → serves self.new ≡ serves self.old }
         ensures cause { IsErrOf result Fault.Device → HasFailed D.disk (device_of self.old) (device_of self.new) }
+        ensures steady { OnOk result (IsSteady self.old self.new) }
+        ensures unfailed { IsErrOf result Fault.Memory → IsSteady self.old self.new }
         ensures failed { serves self.old ≡ false → IsErrOf result Fault.Failed × (self.new ≡ self.old) }
     {
         if !self.serves {
@@ -777,7 +850,7 @@ impl<D: Device> Store<D> {
 impl Store<MemDevice> {
     ghost use Rattle.device.specs.Memory.{memory};
     ghost use Rattle.names.specs.declared.format.Rules.{Rules};
-    ghost use Rattle.recovery.specs.Standing.{History};
+    ghost use Rattle.decoded.specs.Standing.{History};
     ghost use Rattle.durable.specs.Settled.{device_of, IsSettledAt};
 
     /// From the n-th device call from now on all fail; 0 asks for none. Nothing else changes.

@@ -6,7 +6,7 @@ use std::fmt;
 use std::fmt::{Display, Formatter};
 
 /// A store that was upgraded.
-#[derive(Clone, Copy)]
+#[derive(Clone, Copy, Debug)]
 pub struct Upgraded {
     /// The format of its file now.
     pub format: Format,
@@ -18,7 +18,7 @@ pub struct Upgraded {
 }
 
 /// Why a store was not upgraded.
-#[derive(Clone, Copy)]
+#[derive(Clone, Copy, Debug)]
 pub enum UpgradeFault {
     /// The device failed in this call: the store stands as it was, or upgraded.
     Device,

@@ -5,7 +5,7 @@ use Rattle.serde_json.specs.Data.{Data}
 use Rattle.serde_json.specs.Find.{get, as_str}
 use Rattle.names.specs.Name.{is_name}
 use Rattle.policy.specs.Rules.{MatchRules}
-use Rattle.denials.specs.declared.asked.Action.{Action}
+use Rattle.policy.specs.declared.binding.Action.{Action}
 use Rattle.policy.specs.Forms.{Text, given, provided, has_only, field, perhaps, optional, list_of, only}
 use Rattle.policy.specs.MatchRules.{match_rules_of, no_rules}
 use Rattle.policy.specs.Bindings.{action_of, param_ref_of, binding_spec_of, binding_of}

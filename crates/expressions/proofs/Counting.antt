@@ -6,12 +6,12 @@ use Rattle.std.specs.List.{flat_map}
 use Rattle.std.specs.Option.{option_map_or}
 use Rattle.std.specs.Prelude.{if◌then◌else◌}
 use Rattle.policy.specs.Forms.{Text}
-use Rattle.policy.specs.Spec.{Named, Policy}
-use Rattle.denials.specs.Validation.{Validation}
+use Rattle.policy.specs.Spec.{NamedExpression, Policy}
+use Rattle.policy.specs.Validation.{Validation}
 use Rattle.expressions.specs.Expressions.{message, Source, of_condition, of_variable, of_validation, sources}
 use Rattle.expressions.specs.Places.{variable_places, validation_places, places_of}
 
-variables_counted : (n : ℕ) (vs : List Named) → length (variable_places n vs) ≡ length vs
+variables_counted : (n : ℕ) (vs : List NamedExpression) → length (variable_places n vs) ≡ length vs
 variables_counted n [] = refl
 variables_counted n (v ∷ vs) = let rest = variables_counted (n + 1) vs in omega arith
 
@@ -31,7 +31,7 @@ validations_counted n (v ∷ vs) =
 pub places_counted : (p : Policy) → length (places_of p) ≡ length (sources p)
 places_counted p =
     let conditions : length {A = ℕ} (map (λ _. 0) p.conditions) ≡ length {A = Source} (map of_condition p.conditions) =
-    length-map {A = Named} {B = ℕ} p.conditions (λ _. 0) ∙ sym (length-map p.conditions of_condition) in
+    length-map {A = NamedExpression} {B = ℕ} p.conditions (λ _. 0) ∙ sym (length-map p.conditions of_condition) in
     let variables : length {A = ℕ} (variable_places 0 p.variables) ≡ length {A = Source} (map of_variable p.variables) = variables_counted 0 p.variables ∙ sym (length-map p.variables of_variable) in
     let validations = validations_counted (length p.variables) p.validations in
     let a = length-append (map (λ _. 0) p.conditions) (variable_places 0 p.variables ++ flat_map (validation_places (length p.variables)) p.validations) in

@@ -12,5 +12,4 @@ pub mod Bytes
 pub mod Holding
 pub mod StoredLists
 mod OtherPlans
-pub mod LookupStanding
 pub mod Bindings

@@ -6,14 +6,14 @@ use Rattle.std.specs.Option.{option_map_or}
 use Rattle.std.specs.Prelude.{codes}
 use Rattle.serde_json.specs.Data.{Data, Items, no_items, item}
 use Rattle.serde_json.specs.Find.{get, as_str, as_array}
-use Rattle.documents.specs.Json.{text}
-use Rattle.denials.specs.declared.asked.FailurePolicy.TheVariants.{Fail}
-use Rattle.denials.specs.declared.asked.Reason.TheVariants.{Invalid}
+use Rattle.jsondoc.specs.Json.{text}
+use Rattle.policy.specs.declared.policy.FailurePolicy.TheVariants.{Fail}
+use Rattle.policy.specs.declared.validation.Reason.TheVariants.{Invalid}
 use Rattle.policy.specs.MatchRules.{match_rules_of}
 use Rattle.policy.specs.Forms.{Text, given, provided, has_only, field, perhaps, read_or, optional, each, list_of, filled_list_of}
 use Rattle.policy.specs.Policies.{named_of, are_conditions, are_variables, reason_of, validation_of, param_kind_of, failure_policy_of, has_rules, policy_members, policy_spec_of, policy_of}
-use Rattle.policy.specs.Spec.{Named, Policy}
-use Rattle.denials.specs.Validation.{Validation}
+use Rattle.policy.specs.Spec.{NamedExpression, Policy}
+use Rattle.policy.specs.Validation.{Validation}
 use Rattle.expressions.specs.Expressions.{message, Source, of_condition, of_variable, of_validation, sources}
 use Rattle.expressions.specs.Laws.{total_length}
 use Rattle.expressions.proofs.Weights.{weight, items_weight, found_weight, weight_at, three_at, text_weight, array_weight, within_text}
@@ -90,12 +90,12 @@ module _ {A : Type 0} (f : Data → Option A) (size : A → ℕ) (short : (d : D
 
 -- ---- conditions, variables and validations
 
-named_short : (d : Data) (n : Named) → named_of d ≡ Some n → length n.expression ≤ weight d
+named_short : (d : Data) (n : NamedExpression) → named_of d ≡ Some n → length n.expression ≤ weight d
 named_short d n is =
     let name = given_some (field (codes "name") as_str d) _ n (provided_some (has_only (codes "name" ∷ codes "expression" ∷ []) d) _ n is) in
     let expression = given_some (field (codes "expression") as_str d) _ n name.2 in
     let made : Some (record { name = name.0; expression = expression.0 }) ≡ Some n = expression.2 in
-    let same : expression.0 ≡ n.expression = ap (λ (o : Option Named). option_map_or (λ (m : Named). m.expression) o []) made in
+    let same : expression.0 ≡ n.expression = ap (λ (o : Option NamedExpression). option_map_or (λ (m : NamedExpression). m.expression) o []) made in
     let short = text_short (codes "expression") d expression.0 expression.1 in
     let within = three_at (codes "expression") (codes "name") (codes "a") (differ _ _ refl) (differ _ _ refl) (differ _ _ refl) d in
     omega (arith, short, within, ap (length {A = ℕ}) same)
@@ -116,7 +116,7 @@ validation_short d v is =
 
 -- ---- policies
 
-abbrev named_size : Named → ℕ
+abbrev named_size : NamedExpression → ℕ
 named_size n = length n.expression
 
 abbrev test_size : Validation → ℕ
@@ -153,11 +153,11 @@ total_append : (ss ts : List Source) → total_length (ss ++ ts) ≡ total_lengt
 total_append [] ts = omega arith
 total_append (s ∷ ss) ts = omega (arith, total_append ss ts)
 
-total_conditions : (ns : List Named) → total_length (map of_condition ns) ≡ total named_size ns
+total_conditions : (ns : List NamedExpression) → total_length (map of_condition ns) ≡ total named_size ns
 total_conditions [] = refl
 total_conditions (n ∷ ns) = omega (arith, total_conditions ns)
 
-total_variables : (ns : List Named) → total_length (map of_variable ns) ≡ total named_size ns
+total_variables : (ns : List NamedExpression) → total_length (map of_variable ns) ≡ total named_size ns
 total_variables [] = refl
 total_variables (n ∷ ns) = omega (arith, total_variables ns)
 

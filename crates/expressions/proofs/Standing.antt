@@ -17,16 +17,21 @@ use Rattle.expressions.specs.Expressions.{Source, sources}
 use Rattle.expressions.specs.Plans.{each_plan, plans_of}
 use Rattle.expressions.specs.Typed.{AreTyped, AreSpelled, IsFirstBad, AreUntyped}
 use Rattle.expressions.specs.Places.{policy_in}
-use Rattle.expressions.specs.Specification.{Specification, sound, bad_spec, bad_expression, IsSpecification, IsCompiled, Spells, may_stand, policy_for, binding_for}
+use Rattle.expressions.specs.Specification.{Specification, sound, bad_spec, bad_expression, IsSpecification, IsCompiled, Spells, may_stand, policy_for, binding_for, plans_in}
 use Rattle.expressions.proofs.Progress.{typed_spelled}
 
-no_plans : (ss : List Source) → each_plan [] ss [] ≡ []
-no_plans [] = refl
-no_plans (s ∷ ss) = refl
+-- ---- of no trees there are no plans
 
-no_plans_in : (p : Option Policy) → option_map_or (λ q. plans_of q []) p [] ≡ []
-no_plans_in None = refl
-no_plans_in (Some p) = no_plans (sources p)
+none_each : (ss : List Source) → each_plan [] ss [] ≡ []
+none_each [] = refl
+none_each (s ∷ ss) = refl
+
+none_of : (p : Option Policy) → option_map_or (λ q. plans_of q []) p [] ≡ []
+none_of None = refl
+none_of (Some p) = none_each (sources p)
+
+pub no_plans : (d : Data) → plans_in d [] ≡ []
+no_plans d = none_of (policy_of d)
 
 -- ---- what is meant
 
@@ -45,7 +50,7 @@ pub sound_binding : (f : Format) (d : Data) → IsTrue (is_some (binding_for f d
 sound_binding f d is = record {
   meant = sound [];
   stands = (is, refl);
-  plans = ap sound (sym (no_plans_in (policy_of d)));
+  plans = ap sound (sym (no_plans d));
   alone = λ trees also. ap sound (sym also.1);
   spelled = λ trees other meant spells. spells ∙ one_meaning [] trees meant;
 }
@@ -66,7 +71,7 @@ other : (f : Format) (r : Resource) (d : Data) → ((s : Specification Expr) →
 other f r d only is none = record {
   meant = sound [];
   stands = is;
-  plans = ap sound (sym (no_plans_in (policy_of d)));
+  plans = ap sound (sym (no_plans d));
   alone = λ trees also. sym (only (sound trees) also);
   spelled = λ trees others meant spells. none others spells ∙ one_meaning [] trees meant;
 }

@@ -6,8 +6,8 @@ use Rattle.json.specs.Print.{escape, escape_byte, escape_letter, quoted}
 use Rattle.serde_json.specs.Data.{Data, null, boolean, number, string, array, object, Items, no_items, item, Members, no_members, member}
 use Rattle.serde_json.specs.Find.{get, get_member, as_str, as_array}
 use Rattle.serde_json.specs.Written.{compact_text, items_text, members_text, comma_if}
-use Rattle.documents.specs.Json.{text}
-use Rattle.documents.proofs.Json.{same_names}
+use Rattle.jsondoc.specs.Json.{text}
+use Rattle.jsondoc.proofs.Json.{same_names}
 
 -- ---- the bytes of all strings
 

@@ -4,7 +4,7 @@ use base.Stored.{Gv, gnil, gnum, gcons, num, Coded, coded_ℕ, coded_ℤ, coded_
 use mathlib.Core.Path.{ap, refl}
 use Rattle.std.proofs.Common.{eq-eqb}
 use Rattle.std.specs.Coded.{code_by}
-use Rattle.documents.specs.DataCode.{head, tail, bytes_code}
+use Rattle.jsondoc.specs.DataCode.{head, tail, bytes_code}
 use Rattle.celtree.specs.declared.tree.Prefix.{Prefix}
 use Rattle.celtree.specs.declared.tree.Prefix.TheVariants as prefix_of
 use Rattle.celtree.specs.declared.tree.Operator.{Operator}

@@ -9,6 +9,4 @@ pub mod PolicyTrees
 pub mod Places
 pub mod Specification
 pub mod Laws
-pub mod Listed
-pub mod Objects
-pub mod LookupSeen
+pub mod Bindings

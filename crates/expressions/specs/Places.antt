@@ -4,12 +4,12 @@ use Rattle.std.specs.List.{flat_map}
 use Rattle.std.specs.Option.{option_map_or}
 use Rattle.serde_json.specs.Data.{Data}
 use Rattle.policy.specs.Policies.{policy_of}
-use Rattle.policy.specs.Spec.{Named, Policy}
-use Rattle.denials.specs.Validation.{Validation}
+use Rattle.policy.specs.Spec.{NamedExpression, Policy}
+use Rattle.policy.specs.Validation.{Validation}
 use Rattle.expressions.specs.Expressions.{sources}
 
 -- variables may name those before them
-abbrev pub variable_places : (earlier : ℕ) → List Named → List ℕ
+abbrev pub variable_places : (earlier : ℕ) → List NamedExpression → List ℕ
 variable_places n [] = []
 variable_places n (v ∷ vs) = n ∷ variable_places (n + 1) vs
 

@@ -3,13 +3,13 @@ use Rattle.std.specs.Prelude.{◌≡◌, ◌≢◌, ℕ, ◌+◌, ◌*◌, ◌^�
 use Rattle.std.specs.Option.{option_map_or}
 use Rattle.serde_json.specs.Data.{Data}
 use Rattle.celtree.specs.Tree.{Expr}
-use Rattle.documents.specs.Json.{text}
+use Rattle.jsondoc.specs.Json.{text}
 use Rattle.names.specs.declared.format.Format.{Format}
 use Rattle.names.specs.Format.{has_namespaces}
 use Rattle.names.specs.declared.resource.Resource.{Resource}
 use Rattle.names.specs.declared.resource.Resource.TheVariants.{ConfigMap, Node, Pod, Service, Deployment, ValidatingAdmissionPolicy, ValidatingAdmissionPolicyBinding, Namespace}
 use Rattle.plancode.specs.Plans.{Judged}
-use Rattle.planlist.specs.Plans.{list_bytes, IsListFor}
+use Rattle.plancode.specs.PlanList.{list_bytes, IsListFor}
 use Rattle.policy.specs.Bindings.{binding_of}
 use Rattle.policy.specs.Forms.{Text}
 use Rattle.policy.specs.Policies.{policy_of}

@@ -4,7 +4,7 @@ ghost use Rattle.std.specs.Prelude.{◌≡◌, IfOk};
 ghost use Rattle.serde_json.specs.View.{view};
 ghost use Rattle.policy.specs.Bindings.{binding_of};
 ghost use Rattle.policy.specs.Spec.{binding_seen};
-ghost use Rattle.expressions.specs.Objects.{policy_key};
+ghost use Rattle.expressions.specs.Bindings.{policy_key};
 
 use names::{Key, KeyFault, Resource};
 use policy::Binding;
@@ -23,7 +23,7 @@ impl Model for Bound {
     ghost use Rattle.std.specs.Prelude.{◌≡◌, string_bytes};
     ghost use Rattle.policy.specs.Spec as spec;
     ghost use Rattle.policy.specs.Spec.{binding_seen};
-    ghost use Rattle.expressions.specs.Objects.{policy_key};
+    ghost use Rattle.expressions.specs.Bindings.{policy_key};
 
     ghost Value = { spec.Binding };
 

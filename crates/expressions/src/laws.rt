@@ -1,6 +1,6 @@
 //! Laws of policies, as formats have them and as they are stored.
 
-ghost use Rattle.expressions.specs.Laws.{SpecificationsStay, OneStoredList, ExpressionsFitTheText};
+ghost use Rattle.expressions.specs.Laws.{SpecificationsStay, OneStoredList, ExpressionsFitTheText, VariablesAreFew};
 
 use celtypes::types_stay;
 
@@ -20,4 +20,9 @@ pub fn one_stored_list()
 /// A law: the expressions of a policy have together at most as many bytes as the text of its document.
 pub fn expressions_fit_the_text()
     ensures { ExpressionsFitTheText }
+{}
+
+/// A law: a policy that a document spells has no more variables than `plan::compile` takes.
+pub fn variables_are_few()
+    ensures { VariablesAreFew }
 {}

@@ -1,5 +1,5 @@
 //! What stands in the `spec` of an object: whether a policy or a binding has the form of one, and a policy's expressions, which are read,
-//! typed and compiled; and where policies find what stands in a store.
+//! typed and compiled; and the key of the policy that a binding names.
 //!
 //! ```text
 //! match specification_of(alloc, format, resource, &document)? {
@@ -20,24 +20,11 @@
 //! The format of the store decides whether namespaces are objects. Where they are, a policy may have a selector of namespaces, and its
 //! expressions may name `namespaceObject`. [`specifications_stay`] is the law that what stands in an object stands there in each format that
 //! has as many resources.
-//!
-//! What policies, bindings and parameters there are is asked of a [`Lookup`], as it stands before a write: it lends what documents spell as
-//! policies, with their plans, and as bindings, so that none is read again or copied, and may read parameters from a device. `specs/Objects.antt` says what is held
-//! of an object, and each look of a [`Lookup`] gives that of any list of objects which the lookup shows, and of policies and bindings that of what it lends.
-//!
-//! ```text
-//! for listed in lookup.bindings(alloc)? {
-//!     if let Some(bound) = listed.found.bound {
-//!         let policy = lookup.policy(bound.policy_key());
-//!     }
-//! }
-//! ```
 #![tactic(auto)]
 
 mod bound;
 mod fault;
 mod laws;
-mod lookup;
 mod places;
 mod planning;
 mod reading;
@@ -50,8 +37,7 @@ mod typing;
 
 pub use bound::Bound;
 pub use fault::PolicyFault;
-pub use laws::{expressions_fit_the_text, one_stored_list, specifications_stay};
-pub use lookup::{Found, Listed, Lookup};
+pub use laws::{expressions_fit_the_text, one_stored_list, specifications_stay, variables_are_few};
 pub use specification::{Specification, specification_of};
 pub use stored::{StoredPlans, plans_bytes, stored_plans};
 pub use typed_policy::TypedPolicy;

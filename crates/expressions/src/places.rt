@@ -5,17 +5,16 @@ ghost use Rattle.std.specs.List.{flat_map};
 ghost use Rattle.serde_json.specs.View.{view};
 ghost use Rattle.expressions.specs.Expressions.{sources};
 ghost use Rattle.policy.specs.Spec.{named_seen, policy_seen};
-ghost use Rattle.denials.specs.Validation.{validation_seen};
+ghost use Rattle.policy.specs.Validation.{validation_seen};
 ghost use Rattle.expressions.specs.Places.{variable_places, validation_places, places_of, policy_in};
 
-use denials::Validation;
-use documents::Doc;
-use policy::{Named, Policy};
+use jsondoc::Doc;
+use policy::{NamedExpression, Policy, Validation};
 use serde_json::Value as Json;
 use std::alloc::{AllocError, Global};
 
 // Match conditions name no variable.
-fn condition_places(alloc: Global, conditions: &[Named]) -> Result<Vec<u16>, AllocError>
+fn condition_places(alloc: Global, conditions: &[NamedExpression]) -> Result<Vec<u16>, AllocError>
     ensures { IfOk result (λ v. v.items ≡ map (λ _. 0) (map named_seen conditions.now)) }
 {
     let mut places = Vec::new(alloc);
@@ -25,7 +24,7 @@ fn condition_places(alloc: Global, conditions: &[Named]) -> Result<Vec<u16>, All
     Ok(places)
 }
 
-fn with_variables(before: Vec<u16>, variables: &[Named]) -> Result<Vec<u16>, AllocError>
+fn with_variables(before: Vec<u16>, variables: &[NamedExpression]) -> Result<Vec<u16>, AllocError>
     requires few { length variables.now ≤ 65535 }
     ensures { IfOk result (λ v. v.items ≡ before.items ++ variable_places 0 (map named_seen variables.now)) }
 {

@@ -5,10 +5,9 @@ ghost use Rattle.std.specs.List.{flat_map};
 ghost use Rattle.expressions.specs.Expressions.{of_condition, of_variable, of_validation, sources};
 ghost use Rattle.expressions.specs.Seen.{source_seen};
 ghost use Rattle.policy.specs.Spec.{named_seen, policy_seen};
-ghost use Rattle.denials.specs.Validation.{validation_seen};
+ghost use Rattle.policy.specs.Validation.{validation_seen};
 
-use denials::Validation;
-use policy::{Named, Policy};
+use policy::{NamedExpression, Policy, Validation};
 use std::alloc::{AllocError, Global};
 
 /// What an expression is for.
@@ -30,7 +29,7 @@ pub(crate) struct Source<'a> {
 
 fn with_conditions<'a>(
     before: Vec<Source<'a>>,
-    conditions: &'a [Named],
+    conditions: &'a [NamedExpression],
 ) -> Result<Vec<Source<'a>>, AllocError>
     ensures { IfOk result (λ v. map source_seen v.items ≡ map source_seen before.entry.items ++ map of_condition (map named_seen conditions.now)) }
 {
@@ -46,7 +45,7 @@ fn with_conditions<'a>(
 
 fn with_variables<'a>(
     before: Vec<Source<'a>>,
-    variables: &'a [Named],
+    variables: &'a [NamedExpression],
 ) -> Result<Vec<Source<'a>>, AllocError>
     ensures { IfOk result (λ v. map source_seen v.items ≡ map source_seen before.entry.items ++ map of_variable (map named_seen variables.now)) }
 {

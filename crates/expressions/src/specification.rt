@@ -13,7 +13,7 @@ ghost use Rattle.expressions.specs.Specification.{may_stand, policy_for, binding
 use crate::fault::PolicyFault;
 use crate::places::policy_in;
 use crate::typed_policy::TypedPolicy;
-use documents::Doc;
+use jsondoc::Doc;
 use names::{Format, Resource};
 use plancode::Verified;
 use policy::{Binding, MatchRules, Policy};

@@ -2,16 +2,15 @@
 
 ghost use Rattle.std.specs.Prelude.{◌≡◌, ◌≢◌, List, [], IfOk, IsErrOf};
 ghost use Rattle.plancode.specs.Plans.{Judged};
-ghost use Rattle.planlist.specs.Plans.{list_bytes, HaveNumbers};
-ghost use Rattle.planlist.specs.declared.reading.ReadPlansFault.TheVariants as read_fault;
-ghost use Rattle.planlist.specs.declared.writing.WritePlansFault.TheVariants as write_fault;
+ghost use Rattle.plancode.specs.PlanList.{list_bytes, HaveNumbers};
+ghost use Rattle.plancode.specs.declared.list_reading.ReadPlansFault.TheVariants as read_fault;
+ghost use Rattle.plancode.specs.declared.list_writing.WritePlansFault.TheVariants as write_fault;
 ghost use Rattle.expressions.specs.Specification.{Plans, these, policy_bytes, plans_bytes, FitsPolicy, ArePolicyPlans, MayHavePlans, plans_seen};
 
 use crate::places::policy_in;
-use documents::Doc;
+use jsondoc::Doc;
 use names::Resource;
-use plancode::Verified;
-use planlist::{ReadPlansFault, WritePlansFault, read_plans, write_plans};
+use plancode::{ReadPlansFault, Verified, WritePlansFault, read_plans, write_plans};
 use std::alloc::{AllocError, Global};
 
 /// The plans of an object.

@@ -3,5 +3,6 @@ pub mod FileInWords
 pub mod Tellings
 pub mod Showing
 pub mod Served
+pub mod Leaving
 pub mod Watching
 pub mod Unless

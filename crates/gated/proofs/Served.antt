@@ -3,8 +3,8 @@ use Rattle.std.proofs.Common.{◌≡◌, sym, subst, refl, ℕ, List, [], ◌++�
 use Rattle.device.specs.declared.device.Device.{Ghosts}
 use Rattle.device.proofs.Moments.{followed_by}
 use Rattle.names.specs.declared.format.Rules.{Rules}
-use Rattle.requests.specs.View.{view}
-use Rattle.recovery.specs.Standing.{History, View, Write}
+use Rattle.histories.specs.View.{view}
+use Rattle.decoded.specs.Standing.{History, View, Write}
 use Rattle.durable.specs.declared.store.Store.{Store}
 use Rattle.durable.specs.Ready.{HoldsHistory}
 use Rattle.durable.specs.Settled.{device_of, serves, IsFound, IsSettledAt}
@@ -32,12 +32,10 @@ wrote_some rules old new v e = record { answered = e.holds.answered; store = e.h
 
 -- ---- on the device under a name
 
-pub served_all : {S D : Type 0} {g : Ghosts D} (opened : S → List ℕ → D → Type 0) (storage : S) (name : List ℕ) (first last : Store D g) (is : IsOpened opened storage name first)
-    → ((rules : Rules) (v : View) → ShowsAt rules first v → HasServedSome rules first last v) → (left : D) → left ≡ device_of last
-    → (rules : Rules) (h : History) → HoldsHistory rules g.disk is.found h → HasServedAll rules g.disk is.found left h
-served_all {D = D} {g = g} opened storage name first last is served left same rules h holds =
-    let settled : IsSettledAt rules first h = is.settled rules h holds in
-    let some : HasServedSome rules first last (view rules h) = served rules (view rules h) (λ working. settled_serves rules first h settled) in
+pub some_after : {S D : Type 0} {g : Ghosts D} (opened : S → List ℕ → D → Type 0) (storage : S) (name : List ℕ) (first last : Store D g) (is : IsOpened opened storage name first)
+    (left : D) → left ≡ device_of last → (rules : Rules) (h : History) → HoldsHistory rules g.disk is.found h → IsSettledAt rules first h
+    → HasServedSome rules first last (view rules h) → HasServedAll rules g.disk is.found left h
+some_after {D = D} {g = g} opened storage name first last is left same rules h holds settled some =
     let writes : List Write = all_writes rules (view rules h) some.answered in
     let after : IsSettledAt rules last (h ++ writes) = some.store.settled h refl settled in
     let At : D → Type 0 = λ d. HasServedAll rules g.disk is.found d h in
@@ -49,6 +47,13 @@ served_all {D = D} {g = g} opened storage name first last is served left same ru
       moments = followed_by g.disk is.found (device_of first) (device_of last) (g.disk.left is.found) (IsFound rules h [] writes) (IsFound rules h [] writes)
           (is.moments holds.keeps) (some.store.moments h refl settled) (λ c l. found_none rules h writes c (holds.left c l)) (λ c found. found);
     })
+
+served_all : {S D : Type 0} {g : Ghosts D} (opened : S → List ℕ → D → Type 0) (storage : S) (name : List ℕ) (first last : Store D g) (is : IsOpened opened storage name first)
+    → ((rules : Rules) (v : View) → ShowsAt rules first v → HasServedSome rules first last v) → (left : D) → left ≡ device_of last
+    → (rules : Rules) (h : History) → HoldsHistory rules g.disk is.found h → HasServedAll rules g.disk is.found left h
+served_all opened storage name first last is served left same rules h holds =
+    let settled : IsSettledAt rules first h = is.settled rules h holds in
+    some_after opened storage name first last is left same rules h holds settled (served rules (view rules h) (λ working. settled_serves rules first h settled))
 
 -- where they were served
 pub served_file : {S D : Type 0} {g : Ghosts D} (made opened closed : S → List ℕ → D → Type 0) (storage : S) (name : List ℕ) (first last : Store D g) (is : IsOpened opened storage name first)

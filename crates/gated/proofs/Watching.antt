@@ -1,18 +1,19 @@
 -- What is done through a device whose progress is shown is done to the device inside.
-use Rattle.std.proofs.Common.{◌≡◌, sym, subst, ℕ, List}
+use Rattle.std.proofs.Common.{◌≡◌, sym, subst, inr, ℕ, List}
 use Rattle.device.specs.Disk.{Disk}
 use Rattle.names.specs.declared.format.Rules.{Rules}
-use Rattle.recovery.specs.Standing.{History}
+use Rattle.decoded.specs.Standing.{History}
 use Rattle.durable.specs.declared.compacted.Compacted.{Compacted}
 use Rattle.durable.specs.declared.fault.Damage.{Damage}
 use Rattle.durable.specs.declared.fault.Fault.{Fault}
 use Rattle.durable.specs.declared.fault.Fault.TheVariants as fault
 use Rattle.durable.specs.declared.upgraded.Upgraded.{Upgraded}
 use Rattle.durable.specs.Ready.{HoldsHistory}
-use Rattle.store.specs.Upkeep.{KeepsHistory, IsWrittenAnew, IsUpgraded, IsToldUpgraded}
+use Rattle.store.specs.Upkeep.{KeepsHistory, IsWrittenAnew, IsUpgraded, IsEither, IsToldUpgraded}
 use Rattle.gated.specs.declared.problem.Problem.TheVariants as problem
 use Rattle.gated.specs.declared.progress.Watched.{Watched}
 use Rattle.gated.specs.Doing.{UpgradedStore, WroteAnew}
+use Rattle.gated.specs.Left.{HasLeft}
 use Rattle.gated.specs.Problem.{of_store}
 use Rattle.gated.specs.Progress.{watched_disk}
 
@@ -40,6 +41,14 @@ module _ {D P : Type 0} (disk : Disk D) where
     written = λ rules h holds. written rules h (holds_watched rules old h holds);
   }
 
+  either_inside : (rules : Rules) (old new : Watched D P) (h : History) → IsEither rules (watched_disk disk) old new h → IsEither rules disk old.device new.device h
+  either_inside rules old new h is = record {
+    keeps = is.keeps;
+    read = is.read;
+    left = is.left;
+    any_moment = record { later = is.any_moment.later; each = is.any_moment.each; before = is.any_moment.before };
+  }
+
   upgraded_inside : (rules : Rules) (old new : Watched D P) (h : History) → IsUpgraded rules (watched_disk disk) old new h → IsUpgraded rules disk old.device new.device h
   upgraded_inside rules old new h is = record {
     holds = record { keeps = is.holds.keeps; read = is.holds.read; left = is.holds.left };
@@ -59,6 +68,28 @@ module _ {D P : Type 0} (disk : Disk D) where
     upgraded = λ rules h holds. upgraded_inside rules old new h (upgraded rules h (holds_watched rules old h holds));
     told = λ rules h holds. told rules h (holds_watched rules old h holds);
   }
+
+  module _ {S : Type 0} (missed : S → List ℕ → Type 0) (opened closed : S → List ℕ → D → Type 0) (storage : S) (name : List ℕ) (found given : D) (old new : Watched D P)
+      (is : old.device ≡ found) (same : given ≡ new.device) (was_opened : opened storage name found) (was_closed : closed storage name given) where
+    pub kept_watched : ((rules : Rules) (h : History) → HoldsHistory rules (watched_disk disk) old h → KeepsHistory rules (watched_disk disk) old new h)
+        → HasLeft disk missed opened closed storage name (λ rules before after h. KeepsHistory rules disk before after h)
+    kept_watched keeps = inr (record {
+      found = old.device;
+      left = new.device;
+      was_opened = subst (opened storage name) (sym is) was_opened;
+      was_closed = subst (closed storage name) same was_closed;
+      is_so = λ rules h holds. keeps_inside rules old new h (keeps rules h (holds_watched rules old h holds));
+    })
+
+    pub either_watched : ((rules : Rules) (h : History) → HoldsHistory rules (watched_disk disk) old h → IsEither rules (watched_disk disk) old new h)
+        → HasLeft disk missed opened closed storage name (λ rules before after h. IsEither rules disk before after h)
+    either_watched either = inr (record {
+      found = old.device;
+      left = new.device;
+      was_opened = subst (opened storage name) (sym is) was_opened;
+      was_closed = subst (closed storage name) same was_closed;
+      is_so = λ rules h holds. either_inside rules old new h (either rules h (holds_watched rules old h holds));
+    })
 
 -- ---- damage
 

@@ -5,8 +5,8 @@ use Rattle.device.specs.Disk.{Disk, LeavesOnly}
 use Rattle.names.specs.declared.format.Format.{Format}
 use Rattle.names.specs.declared.format.Rules.{Rules}
 use Rattle.names.specs.Format.{rules_of}
-use Rattle.requests.specs.View.{view}
-use Rattle.recovery.specs.Standing.{History}
+use Rattle.histories.specs.View.{view}
+use Rattle.decoded.specs.Standing.{History}
 use Rattle.apicore.specs.Admitted.{AreAdmitted}
 use Rattle.durable.specs.declared.compacted.Checked.{Checked}
 use Rattle.durable.specs.declared.compacted.Compacted.{Compacted}
@@ -89,8 +89,10 @@ module _ {S D : Type 0} (disk : Disk D) (made opened closed : S → List ℕ →
     pub keeps : (rules : Rules) (h : History) → HoldsHistory rules disk found h → KeepsHistory rules disk found left h
     pub told : (rules : Rules) (h : History) (holds : HoldsHistory rules disk found h) → IsToldOfHistory rules h holds.read.root c
 
-  -- The device under the name holds no history.
+  -- The device under the name holds no history, and was given back.
   pub record FoundDamaged : Type 0 where
     pub found : D
+    pub left : D
     pub was_opened : opened storage name found
+    pub was_closed : closed storage name left
     pub none : (rules : Rules) (h : History) → HoldsHistory rules disk found h → ⊥

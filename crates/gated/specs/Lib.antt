@@ -2,5 +2,6 @@ pub mod Status
 pub mod Problem
 pub mod CommandLine
 pub mod Doing
+pub mod Left
 pub mod Telling
 pub mod Progress

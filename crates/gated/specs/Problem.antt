@@ -14,8 +14,8 @@ use Rattle.durable.specs.declared.fault.Fault as store
 use Rattle.durable.specs.declared.fault.Fault.TheVariants as store_fault
 use Rattle.durable.specs.declared.upgraded.UpgradeFault as upgrade
 use Rattle.durable.specs.declared.upgraded.UpgradeFault.TheVariants as upgrade_fault
-use Rattle.opening.specs.declared.new_store.CreateFault as store_create
-use Rattle.opening.specs.declared.new_store.CreateFault.TheVariants as store_create_fault
+use Rattle.durable.specs.declared.new_store.CreateFault as store_create
+use Rattle.durable.specs.declared.new_store.CreateFault.TheVariants as store_create_fault
 use Rattle.httpmsg.specs.Flow.{TookSome}
 use Rattle.store.specs.declared.fault.AnswerFault as answer
 use Rattle.store.specs.declared.fault.AnswerFault.TheVariants as answer_fault

@@ -1,19 +1,19 @@
 //! Connections to an address, served one after the other, or many at once.
 
-ghost use Rattle.std.specs.Prelude.{IsErrOf, OnOk};
+ghost use Rattle.std.specs.Prelude.{IsErrOf, OnOk, OnErr};
 ghost use Rattle.names.specs.declared.format.Rules.{Rules};
-ghost use Rattle.recovery.specs.Standing.{View};
+ghost use Rattle.decoded.specs.Standing.{View};
 ghost use Rattle.api.specs.Answers.{ShowsAt};
 ghost use Rattle.clients.specs.Serving.{HasServedSome};
+ghost use Rattle.gated.specs.Left.{HasServedUpTo};
 
 use crate::problem::Problem;
 use clients::{Limits, Server};
-use httpmsg::write_all;
 use std::alloc::Global;
 use std::io::Read;
 use std::net::{Net, Shutdown, SocketAddr, TcpListener, TcpStream};
 use std::time::{Clock, Duration};
-use store::{Device, End, Output, ServeFault, Std, Store, serve};
+use store::{Device, End, Output, ServeFault, Std, Store, serve, write_all};
 
 // For how many reads, of how many bytes and how long, a connection that ends is read on.
 const DRAIN_READS: u32 = 32;
@@ -46,6 +46,7 @@ fn serve_one<D: Device>(
     store: &mut Store<D>,
 ) -> Result<(), Problem>
     ensures served { (rules : Rules) (v : View) → ShowsAt rules store.old v → OnOk result (HasServedSome rules store.old store.new v) }
+    ensures stopped { (rules : Rules) (v : View) → ShowsAt rules store.old v → OnErr result (HasServedUpTo rules store.old store.new v) }
     ensures no_stream { IsErrOf result Problem.StreamFailed → ⊥ }
 {
     // A socket that refuses one of these is served all the same.
@@ -80,6 +81,7 @@ fn serve_connections<D: Device>(
     store: &mut Store<D>,
 ) -> Result<(), Problem>
     ensures served { (rules : Rules) (v : View) → ShowsAt rules store.old v → OnOk result (HasServedSome rules store.old store.new v) }
+    ensures stopped { (rules : Rules) (v : View) → ShowsAt rules store.old v → OnErr result (HasServedUpTo rules store.old store.new v) }
 {
     for stream in listener.incoming().take(usize::from(connections)) {
         let Ok(stream) = stream else {
@@ -143,6 +145,7 @@ pub(crate) fn serve_one_by_one<
     output: &mut O,
 ) -> Result<(), Problem>
     ensures served { (rules : Rules) (v : View) → ShowsAt rules store.old v → OnOk result (HasServedSome rules store.old store.new v) }
+    ensures stopped { (rules : Rules) (v : View) → ShowsAt rules store.old v → OnErr result (HasServedUpTo rules store.old store.new v) }
 {
     let address = address_of(address)?;
     let Ok(listener) = TcpListener::bind(net, address) else {
@@ -163,6 +166,7 @@ pub(crate) fn serve_at_once<D: Device, R: Net + Clock, O: Output, L: Output>(
     log: &mut L,
 ) -> Result<(), Problem>
     ensures served { (rules : Rules) (v : View) → ShowsAt rules store.old v → OnOk result (HasServedSome rules store.old store.new v) }
+    ensures stopped { (rules : Rules) (v : View) → ShowsAt rules store.old v → OnErr result (HasServedUpTo rules store.old store.new v) }
 {
     let address = address_of(address)?;
     let mut server = Server::bind(net, alloc, address, limits)?;

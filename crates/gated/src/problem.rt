@@ -7,9 +7,10 @@ ghost use Rattle.httpmsg.specs.Flow.{HasCause, Writes};
 
 use crate::status::Status;
 use clients::ClientsFault;
-use device::{CreateFault as FileCreateFault, OpenFault};
-use httpmsg::{StreamFault, write_all};
-use store::{AnswerFault, CreateFault, Damage, Fault, Output, ServeFault, UpgradeFault};
+use store::{
+    AnswerFault, CreateFault, Damage, Fault, FileCreateFault, OpenFault, Output, ServeFault,
+    StreamFault, UpgradeFault, write_all,
+};
 
 /// Why the program did not do what it was asked.
 #[derive(Clone, Copy)]

@@ -1,17 +1,19 @@
 //! The commands of the program.
 
-ghost use Rattle.std.specs.Prelude.{◌≡◌, ◌≢◌, ◌⊎◌, false, map, IfOk, OnOk, OnErr, IsErrOf};
+ghost use Rattle.std.specs.Prelude.{◌≡◌, ◌≢◌, ◌⊎◌, false, map, IfOk, IfErr, OnOk, OnErr, IsErrOf};
 ghost use Rattle.clap.specs.Words.{kind_of};
 ghost use Rattle.names.specs.declared.format.Rules.{Rules};
-ghost use Rattle.recovery.specs.Standing.{View};
+ghost use Rattle.decoded.specs.Standing.{View};
 ghost use Rattle.durable.specs.declared.compacted.Compacted.{Compacted as CompactedData};
 ghost use Rattle.durable.specs.declared.fault.Damage.{Damage};
 ghost use Rattle.durable.specs.declared.upgraded.Upgraded.{Upgraded as UpgradedData};
 ghost use Rattle.api.specs.Answers.{ShowsAt};
+ghost use Rattle.store.specs.Upkeep.{KeepsHistory, IsEither};
 ghost use Rattle.gated.specs.declared.command.Verb.{Verb as VerbData};
 ghost use Rattle.gated.specs.CommandLine.{AskFor, is_logged};
 ghost use Rattle.clients.specs.Serving.{HasServedSome};
 ghost use Rattle.gated.specs.Doing.{AnsweredAll, FoundDamaged, FoundWhole, IsOpened, MadeStore, ServedAll, UpgradedStore, WroteAnew};
+ghost use Rattle.gated.specs.Left.{HasAnsweredPart, HasLeft, HasLeftBy, HasMadeNone, HasServedPart, HasServedUpTo, WasRefused};
 ghost use Rattle.gated.specs.Problem.{Tells};
 ghost use Rattle.gated.specs.Telling.{HasLine, EndsCheck, IsDone, checked_text, compacted_text, upgraded_text};
 
@@ -23,14 +25,14 @@ use crate::status::Status;
 use clap::Error;
 use clap::error::ErrorKind;
 use clients::Limits;
-use httpmsg::{StreamFault, write_all};
 use std::alloc::Global;
 use std::convert::AsStr;
 use std::net::{Net, TcpListener, TcpStream};
 use std::time::{Clock, Duration};
 use store::{
-    Checked, Compacted, Device, Format, Input, Output, Storage, Store, Upgraded, answer,
-    check as check_store, compact as compact_store, create, open, upgrade as upgrade_store,
+    Checked, Compacted, Device, Format, Input, Output, Storage, Store, StreamFault, Upgraded,
+    answer, check as check_store, compact as compact_store, create, upgrade as upgrade_store,
+    write_all,
 };
 
 // Makes a store of a format in a new file. It allocates nothing, so it cannot run out of memory once there is a file. Where the store cannot be written, as on a
@@ -41,6 +43,7 @@ fn create_store<D: Device, S: Storage<D>>(
     format: Format,
 ) -> Result<(), Problem>
     ensures made { OnOk result (MadeStore D.disk S.made S.opened S.closed storage.now file.now format) }
+    ensures left { OnErr result (HasMadeNone D.disk S.missed S.made S.discarded storage.now file.now) }
     ensures no_such_store { IsErrOf result Problem.NoStore → ⊥ }
     ensures no_stream { IsErrOf result Problem.StreamFailed → ⊥ }
     ensures no_damage { (damage : Damage) → IsErrOf result (Problem.Damaged damage) → ⊥ }
@@ -52,8 +55,7 @@ fn create_store<D: Device, S: Storage<D>>(
             Ok(())
         }
         Err(fault) => {
-            storage.discard(file);
-            drop(device);
+            storage.discard(file, device);
             Err(Problem::from(fault))
         }
     }
@@ -66,13 +68,17 @@ fn open_store<D: Device, S: Storage<D>>(
     file: &str,
 ) -> Result<Store<D>, Problem>
     ensures opened { IfOk result (λ store. IsOpened S.opened storage.now file.now store) }
+    ensures left { OnErr result (HasLeft D.disk S.missed S.opened S.closed storage.now file.now (λ rules old new h. KeepsHistory rules D.disk old new h)) }
     ensures no_file_made { IsErrOf result Problem.FileExists → ⊥ }
     ensures no_stream { IsErrOf result Problem.StreamFailed → ⊥ }
 {
     let device = storage.open(file)?;
-    match open(alloc, device) {
+    match Store::open(alloc, device) {
         Ok(store) => Ok(store),
-        Err((fault, _)) => Err(Problem::from(fault)),
+        Err((fault, device)) => {
+            storage.close(file, device);
+            Err(Problem::from(fault))
+        }
     }
 }
 
@@ -85,6 +91,8 @@ fn replay<D: Device, S: Storage<D>, I: Input, O: Output>(
     output: &mut O,
 ) -> Result<(), Problem>
     ensures answered { OnOk result (AnsweredAll D.disk S.made S.opened S.closed storage.now file.now I.gave O.took (I.has_ended input.new) input.old input.new output.old output.new) }
+    ensures left { OnErr result (HasLeft D.disk S.missed S.opened S.closed storage.now file.now
+        (HasAnsweredPart D.disk S.missed S.made S.opened S.closed S.discarded I.gave O.took O.failures storage.now input.old input.new output.old output.new)) }
     ensures no_file_made { IsErrOf result Problem.FileExists → ⊥ }
 {
     let device = storage.open(file)?;
@@ -93,7 +101,10 @@ fn replay<D: Device, S: Storage<D>, I: Input, O: Output>(
             storage.close(file, device);
             Ok(())
         }
-        Err((fault, _)) => Err(Problem::from(fault)),
+        Err((fault, device)) => {
+            storage.close(file, device);
+            Err(Problem::from(fault))
+        }
     }
 }
 
@@ -136,6 +147,7 @@ fn serve_store<
 ) -> Result<(), Problem>
     ensures silent { is_logged ≡ false → log.new ≡ log.old }
     ensures served { (rules : Rules) (v : View) → ShowsAt rules store.old v → OnOk result (HasServedSome rules store.old store.new v) }
+    ensures stopped { (rules : Rules) (v : View) → ShowsAt rules store.old v → OnErr result (HasServedUpTo rules store.old store.new v) }
 {
     let idle = match idle_seconds {
         0 => None,
@@ -185,6 +197,7 @@ fn serve_file<
 ) -> Result<(), Problem>
     ensures silent { is_logged ≡ false → log.new ≡ log.old }
     ensures served { OnOk result (ServedAll D.disk S.made S.opened S.closed storage.now file.now) }
+    ensures left { OnErr result (HasLeft D.disk S.missed S.opened S.closed storage.now file.now (λ rules old new h. HasServedPart rules D.disk old new h)) }
 {
     let mut store = open_store(storage, alloc, file)?;
     let served = serve_store(
@@ -230,6 +243,7 @@ fn write_anew<D: Device, S: Storage<D>, P: Output + Drop>(
     progress: Option<P>,
 ) -> Result<Compacted, Problem>
     ensures written { IfOk result (λ c. WroteAnew D.disk S.made S.opened S.closed storage.now file.now c) }
+    ensures left { OnErr result (HasLeft D.disk S.missed S.opened S.closed storage.now file.now (λ rules old new h. KeepsHistory rules D.disk old new h)) }
     ensures no_file_made { IsErrOf result Problem.FileExists → ⊥ }
     ensures no_stream { IsErrOf result Problem.StreamFailed → ⊥ }
 {
@@ -240,7 +254,10 @@ fn write_anew<D: Device, S: Storage<D>, P: Output + Drop>(
             storage.close(file, watched.into_device());
             Ok(compacted)
         }
-        Err((fault, _)) => Err(Problem::from(fault)),
+        Err((fault, watched)) => {
+            storage.close(file, watched.into_device());
+            Err(Problem::from(fault))
+        }
     }
 }
 
@@ -253,6 +270,7 @@ fn compact<D: Device, S: Storage<D>, O: Output, P: Output + Drop>(
     progress: Option<P>,
 ) -> Result<(), Problem>
     ensures done { OnOk result ((c : CompactedData) × WroteAnew D.disk S.made S.opened S.closed storage.now file.now c × HasLine O.took output.old output.new (compacted_text c)) }
+    ensures left { OnErr result (HasLeft D.disk S.missed S.opened S.closed storage.now file.now (λ rules old new h. KeepsHistory rules D.disk old new h)) }
     ensures no_file_made { IsErrOf result Problem.FileExists → ⊥ }
 {
     let compacted = write_anew(storage, alloc, file, progress)?;
@@ -291,6 +309,8 @@ fn upgrade_file<D: Device, S: Storage<D>, P: Output + Drop>(
     progress: Option<P>,
 ) -> Result<Upgraded, Problem>
     ensures upgraded { IfOk result (λ u. UpgradedStore D.disk S.made S.opened S.closed storage.now file.now u) }
+    ensures left { OnErr result (HasLeft D.disk S.missed S.opened S.closed storage.now file.now (λ rules old new h. IsEither rules D.disk old new h)) }
+    ensures kept { IfErr result (λ problem. problem ≢ Problem.DeviceFailed → HasLeft D.disk S.missed S.opened S.closed storage.now file.now (λ rules old new h. KeepsHistory rules D.disk old new h)) }
     ensures no_file_made { IsErrOf result Problem.FileExists → ⊥ }
     ensures no_stream { IsErrOf result Problem.StreamFailed → ⊥ }
 {
@@ -301,7 +321,10 @@ fn upgrade_file<D: Device, S: Storage<D>, P: Output + Drop>(
             storage.close(file, watched.into_device());
             Ok(upgraded)
         }
-        Err((fault, _)) => Err(Problem::from(fault)),
+        Err((fault, watched)) => {
+            storage.close(file, watched.into_device());
+            Err(Problem::from(fault))
+        }
     }
 }
 
@@ -314,6 +337,7 @@ fn upgrade<D: Device, S: Storage<D>, O: Output, P: Output + Drop>(
     progress: Option<P>,
 ) -> Result<(), Problem>
     ensures done { OnOk result ((u : UpgradedData) × UpgradedStore D.disk S.made S.opened S.closed storage.now file.now u × HasLine O.took output.old output.new (upgraded_text u)) }
+    ensures left { OnErr result (HasLeft D.disk S.missed S.opened S.closed storage.now file.now (λ rules old new h. IsEither rules D.disk old new h)) }
     ensures no_file_made { IsErrOf result Problem.FileExists → ⊥ }
 {
     let upgraded = upgrade_file(storage, alloc, file, progress)?;
@@ -328,6 +352,7 @@ fn look<D: Device, S: Storage<D>>(
 ) -> Result<Checked, Problem>
     ensures whole { IfOk result (λ c. FoundWhole D.disk S.made S.opened S.closed storage.now file.now c) }
     ensures damaged { (damage : Damage) → IsErrOf result (Problem.Damaged damage) → FoundDamaged D.disk S.made S.opened S.closed storage.now file.now }
+    ensures left { OnErr result (HasLeft D.disk S.missed S.opened S.closed storage.now file.now (λ rules old new h. KeepsHistory rules D.disk old new h)) }
     ensures no_file_made { IsErrOf result Problem.FileExists → ⊥ }
     ensures no_stream { IsErrOf result Problem.StreamFailed → ⊥ }
 {
@@ -337,7 +362,10 @@ fn look<D: Device, S: Storage<D>>(
             storage.close(file, device);
             Ok(checked)
         }
-        Err((fault, _)) => Err(Problem::from(fault)),
+        Err((fault, device)) => {
+            storage.close(file, device);
+            Err(Problem::from(fault))
+        }
     }
 }
 
@@ -369,6 +397,7 @@ fn check<D: Device, S: Storage<D>, O: Output>(
     output: &mut O,
 ) -> Result<Status, Problem>
     ensures ends { IfOk result (λ status. EndsCheck D.disk S.made S.opened S.closed O.took storage.now output.old output.new file.now status) }
+    ensures left { OnErr result (HasLeft D.disk S.missed S.opened S.closed storage.now file.now (λ rules old new h. KeepsHistory rules D.disk old new h)) }
     ensures no_file_made { IsErrOf result Problem.FileExists → ⊥ }
     ensures no_damage { (damage : Damage) → IsErrOf result (Problem.Damaged damage) → ⊥ }
 {
@@ -406,6 +435,7 @@ fn done<
 ) -> Result<Status, Problem>
     ensures silent { is_logged verb.entry ≡ false → log.new ≡ log.old }
     ensures done { IfOk result (λ status. IsDone D.disk S.made S.opened S.closed I.gave O.took I.has_ended storage.now input.old input.new output.old output.new verb.entry status) }
+    ensures left { OnErr result (HasLeftBy D.disk S.missed S.made S.opened S.closed S.discarded I.gave O.took O.failures storage.now input.old input.new output.old output.new verb.entry) }
 {
     match verb {
         Verb::Create { file, format } => create_store(storage, file, format)?,
@@ -440,6 +470,7 @@ fn refuse<E: Output>(alloc: Global, error: &Error, errors: &mut E) -> Status
     ensures told { Tells E.took E.failures errors.old errors.new result }
     ensures memory { kind_of error.now ≡ ErrorKind.OutOfMemory → result ≡ Status.OutOfMemory }
     ensures refused { result ≢ Status.Success }
+    ensures ends { (result ≡ Status.Usage) ⊎ (result ≡ Status.OutOfMemory) }
 {
     if error.kind() == ErrorKind::OutOfMemory {
         return tell(Problem::OutOfMemory, errors);
@@ -459,7 +490,8 @@ fn refuse<E: Output>(alloc: Global, error: &Error, errors: &mut E) -> Status
 /// `progress`, if there is one, how far it is. A server tells on `log` of each message that it answers, where the words ask for that, and
 /// else nothing is written there.
 ///
-/// What was done is said of the device that the storage has under the file's name: what became of its history, and which bytes were read and written.
+/// What was done is said of the device that the storage has under the file's name: what became of its history, and which bytes were read and written. Where that was
+/// not done, the device was given back, and what is left of the history is said too.
 pub fn program<
     D: Device,
     S: Storage<D>,
@@ -483,7 +515,10 @@ pub fn program<
 ) -> Status
     ensures silent { ((verb : VerbData) → AskFor (map W.text words.now) verb → is_logged verb ≡ false) → log.new ≡ log.old }
     ensures done { ((errors.new ≡ errors.old) × (verb : VerbData) × AskFor (map W.text words.now) verb × IsDone D.disk S.made S.opened S.closed I.gave O.took I.has_ended storage.now input.old input.new output.old output.new verb result)
-        ⊎ ((result ≢ Status.Success) × Tells E.took E.failures errors.old errors.new result) }
+        ⊎ ((result ≢ Status.Success) × Tells E.took E.failures errors.old errors.new result
+        × (WasRefused input.old input.new output.old output.new result
+        ⊎ ((verb : VerbData) × AskFor (map W.text words.now) verb
+        × HasLeftBy D.disk S.missed S.made S.opened S.closed S.discarded I.gave O.took O.failures storage.now input.old input.new output.old output.new verb))) }
 {
     match command(alloc, words) {
         Ok(verb) => match done(storage, net, alloc, verb, input, output, progress, log) {

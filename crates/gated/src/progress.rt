@@ -3,9 +3,8 @@
 ghost use Rattle.std.specs.Prelude.{◌≡◌, ◌+◌, ◌-◌, ◌^◌, ◌<◌, min, false};
 ghost use Rattle.gated.specs.Progress.{Shows, progress_text, watched_disk};
 
-use device::{Device, DeviceFault};
-use httpmsg::{Output, write_all};
 use std::alloc::Global;
+use store::{Device, DeviceFault, Output, write_all};
 
 // How many bytes are moved until the counts are shown again.
 const STEP_BYTES: u64 = 1 << 22;

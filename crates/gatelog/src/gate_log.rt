@@ -58,6 +58,7 @@ impl Log {
         ensures refusal { OnErr result (IsErrOf result LogFault.Device ⊎ IsErrOf result LogFault.Damaged) }
         ensures ran { Ran D.disk device.old device.new Same }
         ensures cause { IsErrOf result LogFault.Device → HasFailed D.disk device.old device.new }
+        ensures steady { OnOk result (D.disk.failures device.new ≡ D.disk.failures device.old) }
     {
         Ok(Log {
             start: at,
@@ -127,6 +128,8 @@ impl Log {
         ensures untouched { IsTrue self.old.failed → device.new ≡ device.old }
         ensures ran { Ran D.disk device.old device.new Same }
         ensures cause { self.old.failed ≡ false → IsErrOf result LogFault.Device → HasFailed D.disk device.old device.new }
+        ensures steady { OnOk result (D.disk.failures device.new ≡ D.disk.failures device.old) }
+        ensures memory { IsErrOf result LogFault.Memory → D.disk.failures device.new ≡ D.disk.failures device.old }
     {
         self.check_works()?;
         let answer = payloads_of(alloc, device, self.start, self.last);

@@ -38,6 +38,7 @@ fn check_body<D: Device>(device: &mut D, at: u64, end: u64) -> Result<u64, LogFa
     ensures refusal { OnErr result (IsErrOf result LogFault.Device ⊎ IsErrOf result LogFault.Damaged) }
     ensures ran { Ran D.disk device.old device.new Same }
     ensures cause { IsErrOf result LogFault.Device → HasFailed D.disk device.old device.new }
+    ensures steady { OnOk result (D.disk.failures device.new ≡ D.disk.failures device.old) }
 {
     if at >= end {
         return Err(LogFault::Damaged);
@@ -69,6 +70,7 @@ pub(crate) fn last_gate_of<D: Device>(device: &mut D, at: u64) -> Result<u64, Lo
     ensures refusal { OnErr result (IsErrOf result LogFault.Device ⊎ IsErrOf result LogFault.Damaged) }
     ensures ran { Ran D.disk device.old device.new Same }
     ensures cause { IsErrOf result LogFault.Device → HasFailed D.disk device.old device.new }
+    ensures steady { OnOk result (D.disk.failures device.new ≡ D.disk.failures device.old) }
 {
     let end = device.len()?;
     let mut gate = at;
@@ -107,6 +109,8 @@ fn read_payload<D: Device>(
     ensures refusal { IsErrOf result LogFault.TooLong → ⊥ }
     ensures ran { Ran D.disk device.old device.new Same }
     ensures cause { IsErrOf result LogFault.Device → HasFailed D.disk device.old device.new }
+    ensures steady { OnOk result (D.disk.failures device.new ≡ D.disk.failures device.old) }
+    ensures memory { IsErrOf result LogFault.Memory → D.disk.failures device.new ≡ D.disk.failures device.old }
 {
     let count = check_body(device, at, end)?;
     let mut body = vec![in alloc; 0; count as usize * SECTOR]?;
@@ -132,6 +136,8 @@ pub(crate) fn payloads_of<D: Device>(
     ensures refusal { IsErrOf result LogFault.TooLong → ⊥ }
     ensures ran { Ran D.disk device.old device.new Same }
     ensures cause { IsErrOf result LogFault.Device → HasFailed D.disk device.old device.new }
+    ensures steady { OnOk result (D.disk.failures device.new ≡ D.disk.failures device.old) }
+    ensures memory { IsErrOf result LogFault.Memory → D.disk.failures device.new ≡ D.disk.failures device.old }
 {
     let end = device.len()?;
     let mut found = Vec::new(alloc);

@@ -6,19 +6,19 @@ use Rattle.std.specs.FinMap.Entries.{find-put}
 use Rattle.std.specs.Option.{option_map_or}
 use Rattle.std.specs.Ordering.{is_eq}
 use Rattle.serde_json.specs.Data.{null}
-use Rattle.documents.specs.Json.{text}
+use Rattle.jsondoc.specs.Json.{text}
 use Rattle.names.specs.declared.format.Rules.{Rules}
 use Rattle.names.specs.Format.{has_resource}
 use Rattle.names.specs.Key.{Key, key_cmp}
 use Rattle.names.specs.KeyLaws.{key_cmp_total}
 use Rattle.objects.specs.Objects.{value_at, with_value}
 use Rattle.documents.specs.Document.{Document}
-use Rattle.objects.specs.declared.event.Change.TheVariants.{Added, Modified}
-use Rattle.requests.specs.Manifest.{HasForm}
-use Rattle.requests.specs.declared.stored.Stored.{Stored}
-use Rattle.requests.specs.History.{put, delete}
-use Rattle.requests.specs.View.{View, stored_at, exists, is_too_large, is_full, is_exhausted, after, after_all, MayPut, MayDelete}
-use Rattle.holdings.specs.declared.source.Found.{Found}
+use Rattle.window.specs.declared.event.Change.TheVariants.{Added, Modified}
+use Rattle.documents.specs.Form.{HasForm}
+use Rattle.histories.specs.declared.stored.Stored.{Stored}
+use Rattle.histories.specs.History.{put, delete}
+use Rattle.histories.specs.View.{View, stored_at, exists, is_too_large, is_full, is_exhausted, after, after_all, MayPut, MayDelete}
+use Rattle.holdings.specs.declared.source.FoundDocument.{FoundDocument}
 use Rattle.holdings.specs.Holdings.{State, Shows, ShowsSame}
 use Rattle.holdings.specs.Known.{KnowsSame}
 use Rattle.holdings.specs.Prepared.{puts, IsNextPut, IsNextDeletion}
@@ -136,29 +136,29 @@ module _ {P : Type 0} where
 
   -- ---- a deletion
 
-  found_there : (o : Option (Stored P)) (found : Found) → Some found ≡ option_map found_in o
+  found_there : (o : Option (Stored P)) (found : FoundDocument) → Some found ≡ option_map found_in o
       → (is_some o ≡ true) × (found.document ≡ option_map_or (λ s. s.document) o (record { json = null }))
   found_there None found is = absurd (some_not_none found is)
     where
-      some_not_none : (found : Found) → Some found ≡ None → ⊥
+      some_not_none : (found : FoundDocument) → Some found ≡ None → ⊥
       some_not_none found is = cc
-  found_there (Some s) found is = (refl, ap (λ (f : Found). f.document) (some_same found (found_in s) is))
+  found_there (Some s) found is = (refl, ap (λ (f : FoundDocument). f.document) (some_same found (found_in s) is))
 
   pub nothing_there : (o : Option (Stored P)) → None ≡ option_map found_in o → is_some o ≡ true → ⊥
   nothing_there None is holds = false≢true holds
   nothing_there (Some s) is holds = none_not_some (found_in s) is
     where
-      none_not_some : (found : Found) → None ≡ Some found → ⊥
+      none_not_some : (found : FoundDocument) → None ≡ Some found → ⊥
       none_not_some found is = cc
 
-  pub may_delete_shown : (old : State P) (base : List (Key × Stored P)) (v : View P) (k : Key) (found : Found) → Shows old base v → old.revision < old.rules.greatest_revision
+  pub may_delete_shown : (old : State P) (base : List (Key × Stored P)) (v : View P) (k : Key) (found : FoundDocument) → Shows old base v → old.revision < old.rules.greatest_revision
       → Some found ≡ option_map found_in (stored_at v k) → MayDelete old.rules v k
   may_delete_shown old base v k found shows left is = record {
     object = (found_there (stored_at v k) found is).0;
     revision = subst (λ n. n < old.rules.greatest_revision) shows.revision left;
   }
 
-  pub shows_redone_deletion : (old mid new : State P) (base : List (Key × Stored P)) (v : View P) (k : Key) (found : Found) (x : Deletion)
+  pub shows_redone_deletion : (old mid new : State P) (base : List (Key × Stored P)) (v : View P) (k : Key) (found : FoundDocument) (x : Deletion)
       → Shows old base v → ShowsSame old mid → mid.rules ≡ old.rules → x ≡ record { key = k; document = found.document } → Some found ≡ option_map found_in (stored_at v k)
       → (Shows mid base v → IsNextDeletion v x → Shows new base (after mid.rules v (delete x.key)))
       → Shows new base (after old.rules v (delete k))

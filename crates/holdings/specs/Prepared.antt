@@ -1,9 +1,9 @@
 -- A write that has all its memory, and where it may be taken.
 use Rattle.std.specs.Prelude.{◌≡◌, ◌+◌, ◌-◌, ◌^◌, ◌<◌, List, [], ◌∷◌, Option, Some, None, IsTrue}
 use Rattle.names.specs.Key.{Key}
-use Rattle.requests.specs.declared.stored.Stored.{Stored}
-use Rattle.requests.specs.History.{Write, put, delete}
-use Rattle.requests.specs.View.{View, exists, change_at, document_at}
+use Rattle.histories.specs.declared.stored.Stored.{Stored}
+use Rattle.histories.specs.History.{Write, put, delete}
+use Rattle.histories.specs.View.{View, exists, change_at, document_at}
 use Rattle.holdings.specs.Holdings.{State}
 use Rattle.holdings.specs.Writes.{Put, Deletion}
 use Rattle.holdings.specs.declared.prepared.PreparedWrite.{PreparedWrite}

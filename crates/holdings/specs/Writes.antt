@@ -1,9 +1,9 @@
 -- What is to be put, and what is to be deleted.
 use Rattle.std.specs.Prelude.{Option}
 use Rattle.names.specs.Key.{Key}
-use Rattle.objects.specs.declared.event.Change.{Change}
+use Rattle.window.specs.declared.event.Change.{Change}
 use Rattle.documents.specs.Document.{Document}
-use Rattle.requests.specs.declared.stored.Stored.{Stored}
+use Rattle.histories.specs.declared.stored.Stored.{Stored}
 
 -- a put: the key, what is to stand under it, and how that changes what stands there
 pub record Put (P : Type 0) : Type 0 where

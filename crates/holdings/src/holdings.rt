@@ -14,13 +14,13 @@ ghost use Rattle.requests.specs.Manifest.{sound};
 ghost use Rattle.requests.specs.Refusal.{first_of};
 ghost use Rattle.requests.specs.Selector.{selector_seen};
 ghost use Rattle.documents.specs.Document.{Document as DocumentData};
-ghost use Rattle.objects.specs.Window.{event_at, events_above};
-ghost use Rattle.objects.specs.declared.event.Change.TheVariants.{Added, Modified};
-ghost use Rattle.requests.specs.declared.stored.Stored.{Stored as StoredData};
-ghost use Rattle.requests.specs.History as write;
+ghost use Rattle.window.specs.Window.{event_at, events_above};
+ghost use Rattle.window.specs.declared.event.Change.TheVariants.{Added, Modified};
+ghost use Rattle.histories.specs.declared.stored.Stored.{Stored as StoredData};
+ghost use Rattle.histories.specs.History as write;
 ghost use Rattle.requests.specs.Listing.{listing, watch_conditions, watching};
 ghost use Rattle.requests.specs.Reply.{status};
-ghost use Rattle.requests.specs.View.{View, stored_at, exists, is_too_large, is_full, is_exhausted, after, after_all};
+ghost use Rattle.histories.specs.View.{View, stored_at, exists, is_too_large, is_full, is_exhausted, after, after_all};
 ghost use Rattle.holdings.specs.Holdings.{Shows, ShowsSame, watched};
 ghost use Rattle.holdings.specs.Prepared.{AreNext, IsNextPut, IsNextDeletion, HasRoom, HasRoomFor, puts, writes_of};
 ghost use Rattle.objects.specs.Failing.{HasGrown};
@@ -29,20 +29,22 @@ ghost use Rattle.objects.specs.declared.fault.Part.{Part};
 ghost use Rattle.objects.specs.declared.fault.LookupFault.TheVariants as LookupFault;
 
 use crate::prepared::{Deletion, PreparedWrite, Put};
-use crate::source::{Found, Source};
+use crate::source::{FoundDocument, Source};
 use documents::Document;
+use histories::Stored;
 use names::{Key, Resource, Rules};
-use objects::{Change, Changes, Entry, Event, Events, Lent, LookupFault, Window, WindowFault};
-use requests::{Collection, Manifest, Refusal, Reply, Selector, Stored, listed, told};
+use objects::{Changes, KeyValue, Lent, LookupFault};
+use requests::{Collection, Manifest, Refusal, Reply, Selector, listed, told};
 use std::alloc::{AllocError, Global};
 use std::marker::Model;
+use window::{Change, Event, Events, Window, WindowFault};
 
 /// What a change says is found.
-pub(crate) fn found<P>(change: &Option<Stored<P>>) -> Result<Option<Found>, AllocError>
+pub(crate) fn found<P>(change: &Option<Stored<P>>) -> Result<Option<FoundDocument>, AllocError>
     ensures { IfOk result (λ found. found ≡ option_map found_in change.now) }
 {
     match change {
-        Some(stored) => Ok(Some(Found {
+        Some(stored) => Ok(Some(FoundDocument {
             document: stored.document.clone()?,
             revision: stored.revision,
         })),
@@ -74,7 +76,7 @@ impl<P> Model for Holdings<P> {
     ghost Value = { State P };
 
     ghost use Rattle.std.specs.Coded.{codes};
-    ghost use Rattle.documents.specs.DataCode.{coded_data};
+    ghost use Rattle.jsondoc.specs.DataCode.{coded_data};
 
     ghost coded = { Prim.hlevel (codes, coded_data) };
 
@@ -120,7 +122,7 @@ impl<P: Drop> Holdings<P> {
         ensures made { OnOk result (self.new.changes.made ≡ with_value key.now stored self.old.changes.made) }
     {
         self.changes.reserve(1)?;
-        let entry = Entry::new(alloc, key.clone()?, stored)?;
+        let entry = KeyValue::new(alloc, key.clone()?, stored)?;
         self.changes.hold(entry);
         Ok(())
     }
@@ -138,7 +140,7 @@ impl<P: Drop> Holdings<P> {
         ensures kept { OnErr result (ShowsSame self.old self.new) }
     {
         self.make_room()?;
-        let entry = Entry::new(alloc, key.clone()?, Some(stored))?;
+        let entry = KeyValue::new(alloc, key.clone()?, Some(stored))?;
         self.changes.make(entry, false);
         Ok(())
     }
@@ -160,7 +162,7 @@ impl<P: Drop> Holdings<P> {
     }
 
     /// All changes, ascending by key.
-    pub fn changes(&self) -> &[Entry<Option<Stored<P>>>]
+    pub fn changes(&self) -> &[KeyValue<Option<Stored<P>>>]
         ensures value { result.now ≡ self.now.changes.made }
         ensures ascending { IsTrue (is_sorted key_cmp self.now.changes.made) }
     {
@@ -234,7 +236,7 @@ impl<P: Drop> Holdings<P> {
         alloc: Global,
         source: &mut S,
         key: &Key,
-    ) -> Result<Option<Found>, LookupFault>
+    ) -> Result<Option<FoundDocument>, LookupFault>
         ensures found { (base : List (KeyData × StoredData P)) (v : View P) → S.holds source.old base → Shows self.now base v
             → IfOk result (λ found. found ≡ option_map found_in (stored_at v key.now)) }
         ensures kept { (base : List (KeyData × StoredData P)) → S.holds source.old base → S.holds source.new base }

@@ -23,4 +23,4 @@ pub use holdings::Holdings;
 pub use nothing::Nothing;
 pub use prepared::{Deletion, PreparedWrite, Put};
 pub use redo::RedoFault;
-pub use source::{Found, Source};
+pub use source::{FoundDocument, Source};

@@ -2,10 +2,10 @@
 
 ghost use Rattle.std.specs.Prelude.{◌≡◌, []};
 
-use crate::source::{Found, Source};
+use crate::source::{FoundDocument, Source};
+use histories::Stored;
 use names::{Key, Resource};
 use objects::LookupFault;
-use requests::Stored;
 use std::alloc::Global;
 
 /// A source below which nothing lies.
@@ -33,7 +33,7 @@ impl<P: Drop> Source<P> for Nothing {
 
     ghost unfailed_on = { λ _ _ _ _ _. tt };
 
-    fn find(&mut self, _alloc: Global, _key: &Key) -> Result<Option<Found>, LookupFault> {
+    fn find(&mut self, _alloc: Global, _key: &Key) -> Result<Option<FoundDocument>, LookupFault> {
         Ok(None)
     }
 

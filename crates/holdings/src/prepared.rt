@@ -1,19 +1,21 @@
 //! Writes that have all their memory.
 
 ghost use Rattle.std.specs.Prelude.{◌≡◌, Some, None, IfOk};
-ghost use Rattle.documents.specs.Json.{text};
+ghost use Rattle.jsondoc.specs.Json.{text};
 
 use documents::Document;
+use histories::Stored;
 use names::Key;
-use objects::{Change, Entry};
-use requests::Stored;
+use objects::KeyValue;
 use std::alloc::{AllocError, Global};
 use std::marker::Model;
+use window::Change;
 
 /// A document that is to be put, with all the memory that this takes.
 #[derive(Drop)]
+#[must_use]
 pub struct Put<P> {
-    entry: Entry<Option<Stored<P>>>,
+    entry: KeyValue<Option<Stored<P>>>,
     key: Key,
     document: Document,
     text: String,
@@ -26,12 +28,12 @@ impl<P> Model for Put<P> {
     ghost Value = { PutData P };
 
     ghost use Rattle.std.specs.Coded.{codes};
-    ghost use Rattle.documents.specs.DataCode.{coded_data};
+    ghost use Rattle.jsondoc.specs.DataCode.{coded_data};
 
     ghost coded = { Prim.hlevel (codes, coded_data) };
 
     ghost use Rattle.std.specs.Prelude.{◌≡◌, string_bytes, option_map, Some};
-    ghost use Rattle.documents.specs.Json.{text as text_of};
+    ghost use Rattle.jsondoc.specs.Json.{text as text_of};
 
     ghost view = { λ p. record { key = p.key; stored = p.entry.1; change = p.change } };
 
@@ -59,7 +61,7 @@ impl<P: Drop> Put<P> {
             beside,
             revision,
         };
-        let entry = Entry::new(alloc, key.clone()?, Some(stored))?;
+        let entry = KeyValue::new(alloc, key.clone()?, Some(stored))?;
         Ok(Put {
             entry,
             key: key.clone()?,
@@ -101,7 +103,7 @@ impl<P: Drop> Put<P> {
     }
 
     /// The change, and the kind, the key and the document for the window.
-    pub(crate) fn into_parts(self) -> (Entry<Option<Stored<P>>>, Change, Key, Document)
+    pub(crate) fn into_parts(self) -> (KeyValue<Option<Stored<P>>>, Change, Key, Document)
         ensures entry { result.0 ≡ (self.key, self.stored) }
         ensures change { result.1 ≡ self.change }
         ensures key { result.2 ≡ self.key }
@@ -120,8 +122,9 @@ impl<P: Drop> Put<P> {
 
 /// An object that is to be deleted, with all the memory that this takes.
 #[derive(Drop)]
+#[must_use]
 pub struct Deletion<P> {
-    entry: Entry<Option<Stored<P>>>,
+    entry: KeyValue<Option<Stored<P>>>,
     key: Key,
     document: Document,
 }
@@ -132,7 +135,7 @@ impl<P> Model for Deletion<P> {
     ghost Value = { DeletionData };
 
     ghost use Rattle.std.specs.Coded.{codes};
-    ghost use Rattle.documents.specs.DataCode.{coded_data};
+    ghost use Rattle.jsondoc.specs.DataCode.{coded_data};
 
     ghost coded = { Prim.hlevel (codes, coded_data) };
 
@@ -152,7 +155,7 @@ impl<P: Drop> Deletion<P> {
     ) -> Result<Deletion<P>, AllocError>
         ensures { IfOk result (λ d. d ≡ record { key = key.now; document = document }) }
     {
-        let entry = Entry::new(alloc, key.clone()?, None)?;
+        let entry = KeyValue::new(alloc, key.clone()?, None)?;
         Ok(Deletion {
             entry,
             key: key.clone()?,
@@ -175,7 +178,7 @@ impl<P: Drop> Deletion<P> {
     }
 
     /// The change, and the key and the document for the window.
-    pub(crate) fn into_parts(self) -> (Entry<Option<Stored<P>>>, Key, Document)
+    pub(crate) fn into_parts(self) -> (KeyValue<Option<Stored<P>>>, Key, Document)
         ensures entry { result.0 ≡ (self.key, None) }
         ensures key { result.1 ≡ self.key }
         ensures document { result.2 ≡ self.document }
@@ -191,6 +194,7 @@ impl<P: Drop> Deletion<P> {
 
 /// A write that has all its memory, and all that it needs to know of what is stored.
 #[derive(Drop)]
+#[must_use]
 pub enum PreparedWrite<P> {
     /// A document is put at its key.
     Put(Put<P>),

@@ -3,16 +3,16 @@
 ghost use Rattle.std.specs.Prelude.{◌≡◌, ◌<◌, ◌↔◌, ◌&&◌, ◌||◌, not, List, IsTrue, IfOk, OnOk, OnErr, IsErrOf, option_map};
 ghost use Rattle.names.specs.Key.{Key as KeyData};
 ghost use Rattle.requests.specs.Codes.{document_in};
-ghost use Rattle.requests.specs.declared.stored.Stored.{Stored as StoredData};
-ghost use Rattle.requests.specs.History.{put, delete};
-ghost use Rattle.requests.specs.View.{View, stored_at, exists, after, MayFollow, MayPut};
+ghost use Rattle.histories.specs.declared.stored.Stored.{Stored as StoredData};
+ghost use Rattle.histories.specs.History.{put, delete};
+ghost use Rattle.histories.specs.View.{View, stored_at, exists, after, MayFollow, MayPut};
 ghost use Rattle.holdings.specs.Holdings.{Shows, ShowsSame};
 ghost use Rattle.holdings.specs.Known.{IsKnown, KnowsSame};
 ghost use Rattle.holdings.specs.Sources.{found_in};
 ghost use Rattle.holdings.specs.declared.redo.RedoFault.TheVariants as RedoFault;
 
 use crate::holdings::{Holdings, found};
-use crate::source::Found;
+use crate::source::FoundDocument;
 use names::Key;
 use requests::Manifest;
 use std::alloc::{AllocError, Global};
@@ -109,7 +109,7 @@ impl<P: Drop> Holdings<P> {
     }
 
     // What stands under a key, where memory knows.
-    fn known(&self, key: &Key) -> Result<Option<Found>, AllocError>
+    fn known(&self, key: &Key) -> Result<Option<FoundDocument>, AllocError>
         ensures { (base : List (KeyData × StoredData P)) (v : View P) → Shows self.now base v → IsKnown self.now base key.now
             → IfOk result (λ found. found ≡ option_map found_in (stored_at v key.now)) }
     {

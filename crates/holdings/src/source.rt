@@ -4,21 +4,21 @@ ghost use Rattle.std.specs.Prelude.{◌≡◌, ◌≤◌, ℕ, List, option_map,
 ghost use Rattle.std.specs.List.{filter};
 ghost use Rattle.names.specs.Key.{Key as KeyData};
 ghost use Rattle.objects.specs.Objects.{value_at, is_of};
-ghost use Rattle.requests.specs.declared.stored.Stored.{Stored as StoredData};
+ghost use Rattle.histories.specs.declared.stored.Stored.{Stored as StoredData};
 ghost use Rattle.objects.specs.Failing.{HasGrown};
 ghost use Rattle.holdings.specs.Sources.{found_in};
 ghost use Rattle.objects.specs.declared.fault.Part.{Part};
 ghost use Rattle.objects.specs.declared.fault.LookupFault.TheVariants as LookupFault;
 
 use documents::Document;
+use histories::Stored;
 use names::{Key, Resource};
 use objects::LookupFault;
-use requests::Stored;
 use std::alloc::Global;
 
 /// An object that was found: what is stored of it, and the revision of its last write.
 #[derive(Drop)]
-pub struct Found {
+pub struct FoundDocument {
     pub document: Document,
     pub revision: u64,
 }
@@ -46,7 +46,7 @@ pub trait Source<P> {
     ///
     /// `Device` where the device failed, `Damaged` where what lies below is damaged, so that it holds no objects, `Memory` where there was none.
     /// A device that failed is told as `Device`, and never as `Memory`.
-    fn find(&mut self, alloc: Global, key: &Key) -> Result<Option<Found>, LookupFault>
+    fn find(&mut self, alloc: Global, key: &Key) -> Result<Option<FoundDocument>, LookupFault>
         ensures found { (objects : List (KeyData × StoredData P)) → holds self.old objects → IfOk result (λ o. o ≡ option_map found_in (value_at key.now objects)) }
         ensures kept { (objects : List (KeyData × StoredData P)) → holds self.old objects → holds self.new objects }
         ensures goes { goes_to self.old self.new }

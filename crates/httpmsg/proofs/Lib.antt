@@ -9,3 +9,4 @@ pub mod Flows
 pub mod Pieces
 pub mod Parts
 pub mod Unique
+pub mod Feeds

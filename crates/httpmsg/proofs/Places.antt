@@ -9,8 +9,8 @@ use Rattle.std.proofs.lemmas.Str.Ascii.{IsAscii-from_all}
 use Rattle.httparse.specs.Grammar.{is_value_byte, LineEnd, crlf, lf, print_end, print_blank, print_version, Field, IsField, print_field, print_section, RequestHead, print_request, MayBecomeRequest}
 use Rattle.httparse.proofs.GrammarLemmas.{cons-append, print_request-append, request_unique, ReadsRequest-append}
 use Rattle.httparse.proofs.OpenLemmas.{letter_is_token}
-use Rattle.httpmsg.specs.declared.place.Place.{Place}
-use Rattle.httpmsg.specs.declared.place.Place.TheVariants.{BeforeRequest, InEmptyLine, InMethod, BeforeTarget, InTarget, InVersion, AfterVersion, AfterReturn, BeforeLine, InLastLine, InName, InValue}
+use Rattle.httpmsg.specs.declared.place.HeadPlace.{HeadPlace}
+use Rattle.httpmsg.specs.declared.place.HeadPlace.TheVariants.{BeforeRequest, InEmptyLine, InMethod, BeforeTarget, InTarget, InVersion, AfterVersion, AfterReturn, BeforeLine, InLastLine, InName, InValue}
 use Rattle.httpmsg.specs.Stream.{BeginsWith}
 use Rattle.httpmsg.specs.Place.{IsHead, IsSection, IsLineEnd, IsValue, IsWord, IsVersion, IsTokenByte, IsTargetByte, IsTarget, IsAfter, Follows, IsAt}
 
@@ -141,7 +141,7 @@ some_method = word_stop IsTokenByte 32 (IsAfter IsTargetByte IsTarget) (47 ∷ 3
 some_head : IsHead (65 ∷ 32 ∷ 47 ∷ 32 ∷ version_text 0)
 some_head = method_first 65 (32 ∷ 47 ∷ 32 ∷ version_text 0) letter_is_token some_method
 
-some_follows : (place : Place) → (text : List ℕ) × (0 < length text) × Follows place text
+some_follows : (place : HeadPlace) → (text : List ℕ) × (0 < length text) × Follows place text
 some_follows BeforeRequest = (_, omega arith, some_head)
 some_follows InEmptyLine = (_, omega arith, (10, _, refl, refl, some_head))
 some_follows InMethod = (_, omega arith, some_method)
@@ -156,7 +156,7 @@ some_follows InName = (_, omega arith, word_stop IsTokenByte 58 IsValue (10 ∷ 
 some_follows InValue = (_, omega arith, value_end (10 ∷ 10 ∷ []) some_end)
 
 -- bytes that end inside a head may become one, and hold none
-pub at_waits : (place : Place) (bytes : List ℕ) → IsAt place bytes
+pub at_waits : (place : HeadPlace) (bytes : List ℕ) → IsAt place bytes
     → MayBecomeRequest bytes × ((h : RequestHead) (rest : List ℕ) → BeginsWith bytes h rest → ⊥)
 at_waits place bytes at =
     let some = some_follows place in

@@ -1,8 +1,8 @@
 -- The first message of some bytes.
 use Rattle.std.specs.Prelude.{◌≡◌, ℕ, ◌+◌, ◌<◌, ◌≤◌, ◌⊎◌, List, ◌++◌, [], ◌∷◌, length, drop, unwrap_or, false}
 use Rattle.httparse.specs.Grammar.{print_request}
-use Rattle.httpmsg.specs.declared.cut.Next.{Next}
-use Rattle.httpmsg.specs.declared.cut.Next.TheVariants.{Whole, Unfinished, Fails}
+use Rattle.httpmsg.specs.declared.cut.NextMessage.{NextMessage}
+use Rattle.httpmsg.specs.declared.cut.NextMessage.TheVariants.{Whole, Unfinished, Fails}
 use Rattle.httpmsg.specs.declared.head.MessageFault.TheVariants as Fault
 use Rattle.httpmsg.specs.declared.head.End.{End}
 use Rattle.httpmsg.specs.declared.head.End.TheVariants.{Clean, Broken}
@@ -23,7 +23,7 @@ pub record Awaits (bytes : List ℕ) (need : ℕ) : Type 0 where
   pub least : IsLeast bytes need
 
 -- the bytes begin with a message of this many bytes, or with none before this many are there, or end the stream whatever follows
-abbrev pub IsNext : List ℕ → Next → Type 0
+abbrev pub IsNext : List ℕ → NextMessage → Type 0
 IsNext bytes (Whole m len) = (0 < len) × (len ≤ length bytes) × Takes bytes m (drop len bytes)
 IsNext bytes (Unfinished need) = Awaits bytes need
 IsNext bytes (Fails broken) = EndsAtOnce bytes (Broken broken)

@@ -7,3 +7,4 @@ pub mod Flow
 pub mod Response
 pub mod Sheet
 pub mod KnownLaws
+pub mod Awaited

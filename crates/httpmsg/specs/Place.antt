@@ -1,8 +1,8 @@
 -- Where in a head its bytes end, told by what may follow them (RFC 9112, sections 2 to 5).
 use Rattle.std.specs.Prelude.{◌≡◌, true, ℕ, ◌+◌, ◌<◌, ◌≤◌, List, [], ◌∷◌, ◌++◌, drop, codes, All}
 use Rattle.httparse.specs.Grammar.{is_token_byte, is_uri_byte, is_value_byte, AllPass, LineEnd, print_end, Field, IsField, print_section, RequestHead, IsRequestHead, print_request}
-use Rattle.httpmsg.specs.declared.place.Place.{Place}
-use Rattle.httpmsg.specs.declared.place.Place.TheVariants.{BeforeRequest, InEmptyLine, InMethod, BeforeTarget, InTarget, InVersion, AfterVersion, AfterReturn, BeforeLine, InLastLine, InName, InValue}
+use Rattle.httpmsg.specs.declared.place.HeadPlace.{HeadPlace}
+use Rattle.httpmsg.specs.declared.place.HeadPlace.TheVariants.{BeforeRequest, InEmptyLine, InMethod, BeforeTarget, InTarget, InVersion, AfterVersion, AfterReturn, BeforeLine, InLastLine, InName, InValue}
 
 -- the text is a head
 abbrev pub IsHead : List ℕ → Type 0
@@ -45,7 +45,7 @@ abbrev pub IsAfter : (ℕ → Type 0) → (List ℕ → Type 0) → List ℕ →
 IsAfter Byte Next text = (b : ℕ) × (rest : List ℕ) × (text ≡ b ∷ rest) × Byte b × Next rest
 
 -- what may follow the place
-abbrev pub Follows : Place → List ℕ → Type 0
+abbrev pub Follows : HeadPlace → List ℕ → Type 0
 Follows BeforeRequest text = IsHead text
 Follows InEmptyLine text = IsAfter (λ b. b ≡ 10) IsHead text
 Follows InMethod text = IsWord IsTokenByte 32 (IsAfter IsTargetByte IsTarget) text
@@ -60,9 +60,9 @@ Follows InName text = IsWord IsTokenByte 58 IsValue text
 Follows InValue text = IsValue text
 
 -- a byte is a step from a place to another: whatever may follow there may follow here after it
-abbrev pub Steps : Place → ℕ → Place → Type 0
+abbrev pub Steps : HeadPlace → ℕ → HeadPlace → Type 0
 Steps here b there = (text : List ℕ) → Follows there text → Follows here (b ∷ text)
 
 -- the bytes end at this place of a head
-abbrev pub IsAt : Place → List ℕ → Type 0
+abbrev pub IsAt : HeadPlace → List ℕ → Type 0
 IsAt place bytes = (text : List ℕ) → Follows place text → IsHead (bytes ++ text)

@@ -13,7 +13,7 @@ use std::alloc::{AllocError, Global};
 
 /// The first message of some bytes.
 #[derive(Drop)]
-pub(crate) enum Next {
+pub(crate) enum NextMessage {
     /// A message, and how many bytes it has.
     Whole(Message, usize),
     /// None yet, and how many bytes must be there before more can be told.
@@ -21,16 +21,20 @@ pub(crate) enum Next {
     Fails(BrokenMessage),
 }
 
-fn next_message(alloc: Global, bytes: &[u8], room: &mut [HeaderSpan]) -> Result<Next, AllocError>
+fn next_message(
+    alloc: Global,
+    bytes: &[u8],
+    room: &mut [HeaderSpan],
+) -> Result<NextMessage, AllocError>
     requires { length room.old ≡ FIELD_ROOM }
     ensures { IfOk result (IsNext bytes.now) }
 {
     if bytes.is_empty() {
-        return Ok(Next::Unfinished(1));
+        return Ok(NextMessage::Unfinished(1));
     }
     match read_front(bytes, room) {
-        Front::Unfinished => Ok(Next::Unfinished(bytes.len() + 1)),
-        Front::Never => Ok(Next::Fails(BrokenMessage {
+        Front::Unfinished => Ok(NextMessage::Unfinished(bytes.len() + 1)),
+        Front::Never => Ok(NextMessage::Fails(BrokenMessage {
             fault: MessageFault::Malformed,
             is_head: false,
         })),
@@ -44,27 +48,27 @@ fn first_message(
     bytes: &[u8],
     head: &HeadView,
     len: usize,
-) -> Result<Next, AllocError>
+) -> Result<NextMessage, AllocError>
     requires { IsFront bytes.now (Front.Whole head.now len) }
     ensures { IfOk result (IsNext bytes.now) }
 {
     let method = Method::named(head.method);
     if let Some(fault) = head.fault() {
         let is_head = method.is_head();
-        return Ok(Next::Fails(BrokenMessage { fault, is_head }));
+        return Ok(NextMessage::Fails(BrokenMessage { fault, is_head }));
     }
     let end = len + head.body_length() as usize;
     if bytes.len() < end {
-        return Ok(Next::Unfinished(end));
+        return Ok(NextMessage::Unfinished(end));
     }
     let body = &bytes[len..end];
     let message = Message::new(alloc, method, head.target, head.says_close(), body)?;
-    Ok(Next::Whole(message, end))
+    Ok(NextMessage::Whole(message, end))
 }
 
 /// The whole messages of some bytes, and what follows them.
 #[derive(Drop)]
-pub struct Run {
+pub(crate) struct Run {
     pub messages: Vec<Message>,
     /// Where what follows them begins.
     pub at: usize,
@@ -75,7 +79,11 @@ pub struct Run {
 }
 
 /// Cuts the whole messages from the bytes, with room for the fields of a head.
-pub fn cut_all(alloc: Global, bytes: &[u8], room: &mut [HeaderSpan]) -> Result<Run, AllocError>
+pub(crate) fn cut_all(
+    alloc: Global,
+    bytes: &[u8],
+    room: &mut [HeaderSpan],
+) -> Result<Run, AllocError>
     requires { length room.old ≡ FIELD_ROOM }
     ensures cut { IfOk result (λ run. (run.at ≤ length bytes.now)
         × IsCut bytes.now run.messages.items (record { pending = drop run.at bytes.now; end = run.end })) }
@@ -85,19 +93,19 @@ pub fn cut_all(alloc: Global, bytes: &[u8], room: &mut [HeaderSpan]) -> Result<R
     let mut at = 0;
     'messages: loop {
         match next_message(alloc, &bytes[at..], room)? {
-            Next::Unfinished(awaited) => return Ok(Run {
+            NextMessage::Unfinished(awaited) => return Ok(Run {
                 messages,
                 at,
                 awaited,
                 end: None,
             }),
-            Next::Fails(broken) => return Ok(Run {
+            NextMessage::Fails(broken) => return Ok(Run {
                 messages,
                 at,
                 awaited: 0,
                 end: Some(End::Broken(broken)),
             }),
-            Next::Whole(message, len) => {
+            NextMessage::Whole(message, len) => {
                 let closes = message.closes();
                 messages.push(message)?;
                 at += len;

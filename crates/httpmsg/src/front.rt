@@ -9,7 +9,7 @@ use httparse::spans::{HeaderSpan, parse_request};
 use std::str;
 
 /// Room for the fields of any head: a field takes three bytes or more, and a head at most [`HEAD_LIMIT`].
-pub const FIELD_ROOM: usize = 2731;
+pub(crate) const FIELD_ROOM: usize = 2731;
 
 /// What begins the bytes of a connection.
 #[derive(Drop)]

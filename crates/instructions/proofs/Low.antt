@@ -5,7 +5,7 @@ use Rattle.instructions.specs.declared.fault.CodeFault.{CodeFault}
 use Rattle.instructions.specs.declared.fault.CodeFault.TheVariants as fault
 use Rattle.instructions.specs.Op.{Op, IfFalse, IfTrue, Branch, Jump, Over}
 use Rattle.instructions.specs.Faults.{◌>>=◌}
-use Rattle.instructions.specs.Judging.{Arrival, Body, height_at, height_of_first, comes_to, arrivals, takes, left, has_one, goes_on, opens, runs, judged, step, is_named, are_fair, targets}
+use Rattle.instructions.specs.Judging.{Arrival, OpenBody, height_at, height_of_first, comes_to, arrivals, takes, left, has_one, goes_on, opens, runs, judged, step, is_named, are_fair, targets}
 use Rattle.instructions.specs.Bodies.{AreLow, AllAreLow}
 
 low_append : (n : ℕ) (xs ys : List Arrival) → AreLow n xs → AreLow n ys → AreLow n (xs ++ ys)
@@ -20,7 +20,7 @@ low_more : (n m : ℕ) (xs : List Arrival) → n ≤ m → AreLow n xs → AreLo
 low_more n m [] le low = tt
 low_more n m (x ∷ xs) le low = let h : x.height ≤ n = low.0 in (omega arith, low_more n m xs le low.1)
 
-all_low_more : (n m : ℕ) (bs : List Body) → n ≤ m → AllAreLow n bs → AllAreLow m bs
+all_low_more : (n m : ℕ) (bs : List OpenBody) → n ≤ m → AllAreLow n bs → AllAreLow m bs
 all_low_more n m [] le low = tt
 all_low_more n m (b ∷ bs) le low = (low_more n m b.awaited le low.0, all_low_more n m bs le low.1)
 
@@ -53,10 +53,10 @@ low_arrivals (Over m end) at h le = (omega arith, tt)
 low_arrivals op at h le = (omega arith, tt)
 
 -- the bodies that are open, with low heights
-abbrev pub BothLow : ℕ → Body → List Body → Type 0
+abbrev pub BothLow : ℕ → OpenBody → List OpenBody → Type 0
 BothLow n body others = AreLow n body.awaited × AllAreLow n others
 
-low_opens : (op : Op) (at : ℕ) (body : Body) (others : List Body) → AreLow (at + 1) body.awaited → AllAreLow (at + 1) others → BothLow (at + 1) (opens op at body others).0 (opens op at body others).1
+low_opens : (op : Op) (at : ℕ) (body : OpenBody) (others : List OpenBody) → AreLow (at + 1) body.awaited → AllAreLow (at + 1) others → BothLow (at + 1) (opens op at body others).0 (opens op at body others).1
 low_opens (Over m end) at body others low all = ((omega arith, tt), (low, all))
 low_opens op at body others low all = (low, all)
 
@@ -64,28 +64,28 @@ chosen : {A : Type 0} (b : Bool) (f : CodeFault) (r : Result A CodeFault) (y : A
 chosen true f r y e = absurd cc
 chosen false f r y e = (refl, e)
 
-low_runs : (op : Op) (at : ℕ) (o : Option ℕ) (body : Body) (others : List Body) (y : Body × List Body) → ((h : ℕ) → o ≡ Some h → h ≤ at) → AreLow at body.awaited → AllAreLow at others → runs op at o body others ≡ Ok y → BothLow (at + 1) y.0 y.1
+low_runs : (op : Op) (at : ℕ) (o : Option ℕ) (body : OpenBody) (others : List OpenBody) (y : OpenBody × List OpenBody) → ((h : ℕ) → o ≡ Some h → h ≤ at) → AreLow at body.awaited → AllAreLow at others → runs op at o body others ≡ Ok y → BothLow (at + 1) y.0 y.1
 low_runs op at None body others y bound low all e = absurd cc
 low_runs op at (Some h) body others y bound low all e =
     let c = chosen (nat_lt h (takes op)) fault.BadStack (Ok (opens op at (goes_on op at h body) others)) y e in
     let k : opens op at (goes_on op at h body) others ≡ y = cc in
     let le : at ≤ at + 1 = omega arith in
     let now : AreLow (at + 1) (goes_on op at h body).awaited = low_append (at + 1) (filter (λ a. not (comes_to at a)) body.awaited) (arrivals op at h) (low_more at (at + 1) _ le (low_filter at (λ a. not (comes_to at a)) body.awaited low)) (low_arrivals op at h (bound h refl)) in
-    subst (λ (z : Body × List Body). BothLow (at + 1) z.0 z.1) k (low_opens op at (goes_on op at h body) others now (all_low_more at (at + 1) others le all))
+    subst (λ (z : OpenBody × List OpenBody). BothLow (at + 1) z.0 z.1) k (low_opens op at (goes_on op at h body) others now (all_low_more at (at + 1) others le all))
 
-pub low_judged : (vars at : ℕ) (op : Op) (later : List Op) (body : Body) (others : List Body) (y : Body × List Body) → AreLow at body.awaited → AllAreLow at others → judged vars at op later body others ≡ Ok y → BothLow (at + 1) y.0 y.1
+pub low_judged : (vars at : ℕ) (op : Op) (later : List Op) (body : OpenBody) (others : List OpenBody) (y : OpenBody × List OpenBody) → AreLow at body.awaited → AllAreLow at others → judged vars at op later body others ≡ Ok y → BothLow (at + 1) y.0 y.1
 low_judged vars at op later body others y low all e =
     let a = chosen (not (are_fair at body.end later (targets op))) fault.BadJump _ y e in
     let b = chosen (not (is_named vars (length others) op)) fault.BadName _ y a.1 in
     low_runs op at (height_at at body.awaited) body others y (λ h found. low_height at at h body.awaited low found) low all b.1
 
-low_left_at : (b c : Bool) (n : ℕ) (body : Body) (others : List Body) (rest : Result (Body × List Body) CodeFault) (x : Body × List Body) → BothLow n body others → (rest ≡ Ok x → BothLow n x.0 x.1) → cond b (cond c rest (Err fault.BadStack)) (Ok (body, others)) ≡ Ok x → BothLow n x.0 x.1
+low_left_at : (b c : Bool) (n : ℕ) (body : OpenBody) (others : List OpenBody) (rest : Result (OpenBody × List OpenBody) CodeFault) (x : OpenBody × List OpenBody) → BothLow n body others → (rest ≡ Ok x → BothLow n x.0 x.1) → cond b (cond c rest (Err fault.BadStack)) (Ok (body, others)) ≡ Ok x → BothLow n x.0 x.1
 low_left_at true true n body others rest x low more e = more e
 low_left_at true false n body others rest x low more e = absurd cc
-low_left_at false c n body others rest x low more e = let k : (body, others) ≡ x = cc in subst (λ (z : Body × List Body). BothLow n z.0 z.1) k low
+low_left_at false c n body others rest x low more e = let k : (body, others) ≡ x = cc in subst (λ (z : OpenBody × List OpenBody). BothLow n z.0 z.1) k low
 
-pub low_left : (n at : ℕ) (body : Body) (others : List Body) (x : Body × List Body) → AreLow n body.awaited → AllAreLow n others → left at body others ≡ Ok x → BothLow n x.0 x.1
-low_left n at body [] x low all e = let k : ◌≡◌ {A = Body × List Body} (body, []) x = cc in subst (λ (z : Body × List Body). BothLow n z.0 z.1) k (low, tt)
+pub low_left : (n at : ℕ) (body : OpenBody) (others : List OpenBody) (x : OpenBody × List OpenBody) → AreLow n body.awaited → AllAreLow n others → left at body others ≡ Ok x → BothLow n x.0 x.1
+low_left n at body [] x low all e = let k : ◌≡◌ {A = OpenBody × List OpenBody} (body, []) x = cc in subst (λ (z : OpenBody × List OpenBody). BothLow n z.0 z.1) k (low, tt)
 low_left n at body (outer ∷ others) x low all e = low_left_at (body.end == at) (has_one at body) n body (outer ∷ others) (left at outer others) x (low, all) (low_left n at outer others x all.0 all.1) e
 
 -- the value of a step that did not fail
@@ -93,7 +93,7 @@ pub bind_ok : {A B : Type 0} (r : Result A CodeFault) (f : A → Result B CodeFa
 bind_ok (Ok x) f y e = (x, refl, e)
 bind_ok (Err d) f y e = absurd cc
 
-pub low_step : (vars at : ℕ) (op : Op) (later : List Op) (body : Body) (others : List Body) (y : Body × List Body) → AreLow at body.awaited → AllAreLow at others → step vars at op later body others ≡ Ok y → BothLow (at + 1) y.0 y.1
+pub low_step : (vars at : ℕ) (op : Op) (later : List Op) (body : OpenBody) (others : List OpenBody) (y : OpenBody × List OpenBody) → AreLow at body.awaited → AllAreLow at others → step vars at op later body others ≡ Ok y → BothLow (at + 1) y.0 y.1
 low_step vars at op later body others y low all e =
     let b = bind_ok (left at body others) (λ x. judged vars at op later x.0 x.1) y e in
     let kept = low_left at at body others b.0 low all b.1 in

@@ -11,7 +11,7 @@ use Rattle.instructions.specs.declared.fault.CodeFault.{CodeFault}
 use Rattle.instructions.specs.declared.fault.CodeFault.TheVariants as fault
 use Rattle.instructions.specs.Op.{Op, Over}
 use Rattle.instructions.specs.Faults.{◌>>=◌}
-use Rattle.instructions.specs.Judging.{Body, height_at, has_one, targets, takes, goes_past, is_fair, are_fair, is_named, goes_on, opens, runs, judged, step, judge, ended, whole, first_fault}
+use Rattle.instructions.specs.Judging.{OpenBody, height_at, has_one, targets, takes, goes_past, is_fair, are_fair, is_named, goes_on, opens, runs, judged, step, judge, ended, whole, first_fault}
 use Rattle.instructions.specs.WellFormed.{Control, within, Comes, StandsAt, IsWellFormed}
 use Rattle.instructions.proofs.Arrivals.{ok_is}
 use Rattle.instructions.proofs.Nested.{Clear, nested_fine, nested_end, left_by, left_stays, left_nested, before_end, slice_get-drop}
@@ -36,7 +36,7 @@ fair_target code at end target lt le clear =
     (λ i op k is. not_past target op (λ m e same. clear ((at + 1) + i) e m (omega arith) (omega arith) (sym (slice_get-drop (at + 1) i code) ∙ is ∙ ap (λ (o : Op). Some o) same))) in
     and_true (nat_lt at target) _ a (and_true (not (nat_lt end target)) _ b c)
 
-pub judged_is : (vars at h : ℕ) (op : Op) (later : List Op) (b : Body) (os : List Body) → are_fair at b.end later (targets op) ≡ true → is_named vars (length os) op ≡ true → height_at at b.awaited ≡ Some h → takes op ≤ h → judged vars at op later b os ≡ Ok (opens op at (goes_on op at h b) os)
+pub judged_is : (vars at h : ℕ) (op : Op) (later : List Op) (b : OpenBody) (os : List OpenBody) → are_fair at b.end later (targets op) ≡ true → is_named vars (length os) op ≡ true → height_at at b.awaited ≡ Some h → takes op ≤ h → judged vars at op later b os ≡ Ok (opens op at (goes_on op at h b) os)
 judged_is vars at h op later b os fair named height enough =
     ap (λ (f : Bool). cond (not f) (Err fault.BadJump) (cond (not (is_named vars (length os) op)) (Err fault.BadName) (runs op at (height_at at b.awaited) b os))) fair
     ∙ ap (λ (f : Bool). cond (not f) (Err fault.BadName) (runs op at (height_at at b.awaited) b os)) named
@@ -45,21 +45,21 @@ judged_is vars at h op later b os fair named height enough =
 
 -- ---- one instruction
 
-same_bodies : (vars : ℕ) (code : List Op) (n : ℕ) (x : Body × List Body) (d : Control) → Runs vars code n x → d.place ≡ n → There vars code d → Awaits d x.0 x.1
+same_bodies : (vars : ℕ) (code : List Op) (n : ℕ) (x : OpenBody × List OpenBody) (d : Control) → Runs vars code n x → d.place ≡ n → There vars code d → Awaits d x.0 x.1
 same_bodies vars code n x d r place t =
     let moved : states vars code n ≡ Ok t.bodies = subst (λ (k : ℕ). states vars code k ≡ Ok t.bodies) place t.runs.is in
-    subst (λ (w : Body × List Body). Awaits d w.0 w.1) (ok_is t.bodies x (sym moved ∙ r.is)) t.awaits
+    subst (λ (w : OpenBody × List OpenBody). Awaits d w.0 w.1) (ok_is t.bodies x (sym moved ∙ r.is)) t.awaits
 
-each_at : (vars : ℕ) (code : List Op) → IsWellFormed vars code → (n : ℕ) → Known vars code n → (x : Body × List Body) → Runs vars code n x → Each n x.0 x.1
+each_at : (vars : ℕ) (code : List Op) → IsWellFormed vars code → (n : ℕ) → Known vars code n → (x : OpenBody × List OpenBody) → Runs vars code n x → Each n x.0 x.1
 each_at vars code wf n known x r = each_of vars code wf n x.0 x.1 r.real r.live (λ d comes place len. same_bodies vars code n x d r place (comes_there vars code wf n known comes (omega arith)))
 
-runs_in : (vars : ℕ) (code : List Op) → IsWellFormed vars code → (n : ℕ) (op : Op) (c : Control) (z : Body × List Body) → c.place ≡ n → c.place < c.end → Comes code c → slice_get code n ≡ Some op → n < z.0.end → Own c z.0 z.1 → Real code z.0 z.1
+runs_in : (vars : ℕ) (code : List Op) → IsWellFormed vars code → (n : ℕ) (op : Op) (c : Control) (z : OpenBody × List OpenBody) → c.place ≡ n → c.place < c.end → Comes code c → slice_get code n ≡ Some op → n < z.0.end → Own c z.0 z.1 → Real code z.0 z.1
     → judged vars n op (drop (n + 1) code) z.0 z.1 ≡ Ok (opens op n (goes_on op n c.height z.0) z.1)
 runs_in vars code wf n op c z place inside comes here lt own real =
     let there : slice_get code c.place ≡ Some op = ap (slice_get code) place ∙ here in
     let st : StandsAt code c op = record { comes = comes; inside = inside; here = there } in
     let end_is : z.0.end ≡ c.end = own.is.end_is in
-    let depth : length c.outer ≡ length z.1 = ap (λ (o : List ℕ). length o) (sym own.is.outer_is) ∙ length-map z.1 (λ (x : Body). x.end) in
+    let depth : length c.outer ≡ length z.1 = ap (λ (o : List ℕ). length o) (sym own.is.outer_is) ∙ length-map z.1 (λ (x : OpenBody). x.end) in
     judged_is vars n c.height op (drop (n + 1) code) z.0 z.1
     (all_from (is_fair n z.0.end (drop (n + 1) code)) (targets op)
     (λ target m.
@@ -75,7 +75,7 @@ runs_in vars code wf n op c z place inside comes here lt own real =
     ap (λ (w : Control). w.height) same))
     (wf.operands c op st)
 
-further : (vars : ℕ) (code : List Op) → IsWellFormed vars code → (n : ℕ) → n < length code → Known vars code n → (x : Body × List Body) → Runs vars code n x → Further vars code n x
+further : (vars : ℕ) (code : List Op) → IsWellFormed vars code → (n : ℕ) → n < length code → Known vars code n → (x : OpenBody × List OpenBody) → Runs vars code n x → Further vars code n x
 further vars code wf n lt known x r =
     let c = wf.reached n lt in
     let place : c.0.place ≡ n = c.1 in
@@ -103,7 +103,7 @@ known_to vars code wf (suc limit) le = λ n k.
       | inr past ↦ (let e : limit + 1 ≡ n = omega arith in subst (λ (m : ℕ). At vars code m) e (record { bodies = on.later; runs = on.runs }))
     ]
 
-took : (vars n : ℕ) (code : List Op) (o : Option Op) (x y : Body × List Body) → at_op vars n code o x ≡ Ok y → (op : Op) × (o ≡ Some op) × (step vars n op (drop (n + 1) code) x.0 x.1 ≡ Ok y)
+took : (vars n : ℕ) (code : List Op) (o : Option Op) (x y : OpenBody × List OpenBody) → at_op vars n code o x ≡ Ok y → (op : Op) × (o ≡ Some op) × (step vars n op (drop (n + 1) code) x.0 x.1 ≡ Ok y)
 took vars n code None x y e = absurd cc
 took vars n code (Some op) x y e = (op, refl, e)
 
@@ -112,10 +112,10 @@ ok_of (Ok x) f y e = (x, refl, e)
 ok_of (Err d) f y e = absurd cc
 
 -- what the pass finds from a place on is what it finds from the first
-judge_from : (vars : ℕ) (code : List Op) (n : ℕ) (x : Body × List Body) → n ≤ length code → states vars code n ≡ Ok x → judge vars n (drop n code) x.0 x.1 ≡ judge vars 0 code (whole code) []
+judge_from : (vars : ℕ) (code : List Op) (n : ℕ) (x : OpenBody × List OpenBody) → n ≤ length code → states vars code n ≡ Ok x → judge vars n (drop n code) x.0 x.1 ≡ judge vars 0 code (whole code) []
 judge_from vars code zero x le e =
-    let k : ◌≡◌ {A = Body × List Body} (whole code, []) x = ok_is (whole code, []) x e in
-    subst (λ (z : Body × List Body). judge vars 0 code z.0 z.1 ≡ judge vars 0 code (whole code) []) k refl
+    let k : ◌≡◌ {A = OpenBody × List OpenBody} (whole code, []) x = ok_is (whole code, []) x e in
+    subst (λ (z : OpenBody × List OpenBody). judge vars 0 code z.0 z.1 ≡ judge vars 0 code (whole code) []) k refl
 judge_from vars code (suc n) x le e =
     let w = ok_of (states vars code n) (at_op vars n code (slice_get code n)) x e in
     let d = drop_here n code (omega arith) in
@@ -127,11 +127,11 @@ judge_from vars code (suc n) x le e =
     let two : judge vars (suc n) (drop (suc n) code) x.0 x.1 ≡ judge vars (n + 1) (drop (n + 1) code) x.0 x.1 = ap (λ (k : ℕ). judge vars k (drop k code) x.0 x.1) (sym (add-one n)) in
     two ∙ sym one ∙ judge_from vars code n w.0 (omega arith) w.1
 
-each_top : (n : ℕ) (b : Body) (os : List Body) → Each n b os → b.end ≡ n → has_one n b ≡ true
+each_top : (n : ℕ) (b : OpenBody) (os : List OpenBody) → Each n b os → b.end ≡ n → has_one n b ≡ true
 each_top n b [] each = each
 each_top n b (o ∷ os) each = each.0
 
-finished : (vars : ℕ) (code : List Op) (x : Body × List Body) → Runs vars code (length code) x → Each (length code) x.0 x.1 → judge vars (length code) [] x.0 x.1 ≡ Ok tt
+finished : (vars : ℕ) (code : List Op) (x : OpenBody × List OpenBody) → Runs vars code (length code) x → Each (length code) x.0 x.1 → judge vars (length code) [] x.0 x.1 ≡ Ok tt
 finished vars code x r each =
     let n = length code in
     let z = left_ok n x.0 x.1 each in

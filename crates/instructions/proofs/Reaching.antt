@@ -6,23 +6,23 @@ use Rattle.instructions.specs.declared.fault.CodeFault.{CodeFault}
 use Rattle.instructions.specs.declared.fault.CodeFault.TheVariants as fault
 use Rattle.instructions.specs.Op.{Op}
 use Rattle.instructions.specs.Faults.{◌>>=◌}
-use Rattle.instructions.specs.Judging.{Arrival, Body, step, judge, whole, first_fault}
+use Rattle.instructions.specs.Judging.{Arrival, OpenBody, step, judge, whole, first_fault}
 use Rattle.instructions.specs.WellFormed.{Among, Control, within, next, Comes, begins, goes}
 use Rattle.instructions.proofs.Arrivals.{bind_ok}
 use Rattle.instructions.proofs.Nested.{Fine, Nested, Steps, steps}
 use Rattle.instructions.proofs.Stepping.{nested_step, Real, real_step}
 use Rattle.instructions.proofs.Awaiting.{Awaits, awaits_low, awaits_end, awaits_opened, opened_end, stays_awaited, leads_on}
 
-abbrev pub at_op : ℕ → ℕ → List Op → Option Op → Body × List Body → Result (Body × List Body) CodeFault
+abbrev pub at_op : ℕ → ℕ → List Op → Option Op → OpenBody × List OpenBody → Result (OpenBody × List OpenBody) CodeFault
 at_op vars n code None x = Err fault.BadStack
 at_op vars n code (Some op) x = step vars n op (drop (n + 1) code) x.0 x.1
 
 -- the open bodies at a place
-abbrev pub states : ℕ → List Op → ℕ → Result (Body × List Body) CodeFault
+abbrev pub states : ℕ → List Op → ℕ → Result (OpenBody × List OpenBody) CodeFault
 states vars code zero = Ok (whole code, [])
 states vars code (suc n) = states vars code n >>= at_op vars n code (slice_get code n)
 
-pub record Passes (vars : ℕ) (code : List Op) (n : ℕ) (x : Body × List Body) : Type 0 where
+pub record Passes (vars : ℕ) (code : List Op) (n : ℕ) (x : OpenBody × List OpenBody) : Type 0 where
   pub is : states vars code n ≡ Ok x
   pub passes : judge vars n (drop n code) x.0 x.1 ≡ Ok tt
   pub nested : Nested code n n x.0 x.1
@@ -37,14 +37,14 @@ drop_here (suc n) (x ∷ xs) lt =
     (h.0, h.1, h.2 ∙ ap (λ (m : ℕ). h.0 ∷ drop m (x ∷ xs)) k)
 
 -- the pass goes on from a place
-pub record Next (vars : ℕ) (code : List Op) (n : ℕ) (x : Body × List Body) : Type 0 where
+pub record Next (vars : ℕ) (code : List Op) (n : ℕ) (x : OpenBody × List OpenBody) : Type 0 where
   pub op : Op
   pub here : slice_get code n ≡ Some op
-  pub later : Body × List Body
+  pub later : OpenBody × List OpenBody
   pub steps : Steps vars n op (drop (n + 1) code) x.0 x.1 later
   pub passes : Passes vars code (n + 1) later
 
-pub next_of : (vars : ℕ) (code : List Op) (n : ℕ) (x : Body × List Body) → Passes vars code n x → n < length code → Next vars code n x
+pub next_of : (vars : ℕ) (code : List Op) (n : ℕ) (x : OpenBody × List OpenBody) → Passes vars code n x → n < length code → Next vars code n x
 next_of vars code n x p lt =
     let d = drop_here n code lt in
     let e : judge vars n (d.0 ∷ drop (n + 1) code) x.0 x.1 ≡ Ok tt = ap (λ (ops : List Op). judge vars n ops x.0 x.1) (sym d.2) ∙ p.passes in
@@ -81,7 +81,7 @@ unfolding first_fault
 start vars code sound = record { is = refl; passes = sound; nested = (start_fine code, refl); real = start_real code }
 
 pub record Reached (vars : ℕ) (code : List Op) (n : ℕ) : Type 0 where
-  pub bodies : Body × List Body
+  pub bodies : OpenBody × List OpenBody
   pub passes : Passes vars code n bodies
 
 pub reach : (vars : ℕ) (code : List Op) → first_fault vars code ≡ Ok tt → (n : ℕ) → n ≤ length code → Reached vars code n
@@ -93,17 +93,17 @@ reach vars code sound (suc n) le =
 
 -- control is awaited at its place
 pub record Here (vars : ℕ) (code : List Op) (c : Control) : Type 0 where
-  pub bodies : Body × List Body
+  pub bodies : OpenBody × List OpenBody
   pub passes : Passes vars code c.place bodies
   pub awaits : Awaits c bodies.0 bodies.1
 
-keep : (vars : ℕ) (code : List Op) (k n : ℕ) (c : Control) (x : Body × List Body) → n + k ≡ c.place → c.place ≤ length code → Passes vars code n x → Awaits c x.0 x.1 → Here vars code c
+keep : (vars : ℕ) (code : List Op) (k n : ℕ) (c : Control) (x : OpenBody × List OpenBody) → n + k ≡ c.place → c.place ≤ length code → Passes vars code n x → Awaits c x.0 x.1 → Here vars code c
 keep vars code zero n c x e le p m = let k : n ≡ c.place = omega arith in record { bodies = x; passes = subst (λ (j : ℕ). Passes vars code j x) k p; awaits = m }
 keep vars code (suc k) n c x e le p m =
     let on = next_of vars code n x p (omega arith) in
     keep vars code k (n + 1) c on.later (omega arith) le on.passes (stays_awaited vars n on.op code c x.0 x.1 on.later (omega arith) p.nested on.steps m)
 
-awaited_within : (vars : ℕ) (code : List Op) (n : ℕ) (c : Control) (x : Body × List Body) → Passes vars code n x → Awaits c x.0 x.1 → c.place ≤ length code
+awaited_within : (vars : ℕ) (code : List Op) (n : ℕ) (c : Control) (x : OpenBody × List OpenBody) → Passes vars code n x → Awaits c x.0 x.1 → c.place ≤ length code
 awaited_within vars code n c x p m =
     let e : c.place ≤ c.end = awaits_end code n n c x.0 x.1 p.nested m in
     let l : c.end ≤ length code = opened_end code n n c x.0 x.1 p.nested (awaits_opened c x.0 x.1 m) in

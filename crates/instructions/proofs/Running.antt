@@ -7,7 +7,7 @@ use Rattle.std.proofs.lemmas.Option.{slice_get_within, same_Some}
 use Rattle.instructions.specs.declared.fault.CodeFault.TheVariants as fault
 use Rattle.instructions.specs.Op.{Op, Over}
 use Rattle.instructions.specs.Faults.{◌>>=◌}
-use Rattle.instructions.specs.Judging.{Arrival, Body, height_at, arrivals, left, has_one, is_one, goes_on, opens, step, whole}
+use Rattle.instructions.specs.Judging.{Arrival, OpenBody, height_at, arrivals, left, has_one, is_one, goes_on, opens, step, whole}
 use Rattle.instructions.specs.WellFormed.{Among, Control, within, begins_body, next, Comes, begins, goes, StandsAt, IsWellFormed}
 use Rattle.instructions.proofs.Arrivals.{among_either, among_map}
 use Rattle.instructions.proofs.Nested.{Nested, left_by, left_stays, left_nested, before_end, Steps, steps, leads}
@@ -18,23 +18,23 @@ use Rattle.instructions.proofs.Converse.{agreed}
 
 -- ---- each body that is open has been entered
 
-pub record Lived (code : List Op) (b : Body) (os : List Body) : Type 0 where
+pub record Lived (code : List Op) (b : OpenBody) (os : List OpenBody) : Type 0 where
   pub control : Control
   pub comes : Comes code control
   pub is : Is control b os
 
-abbrev pub Live : List Op → Body → List Body → Type 0
+abbrev pub Live : List Op → OpenBody → List OpenBody → Type 0
 Live code b [] = Lived code b []
 Live code b (o ∷ os) = Lived code b (o ∷ os) × Live code o os
 
-lived_with : (code : List Op) (b c : Body) (os : List Body) → c.end ≡ b.end → Lived code b os → Lived code c os
+lived_with : (code : List Op) (b c : OpenBody) (os : List OpenBody) → c.end ≡ b.end → Lived code b os → Lived code c os
 lived_with code b c os same l = record { control = l.control; comes = l.comes; is = record { end_is = same ∙ l.is.end_is; outer_is = l.is.outer_is } }
 
-live_with : (code : List Op) (b c : Body) (os : List Body) → c.end ≡ b.end → Live code b os → Live code c os
+live_with : (code : List Op) (b c : OpenBody) (os : List OpenBody) → c.end ≡ b.end → Live code b os → Live code c os
 live_with code b c [] same l = lived_with code b c [] same l
 live_with code b c (o ∷ os) same l = (lived_with code b c (o ∷ os) same l.0, l.1)
 
-live_opens : (code : List Op) (at h : ℕ) (op : Op) (b : Body) (os : List Body) → slice_get code at ≡ Some op → at < b.end → Real code b os → height_at at b.awaited ≡ Some h → Live code b os
+live_opens : (code : List Op) (at h : ℕ) (op : Op) (b : OpenBody) (os : List OpenBody) → slice_get code at ≡ Some op → at < b.end → Real code b os → height_at at b.awaited ≡ Some h → Live code b os
     → Live code (opens op at (goes_on op at h b) os).0 (opens op at (goes_on op at h b) os).1
 live_opens code at h (Over m end) b os here lt r e l =
     let first : Arrival = record { place = at + 1; height = 0 } in (
@@ -43,39 +43,39 @@ live_opens code at h (Over m end) b os here lt r e l =
     )
 live_opens code at h op b os here lt r e l = live_with code b (goes_on op at h b) os refl l
 
-live_step : (vars at : ℕ) (op : Op) (code : List Op) (b : Body) (os : List Body) (y : Body × List Body) → slice_get code at ≡ Some op → Nested code at at b os → Real code b os → Live code b os → Steps vars at op (drop (at + 1) code) b os y → Live code y.0 y.1
+live_step : (vars at : ℕ) (op : Op) (code : List Op) (b : OpenBody) (os : List OpenBody) (y : OpenBody × List OpenBody) → slice_get code at ≡ Some op → Nested code at at b os → Real code b os → Live code b os → Steps vars at op (drop (at + 1) code) b os y → Live code y.0 y.1
 live_step vars at op code b os y here n r l s =
     let kept = left_nested code at b os s.stays s.went n in
     let lt : at < s.stays.0.end = before_end code at s.stays.0 s.stays.1 (slice_get_within code at op here) (left_stays at b os s.stays s.went) kept in
     let live = left_by at (λ b os. Live code b os) (λ b o os same one l. l.1) b os s.stays s.went l in
-    subst (λ (z : Body × List Body). Live code z.0 z.1) s.result (live_opens code at s.height op s.stays.0 s.stays.1 here lt (left_real code at b os s.stays s.went r) s.agreed live)
+    subst (λ (z : OpenBody × List OpenBody). Live code z.0 z.1) s.result (live_opens code at s.height op s.stays.0 s.stays.1 here lt (left_real code at b os s.stays s.went r) s.agreed live)
 
 -- ---- the pass up to a place
 
-pub record Runs (vars : ℕ) (code : List Op) (n : ℕ) (x : Body × List Body) : Type 0 where
+pub record Runs (vars : ℕ) (code : List Op) (n : ℕ) (x : OpenBody × List OpenBody) : Type 0 where
   pub is : states vars code n ≡ Ok x
   pub nested : Nested code n n x.0 x.1
   pub real : Real code x.0 x.1
   pub live : Live code x.0 x.1
 
 pub record At (vars : ℕ) (code : List Op) (n : ℕ) : Type 0 where
-  pub bodies : Body × List Body
+  pub bodies : OpenBody × List OpenBody
   pub runs : Runs vars code n bodies
 
 abbrev pub Known : ℕ → List Op → ℕ → Type 0
 Known vars code limit = (n : ℕ) → n ≤ limit → At vars code n
 
-pub record Further (vars : ℕ) (code : List Op) (n : ℕ) (x : Body × List Body) : Type 0 where
+pub record Further (vars : ℕ) (code : List Op) (n : ℕ) (x : OpenBody × List OpenBody) : Type 0 where
   pub op : Op
   pub here : slice_get code n ≡ Some op
-  pub later : Body × List Body
+  pub later : OpenBody × List OpenBody
   pub steps : Steps vars n op (drop (n + 1) code) x.0 x.1 later
   pub runs : Runs vars code (n + 1) later
 
 pub start_runs : (vars : ℕ) (code : List Op) → Runs vars code 0 (whole code, [])
 start_runs vars code = record { is = refl; nested = (start_fine code, refl); real = start_real code; live = record { control = record { place = 0; end = length code; outer = []; height = 0 }; comes = begins; is = record { end_is = refl; outer_is = refl } } }
 
-pub stepped : (vars : ℕ) (code : List Op) (n : ℕ) (x y : Body × List Body) (op : Op) → Runs vars code n x → slice_get code n ≡ Some op → step vars n op (drop (n + 1) code) x.0 x.1 ≡ Ok y → Further vars code n x
+pub stepped : (vars : ℕ) (code : List Op) (n : ℕ) (x y : OpenBody × List OpenBody) (op : Op) → Runs vars code n x → slice_get code n ≡ Some op → step vars n op (drop (n + 1) code) x.0 x.1 ≡ Ok y → Further vars code n x
 stepped vars code n x y op r here e =
     let s = steps vars n op (drop (n + 1) code) x.0 x.1 y e in
     let there : states vars code (suc n) ≡ Ok y = ap (λ z. z >>= at_op vars n code (slice_get code n)) r.is ∙ ap (λ (o : Option Op). at_op vars n code o x) here ∙ e in
@@ -92,11 +92,11 @@ stepped vars code n x y op r here e =
       };
     }
 
-took : (vars n : ℕ) (code : List Op) (o : Option Op) (x y : Body × List Body) → at_op vars n code o x ≡ Ok y → (op : Op) × (o ≡ Some op) × (step vars n op (drop (n + 1) code) x.0 x.1 ≡ Ok y)
+took : (vars n : ℕ) (code : List Op) (o : Option Op) (x y : OpenBody × List OpenBody) → at_op vars n code o x ≡ Ok y → (op : Op) × (o ≡ Some op) × (step vars n op (drop (n + 1) code) x.0 x.1 ≡ Ok y)
 took vars n code None x y e = absurd cc
 took vars n code (Some op) x y e = (op, refl, e)
 
-further_of : (vars : ℕ) (code : List Op) (n : ℕ) (x : Body × List Body) → Runs vars code n x → At vars code (n + 1) → Further vars code n x
+further_of : (vars : ℕ) (code : List Op) (n : ℕ) (x : OpenBody × List OpenBody) → Runs vars code n x → At vars code (n + 1) → Further vars code n x
 further_of vars code n x r later =
     let there : states vars code (suc n) ≡ Ok later.bodies = subst (λ (k : ℕ). states vars code k ≡ Ok later.bodies) (add-one n) later.runs.is in
     let e : at_op vars n code (slice_get code n) x ≡ Ok later.bodies = sym (ap (λ z. z >>= at_op vars n code (slice_get code n)) r.is) ∙ there in
@@ -104,11 +104,11 @@ further_of vars code n x r later =
     stepped vars code n x later.bodies t.0 r t.1 t.2
 
 pub record There (vars : ℕ) (code : List Op) (c : Control) : Type 0 where
-  pub bodies : Body × List Body
+  pub bodies : OpenBody × List OpenBody
   pub runs : Runs vars code c.place bodies
   pub awaits : Awaits c bodies.0 bodies.1
 
-keep : (vars : ℕ) (code : List Op) (limit : ℕ) → Known vars code limit → (k n : ℕ) (c : Control) (x : Body × List Body) → n + k ≡ c.place → c.place ≤ limit → Runs vars code n x → Awaits c x.0 x.1 → There vars code c
+keep : (vars : ℕ) (code : List Op) (limit : ℕ) → Known vars code limit → (k n : ℕ) (c : Control) (x : OpenBody × List OpenBody) → n + k ≡ c.place → c.place ≤ limit → Runs vars code n x → Awaits c x.0 x.1 → There vars code c
 keep vars code limit known zero n c x e le r m = let k : n ≡ c.place = omega arith in record { bodies = x; runs = subst (λ (j : ℕ). Runs vars code j x) k r; awaits = m }
 keep vars code limit known (suc k) n c x e le r m =
     let on = further_of vars code n x r (known (n + 1) (omega arith)) in
@@ -150,33 +150,33 @@ comes_there vars code wf limit known (goes c d op h inside is m) le =
 
 -- ---- bodies that end
 
-abbrev pub Each : ℕ → Body → List Body → Type 0
+abbrev pub Each : ℕ → OpenBody → List OpenBody → Type 0
 Each n b [] = b.end ≡ n → has_one n b ≡ true
 Each n b (o ∷ os) = (b.end ≡ n → has_one n b ≡ true) × Each n o os
 
-abbrev pub Waits : ℕ → List Op → Body → List Body → Type 0
+abbrev pub Waits : ℕ → List Op → OpenBody → List OpenBody → Type 0
 Waits n code b os = (d : Control) → Comes code d → d.place ≡ n → length d.outer ≤ length os → Awaits d b os
 
-one_here : (vars : ℕ) (code : List Op) → IsWellFormed vars code → (n : ℕ) (b : Body) (os : List Body) → RealIn code b os → Lived code b os → Waits n code b os → b.end ≡ n → has_one n b ≡ true
+one_here : (vars : ℕ) (code : List Op) → IsWellFormed vars code → (n : ℕ) (b : OpenBody) (os : List OpenBody) → RealIn code b os → Lived code b os → Waits n code b os → b.end ≡ n → has_one n b ≡ true
 one_here vars code wf n b os real lived waits ends =
     let e = wf.ends lived.control lived.comes in
     let place : e.0.place ≡ n = e.1 ∙ e.2 ∙ sym lived.is.end_is ∙ ends in
-    let depth : length e.0.outer ≡ length os = ap (λ (o : List ℕ). length o) (e.3 ∙ sym lived.is.outer_is) ∙ length-map os (λ (x : Body). x.end) in
+    let depth : length e.0.outer ≡ length os = ap (λ (o : List ℕ). length o) (e.3 ∙ sym lived.is.outer_is) ∙ length-map os (λ (x : OpenBody). x.end) in
     let own = own_here e.0 b os depth (waits e.0 e.4 place (omega arith)) in
     let h : height_at n b.awaited ≡ Some 1 = agreed n 1 b.awaited (arrival_of e.0) own.among place (λ a m p. wf.one_outcome (within b.end (ends_of os) a) (real a m) (p ∙ sym ends)) in
     ap is_one h
 
-pub each_of : (vars : ℕ) (code : List Op) → IsWellFormed vars code → (n : ℕ) (b : Body) (os : List Body) → Real code b os → Live code b os → Waits n code b os → Each n b os
+pub each_of : (vars : ℕ) (code : List Op) → IsWellFormed vars code → (n : ℕ) (b : OpenBody) (os : List OpenBody) → Real code b os → Live code b os → Waits n code b os → Each n b os
 each_of vars code wf n b [] real live waits = one_here vars code wf n b [] real live waits
 each_of vars code wf n b (o ∷ os) real live waits = (
   one_here vars code wf n b (o ∷ os) real.0 live.0 waits,
   each_of vars code wf n o os real.1 live.1 (λ d comes place len. awaits_outside d b o os len (waits d comes place (omega arith))),
 )
 
-left_ok_at : (t : Bool) (n : ℕ) (b o : Body) (os : List Body) → (t ≡ true → has_one n b ≡ true) → (z : Body × List Body) × (left n o os ≡ Ok z) → (z : Body × List Body) × (cond t (cond (has_one n b) (left n o os) (Err fault.BadStack)) (Ok (b, o ∷ os)) ≡ Ok z)
+left_ok_at : (t : Bool) (n : ℕ) (b o : OpenBody) (os : List OpenBody) → (t ≡ true → has_one n b ≡ true) → (z : OpenBody × List OpenBody) × (left n o os ≡ Ok z) → (z : OpenBody × List OpenBody) × (cond t (cond (has_one n b) (left n o os) (Err fault.BadStack)) (Ok (b, o ∷ os)) ≡ Ok z)
 left_ok_at true n b o os one more = (more.0, ap (λ (h : Bool). cond h (left n o os) (Err fault.BadStack)) (one refl) ∙ more.1)
 left_ok_at false n b o os one more = ((b, o ∷ os), refl)
 
-pub left_ok : (n : ℕ) (b : Body) (os : List Body) → Each n b os → (z : Body × List Body) × (left n b os ≡ Ok z)
+pub left_ok : (n : ℕ) (b : OpenBody) (os : List OpenBody) → Each n b os → (z : OpenBody × List OpenBody) × (left n b os ≡ Ok z)
 left_ok n b [] each = ((b, []), refl)
 left_ok n b (o ∷ os) each = left_ok_at (b.end == n) n b o os (λ t. each.0 (eqb-true _ _ t)) (left_ok n o os each.1)

@@ -3,7 +3,7 @@ use Rattle.std.proofs.Common.{◌≡◌, ℕ, ◌+◌, ◌-◌, ◌<◌, ◌≤�
 use Rattle.std.proofs.lemmas.List.{get_or-set_same, get_or-set_other, get_or-replicate, get_or_past, length-replicate}
 use Rattle.std.specs.List.{filter, AllByRecursion}
 use Rattle.instructions.specs.Op.{Op, IfFalse, IfTrue, Branch, Jump, Over}
-use Rattle.instructions.specs.Judging.{Arrival, Body, comes_to, arrivals, targets, goes_on, opens}
+use Rattle.instructions.specs.Judging.{Arrival, OpenBody, comes_to, arrivals, targets, goes_on, opens}
 use Rattle.instructions.specs.declared.bodies.Height.{Height}
 use Rattle.instructions.specs.declared.bodies.Height.TheVariants as height
 use Rattle.instructions.specs.Bodies.{arrival, joined, told, all_told, Table, known_at, expecting, all_expecting, begun, opening, Stands, Nested, AreOpen, AreWithin}
@@ -50,14 +50,14 @@ length_same : (t : Table) (came : List Arrival) → length (all_expecting t came
 length_same t [] = refl
 length_same t (a ∷ came) = length_same (expecting t a) came ∙ length-set t.heights (a.place - t.first) (joined (known_at a.place t) a.height)
 
-is_inside : (at place : ℕ) (t : Table) (b : Body) → Stands at t b → at < place → place ≤ t.end → (t.first ≤ place) × (place - t.first < length t.heights)
+is_inside : (at place : ℕ) (t : Table) (b : OpenBody) → Stands at t b → at < place → place ≤ t.end → (t.first ≤ place) × (place - t.first < length t.heights)
 is_inside at place t b s lt le =
     let begins : t.first ≤ at = s.begins in
     let room : t.end < t.first + length t.heights = s.room in
     (omega arith, omega arith)
 
 -- where an instruction leads lies ahead, in its body or at its end
-arrive_inside : (op : Op) (at h : ℕ) (t : Table) (b : Body) → Stands at t b → at < t.end → AreWithin at t.end (targets op) → AreInside t (arrivals op at h)
+arrive_inside : (op : Op) (at h : ℕ) (t : Table) (b : OpenBody) → Stands at t b → at < t.end → AreWithin at t.end (targets op) → AreInside t (arrivals op at h)
 arrive_inside (IfFalse target) at h t b s lt within = (is_inside at target t b s within.0.0 within.0.1, (is_inside at (at + 1) t b s (omega arith) (omega arith), tt))
 arrive_inside (IfTrue target) at h t b s lt within = (is_inside at target t b s within.0.0 within.0.1, (is_inside at (at + 1) t b s (omega arith) (omega arith), tt))
 arrive_inside (Branch otherwise end) at h t b s lt within =
@@ -66,7 +66,7 @@ arrive_inside (Jump target) at h t b s lt within = (is_inside at target t b s wi
 arrive_inside (Over m end) at h t b s lt within = (is_inside at end t b s within.0.0 within.0.1, tt)
 arrive_inside op at h t b s lt within = (is_inside at (at + 1) t b s (omega arith) (omega arith), tt)
 
-pub stands_on : (op : Op) (at h : ℕ) (t : Table) (b : Body) → Stands at t b → at < t.end → AreWithin at t.end (targets op) → Stands (at + 1) (all_expecting t (arrivals op at h)) (goes_on op at h b)
+pub stands_on : (op : Op) (at h : ℕ) (t : Table) (b : OpenBody) → Stands at t b → at < t.end → AreWithin at t.end (targets op) → Stands (at + 1) (all_expecting t (arrivals op at h)) (goes_on op at h b)
 stands_on op at h t b s lt within =
     let came = arrivals op at h in
     let inside : AreInside t came = arrive_inside op at h t b s lt within in
@@ -100,41 +100,41 @@ stands_begun first end le =
           ∙ ap (λ (k : Height). told place k (arrival first 0)) (nothing_known (end - first + 1) (place - first));
     }
 
-stands_later : (at : ℕ) (t : Table) (b : Body) → Stands at t b → Stands (at + 1) t b
+stands_later : (at : ℕ) (t : Table) (b : OpenBody) → Stands at t b → Stands (at + 1) t b
 stands_later at t b s = record { begins = (let l : t.first ≤ at = s.begins in omega arith); room = s.room; ends = s.ends; heights = λ place le. s.heights place (omega arith) }
 
-nested_later : (at count : ℕ) (t : Table) (ts : List Table) (b : Body) (bs : List Body) → Nested at count t ts b bs → Nested (at + 1) count t ts b bs
+nested_later : (at count : ℕ) (t : Table) (ts : List Table) (b : OpenBody) (bs : List OpenBody) → Nested at count t ts b bs → Nested (at + 1) count t ts b bs
 nested_later at count t [] b [] n = (stands_later at t b n.0, n.1)
 nested_later at count t [] b (c ∷ cs) n = n
 nested_later at count t (o ∷ os) b [] n = n
 nested_later at count t (o ∷ os) b (c ∷ cs) n = (stands_later at t b n.0, (n.1.0, nested_later at count o os c cs n.1.1))
 
 -- the innermost body may be exchanged for one that ends where it does
-innermost : (at count : ℕ) (t u : Table) (ts : List Table) (b c : Body) (bs : List Body) → t.end ≡ u.end → Stands at u c → Nested at count t ts b bs → Nested at count u ts c bs
+innermost : (at count : ℕ) (t u : Table) (ts : List Table) (b c : OpenBody) (bs : List OpenBody) → t.end ≡ u.end → Stands at u c → Nested at count t ts b bs → Nested at count u ts c bs
 innermost at count t u [] b c [] e s n = (s, sym e ∙ n.1)
 innermost at count t u [] b c (d ∷ ds) e s n = n
 innermost at count t u (o ∷ os) b c [] e s n = n
 innermost at count t u (o ∷ os) b c (d ∷ ds) e s n = (s, (subst (λ (k : ℕ). k ≤ o.end) e n.1.0, n.1.1))
 
-pub ends_inside : (at count : ℕ) (t : Table) (ts : List Table) (b : Body) (bs : List Body) → Nested at count t ts b bs → t.end ≤ count
+pub ends_inside : (at count : ℕ) (t : Table) (ts : List Table) (b : OpenBody) (bs : List OpenBody) → Nested at count t ts b bs → t.end ≤ count
 ends_inside at count t [] b [] n = let e : t.end ≡ count = n.1 in omega arith
 ends_inside at count t [] b (c ∷ cs) n = absurd n
 ends_inside at count t (o ∷ os) b [] n = absurd n
 ends_inside at count t (o ∷ os) b (c ∷ cs) n = let le : o.end ≤ count = ends_inside at count o os c cs n.1.1 in let k : t.end ≤ o.end = n.1.0 in omega arith
 
-pub innermost_stands : (at count : ℕ) (t : Table) (ts : List Table) (b : Body) (bs : List Body) → Nested at count t ts b bs → Stands at t b
+pub innermost_stands : (at count : ℕ) (t : Table) (ts : List Table) (b : OpenBody) (bs : List OpenBody) → Nested at count t ts b bs → Stands at t b
 innermost_stands at count t [] b [] n = n.0
 innermost_stands at count t [] b (c ∷ cs) n = absurd n
 innermost_stands at count t (o ∷ os) b [] n = absurd n
 innermost_stands at count t (o ∷ os) b (c ∷ cs) n = n.0
 
-opens_inside : (op : Op) (at count : ℕ) (t : Table) (ts : List Table) (b : Body) (bs : List Body) → at < t.end → AreWithin at t.end (targets op) → Nested (at + 1) count t ts b bs → AreOpen (at + 1) count (opening op at t ts).0 (opening op at t ts).1 (opens op at b bs)
+opens_inside : (op : Op) (at count : ℕ) (t : Table) (ts : List Table) (b : OpenBody) (bs : List OpenBody) → at < t.end → AreWithin at t.end (targets op) → Nested (at + 1) count t ts b bs → AreOpen (at + 1) count (opening op at t ts).0 (opening op at t ts).1 (opens op at b bs)
 opens_inside (Over m end) at count t ts b bs lt within n =
     let le : at + 1 ≤ end = (let k : at < end = within.0.0 in omega arith) in
     record { before = le; nested = (stands_begun (at + 1) end le, (within.0.1, n)) }
 opens_inside op at count t ts b bs lt within n = record { before = omega arith; nested = n }
 
-pub goes_on_open : (op : Op) (at count h : ℕ) (t : Table) (ts : List Table) (b : Body) (bs : List Body) → at < t.end → AreWithin at t.end (targets op) → Nested at count t ts b bs
+pub goes_on_open : (op : Op) (at count h : ℕ) (t : Table) (ts : List Table) (b : OpenBody) (bs : List OpenBody) → at < t.end → AreWithin at t.end (targets op) → Nested at count t ts b bs
     → AreOpen (at + 1) count (opening op at (all_expecting t (arrivals op at h)) ts).0 (opening op at (all_expecting t (arrivals op at h)) ts).1 (opens op at (goes_on op at h b) bs)
 goes_on_open op at count h t ts b bs lt within n =
     let u = all_expecting t (arrivals op at h) in

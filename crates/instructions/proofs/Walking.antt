@@ -7,7 +7,7 @@ use Rattle.instructions.specs.declared.instruction.Instruction.{Instruction}
 use Rattle.instructions.specs.Op.{Op}
 use Rattle.instructions.specs.Seen.{op_of, ops_of}
 use Rattle.instructions.specs.Faults.{◌>>=◌, Fails}
-use Rattle.instructions.specs.Judging.{Body, whole, step, judge, left, ended, is_one, first_fault}
+use Rattle.instructions.specs.Judging.{OpenBody, whole, step, judge, left, ended, is_one, first_fault}
 use Rattle.instructions.specs.Bodies.{one_height, known_at, Table, begun, AreKnown, Reaches}
 use Rattle.instructions.proofs.Failing.{fails}
 use Rattle.instructions.proofs.Leaving.{one_known}
@@ -40,7 +40,7 @@ from_place ops at op lt is =
     let e : drop at ops ≡ get_or ops at op ∷ drop (at + 1) ops = rw (add-one, drop-cons ops at op) refl in
     e ∙ ap (λ x. x ∷ drop (at + 1) ops) (sym is)
 
-judged_on : (vars at : ℕ) (ops : List Op) (op : Op) (bodies : Body × List Body) → at < length ops → op ≡ get_or ops at op
+judged_on : (vars at : ℕ) (ops : List Op) (op : Op) (bodies : OpenBody × List OpenBody) → at < length ops → op ≡ get_or ops at op
     → judge vars at (drop at ops) bodies.0 bodies.1 ≡ (step vars at op (drop (at + 1) ops) bodies.0 bodies.1 >>= λ y. judge vars (at + 1) (drop (at + 1) ops) y.0 y.1)
 judged_on vars at ops op bodies lt is = ap (λ rest. judge vars at rest bodies.0 bodies.1) (from_place ops at op lt is)
 
@@ -52,7 +52,7 @@ goes_on vars at ops op t u ts us lt is k r =
     record {
       known = record { bodies = r.bodies; standing = r.standing; low = low.0; all_low = low.1 };
       so_far =
-          sym (judged_on vars at ops op bodies lt is ∙ ap (λ (x : Result (Body × List Body) CodeFault). x >>= λ y. judge vars (at + 1) (drop (at + 1) ops) y.0 y.1) r.are)
+          sym (judged_on vars at ops op bodies lt is ∙ ap (λ (x : Result (OpenBody × List OpenBody) CodeFault). x >>= λ y. judge vars (at + 1) (drop (at + 1) ops) y.0 y.1) r.are)
           ∙ k.so_far;
     }
 
@@ -61,7 +61,7 @@ pub ends : (e : CodeFault) (vars at : ℕ) (ops : List Op) (op : Op) (t : Table)
 ends e vars at ops op t ts lt is k h =
     let bodies = k.known.bodies in
     fails e (step vars at op (drop (at + 1) ops) bodies.0 bodies.1) (first_fault vars ops)
-    (λ f failed. sym k.so_far ∙ judged_on vars at ops op bodies lt is ∙ ap (λ (x : Result (Body × List Body) CodeFault). x >>= λ y. judge vars (at + 1) (drop (at + 1) ops) y.0 y.1) failed) h
+    (λ f failed. sym k.so_far ∙ judged_on vars at ops op bodies lt is ∙ ap (λ (x : Result (OpenBody × List OpenBody) CodeFault). x >>= λ y. judge vars (at + 1) (drop (at + 1) ops) y.0 y.1) failed) h
 
 pub at_end : (vars at : ℕ) (ops : List Op) (t : Table) (ts : List Table) → at ≡ length ops → (k : Reached vars at ops t ts) → judge 0 (length ops) [] k.known.bodies.0 k.known.bodies.1 ≡ first_fault vars ops
 at_end vars at ops t ts e k =
@@ -70,8 +70,8 @@ at_end vars at ops t ts e k =
     ∙ k.so_far
 
 -- the end of the plan
-pub finished : (at count : ℕ) (u : Table) (us : List Table) (bodies : Body × List Body) (one : Bool) → Reaches at count u us (left at bodies.0 bodies.1) → is_one (one_height (known_at at u)) ≡ one
+pub finished : (at count : ℕ) (u : Table) (us : List Table) (bodies : OpenBody × List OpenBody) (one : Bool) → Reaches at count u us (left at bodies.0 bodies.1) → is_one (one_height (known_at at u)) ≡ one
     → judge 0 at [] bodies.0 bodies.1 ≡ cond one (Ok tt) (Err fault.BadStack)
 finished at count u us bodies one r is =
-    ap (λ (x : Result (Body × List Body) CodeFault). x >>= λ y. ended at y) r.are
+    ap (λ (x : Result (OpenBody × List OpenBody) CodeFault). x >>= λ y. ended at y) r.are
     ∙ ap (λ b. cond b (Ok tt) (Err fault.BadStack)) (sym (one_known at u r.bodies.0 (innermost_stands at count u us r.bodies.0 r.bodies.1 r.standing.nested)) ∙ is)

@@ -6,7 +6,7 @@ use Rattle.std.proofs.lemmas.Option.{slice_get_within, same_Some}
 use Rattle.instructions.specs.declared.fault.CodeFault.{CodeFault}
 use Rattle.instructions.specs.declared.fault.CodeFault.TheVariants as fault
 use Rattle.instructions.specs.Op.{Op}
-use Rattle.instructions.specs.Judging.{Body, left, has_one, targets, takes, is_named, judge, ended, first_fault}
+use Rattle.instructions.specs.Judging.{OpenBody, left, has_one, targets, takes, is_named, judge, ended, first_fault}
 use Rattle.instructions.specs.WellFormed.{Among, Control, within, Comes, StandsAt, IsWellFormed}
 use Rattle.instructions.proofs.Arrivals.{agree, bind_ok, ok_is}
 use Rattle.instructions.proofs.Nested.{Nested, nested_fine, nested_end, left_by, left_stays, left_nested, before_end, Fair, fair_says}
@@ -26,7 +26,7 @@ judged_next : (vars : ℕ) (code : List Op) (c : Control) (op : Op) (h : Here va
 judged_next vars code c op h on st same =
     let s = on.steps in
     let at = standing vars c.place on.op code c h.bodies.0 h.bodies.1 on.later s refl st.inside on.here h.passes.nested h.awaits in
-    let depth : length s.stays.1 ≡ length c.outer = sym (length-map s.stays.1 (λ (b : Body). b.end)) ∙ ap (λ (o : List ℕ). length o) at.own.is.outer_is in
+    let depth : length s.stays.1 ≡ length c.outer = sym (length-map s.stays.1 (λ (b : OpenBody). b.end)) ∙ ap (λ (o : List ℕ). length o) at.own.is.outer_is in
     record {
       end = s.stays.0.end;
       end_is = at.own.is.end_is;
@@ -44,17 +44,17 @@ judged vars code sound c op st =
 
 -- ---- one control a place
 
-alike_next : (vars : ℕ) (code : List Op) (n : ℕ) (x : Body × List Body) (on : Next vars code n x) → Passes vars code n x → (c d : Control) → c.place ≡ n → d.place ≡ n → c.place < c.end → d.place < d.end → Awaits c x.0 x.1 → Awaits d x.0 x.1 → c ≡ d
+alike_next : (vars : ℕ) (code : List Op) (n : ℕ) (x : OpenBody × List OpenBody) (on : Next vars code n x) → Passes vars code n x → (c d : Control) → c.place ≡ n → d.place ≡ n → c.place < c.end → d.place < d.end → Awaits c x.0 x.1 → Awaits d x.0 x.1 → c ≡ d
 alike_next vars code n x on p c d same other inside within_end m k =
     let first = standing vars n on.op code c x.0 x.1 on.later on.steps same inside on.here p.nested m in
     let second = standing vars n on.op code d x.0 x.1 on.later on.steps other within_end on.here p.nested k in
     first.is ∙ sym second.is
 
-with_bodies : (vars : ℕ) (code : List Op) (c d : Control) → c.place ≡ d.place → c.place < c.end → d.place < d.end → (x y : Body × List Body) → Passes vars code c.place x → Passes vars code d.place y → Awaits c x.0 x.1 → Awaits d y.0 y.1 → c ≡ d
+with_bodies : (vars : ℕ) (code : List Op) (c d : Control) → c.place ≡ d.place → c.place < c.end → d.place < d.end → (x y : OpenBody × List OpenBody) → Passes vars code c.place x → Passes vars code d.place y → Awaits c x.0 x.1 → Awaits d y.0 y.1 → c ≡ d
 with_bodies vars code c d same inside within_end x y p q m k =
     let moved : states vars code c.place ≡ Ok y = subst (λ (n : ℕ). states vars code n ≡ Ok y) (sym same) q.is in
     let z : y ≡ x = ok_is y x (sym moved ∙ p.is) in
-    let there : Awaits d x.0 x.1 = subst (λ (w : Body × List Body). Awaits d w.0 w.1) z k in
+    let there : Awaits d x.0 x.1 = subst (λ (w : OpenBody × List OpenBody). Awaits d w.0 w.1) z k in
     let l : c.end ≤ length code = opened_end code c.place c.place c x.0 x.1 p.nested (awaits_opened c x.0 x.1 m) in
     let on = next_of vars code c.place x p (omega arith) in
     alike_next vars code c.place x on p c d refl (sym same) inside within_end m there
@@ -82,18 +82,18 @@ test_ok true f x y e = refl
 test_ok false f x y e = absurd cc
 
 -- the bodies that are open after those that end at a place: there is more to come, or the plan ends with one outcome
-record Left (code : List Op) (n : ℕ) (x : Body × List Body) : Type 0 where
-  stays : Body × List Body
+record Left (code : List Op) (n : ℕ) (x : OpenBody × List OpenBody) : Type 0 where
+  stays : OpenBody × List OpenBody
   went : left n x.0 x.1 ≡ Ok stays
   further : (n < stays.0.end) ⊎ ((n ≡ length code) × (has_one n stays.0 ≡ true))
 
-left_last : (vars : ℕ) (code : List Op) (n : ℕ) (x : Body × List Body) → length code ≡ n → Passes vars code n x → Left code n x
+left_last : (vars : ℕ) (code : List Op) (n : ℕ) (x : OpenBody × List OpenBody) → length code ≡ n → Passes vars code n x → Left code n x
 left_last vars code n x same p =
     let e : judge vars n [] x.0 x.1 ≡ Ok tt = ap (λ (ops : List Op). judge vars n ops x.0 x.1) (sym (drop_all n code (omega arith))) ∙ p.passes in
     let b = bind_ok (left n x.0 x.1) (λ z. ended n z) tt e in
     record { stays = b.0; went = b.1; further = inr (sym same, test_ok (has_one n b.0.0) fault.BadStack tt tt b.2) }
 
-left_there : (vars : ℕ) (code : List Op) (n : ℕ) (x : Body × List Body) → n ≤ length code → Passes vars code n x → Left code n x
+left_there : (vars : ℕ) (code : List Op) (n : ℕ) (x : OpenBody × List OpenBody) → n ≤ length code → Passes vars code n x → Left code n x
 left_there vars code n x le p =
     elim (cases_lt n (length code)) [
       | inl lt ↦ (let on = next_of vars code n x p lt in
@@ -103,7 +103,7 @@ left_there vars code n x le p =
     ]
 
 -- at the end of the plan no other body is open
-last_alone : (code : List Op) (n : ℕ) (x z : Body × List Body) → Nested code n n x.0 x.1 → left n x.0 x.1 ≡ Ok z → n ≡ length code → (z.0.end ≡ n) × (z.1 ≡ [])
+last_alone : (code : List Op) (n : ℕ) (x z : OpenBody × List OpenBody) → Nested code n n x.0 x.1 → left n x.0 x.1 ≡ Ok z → n ≡ length code → (z.0.end ≡ n) × (z.1 ≡ [])
 last_alone code n x z nested went same =
     let kept = left_nested code n x.0 x.1 z went nested in
     let high : z.0.end ≤ length code = nested_end code n n z.0 z.1 kept in
@@ -111,19 +111,19 @@ last_alone code n x z nested went same =
     let e : z.0.end ≡ n = omega arith in
     (e, left_stays n x.0 x.1 z went e)
 
-one_moves : (at : ℕ) (c : Control) → c.place ≡ at → (b o : Body) (os : List Body) → b.end ≡ at → has_one at b ≡ true → (c.height ≡ 1) ⊎ Awaits c b (o ∷ os) → (c.height ≡ 1) ⊎ Awaits c o os
+one_moves : (at : ℕ) (c : Control) → c.place ≡ at → (b o : OpenBody) (os : List OpenBody) → b.end ≡ at → has_one at b ≡ true → (c.height ≡ 1) ⊎ Awaits c b (o ∷ os) → (c.height ≡ 1) ⊎ Awaits c o os
 one_moves at c same b o os ends one (inl done) = inl done
 one_moves at c same b o os ends one (inr (inl own)) = inl ((agree at 1 b.awaited (one_height at b one)).all (arrival_of c) own.among same)
 one_moves at c same b o os ends one (inr (inr m)) = inr m
 
-one_last : (code : List Op) (c : Control) (x z : Body × List Body) → c.place ≡ c.end → Nested code c.place c.place x.0 x.1 → left c.place x.0 x.1 ≡ Ok z → (c.place < z.0.end) ⊎ ((c.place ≡ length code) × (has_one c.place z.0 ≡ true)) → Awaits c z.0 z.1 → c.height ≡ 1
+one_last : (code : List Op) (c : Control) (x z : OpenBody × List OpenBody) → c.place ≡ c.end → Nested code c.place c.place x.0 x.1 → left c.place x.0 x.1 ≡ Ok z → (c.place < z.0.end) ⊎ ((c.place ≡ length code) × (has_one c.place z.0 ≡ true)) → Awaits c z.0 z.1 → c.height ≡ 1
 one_last code c x z same nested went (inl lt) m =
     let own = innermost code c.place c z.0 z.1 (left_nested code c.place x.0 x.1 z went nested) lt refl m in
     let e : z.0.end ≡ c.end = own.is.end_is in
     absurd (omega arith)
 one_last code c x z same nested went (inr done) m =
     let alone = last_alone code c.place x z nested went done.0 in
-    let own : Own c z.0 [] = subst (λ (os : List Body). Awaits c z.0 os) alone.1 m in
+    let own : Own c z.0 [] = subst (λ (os : List OpenBody). Awaits c z.0 os) alone.1 m in
     (agree c.place 1 z.0.awaited (one_height c.place z.0 done.1)).all (arrival_of c) own.among refl
 
 one_outcome : (vars : ℕ) (code : List Op) → first_fault vars code ≡ Ok tt → (c : Control) → Comes code c → c.place ≡ c.end → c.height ≡ 1
@@ -138,17 +138,17 @@ one_outcome vars code sound c comes same =
 abbrev Ends : List Op → Control → Type 0
 Ends code c = (d : Control) × (d.place ≡ d.end) × (d.end ≡ c.end) × (d.outer ≡ c.outer) × Comes code d
 
-end_of : (code : List Op) (at : ℕ) (c : Control) (b : Body) (os : List Body) → b.end ≡ at → has_one at b ≡ true → Is c b os → Real code b os → Ends code c
+end_of : (code : List Op) (at : ℕ) (c : Control) (b : OpenBody) (os : List OpenBody) → b.end ≡ at → has_one at b ≡ true → Is c b os → Real code b os → Ends code c
 end_of code at c b os ends one is real =
     let g = agree at 1 b.awaited (one_height at b one) in
     (within b.end (ends_of os) g.first, g.place ∙ sym ends, is.end_is, is.outer_is, real_here code b os real g.first g.among)
 
-ends_move : (code : List Op) (at : ℕ) (c : Control) (b o : Body) (os : List Body) → b.end ≡ at → has_one at b ≡ true → Real code b (o ∷ os) × (Ends code c ⊎ Opened c b (o ∷ os)) → Real code o os × (Ends code c ⊎ Opened c o os)
+ends_move : (code : List Op) (at : ℕ) (c : Control) (b o : OpenBody) (os : List OpenBody) → b.end ≡ at → has_one at b ≡ true → Real code b (o ∷ os) × (Ends code c ⊎ Opened c b (o ∷ os)) → Real code o os × (Ends code c ⊎ Opened c o os)
 ends_move code at c b o os ends one (real, inl done) = (real.1, inl done)
 ends_move code at c b o os ends one (real, inr (inl is)) = (real.1, inl (end_of code at c b (o ∷ os) ends one is real))
 ends_move code at c b o os ends one (real, inr (inr m)) = (real.1, inr m)
 
-opened_from : (code : List Op) (at low : ℕ) (c : Control) (b : Body) (os : List Body) → Nested code at low b os → Opened c b os → b.end ≤ c.end
+opened_from : (code : List Op) (at low : ℕ) (c : Control) (b : OpenBody) (os : List OpenBody) → Nested code at low b os → Opened c b os → b.end ≤ c.end
 opened_from code at low c b [] n is = let e : b.end ≡ c.end = is.end_is in omega arith
 opened_from code at low c b (o ∷ os) n (inl is) = let e : b.end ≡ c.end = is.end_is in omega arith
 opened_from code at low c b (o ∷ os) n (inr m) =
@@ -156,23 +156,23 @@ opened_from code at low c b (o ∷ os) n (inr m) =
     let less : b.end ≤ o.end = (nested_fine code at b.end o os n.1).low_end in
     omega arith
 
-ends_last : (code : List Op) (c : Control) (x z : Body × List Body) → Nested code c.end c.end x.0 x.1 → left c.end x.0 x.1 ≡ Ok z → Real code z.0 z.1 → (c.end < z.0.end) ⊎ ((c.end ≡ length code) × (has_one c.end z.0 ≡ true)) → Opened c z.0 z.1 → Ends code c
+ends_last : (code : List Op) (c : Control) (x z : OpenBody × List OpenBody) → Nested code c.end c.end x.0 x.1 → left c.end x.0 x.1 ≡ Ok z → Real code z.0 z.1 → (c.end < z.0.end) ⊎ ((c.end ≡ length code) × (has_one c.end z.0 ≡ true)) → Opened c z.0 z.1 → Ends code c
 ends_last code c x z nested went real (inl lt) m =
     let e : z.0.end ≤ c.end = opened_from code c.end c.end c z.0 z.1 (left_nested code c.end x.0 x.1 z went nested) m in
     absurd (omega arith)
 ends_last code c x z nested went real (inr done) m =
     let alone = last_alone code c.end x z nested went done.0 in
-    let is : Is c z.0 [] = subst (λ (os : List Body). Opened c z.0 os) alone.1 m in
-    let there : Real code z.0 [] = subst (λ (os : List Body). Real code z.0 os) alone.1 real in
+    let is : Is c z.0 [] = subst (λ (os : List OpenBody). Opened c z.0 os) alone.1 m in
+    let there : Real code z.0 [] = subst (λ (os : List OpenBody). Real code z.0 os) alone.1 real in
     end_of code c.end c z.0 [] alone.0 done.1 is there
 
-ends_at : (vars : ℕ) (code : List Op) (c : Control) (x : Body × List Body) → c.end ≤ length code → Passes vars code c.end x → Opened c x.0 x.1 → Ends code c
+ends_at : (vars : ℕ) (code : List Op) (c : Control) (x : OpenBody × List OpenBody) → c.end ≤ length code → Passes vars code c.end x → Opened c x.0 x.1 → Ends code c
 ends_at vars code c x le p m =
     let t = left_there vars code c.end x le p in
     let q = left_by c.end (λ b os. Real code b os × (Ends code c ⊎ Opened c b os)) (ends_move code c.end c) x.0 x.1 t.stays t.went (p.real, inr m) in
     elim q.1 [ inl done ↦ done | inr n ↦ ends_last code c x t.stays p.nested t.went q.0 t.further n ]
 
-ends_from : (vars : ℕ) (code : List Op) (k n : ℕ) (c : Control) (x : Body × List Body) → n + k ≡ c.end → c.end ≤ length code → Passes vars code n x → Opened c x.0 x.1 → Ends code c
+ends_from : (vars : ℕ) (code : List Op) (k n : ℕ) (c : Control) (x : OpenBody × List OpenBody) → n + k ≡ c.end → c.end ≤ length code → Passes vars code n x → Opened c x.0 x.1 → Ends code c
 ends_from vars code zero n c x e le p m = let k : n ≡ c.end = omega arith in ends_at vars code c x le (subst (λ (j : ℕ). Passes vars code j x) k p) m
 ends_from vars code (suc k) n c x e le p m =
     let on = next_of vars code n x p (omega arith) in

@@ -4,10 +4,10 @@ use Rattle.std.specs.List.{AllByRecursion}
 use Rattle.instructions.specs.declared.fault.CodeFault.{CodeFault}
 use Rattle.instructions.specs.Op.{Op, Over}
 use Rattle.instructions.specs.Faults.{Fails}
-use Rattle.instructions.specs.Judging.{Arrival, Body, comes_to}
+use Rattle.instructions.specs.Judging.{Arrival, OpenBody, comes_to}
 use Rattle.instructions.specs.declared.bodies.Height.{Height}
 use Rattle.instructions.specs.declared.bodies.Height.TheVariants as height
-use Rattle.instructions.specs.declared.bodies.Body.{Body as Held}
+use Rattle.instructions.specs.declared.bodies.OpenBody.{OpenBody as Held}
 
 abbrev pub arrival : ℕ → ℕ → Arrival
 arrival place height = record { place = place; height = height }
@@ -67,31 +67,31 @@ opening (Over m end) at t around = (begun (at + 1) end, t ∷ around)
 opening op at t around = (t, around)
 
 -- From a place on, the table has what the arrivals tell.
-pub record Stands (at : ℕ) (t : Table) (b : Body) : Type 0 where
+pub record Stands (at : ℕ) (t : Table) (b : OpenBody) : Type 0 where
   pub begins : t.first ≤ at
   pub room : t.end < t.first + length t.heights
   pub ends : t.end ≡ b.end
   pub heights : (place : ℕ) → at ≤ place → known_at place t ≡ all_told place height.Never b.awaited
 
 -- The open bodies, each in the one around it, in a plan of this many instructions.
-abbrev pub Nested : ℕ → ℕ → Table → List Table → Body → List Body → Type 0
+abbrev pub Nested : ℕ → ℕ → Table → List Table → OpenBody → List OpenBody → Type 0
 Nested at count t [] b [] = Stands at t b × (t.end ≡ count)
 Nested at count t [] b (c ∷ cs) = ⊥
 Nested at count t (o ∷ os) b [] = ⊥
 Nested at count t (o ∷ os) b (c ∷ cs) = Stands at t b × ((t.end ≤ o.end) × Nested at count o os c cs)
 
 -- The program's open bodies are the expected ones.
-pub record AreOpen (at count : ℕ) (t : Table) (ts : List Table) (bodies : Body × List Body) : Type 0 where
+pub record AreOpen (at count : ℕ) (t : Table) (ts : List Table) (bodies : OpenBody × List OpenBody) : Type 0 where
   pub before : at ≤ t.end
   pub nested : Nested at count t ts bodies.0 bodies.1
 
 -- What is expected is a pair of bodies that the program's stand for.
-pub record Reaches (at count : ℕ) (t : Table) (ts : List Table) (expected : Result (Body × List Body) CodeFault) : Type 0 where
-  pub bodies : Body × List Body
+pub record Reaches (at count : ℕ) (t : Table) (ts : List Table) (expected : Result (OpenBody × List OpenBody) CodeFault) : Type 0 where
+  pub bodies : OpenBody × List OpenBody
   pub are : expected ≡ Ok bodies
   pub standing : AreOpen at count t ts bodies
 
-abbrev pub Follows : ℕ → ℕ → Result Held CodeFault → List Held → Result (Body × List Body) CodeFault → Type 0
+abbrev pub Follows : ℕ → ℕ → Result Held CodeFault → List Held → Result (OpenBody × List OpenBody) CodeFault → Type 0
 Follows at count (Ok held) outer expected = Reaches at count (table_of held) (tables_of outer) expected
 Follows at count (Err e) outer expected = Fails e expected
 
@@ -99,12 +99,12 @@ Follows at count (Err e) outer expected = Fails e expected
 abbrev pub AreLow : ℕ → List Arrival → Type 0
 AreLow at awaited = AllByRecursion (λ a. a.height ≤ at) awaited
 
-abbrev pub AllAreLow : ℕ → List Body → Type 0
+abbrev pub AllAreLow : ℕ → List OpenBody → Type 0
 AllAreLow at bodies = AllByRecursion (λ b. AreLow at b.awaited) bodies
 
 -- There are such bodies, with low heights.
 pub record AreKnown (at count : ℕ) (t : Table) (ts : List Table) : Type 0 where
-  pub bodies : Body × List Body
+  pub bodies : OpenBody × List OpenBody
   pub standing : AreOpen at count t ts bodies
   pub low : AreLow at bodies.0.awaited
   pub all_low : AllAreLow at bodies.1

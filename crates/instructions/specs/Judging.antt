@@ -72,7 +72,7 @@ arrivals op at height = record { place = at + 1; height = height - takes op + 1 
 
 -- A body that is open: the place after its last instruction, and the arrivals in it that are still awaited. The whole plan is the
 -- outermost body.
-pub record Body : Type 0 where
+pub record OpenBody : Type 0 where
   pub end : ℕ
   pub awaited : List Arrival
 
@@ -95,11 +95,11 @@ is_one None = false
 is_one (Some height) = height == 1
 
 -- A body that ends at the place has one outcome there.
-abbrev pub has_one : ℕ → Body → Bool
+abbrev pub has_one : ℕ → OpenBody → Bool
 has_one at body = is_one (height_at at body.awaited)
 
 -- The bodies that end at a place are left, the innermost first, each with its one outcome.
-abbrev pub left : ℕ → Body → List Body → Result (Body × List Body) CodeFault
+abbrev pub left : ℕ → OpenBody → List OpenBody → Result (OpenBody × List OpenBody) CodeFault
 left at body [] = Ok (body, [])
 left at body (outer ∷ others) =
     if body.end == at then (if has_one at body then left at outer others else Err fault.BadStack) else Ok (body, outer ∷ others)
@@ -125,42 +125,42 @@ is_named vars depth (Over m end) = nat_lt depth 2
 is_named vars depth op = true
 
 -- The arrivals that are awaited after an instruction that is run at the place with this height.
-abbrev pub goes_on : Op → ℕ → ℕ → Body → Body
+abbrev pub goes_on : Op → ℕ → ℕ → OpenBody → OpenBody
 goes_on op at height body = record { end = body.end; awaited = filter (λ a. not (comes_to at a)) body.awaited ++ arrivals op at height }
 
 -- The open bodies after an instruction: a macro opens its own, with an empty stack.
-abbrev pub opens : Op → ℕ → Body → List Body → Body × List Body
+abbrev pub opens : Op → ℕ → OpenBody → List OpenBody → OpenBody × List OpenBody
 opens (Over m end) at body others = (record { end = end; awaited = record { place = at + 1; height = 0 } ∷ [] }, body ∷ others)
 opens op at body others = (body, others)
 
 -- The instruction has its operands.
-abbrev pub runs : Op → ℕ → Option ℕ → Body → List Body → Result (Body × List Body) CodeFault
+abbrev pub runs : Op → ℕ → Option ℕ → OpenBody → List OpenBody → Result (OpenBody × List OpenBody) CodeFault
 runs op at None body others = Err fault.BadStack
 runs op at (Some height) body others =
     if nat_lt height (takes op) then Err fault.BadStack else Ok (opens op at (goes_on op at height body) others)
 
 -- One instruction in its body, with those after it.
-abbrev pub judged : ℕ → ℕ → Op → List Op → Body → List Body → Result (Body × List Body) CodeFault
+abbrev pub judged : ℕ → ℕ → Op → List Op → OpenBody → List OpenBody → Result (OpenBody × List OpenBody) CodeFault
 judged vars at op later body others =
     if not (are_fair at body.end later (targets op)) then Err fault.BadJump else
     if not (is_named vars (length others) op) then Err fault.BadName else
     runs op at (height_at at body.awaited) body others
 
 -- One instruction, after the bodies that end at its place.
-abbrev pub step : ℕ → ℕ → Op → List Op → Body → List Body → Result (Body × List Body) CodeFault
+abbrev pub step : ℕ → ℕ → Op → List Op → OpenBody → List OpenBody → Result (OpenBody × List OpenBody) CodeFault
 step vars at op later body others = left at body others >>= λ x. judged vars at op later x.0 x.1
 
 -- The end of the plan has one outcome.
-abbrev pub ended : ℕ → Body × List Body → Result (Unit {0}) CodeFault
+abbrev pub ended : ℕ → OpenBody × List OpenBody → Result (Unit {0}) CodeFault
 ended at bodies = if has_one at bodies.0 then Ok tt else Err fault.BadStack
 
 -- The instructions from a place on, with the bodies that are open there.
-abbrev pub judge : ℕ → ℕ → List Op → Body → List Body → Result (Unit {0}) CodeFault
+abbrev pub judge : ℕ → ℕ → List Op → OpenBody → List OpenBody → Result (Unit {0}) CodeFault
 judge vars at [] body others = left at body others >>= λ x. ended at x
 judge vars at (op ∷ ops) body others = step vars at op ops body others >>= λ y. judge vars (at + 1) ops y.0 y.1
 
 -- The plan is the outermost body, and control comes to place 0 with an empty stack.
-abbrev pub whole : List Op → Body
+abbrev pub whole : List Op → OpenBody
 whole ops = record { end = length ops; awaited = record { place = 0; height = 0 } ∷ [] }
 
 -- `Ok`, or the first fault, of a plan in a place with this many variables.

@@ -7,3 +7,5 @@ pub mod Judging
 pub mod WellFormed
 pub mod Bodies
 pub mod Macros
+pub mod Connectives
+pub mod Machine

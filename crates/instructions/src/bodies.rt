@@ -28,7 +28,7 @@ pub(crate) enum Height {
 /// A body that is open: its first place, the place after its last instruction, and the height at each of its places, its end among them,
 /// as far as it is known.
 #[derive(Drop)]
-pub(crate) struct Body {
+pub(crate) struct OpenBody {
     pub(crate) first: usize,
     pub(crate) end: usize,
     pub(crate) heights: Vec<Height>,
@@ -50,7 +50,7 @@ fn join(known: Height, height: usize) -> Height
     }
 }
 
-fn known(place: usize, body: &Body) -> Height
+fn known(place: usize, body: &OpenBody) -> Height
     ensures { result ≡ known_at place (table_of body.now) }
 {
     match body.heights.get(place.saturating_sub(body.first)) {
@@ -60,7 +60,7 @@ fn known(place: usize, body: &Body) -> Height
 }
 
 /// The one height with which control comes to a place of the body.
-pub(crate) fn height_of(place: usize, body: &Body) -> Option<usize>
+pub(crate) fn height_of(place: usize, body: &OpenBody) -> Option<usize>
     ensures { result ≡ one_height (known_at place (table_of body.now)) }
 {
     match known(place, body) {
@@ -71,7 +71,7 @@ pub(crate) fn height_of(place: usize, body: &Body) -> Option<usize>
 }
 
 /// Whether control comes to a place of the body with one outcome, always.
-pub(crate) fn ends_with_one(at: usize, body: &Body) -> bool
+pub(crate) fn ends_with_one(at: usize, body: &OpenBody) -> bool
     ensures { result ≡ is_one (one_height (known_at at (table_of body.now))) }
 {
     match height_of(at, body) {
@@ -81,7 +81,7 @@ pub(crate) fn ends_with_one(at: usize, body: &Body) -> bool
 }
 
 /// Awaits control at a place of the body.
-pub(crate) fn expect(place: usize, height: usize, body: &mut Body)
+pub(crate) fn expect(place: usize, height: usize, body: &mut OpenBody)
     ensures { table_of body.new ≡ expecting (table_of body.old) (arrival place height) }
 {
     let joined = join(known(place, body), height);
@@ -91,12 +91,12 @@ pub(crate) fn expect(place: usize, height: usize, body: &mut Body)
 }
 
 /// A body that control comes to at its first place, with an empty stack.
-pub(crate) fn begin(alloc: Global, first: usize, end: usize) -> Result<Body, AllocError>
+pub(crate) fn begin(alloc: Global, first: usize, end: usize) -> Result<OpenBody, AllocError>
     ensures { IfOk result (λ b. table_of b ≡ begun first end) }
 {
     let mut heights = vec![in alloc; Height::Never; end.saturating_sub(first)]?;
     heights.push(Height::Never)?;
-    let mut body = Body {
+    let mut body = OpenBody {
         first,
         end,
         heights,

@@ -19,7 +19,7 @@ ghost use Rattle.instructions.specs.Faults.{Gives};
 ghost use Rattle.instructions.specs.Seen.{op_of, ops_of};
 ghost use Rattle.instructions.specs.Op.{Op};
 ghost use Rattle.instructions.specs.Judging.{
-  Body as Expected,
+  OpenBody as Expected,
   first_fault,
   step,
   judge,
@@ -44,14 +44,14 @@ ghost use Rattle.instructions.specs.Bodies.{
 };
 ghost use Rattle.instructions.specs.Macros.{Tells, is_clear};
 
-use crate::bodies::{Body, begin, ends_with_one, expect, height_of};
+use crate::bodies::{OpenBody, begin, ends_with_one, expect, height_of};
 use crate::fault::CodeFault;
 use crate::instruction::{Function, Instruction, Slot};
 use crate::macros::last_starts;
 use std::alloc::{AllocError, Global};
 
 // Leaves the bodies that end at a place, and gives the innermost one that does not.
-fn leave(at: usize, body: Body, outer: &mut Vec<Body>) -> Result<Body, CodeFault>
+fn leave(at: usize, body: OpenBody, outer: &mut Vec<OpenBody>) -> Result<OpenBody, CodeFault>
     ensures follows { (count : ℕ) (bodies : Expected × List Expected) → AreOpen at count (table_of body) (tables_of outer.old.items) bodies
         → Follows at count result outer.new.items (left at bodies.0 bodies.1) }
     ensures inside { (count : ℕ) (bodies : Expected × List Expected) → AreOpen at count (table_of body) (tables_of outer.old.items) bodies
@@ -150,7 +150,7 @@ fn taken(instruction: &Instruction) -> usize
 }
 
 // Awaits control where the instruction leads in its body.
-fn expect_next(at: usize, height: usize, instruction: &Instruction, body: &mut Body)
+fn expect_next(at: usize, height: usize, instruction: &Instruction, body: &mut OpenBody)
     requires low { height ≤ at }
     requires short { at + 1 < 2 ^ 64 }
     ensures { table_of body.new ≡ all_expecting (table_of body.old) (arrivals (op_of instruction.now) at height) }
@@ -181,9 +181,9 @@ fn open(
     alloc: Global,
     at: usize,
     instruction: &Instruction,
-    body: Body,
-    outer: &mut Vec<Body>,
-) -> Result<Body, AllocError>
+    body: OpenBody,
+    outer: &mut Vec<OpenBody>,
+) -> Result<OpenBody, AllocError>
     requires { at + 1 < 2 ^ 64 }
     ensures { IfOk result (λ b. opening (op_of instruction.now) at (table_of body) (tables_of outer.old.items) ≡ (table_of b, tables_of outer.new.items)) }
 {
@@ -202,9 +202,9 @@ fn run(
     alloc: Global,
     at: usize,
     instruction: &Instruction,
-    mut body: Body,
-    outer: &mut Vec<Body>,
-) -> Result<Body, CodeFault>
+    mut body: OpenBody,
+    outer: &mut Vec<OpenBody>,
+) -> Result<OpenBody, CodeFault>
     requires low { (count : ℕ) × AreKnown at count (table_of body) (tables_of outer.old.items) }
     requires within { AreWithin at body.end (targets (op_of instruction.now)) }
     requires inside { at < body.end }
@@ -232,9 +232,9 @@ fn step_over(
     at: usize,
     instruction: &Instruction,
     starts: &[usize],
-    body: Body,
-    outer: &mut Vec<Body>,
-) -> Result<Body, CodeFault>
+    body: OpenBody,
+    outer: &mut Vec<OpenBody>,
+) -> Result<OpenBody, CodeFault>
     requires known { AreKnown at (length starts.now - 1) (table_of body) (tables_of outer.old.items) }
     requires inside { at + 1 < length starts.now }
     requires short { at + 1 < 2 ^ 64 }
@@ -254,7 +254,7 @@ fn step_over(
 }
 
 // Judges the end of the plan.
-fn finish(at: usize, body: Body, outer: &mut Vec<Body>) -> Result<(), CodeFault>
+fn finish(at: usize, body: OpenBody, outer: &mut Vec<OpenBody>) -> Result<(), CodeFault>
     ensures { (count : ℕ) (bodies : Expected × List Expected) → AreOpen at count (table_of body) (tables_of outer.old.items) bodies
         → Gives (λ _. tt) result (judge 0 at [] bodies.0 bodies.1) }
 {

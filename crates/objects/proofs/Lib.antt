@@ -8,5 +8,3 @@ pub mod Taking
 pub mod Covering
 mod Leaving
 mod Listed
-pub mod Kept
-pub mod Numbered

@@ -10,7 +10,7 @@ ghost use Rattle.objects.specs.Merged.{changed, merged};
 ghost use Rattle.objects.specs.Changes.{Leaves};
 ghost use Rattle.objects.specs.Steps.{changes_of};
 
-use crate::entry::Entry;
+use crate::entry::KeyValue;
 use crate::lent::Lent;
 use crate::merging::merged;
 use crate::objects::Objects;
@@ -21,8 +21,8 @@ use std::marker::Model;
 // All of some changes.
 fn all_of<T>(
     alloc: Global,
-    changes: &[Entry<Option<T>>],
-) -> Result<Vec<&Entry<Option<T>>>, AllocError>
+    changes: &[KeyValue<Option<T>>],
+) -> Result<Vec<&KeyValue<Option<T>>>, AllocError>
     ensures { IfOk result (λ all. changes_of all.items ≡ changes.now) }
 {
     changes.iter().collect(alloc)
@@ -63,7 +63,7 @@ impl<T: Drop> Changes<T> {
     }
 
     /// All changes, ascending by key.
-    pub fn made(&self) -> &[Entry<Option<T>>]
+    pub fn made(&self) -> &[KeyValue<Option<T>>]
         ensures value { result.now ≡ self.now.made }
         ensures ascending { IsTrue (is_sorted key_cmp self.now.made) }
     {
@@ -87,7 +87,7 @@ impl<T: Drop> Changes<T> {
     }
 
     /// Makes a change: a put, or a removal. It is told whether an entry stood under the key. Takes no memory.
-    pub fn make(&mut self, change: Entry<Option<T>>, stood: bool)
+    pub fn make(&mut self, change: KeyValue<Option<T>>, stood: bool)
         requires { 0 < self.old.room }
         ensures leaves { (base left : List (KeyData × T)) → Leaves self.old base left → stood ≡ is_some (value_at change.0 left)
             → length left < 2 ^ 64 - 1 → Leaves self.new base (changed change.0 change.1 left) }
@@ -99,7 +99,7 @@ impl<T: Drop> Changes<T> {
     }
 
     /// Makes a change that says what stands under its key already. It leaves what was left before. Takes no memory.
-    pub fn hold(&mut self, change: Entry<Option<T>>)
+    pub fn hold(&mut self, change: KeyValue<Option<T>>)
         requires { 0 < self.old.room }
         ensures leaves { (base left : List (KeyData × T)) → Leaves self.old base left → value_at change.0 left ≡ change.1 → Leaves self.new base left }
         ensures made { self.new.made ≡ with_value change.0 change.1 self.old.made }

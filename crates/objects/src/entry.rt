@@ -6,11 +6,11 @@ use std::marker::Model;
 
 /// A key and what is stored under it, in a block of their own: what moves is one handle.
 #[derive(Drop)]
-pub struct Entry<T> {
+pub struct KeyValue<T> {
     pair: Box<(Key, T)>,
 }
 
-impl<T> Model for Entry<T> {
+impl<T> Model for KeyValue<T> {
     ghost use Rattle.names.specs.Key.{Key as KeyData};
 
     ghost Value = { KeyData × T };
@@ -18,14 +18,14 @@ impl<T> Model for Entry<T> {
     ghost view = { λ e. e.pair.value };
 }
 
-impl<T> Entry<T> {
+impl<T> KeyValue<T> {
     /// Takes the memory of the block. Where there is none, the key and the value come back.
-    pub fn new(alloc: Global, key: Key, value: T) -> Result<Entry<T>, AllocFailed<(Key, T)>>
+    pub fn new(alloc: Global, key: Key, value: T) -> Result<KeyValue<T>, AllocFailed<(Key, T)>>
         ensures ok { IfOk result (λ entry. entry ≡ (key, value)) }
         ensures err { IfErr result (λ failed. failed.value ≡ (key, value)) }
     {
         let pair = Box::new(alloc, (key, value))?;
-        Ok(Entry { pair })
+        Ok(KeyValue { pair })
     }
 
     /// The key.

@@ -6,7 +6,7 @@ ghost use Rattle.names.specs.Key.{Key as KeyData, key_cmp};
 ghost use Rattle.objects.specs.Merged.{merged};
 ghost use Rattle.objects.specs.Steps.{changes_of, put_by, puts_of, IsNext, IsSplitAt, NoneBelow, AllAbove};
 
-use crate::entry::Entry;
+use crate::entry::KeyValue;
 use crate::lent::Lent;
 use names::Key;
 use std::alloc::{AllocError, Global};
@@ -14,7 +14,7 @@ use std::alloc::{AllocError, Global};
 // Adds what a change put.
 fn push_put<'a, T>(
     kept: &mut Vec<Lent<'a, T>>,
-    change: &'a Entry<Option<T>>,
+    change: &'a KeyValue<Option<T>>,
 ) -> Result<(), AllocError>
     ensures { OnOk result (kept.new.items ≡ kept.old.items ++ put_by change.now) }
 {
@@ -28,7 +28,7 @@ fn push_put<'a, T>(
 // Adds what changes put.
 fn push_puts<'a, T>(
     kept: &mut Vec<Lent<'a, T>>,
-    changes: &[&'a Entry<Option<T>>],
+    changes: &[&'a KeyValue<Option<T>>],
 ) -> Result<(), AllocError>
     ensures { OnOk result (kept.new.items ≡ kept.old.items ++ puts_of (changes_of changes.now)) }
 {
@@ -39,7 +39,7 @@ fn push_puts<'a, T>(
 }
 
 // How many of the changes are below a key.
-fn count_below<T>(changes: &[&Entry<Option<T>>], key: &Key) -> usize
+fn count_below<T>(changes: &[&KeyValue<Option<T>>], key: &Key) -> usize
     ensures bound { result ≤ length changes.now }
     ensures split { IsTrue (is_sorted key_cmp (changes_of changes.now)) → IsSplitAt key.now (changes_of changes.now) result }
 {
@@ -47,7 +47,7 @@ fn count_below<T>(changes: &[&Entry<Option<T>>], key: &Key) -> usize
 }
 
 // Whether the first of the changes is one of the key.
-fn is_next<T>(changes: &[&Entry<Option<T>>], key: &Key) -> bool
+fn is_next<T>(changes: &[&KeyValue<Option<T>>], key: &Key) -> bool
     ensures { IsTrue result ↔ IsNext key.now (changes_of changes.now) }
 {
     match changes.first() {
@@ -59,7 +59,7 @@ fn is_next<T>(changes: &[&Entry<Option<T>>], key: &Key) -> bool
 // Adds an entry, or what the first of the changes puts in its place: none of them is below it. Answers how many changes are done.
 fn push_entry<'a, T>(
     kept: &mut Vec<Lent<'a, T>>,
-    changes: &[&'a Entry<Option<T>>],
+    changes: &[&'a KeyValue<Option<T>>],
     entry: &'a (Key, T),
 ) -> Result<usize, AllocError>
     ensures bound { IfOk result (λ count. count ≤ length changes.now) }
@@ -84,7 +84,7 @@ fn push_entry<'a, T>(
 /// Out of memory.
 pub fn merged<'a, T>(
     alloc: Global,
-    changes: &[&'a Entry<Option<T>>],
+    changes: &[&'a KeyValue<Option<T>>],
     base: &'a [(Key, T)],
 ) -> Result<Vec<Lent<'a, T>>, AllocError>
     ensures { IsTrue (is_sorted key_cmp (changes_of changes.now)) → IsTrue (is_sorted key_cmp base.now)

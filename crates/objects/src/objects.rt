@@ -6,7 +6,7 @@ ghost use Rattle.std.specs.Ordering.{eq_by_cmp};
 ghost use Rattle.names.specs.Key.{Key as KeyData, key_cmp};
 ghost use Rattle.objects.specs.Objects.{value_at, with_value, without_key, is_of};
 
-use crate::entry::Entry;
+use crate::entry::KeyValue;
 use names::{Key, Resource};
 use std::alloc::{AllocError, Global};
 use std::marker::Model;
@@ -26,10 +26,10 @@ fn is_key_of(key: &Key, resource: Resource, namespace: Option<&str>) -> bool
 // Those of the entries that are of this resource, and in this namespace if one is given.
 fn only_of<'a, T>(
     alloc: Global,
-    entries: &'a [Entry<T>],
+    entries: &'a [KeyValue<T>],
     resource: Resource,
     namespace: Option<&str>,
-) -> Result<Vec<&'a Entry<T>>, AllocError>
+) -> Result<Vec<&'a KeyValue<T>>, AllocError>
     ensures { let text = option_map (λ text. text.now) namespace.entry in
         IfOk result (λ listed. map (λ entry. entry.now) listed.items
         ≡ filter (λ entry. is_of resource text entry.0) entries.now) }
@@ -41,7 +41,7 @@ fn only_of<'a, T>(
 }
 
 // All of the entries.
-fn each_of<T>(alloc: Global, entries: &[Entry<T>]) -> Result<Vec<&Entry<T>>, AllocError>
+fn each_of<T>(alloc: Global, entries: &[KeyValue<T>]) -> Result<Vec<&KeyValue<T>>, AllocError>
     ensures { IfOk result (λ listed. map (λ entry. entry.now) listed.items ≡ entries.now) }
 {
     entries.iter().collect(alloc)
@@ -50,7 +50,7 @@ fn each_of<T>(alloc: Global, entries: &[Entry<T>]) -> Result<Vec<&Entry<T>>, All
 /// What is stored, by key.
 #[derive(Drop)]
 pub struct Objects<T> {
-    entries: Vec<Entry<T>>,
+    entries: Vec<KeyValue<T>>,
 }
 
 impl<T> Model for Objects<T> {
@@ -91,7 +91,7 @@ impl<T> Objects<T> {
     }
 
     /// All entries, ascending by key.
-    pub fn entries(&self) -> &[Entry<T>]
+    pub fn entries(&self) -> &[KeyValue<T>]
         ensures value { result.now ≡ self.now.entries }
         ensures ascending { IsTrue (is_sorted key_cmp self.now.entries) }
     {
@@ -129,7 +129,7 @@ impl<T> Objects<T> {
 
     /// Stores the entry, and gives back what was stored under its key. Takes no memory: a new key
     /// uses up one place of the room.
-    pub fn put(&mut self, entry: Entry<T>) -> Option<T>
+    pub fn put(&mut self, entry: KeyValue<T>) -> Option<T>
         requires { IsNone (value_at entry.0 self.old.entries) → 0 < self.old.room }
         ensures value { result ≡ value_at entry.0 self.old.entries }
         ensures map { (key : KeyData) → value_at key self.new.entries ≡
@@ -169,7 +169,7 @@ impl<T> Objects<T> {
         alloc: Global,
         resource: Resource,
         namespace: Option<&str>,
-    ) -> Result<Vec<&Entry<T>>, AllocError>
+    ) -> Result<Vec<&KeyValue<T>>, AllocError>
         ensures { let text = option_map (λ text. text.now) namespace.entry in
             IfOk result (λ listed. map (λ entry. entry.now) listed.items
             ≡ filter (λ entry. is_of resource text entry.0) self.now.entries) }
@@ -182,7 +182,7 @@ impl<T> Objects<T> {
     }
 
     // The entries of a resource.
-    fn entries_of(&self, resource: Resource) -> &[Entry<T>]
+    fn entries_of(&self, resource: Resource) -> &[KeyValue<T>]
         ensures { result.now ≡ filter (λ entry. is_of resource None entry.0) self.now.entries }
     {
         &self.entries[self.count_before(resource)..self.count_up_to(resource)]

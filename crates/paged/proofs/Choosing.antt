@@ -14,23 +14,23 @@ use Rattle.std.specs.declared.cmp.Ordering.{Ordering}
 use Rattle.std.specs.declared.cmp.Ordering.TheVariants.{Less, Equal, Greater}
 use Rattle.names.specs.Key.{Key, key_bytes}
 use Rattle.names.proofs.KeyOrder.{numbered-number}
-use Rattle.objects.specs.declared.event.Event.{Event}
+use Rattle.window.specs.declared.event.Event.{Event}
 use Rattle.documents.specs.Document.{Document}
-use Rattle.requests.specs.declared.stored.Stored.{Stored}
-use Rattle.requests.specs.View as seen
+use Rattle.histories.specs.declared.stored.Stored.{Stored}
+use Rattle.histories.specs.View as seen
 use Rattle.pages.specs.Page.{Entry, bytes_cmp}
 use Rattle.records.specs.Entries.{plan_entry, plan_entries, event_entry, stored_entry, plans_among}
-use Rattle.snapshots.specs.Sieve.{chosen_of, objects_among}
+use Rattle.snapshots.specs.KeptEntries.{chosen_of, objects_among}
 use Rattle.snapshots.proofs.Sieving.{objects_of_view}
 use Rattle.snapshots.specs.LyingBelow.{AreChosen}
 use Rattle.snapshots.specs.Keeping.{held_plans, held_entries}
-use Rattle.recovery.specs.Beside.{Beside}
+use Rattle.decoded.specs.Decoded.{Decoded}
 use Rattle.paged.specs.declared.chosen.Chosen.{Chosen}
 use Rattle.paged.specs.Lying.{is_rule, base_of}
 use Rattle.paged.specs.Chosen.{is_rule_key, rules_among, has_key, is_chosen, ChoosesRules}
 
 abbrev Object : Type 0
-Object = Key × Stored Beside
+Object = Key × Stored Decoded
 
 abbrev Bytes : Type 0
 Bytes = Vec ℕ Global
@@ -97,7 +97,7 @@ all_chosen : (chosen : List ℕ → Bool) → ChoosesRules chosen → (os : List
 all_chosen chosen rules [] = tt
 all_chosen chosen rules (o ∷ os) = (λ above. rules o.0 (not_false (is_rule o.0.resource) above), all_chosen chosen rules os)
 
-pub are_chosen : (chosen : List ℕ → Bool) → ChoosesRules chosen → (held : seen.View Beside) → AreChosen (λ r. not (is_rule r)) chosen held
+pub are_chosen : (chosen : List ℕ → Bool) → ChoosesRules chosen → (held : seen.View Decoded) → AreChosen (λ r. not (is_rule r)) chosen held
 are_chosen chosen rules held = all_chosen chosen rules held.objects
 
 -- ---- how many lie below
@@ -136,7 +136,7 @@ no_plans (o ∷ os) =
     let rest = no_plans os in
     omega (arith, parts, here, rest)
 
-rules_of_view : (v : seen.View Beside) → rules_among (held_entries v) ≡ length (rules_of v.objects)
+rules_of_view : (v : seen.View Decoded) → rules_among (held_entries v) ≡ length (rules_of v.objects)
 rules_of_view v =
     let front = rules-append (map stored_entry v.objects) (plans_among held_plans v.objects ++ map event_entry v.events) in
     let middle = rules-append (plans_among held_plans v.objects) (map event_entry v.events) in
@@ -164,7 +164,7 @@ rules_chosen chosen rules (o ∷ os) =
     one_chosen o (filter (λ p. chosen (1 ∷ key_bytes p.0)) os) os (chosen (1 ∷ key_bytes o.0)) (is_rule o.0.resource) refl (rules o.0) (rules_chosen chosen rules os)
 
 -- All that were counted but the policies and the bindings among what was kept.
-pub count_is : (chosen : List ℕ → Bool) → ChoosesRules chosen → (held : seen.View Beside)
+pub count_is : (chosen : List ℕ → Bool) → ChoosesRules chosen → (held : seen.View Decoded)
     → objects_among (held_entries held) - rules_among (held_entries (chosen_of chosen held)) ≡ length (base_of held)
 count_is chosen rules held =
     let all : objects_among (held_entries held) ≡ length held.objects = objects_of_view held_plans held in

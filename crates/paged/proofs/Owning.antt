@@ -8,14 +8,14 @@ use Rattle.names.specs.declared.format.Format.{Format}
 use Rattle.names.specs.declared.resource.Resource.{Resource}
 use Rattle.names.specs.declared.resource.Resource.TheVariants.{ConfigMap, Node, Pod, Service, Deployment, ValidatingAdmissionPolicy, ValidatingAdmissionPolicyBinding, Namespace}
 use Rattle.names.specs.Key.{Key}
-use Rattle.requests.specs.declared.stored.Stored.{Stored}
+use Rattle.histories.specs.declared.stored.Stored.{Stored}
 use Rattle.expressions.specs.Specification.{IsSpecification, sound, Plans, these, plans_in, plans_bytes}
-use Rattle.snapshots.specs.declared.stocked.Stocked.{Stocked}
+use Rattle.snapshots.specs.declared.cached_object.CachedObject.{CachedObject}
 use Rattle.snapshots.specs.Whole.{whole}
 use Rattle.snapshots.specs.Base.{not_held}
-use Rattle.recovery.specs.Beside.{Beside}
+use Rattle.decoded.specs.Decoded.{Decoded}
 use Rattle.recovery.specs.Compiled.{HasOwnPlans}
-use Rattle.paged.specs.declared.bare.Bare.{Bare}
+use Rattle.paged.specs.declared.without_plans.WithoutPlans.{WithoutPlans}
 use Rattle.paged.specs.declared.state.Paged.{Paged}
 use Rattle.paged.specs.Lying.{is_rule, made_bare, held_bare}
 use Rattle.paged.specs.Paged.{Below}
@@ -40,10 +40,10 @@ no_bytes Namespace plans other lies = refl
 no_bytes ValidatingAdmissionPolicy plans other lies = cc
 no_bytes ValidatingAdmissionPolicyBinding plans other lies = cc
 
-each_own : (f : Format) (bare : Bare) (os : List (Key × Stocked)) → AllByRecursion (HasOwnPlans f) (map (whole (made_bare bare)) (not_held (held_bare bare) os))
+each_own : (f : Format) (bare : WithoutPlans) (os : List (Key × CachedObject)) → AllByRecursion (HasOwnPlans f) (map (whole (made_bare bare)) (not_held (held_bare bare) os))
 each_own f bare [] = tt
 each_own f bare (o ∷ os) =
-    let rest : List (Key × Stocked) = not_held (held_bare bare) os in
+    let rest : List (Key × CachedObject) = not_held (held_bare bare) os in
     elim (not (is_rule o.0.resource))
     as (λ b. not (is_rule o.0.resource) ≡ b → AllByRecursion (HasOwnPlans f) (map (whole (made_bare bare)) (cond b (o ∷ rest) rest))) [
       | true ↦ λ lies. (
@@ -58,7 +58,7 @@ each_own f bare (o ∷ os) =
     ] refl
 
 -- Each object that lies in pages has its own plans.
-pub below_own : (f : Format) {D : Type 0} (disk : Disk D) (device : D) (p : Paged) (base : List (Key × Stored Beside)) → Below disk device p base
+pub below_own : (f : Format) {D : Type 0} (disk : Disk D) (device : D) (p : Paged) (base : List (Key × Stored Decoded)) → Below disk device p base
     → AllByRecursion (HasOwnPlans f) base
 below_own f disk device p base below =
     let lies = below (record {}) in

@@ -11,9 +11,9 @@ use Rattle.objects.specs.declared.fault.LookupFault.{LookupFault}
 use Rattle.objects.specs.declared.fault.LookupFault.TheVariants as lookup
 use Rattle.requests.specs.Manifest.{Manifest}
 use Rattle.requests.specs.Namespaces.{namespaces_in_use}
-use Rattle.requests.specs.View as seen
-use Rattle.recovery.specs.Beside.{Beside}
-use Rattle.recovery.specs.Upgraded.{newest, upgraded_rules, upgraded_view, upgraded_count, upgraded_revision, HaveForm, HasRoomForUpgrade, IsOfOlderFormat}
+use Rattle.histories.specs.View as seen
+use Rattle.decoded.specs.Decoded.{Decoded}
+use Rattle.decoded.specs.Upgraded.{newest, upgraded_rules, upgraded_view, upgraded_count, upgraded_revision, HaveForm, HasRoomForUpgrade, IsOfOlderFormat}
 use Rattle.snapshots.specs.Added.{with_added, new_of, namespace_manifest}
 use Rattle.snapshots.specs.Keeping.{IsHeld}
 use Rattle.snapshots.proofs.Upgrading.{news_of, upgraded_is}
@@ -47,7 +47,7 @@ only_memory r passed f other told =
     let is : f ≡ lookup.Memory = cc in
     absurd (other is)
 
-module _ (v : seen.View Beside) where
+module _ (v : seen.View Decoded) where
   abbrev MayHold : Type 0
   MayHold = HaveForm (namespaces_in_use v) → HasRoomForUpgrade v → IsHeld upgraded_rules (upgraded_view v)
 
@@ -74,7 +74,7 @@ module _ (v : seen.View Beside) where
 
 -- ---- room
 
-module _ (rules : Rules) (v : seen.View Beside) (count : ℕ) (rules_are : rules ≡ upgraded_rules) (count_is : count ≡ length (namespaces_in_use v)) where
+module _ (rules : Rules) (v : seen.View Decoded) (count : ℕ) (rules_are : rules ≡ upgraded_rules) (count_is : count ≡ length (namespaces_in_use v)) where
   limit_is : rules.object_limit ≡ upgraded_rules.object_limit
   limit_is = ap (λ (r : Rules). r.object_limit) rules_are
 
@@ -105,7 +105,7 @@ module _ (rules : Rules) (v : seen.View Beside) (count : ℕ) (rules_are : rules
 
 -- ---- the view with the Namespaces
 
-module _ (v : seen.View Beside) (ms : List Manifest) (are : ms ≡ map namespace_manifest (namespaces_in_use v)) where
+module _ (v : seen.View Decoded) (ms : List Manifest) (are : ms ≡ map namespace_manifest (namespaces_in_use v)) where
   pub count_of : length ms ≡ length (namespaces_in_use v)
   count_of = ap (λ (all : List Manifest). length all) are ∙ length-map (namespaces_in_use v) namespace_manifest
 

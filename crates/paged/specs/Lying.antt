@@ -4,31 +4,31 @@ use Rattle.device.specs.Disk.{Disk}
 use Rattle.names.specs.declared.resource.Resource.{Resource}
 use Rattle.names.specs.Key.{Key}
 use Rattle.documents.specs.Document.{Document}
-use Rattle.requests.specs.declared.stored.Stored.{Stored}
-use Rattle.requests.specs.View as seen
+use Rattle.histories.specs.declared.stored.Stored.{Stored}
+use Rattle.histories.specs.View as seen
 use Rattle.policy.specs.Matching.{is_guarded}
-use Rattle.snapshots.specs.declared.stock.Stock.{Stock}
+use Rattle.snapshots.specs.declared.object_cache.ObjectCache.{ObjectCache}
 use Rattle.snapshots.specs.Base.{Lies}
 use Rattle.snapshots.specs.LyingBelow as snapshots
 use Rattle.expressions.specs.Specification.{these}
-use Rattle.recovery.specs.Beside.{Beside, spelled}
-use Rattle.paged.specs.declared.bare.Bare.{Bare}
+use Rattle.decoded.specs.Decoded.{Decoded, spelled}
+use Rattle.paged.specs.declared.without_plans.WithoutPlans.{WithoutPlans}
 
 -- policies and bindings are held in memory
 abbrev pub is_rule : Resource → Bool
 is_rule r = not (is_guarded r)
 
 -- beside a document that lies in a page stands what it spells, and no plans
-abbrev pub made_bare : Bare → Document → Beside
+abbrev pub made_bare : WithoutPlans → Document → Decoded
 made_bare bare d = spelled d.json (these [])
 
-abbrev pub held_bare : Bare → Resource → Bool
+abbrev pub held_bare : WithoutPlans → Resource → Bool
 held_bare bare r = is_rule r
 
 -- the objects of a view that lie in pages
-abbrev pub base_of : seen.View Beside → List (Key × Stored Beside)
+abbrev pub base_of : seen.View Decoded → List (Key × Stored Decoded)
 base_of held = snapshots.base_of (λ r. not (is_rule r)) held
 
 -- These objects lie in pages, with what their documents spell.
-abbrev pub LiesBelow : {D : Type 0} → (disk : Disk D) → D → Stock → List (Key × Stored Beside) → Type 0
-LiesBelow disk device stock base = (bare : Bare) → Lies made_bare held_bare disk device stock bare base
+abbrev pub LiesBelow : {D : Type 0} → (disk : Disk D) → D → ObjectCache → List (Key × Stored Decoded) → Type 0
+LiesBelow disk device cache base = (bare : WithoutPlans) → Lies made_bare held_bare disk device cache bare base

@@ -4,10 +4,10 @@ use Rattle.objects.specs.declared.fault.Part.{Part}
 use Rattle.objects.specs.declared.fault.LookupFault.TheVariants as lookup
 use Rattle.checkpoint.specs.EntryList.{entries_of as in_list}
 use Rattle.requests.specs.Namespaces.{namespaces_in_use}
-use Rattle.requests.specs.View as seen
+use Rattle.histories.specs.View as seen
 use Rattle.holdings.specs.Holdings.{Shows}
-use Rattle.recovery.specs.Beside.{Beside}
-use Rattle.recovery.specs.Upgraded.{upgraded_rules, upgraded_view, upgraded_count, upgraded_revision, HaveForm, HasRoomForUpgrade, IsOfOlderFormat}
+use Rattle.decoded.specs.Decoded.{Decoded}
+use Rattle.decoded.specs.Upgraded.{upgraded_rules, upgraded_view, upgraded_count, upgraded_revision, HaveForm, HasRoomForUpgrade, IsOfOlderFormat}
 use Rattle.snapshots.specs.Keeping.{IsHeld, held_entries}
 use Rattle.paged.specs.Lying.{base_of}
 use Rattle.paged.specs.declared.compacting.NextUpgraded.{NextUpgraded}
@@ -15,7 +15,7 @@ use Rattle.paged.specs.declared.fault.NextFault.{NextFault}
 use Rattle.paged.specs.declared.fault.NextFault.TheVariants as fault
 
 -- It is the next generation of the view as an upgrade leaves it.
-pub record IsNextUpgraded (v : seen.View Beside) (n : NextUpgraded) : Type 0 where
+pub record IsNextUpgraded (v : seen.View Decoded) (n : NextUpgraded) : Type 0 where
   pub entries : IsOfOlderFormat v → in_list n.next.entries ≡ held_entries (upgraded_view v)
   pub rules : n.next.core.rules ≡ upgraded_rules
   pub revision : n.revision ≡ upgraded_revision v
@@ -25,7 +25,7 @@ pub record IsNextUpgraded (v : seen.View Beside) (n : NextUpgraded) : Type 0 whe
   pub room : HasRoomForUpgrade v
 
 -- That is the answer, or a fault that refuses the view.
-pub record IsUpgradeOf (v : seen.View Beside) (r : Result NextUpgraded NextFault) : Type 0 where
+pub record IsUpgradeOf (v : seen.View Decoded) (r : Result NextUpgraded NextFault) : Type 0 where
   pub next : IfOk r (IsNextUpgraded v)
   pub too_many : IsErrOf r fault.TooManyObjects → upgraded_rules.object_limit < upgraded_count v
   pub exhausted : IsErrOf r fault.RevisionExhausted → (upgraded_count v ≤ upgraded_rules.object_limit) × (upgraded_rules.greatest_revision < upgraded_revision v)

@@ -7,7 +7,7 @@ use std::alloc::AllocError;
 
 /// Why the pages of a root give no objects.
 #[derive(Clone, Copy)]
-pub enum ReadFault {
+pub enum PagedFault {
     /// The device failed in this call.
     Device,
     /// A page is damaged, or its keys are not above those of the page before.
@@ -52,41 +52,41 @@ impl From<AllocError> for NextFault {
     }
 }
 
-impl From<ScanFault> for ReadFault {
+impl From<ScanFault> for PagedFault {
     ghost use Rattle.paged.specs.Faults.{of_scan_fault};
 
     ghost from_gives = { λ scan_fault fault. fault ≡ of_scan_fault scan_fault };
 
-    fn from(fault: ScanFault) -> ReadFault {
+    fn from(fault: ScanFault) -> PagedFault {
         match fault {
-            ScanFault::Device => ReadFault::Device,
-            ScanFault::Page => ReadFault::Page,
-            ScanFault::Entry => ReadFault::Entry,
-            ScanFault::Memory => ReadFault::Memory,
+            ScanFault::Device => PagedFault::Device,
+            ScanFault::Page => PagedFault::Page,
+            ScanFault::Entry => PagedFault::Entry,
+            ScanFault::Memory => PagedFault::Memory,
         }
     }
 }
 
-impl From<SnapshotFault> for ReadFault {
+impl From<SnapshotFault> for PagedFault {
     ghost use Rattle.paged.specs.Faults.{of_snapshot_fault};
 
     ghost from_gives = { λ snapshot_fault fault. fault ≡ of_snapshot_fault snapshot_fault };
 
-    fn from(fault: SnapshotFault) -> ReadFault {
+    fn from(fault: SnapshotFault) -> PagedFault {
         match fault {
-            SnapshotFault::Entry => ReadFault::Entry,
-            SnapshotFault::Plans => ReadFault::Plans,
-            SnapshotFault::Memory => ReadFault::Memory,
+            SnapshotFault::Entry => PagedFault::Entry,
+            SnapshotFault::Plans => PagedFault::Plans,
+            SnapshotFault::Memory => PagedFault::Memory,
         }
     }
 }
 
-impl From<AllocError> for ReadFault {
-    ghost use Rattle.paged.specs.declared.fault.ReadFault.TheVariants.{Memory};
+impl From<AllocError> for PagedFault {
+    ghost use Rattle.paged.specs.declared.fault.PagedFault.TheVariants.{Memory};
 
     ghost from_gives = { λ _ fault. fault ≡ Memory };
 
-    fn from(_: AllocError) -> ReadFault {
-        ReadFault::Memory
+    fn from(_: AllocError) -> PagedFault {
+        PagedFault::Memory
     }
 }

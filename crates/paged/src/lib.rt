@@ -7,15 +7,15 @@
 //! ```
 #![tactic(auto)]
 
-mod bare;
 mod chosen;
 mod compacting;
 mod fault;
 mod preparing;
 mod reading;
 mod state;
+mod without_plans;
 
-pub use bare::Bare;
-pub use compacting::{Next, NextUpgraded};
-pub use fault::{NextFault, ReadFault};
+pub use compacting::{NextCheckpoint, NextUpgraded};
+pub use fault::{NextFault, PagedFault};
 pub use state::Paged;
+pub use without_plans::WithoutPlans;

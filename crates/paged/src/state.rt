@@ -3,16 +3,16 @@
 ghost use Rattle.std.specs.Prelude.{◌≡◌};
 ghost use Rattle.paged.specs.Paged.{root_of};
 
+use decoded::Core;
 use names::Rules;
-use recovery::Core;
 use roots::Root;
-use snapshots::Stock;
+use snapshots::ObjectCache;
 
 /// The objects of a store: those of its last checkpoint lie in pages, and what was put or removed since, policies and bindings are held in memory.
 #[derive(Drop)]
 pub struct Paged {
     pub(crate) core: Core,
-    pub(crate) stock: Stock,
+    pub(crate) cache: ObjectCache,
 }
 
 impl Paged {
@@ -20,7 +20,7 @@ impl Paged {
     pub fn root(&self) -> &Root
         ensures { result.now ≡ root_of self.now }
     {
-        self.stock.root()
+        self.cache.root()
     }
 
     /// The revision of the last write, 1 where there was none.

@@ -7,7 +7,7 @@ use Rattle.std.proofs.Math.Seq.{take-append_seam}
 use Rattle.instructions.specs.declared.fault.CodeFault.TheVariants as fault
 use Rattle.instructions.specs.Op.{Op}
 use Rattle.instructions.specs.Faults.{◌>>=◌}
-use Rattle.instructions.specs.Judging.{takes, targets, Arrival, Body, comes_to, height_at, has_one, left, goes_past, is_fair, are_fair, is_named, goes_on, opens, judged, step, judge, ended}
+use Rattle.instructions.specs.Judging.{takes, targets, Arrival, OpenBody, comes_to, height_at, has_one, left, goes_past, is_fair, are_fair, is_named, goes_on, opens, judged, step, judge, ended}
 use Rattle.instructions.specs.WellFormed.{Among}
 use Rattle.instructions.proofs.Arrivals.{among_left, among_right, among_either, filtered, among_filter, not_true}
 use Rattle.instructions.proofs.Converse.{and_true, agreed}
@@ -91,17 +91,17 @@ height_here at h further awaited ahead same =
 
 -- ---- one instruction
 
-not_left : (at : ℕ) (b : Body) (os : List Body) → at < b.end → left at b os ≡ Ok (b, os)
+not_left : (at : ℕ) (b : OpenBody) (os : List OpenBody) → at < b.end → left at b os ≡ Ok (b, os)
 not_left at b [] lt = refl
 not_left at b (o ∷ os) lt =
     let other : (b.end == at) ≡ false = grind (arith, nat_tests) in
     ap (λ t. cond t (cond (has_one at b) (left at o os) (Err fault.BadStack)) (Ok (b, o ∷ os))) other
 
-pub is_judged : (vars at end h : ℕ) (op : Op) (further awaited : List Arrival) (rest : List Op) (outer : List Body) → at < end → Ahead (at + 1) further → are_fair at end rest (targets op) ≡ true
+pub is_judged : (vars at end h : ℕ) (op : Op) (further awaited : List Arrival) (rest : List Op) (outer : List OpenBody) → at < end → Ahead (at + 1) further → are_fair at end rest (targets op) ≡ true
     → is_named vars (length outer) op ≡ true → takes op ≤ h → Same awaited (come at h ∷ further)
     → step vars at op rest (record { end = end; awaited = awaited }) outer ≡ Ok (opens op at (goes_on op at h (record { end = end; awaited = awaited })) outer)
 is_judged vars at end h op further awaited rest outer lt ahead fair named enough same =
-    let b : Body = record { end = end; awaited = awaited } in
+    let b : OpenBody = record { end = end; awaited = awaited } in
     ap (λ r. r >>= λ x. judged vars at op rest x.0 x.1) (not_left at b outer lt)
     ∙ judged_is vars at h op rest b outer fair named (height_here at h further awaited ahead same) enough
 
@@ -118,12 +118,12 @@ pub all_both : (p : Op → Bool) (a b : List Op) → list_all p a ≡ true → l
 all_both p a b e f = list_all-append p a b ∙ and_true (list_all p a) (list_all p b) e f
 
 -- a body that ends here with one outcome is left
-left_one : (at : ℕ) (b o : Body) (os : List Body) → b.end ≡ at → has_one at b ≡ true → left at b (o ∷ os) ≡ left at o os
+left_one : (at : ℕ) (b o : OpenBody) (os : List OpenBody) → b.end ≡ at → has_one at b ≡ true → left at b (o ∷ os) ≡ left at o os
 left_one at b o os e one =
     ap (λ t. cond t (cond (has_one at b) (left at o os) (Err fault.BadStack)) (Ok (b, o ∷ os))) (eq-eqb _ _ e)
     ∙ ap (λ t. cond t (left at o os) (Err fault.BadStack)) one
 
-pub left_after : (vars at : ℕ) (b o : Body) (os : List Body) (ops : List Op) → b.end ≡ at → has_one at b ≡ true → judge vars at ops b (o ∷ os) ≡ judge vars at ops o os
+pub left_after : (vars at : ℕ) (b o : OpenBody) (os : List OpenBody) (ops : List Op) → b.end ≡ at → has_one at b ≡ true → judge vars at ops b (o ∷ os) ≡ judge vars at ops o os
 left_after vars at b o os [] e one = ap (λ r. r >>= λ x. ended at x) (left_one at b o os e one)
 left_after vars at b o os (op ∷ ops) e one =
     ap (λ r. (r >>= λ x. judged vars at op ops x.0 x.1) >>= λ y. judge vars (at + 1) ops y.0 y.1) (left_one at b o os e one)

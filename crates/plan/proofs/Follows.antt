@@ -25,7 +25,7 @@ use Rattle.instructions.specs.declared.instruction.Slot.{Slot}
 use Rattle.plan.specs.Names.{Names, bind, slot_of, declared_name, slot_or, place_of}
 use Rattle.plan.specs.Tables.{infix_op, between, steps_between, function_named, method_named}
 use Rattle.plan.specs.Compilation.{count, pair_count, size, size_of_items, size_of_pairs, compiled, compiled_items, compiled_pairs}
-use Rattle.planmachine.specs.Machine.{World, or_missing, slot_value, top, in_pairs, Next, step, step_if, exec}
+use Rattle.instructions.specs.Machine.{World, or_missing, slot_value, top, in_pairs, Next, step, step_if, exec}
 use Rattle.plan.specs.Correct.{spelled, names_of, RunsAsMeant}
 use Rattle.plan.proofs.Lengths.{length-between, length-compiled, length-compiled_items, length-compiled_pairs}
 use Rattle.plan.proofs.Typed.{IsKnown, HasCode, HaveCode, KeysHaveCode, ValuesHaveCode, has_code, names_in}

@@ -9,7 +9,7 @@ use Rattle.celmean.specs.Value.{Value, Outcome, Gives}
 use Rattle.celmean.specs.Meaning as meaning
 use Rattle.celmean.specs.Meaning.{Environment, bound}
 use Rattle.plan.specs.Names.{Names, bind, slot_inside, slot_of, place_of}
-use Rattle.planmachine.specs.Machine.{World, or_missing, slot_value}
+use Rattle.instructions.specs.Machine.{World, or_missing, slot_value}
 use Rattle.plan.specs.Correct.{spelled, IsWorldOf}
 
 -- Macro variables stand for the items, declared names and variables for the world's.

@@ -7,7 +7,7 @@ use Rattle.celtree.specs.declared.tree.Macro.{Macro}
 use Rattle.instructions.specs.declared.fault.CodeFault.TheVariants as fault
 use Rattle.instructions.specs.Op.{Op, IfFalse, IfTrue, Branch, Jump, Over}
 use Rattle.instructions.specs.Faults.{◌>>=◌}
-use Rattle.instructions.specs.Judging.{takes, targets, Arrival, arrivals, Body, comes_to, is_one, goes_past, is_fair, are_fair, is_named, goes_on, opens, judge, first_fault}
+use Rattle.instructions.specs.Judging.{takes, targets, Arrival, arrivals, OpenBody, comes_to, is_one, goes_past, is_fair, are_fair, is_named, goes_on, opens, judge, first_fault}
 use Rattle.instructions.proofs.Converse.{and_true}
 use Rattle.plan.proofs.Arriving.{come, same_come, Same, same_itself, same_over, once_only, swapped, one_more, Ahead, none_ahead, ahead_too, ahead_before, comes_next, height_here, is_judged, fair_to, all_both, left_after, ends_before}
 
@@ -15,7 +15,7 @@ use Rattle.plan.proofs.Arriving.{come, same_come, Same, same_itself, same_over, 
 pub record IsPlain (op : Op) : Type 0 where
   pub targets_are : targets op ≡ []
   pub leads : (at h : ℕ) → arrivals op at h ≡ come (at + 1) (h - takes op + 1) ∷ []
-  pub opens_none : (at : ℕ) (b : Body) (os : List Body) → opens op at b os ≡ (b, os)
+  pub opens_none : (at : ℕ) (b : OpenBody) (os : List OpenBody) → opens op at b os ≡ (b, os)
   pub clear : (place : ℕ) → not (goes_past place op) ≡ true
 
 abbrev pub is_plain : Op → Bool
@@ -43,7 +43,7 @@ plainly op e = record {
 pub record IsTest (op : Op) (to : ℕ) : Type 0 where
   pub targets_are : targets op ≡ to ∷ []
   pub leads : (at h : ℕ) → arrivals op at h ≡ come to h ∷ come (at + 1) h ∷ []
-  pub opens_none : (at : ℕ) (b : Body) (os : List Body) → opens op at b os ≡ (b, os)
+  pub opens_none : (at : ℕ) (b : OpenBody) (os : List OpenBody) → opens op at b os ≡ (b, os)
   pub clear : (place : ℕ) → not (goes_past place op) ≡ true
   pub named : (vars depth : ℕ) → is_named vars depth op ≡ true
   pub takes_one : takes op ≡ 1
@@ -80,26 +80,26 @@ branch_fair at end other to first second rest long longer le clear all_clear =
 
 module _ (vars : ℕ) where
   -- From this place on the pass meets no fault: the innermost body ends there, these arrivals are awaited in it, and those bodies are around it.
-  pub record Passes (at : ℕ) (ops : List Op) (end : ℕ) (awaited : List Arrival) (outer : List Body) : Type 0 where
+  pub record Passes (at : ℕ) (ops : List Op) (end : ℕ) (awaited : List Arrival) (outer : List OpenBody) : Type 0 where
     pub is : judge vars at ops (record { end = end; awaited = awaited }) outer ≡ Ok tt
 
-  passes_in : (at : ℕ) (a b : List Op) (end : ℕ) (awaited : List Arrival) (outer : List Body) → a ≡ b → Passes at a end awaited outer → Passes at b end awaited outer
+  passes_in : (at : ℕ) (a b : List Op) (end : ℕ) (awaited : List Arrival) (outer : List OpenBody) → a ≡ b → Passes at a end awaited outer → Passes at b end awaited outer
   passes_in at a b end awaited outer e p = subst (λ (l : List Op). Passes at l end awaited outer) e p
 
   -- an instruction that opens no body
-  acts : (at to end h : ℕ) (op : Op) (further after awaited : List Arrival) (rest : List Op) (outer : List Body) → at + 1 ≡ to → to ≤ end → Ahead to further
-      → are_fair at end rest (targets op) ≡ true → is_named vars (length outer) op ≡ true → takes op ≤ h → ((b : Body) (os : List Body) → opens op at b os ≡ (b, os))
+  acts : (at to end h : ℕ) (op : Op) (further after awaited : List Arrival) (rest : List Op) (outer : List OpenBody) → at + 1 ≡ to → to ≤ end → Ahead to further
+      → are_fair at end rest (targets op) ≡ true → is_named vars (length outer) op ≡ true → takes op ≤ h → ((b : OpenBody) (os : List OpenBody) → opens op at b os ≡ (b, os))
       → Same awaited (come at h ∷ further) → Same (arrivals op at h ++ further) after → ((now : List Arrival) → Same now after → Passes to rest end now outer)
       → Passes at (op ∷ rest) end awaited outer
   acts at to end h op further after awaited rest outer next le ahead fair named enough plain same on then =
-      let b : Body = record { end = end; awaited = awaited } in
+      let b : OpenBody = record { end = end; awaited = awaited } in
       let leads = arrivals op at h in
       let more = filter (λ a. not (comes_to at a)) awaited ++ leads in
       let near = ahead_before (at + 1) to further (omega (arith, next)) ahead in
       let judged = is_judged vars at end h op further awaited rest outer (omega arith) near fair named enough same in
       let p = then more (same_over more (leads ++ further) after (comes_next at h further awaited leads near same) on) in
       record {
-        is = ap (λ r. r >>= λ y. judge vars (at + 1) rest y.0 y.1) (judged ∙ ap (λ (x : Body × List Body). Ok x) (plain (goes_on op at h b) outer))
+        is = ap (λ r. r >>= λ y. judge vars (at + 1) rest y.0 y.1) (judged ∙ ap (λ (x : OpenBody × List OpenBody). Ok x) (plain (goes_on op at h b) outer))
             ∙ ap (λ (n : ℕ). judge vars n rest (record { end = end; awaited = more }) outer) next ∙ p.is;
       }
 
@@ -108,7 +108,7 @@ module _ (vars : ℕ) where
     pub long : at + length ops ≡ to
     -- no macro of it leads further
     pub clear : (place : ℕ) → to ≤ place → list_all (λ op. not (goes_past place op)) ops ≡ true
-    pub by : (end : ℕ) (further awaited : List Arrival) (rest : List Op) (outer : List Body) → length outer ≡ depth → to ≤ end → Ahead to further
+    pub by : (end : ℕ) (further awaited : List Arrival) (rest : List Op) (outer : List OpenBody) → length outer ≡ depth → to ≤ end → Ahead to further
         → Same awaited (come at h ∷ further) → ((now : List Arrival) → Same now (come to k ∷ further) → Passes to rest end now outer)
         → Passes at (ops ++ rest) end awaited outer
 
@@ -167,7 +167,7 @@ module _ (vars : ℕ) where
   }
 
   -- the first branch of `?:` is left, and control comes to the second
-  jumped : (depth at from to end h : ℕ) (second : List Op) (further awaited : List Arrival) (rest : List Op) (outer : List Body) → at + 1 ≡ from → Leads depth from second h to (h + 1)
+  jumped : (depth at from to end h : ℕ) (second : List Op) (further awaited : List Arrival) (rest : List Op) (outer : List OpenBody) → at + 1 ≡ from → Leads depth from second h to (h + 1)
       → length outer ≡ depth → to ≤ end → Ahead to further → Same awaited (come at (h + 1) ∷ come from h ∷ come to (h + 1) ∷ further)
       → ((now : List Arrival) → Same now (come to (h + 1) ∷ further) → Passes to rest end now outer) → Passes at (Jump to ∷ (second ++ rest)) end awaited outer
   jumped depth at from to end h second further awaited rest outer next side deep le ahead same then =
@@ -203,14 +203,14 @@ module _ (vars : ℕ) where
       }
 
   -- where the innermost body ends with one outcome, the pass goes on in the one around it
-  leaves : (at end : ℕ) (now awaited : List Arrival) (rest : List Op) (outer : List Body) → Same now (come at 1 ∷ []) → Passes at rest end awaited outer
+  leaves : (at end : ℕ) (now awaited : List Arrival) (rest : List Op) (outer : List OpenBody) → Same now (come at 1 ∷ []) → Passes at rest end awaited outer
       → Passes at rest at now (record { end = end; awaited = awaited } ∷ outer)
   leaves at end now awaited rest outer same p =
       let one = ap is_one (height_here at 1 [] now (none_ahead (at + 1)) same) in
       record { is = left_after vars at (record { end = at; awaited = now }) (record { end = end; awaited = awaited }) outer rest refl one ∙ p.is }
 
   -- the body of a macro, with the body around it
-  enters : (deeper from to end : ℕ) (body rest : List Op) (more : List Arrival) (outer : List Body) → length outer + 1 ≡ deeper → Leads deeper from body 0 to 1 → Passes to rest end more outer
+  enters : (deeper from to end : ℕ) (body rest : List Op) (more : List Arrival) (outer : List OpenBody) → length outer + 1 ≡ deeper → Leads deeper from body 0 to 1 → Passes to rest end more outer
       → Passes from (body ++ rest) to (come from 0 ∷ []) (record { end = end; awaited = more } ∷ outer)
   enters deeper from to end body rest more outer deep inside p =
       inside.by to [] (come from 0 ∷ []) rest (record { end = end; awaited = more } ∷ outer) (omega (arith, deep)) (omega arith) (none_ahead to) (same_itself (come from 0 ∷ []))

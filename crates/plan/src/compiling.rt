@@ -393,6 +393,8 @@ fn code_of_pair(
 /// The instructions of a tree that has a type under the declarations, and is no larger than a text of 4096 bytes can spell, with
 /// macros at most two deep. The plan is well formed for a place with the declared variables.
 ///
+/// `celread` reads no other tree (`cellaws::read_trees_are_small`), and no policy declares more than 65,535 variables.
+///
 /// The plan has bytes: two for the number of its instructions, at most 16 for each node of the tree, and those of the tree's strings
 /// and field names.
 ///

@@ -1,3 +1,5 @@
 pub mod Counting
 pub mod Codes
 pub mod Copies
+pub mod Lists
+pub mod Progress

@@ -1,6 +1,6 @@
-//! Laws of the bytes of plans.
+//! Laws of the bytes of plans, and of lists of them.
 
-ghost use Rattle.plancode.specs.Laws.{OneSpelling, DecodesItsCode, FirstFaults};
+ghost use Rattle.plancode.specs.Laws.{OneSpelling, DecodesItsCode, FirstFaults, OneList};
 
 /// A law: plans with the same bytes are the same.
 pub fn one_spelling()
@@ -15,4 +15,9 @@ pub fn decodes_its_code()
 /// A law: a table of bytes, and the first fault of each.
 pub fn first_faults()
     ensures { FirstFaults }
+{}
+
+/// A law: plans for the same places with the same bytes are the same.
+pub fn one_list()
+    ensures { OneList }
 {}

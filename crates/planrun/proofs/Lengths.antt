@@ -6,9 +6,9 @@ use Rattle.instructions.specs.declared.instruction.Function.{Function}
 use Rattle.instructions.specs.declared.instruction.Function.TheVariants as function
 use Rattle.instructions.specs.Op.{Op, PushInt, PushUint, PushText, PushTruth, PushNull, PushName, PushVariable, PushSlot, TakeField, TakeHas, TakeIndex, TakeItems, TakePairs, TakeUnary, TakeBinary, TakeCall, TakeBoth, TakeEither, IfFalse, IfTrue, Branch, Jump, Over}
 use Rattle.instructions.specs.Judging.{takes, targets, operand_count}
-use Rattle.planmachine.specs.Machine.{World, after, on_one, on_two, on_call}
-use Rattle.planstack.specs.declared.held.Held.{Held}
-use Rattle.planstack.specs.Seen.{held_seen, stack_seen}
+use Rattle.instructions.specs.Machine.{World, after, on_one, on_two, on_call}
+use Rattle.planrun.specs.declared.held.Held.{Held}
+use Rattle.planrun.specs.StackSeen.{held_seen, stack_seen}
 use Rattle.planrun.specs.Running.{Leads}
 
 -- a stack holds as many outcomes as it stands for

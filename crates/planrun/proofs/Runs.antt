@@ -10,7 +10,7 @@ use Rattle.instructions.specs.declared.instruction.Instruction.{Instruction}
 use Rattle.instructions.specs.Op.{Op}
 use Rattle.instructions.specs.Seen.{op_of, ops_of}
 use Rattle.instructions.specs.WellFormed.{Comes, begins}
-use Rattle.planmachine.specs.Machine.{World, top, step_if, exec, outcome}
+use Rattle.instructions.specs.Machine.{World, top, step_if, exec, outcome}
 use Rattle.plan.proofs.Follows.{code_means}
 use Rattle.planrun.specs.declared.machine.Machine.{Machine}
 use Rattle.planrun.specs.Results.{IsRunOf}

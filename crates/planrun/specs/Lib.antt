@@ -3,3 +3,5 @@ pub mod Worlds
 pub mod Running
 pub mod Deciding
 pub mod Results
+pub mod Documents
+pub mod StackSeen

@@ -7,7 +7,7 @@ use Rattle.celtypes.specs.Typing.{Scope}
 use Rattle.instructions.specs.Op.{Op}
 use Rattle.plan.specs.Compilation.{compiled}
 use Rattle.plan.specs.Correct.{IsWorldOf, names_of}
-use Rattle.planmachine.specs.Machine.{World}
+use Rattle.instructions.specs.Machine.{World}
 use Rattle.plan.specs.Seen.{HasSomeType}
 
 -- It is the code of an expression that has a type in a scope outside all macros, whose macros nest at most two deep; and the machine's names stand

@@ -5,7 +5,7 @@ use Rattle.instructions.specs.Op.{Op}
 use Rattle.instructions.specs.Seen.{ops_of}
 use Rattle.instructions.specs.Judging.{arrivals}
 use Rattle.instructions.specs.WellFormed.{Among, Comes, IsWellFormed}
-use Rattle.planmachine.specs.Machine.{World, Next, exec}
+use Rattle.instructions.specs.Machine.{World, Next, exec}
 use Rattle.planrun.specs.Seen.{slots_seen}
 use Rattle.planrun.specs.Worlds.{world_of}
 use Rattle.planrun.specs.declared.machine.Machine.{Machine}

@@ -3,14 +3,14 @@
 ghost use Rattle.std.specs.Prelude.{◌≡◌, ◌+◌, ◌<◌, [], ◌∷◌, ◌++◌, length, slice_get, Some, IfOk};
 ghost use Rattle.celmean.specs.Seen.{value_of, outcome_of, outcomes_seen};
 ghost use Rattle.instructions.specs.Bytes.{slot_number};
-ghost use Rattle.planmachine.specs.Machine.{or_missing, slot_value};
-ghost use Rattle.planstack.specs.Seen.{held_seen};
+ghost use Rattle.instructions.specs.Machine.{or_missing, slot_value};
+ghost use Rattle.planrun.specs.StackSeen.{held_seen};
 ghost use Rattle.planrun.specs.Seen.{slots_seen};
 ghost use Rattle.planrun.specs.Worlds.{name_seen};
 
+use crate::held::Held;
 use celmean::{Outcome, Value};
 use instructions::{Name, Slot};
-use planstack::Held;
 use serde_json::Value as Json;
 use std::alloc::{AllocError, Global};
 

@@ -10,8 +10,8 @@ ghost use Rattle.instructions.specs.Bytes.{slot_number};
 ghost use Rattle.instructions.specs.Op.{Branch, Over};
 ghost use Rattle.instructions.specs.Judging.{takes, targets, is_named};
 ghost use Rattle.instructions.specs.Seen.{op_of};
-ghost use Rattle.planmachine.specs.Machine.{Next, World, top, or_missing, slot_value, after, step, step_if, outcome};
-ghost use Rattle.planstack.specs.Seen.{stack_seen};
+ghost use Rattle.instructions.specs.Machine.{Next, World, top, or_missing, slot_value, after, step, step_if, outcome};
+ghost use Rattle.planrun.specs.StackSeen.{stack_seen};
 ghost use Rattle.planrun.specs.Seen.{slots_seen};
 ghost use Rattle.planrun.specs.Worlds.{world_of};
 ghost use Rattle.planrun.specs.Results.{IsRunOf};
@@ -19,15 +19,16 @@ ghost use Rattle.planrun.specs.Deciding.{decides};
 ghost use Rattle.planrun.specs.Running.{items_of, world, ops, vars, depth, next_of, IsReady, IsAt, IsAtOp, BeginsBody, Leads};
 
 use crate::bound::{Bindings, Slots, item_of, named, variable, with_item};
+use crate::held::{Held, into_outcome, is_false, is_true};
+use crate::operations::{
+    take_binary, take_call, take_connected, take_field, take_has, take_index, take_list, take_map,
+    take_unary,
+};
+use crate::stack::{pop, push, put, take_top, topmost};
 use celmean::{LONGEST_RANGE, Outcome, Value, list_items, range_of, reduced};
 use celtree::Macro;
-use instructions::{Instruction, Slot};
+use instructions::{Connective, Instruction, Slot};
 use plancode::Verified;
-use planmachine::Connective;
-use planstack::{
-    Held, into_outcome, is_false, is_true, pop, push, put, take_binary, take_call, take_connected,
-    take_field, take_has, take_index, take_list, take_map, take_top, take_unary, topmost,
-};
 use std::alloc::{AllocError, Global};
 
 /// What instructions are run with.

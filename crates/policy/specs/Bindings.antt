@@ -3,8 +3,8 @@ use Rattle.std.specs.Prelude.{◌∷◌, [], codes, Option, Some, None, option_m
 use Rattle.serde_json.specs.Data.{Data}
 use Rattle.serde_json.specs.Find.{get, as_str}
 use Rattle.names.specs.Name.{is_name}
-use Rattle.denials.specs.declared.asked.Action.{Action}
-use Rattle.denials.specs.declared.asked.Action.TheVariants as action
+use Rattle.policy.specs.declared.binding.Action.{Action}
+use Rattle.policy.specs.declared.binding.Action.TheVariants as action
 use Rattle.policy.specs.declared.params.NotFound.{NotFound}
 use Rattle.policy.specs.declared.params.NotFound.TheVariants as not_found
 use Rattle.policy.specs.Forms.{given, provided, has_only, field, perhaps, optional, list_of, choice, spec_of, only}

@@ -5,3 +5,4 @@ pub mod Forms
 pub mod MatchRules
 pub mod Policies
 pub mod Spec
+pub mod Validation

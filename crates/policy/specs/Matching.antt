@@ -17,7 +17,7 @@ use Rattle.policy.specs.declared.match_rules.OperationEntry.TheVariants.{Any, Ex
 use Rattle.policy.specs.declared.match_rules.RuleScope.{RuleScope}
 use Rattle.policy.specs.declared.match_rules.RuleScope.TheVariants.{Cluster, Namespaced, Every}
 use Rattle.documents.specs.Requirement.{Requirement}
-use Rattle.policy.specs.Rules.{Entry, any, exactly, Rule, MatchRules, Attempt}
+use Rattle.policy.specs.Rules.{RuleEntry, any, exactly, Rule, MatchRules, Attempt}
 use Rattle.documents.specs.Selecting.{is_among, selects}
 
 -- ---- the parts of a rule
@@ -34,7 +34,7 @@ is_operation operation Any = true
 is_operation operation (Exactly wanted) = are_same operation wanted
 
 -- the entry is this text, or `*`
-abbrev pub is_text : List ℕ → Entry → Bool
+abbrev pub is_text : List ℕ → RuleEntry → Bool
 is_text text any = true
 is_text text (exactly wanted) = bytes_eq text wanted
 
@@ -43,7 +43,7 @@ abbrev pub holds_operation : List OperationEntry → Operation → Bool
 holds_operation entries operation = list_any (is_operation operation) entries
 
 -- the list holds this text, or `*`
-abbrev pub holds_text : List Entry → List ℕ → Bool
+abbrev pub holds_text : List RuleEntry → List ℕ → Bool
 holds_text entries text = list_any (is_text text) entries
 
 -- the name is one of these, or there are none

@@ -8,37 +8,37 @@ use Rattle.names.specs.declared.resource.Resource.{Resource}
 use Rattle.celtokens.specs.Word.{is_identifier}
 use Rattle.policy.specs.Matching.{is_parameter}
 use Rattle.policy.specs.Rules.{MatchRules}
-use Rattle.denials.specs.declared.asked.FailurePolicy.{FailurePolicy}
-use Rattle.denials.specs.declared.asked.FailurePolicy.TheVariants.{Fail, Ignore}
-use Rattle.denials.specs.declared.asked.Reason.{Reason}
-use Rattle.denials.specs.declared.asked.Reason.TheVariants.{Unauthorized, Forbidden, Invalid, RequestEntityTooLarge}
+use Rattle.policy.specs.declared.policy.FailurePolicy.{FailurePolicy}
+use Rattle.policy.specs.declared.policy.FailurePolicy.TheVariants.{Fail, Ignore}
+use Rattle.policy.specs.declared.validation.Reason.{Reason}
+use Rattle.policy.specs.declared.validation.Reason.TheVariants.{Unauthorized, Forbidden, Invalid, RequestEntityTooLarge}
 use Rattle.policy.specs.Forms.{Text, given, provided, has_only, field, perhaps, optional, list_of, filled_list_of, choice, spec_of, are_distinct}
 use Rattle.policy.specs.MatchRules.{match_rules_of}
-use Rattle.policy.specs.Spec.{Named, Policy}
-use Rattle.denials.specs.Validation.{Validation}
+use Rattle.policy.specs.Spec.{NamedExpression, Policy}
+use Rattle.policy.specs.Validation.{Validation}
 
 -- ---- match conditions and variables
 
 -- a MatchCondition or a Variable
-abbrev pub named_of : Data → Option Named
+abbrev pub named_of : Data → Option NamedExpression
 named_of d =
     provided (has_only (codes "name" ∷ codes "expression" ∷ []) d)
     (given (field (codes "name") as_str d) (λ name.
     given (field (codes "expression") as_str d) (λ expression.
     Some (record { name = name; expression = expression }))))
 
-abbrev pub names_of : List Named → List Text
+abbrev pub names_of : List NamedExpression → List Text
 names_of ns = map (λ n. n.name) ns
 
 abbrev pub is_filled : Text → Bool
 is_filled text = not (length text == 0)
 
 -- their names are distinct and not empty
-abbrev pub are_conditions : List Named → Bool
+abbrev pub are_conditions : List NamedExpression → Bool
 are_conditions ns = list_all is_filled (names_of ns) && are_distinct (names_of ns)
 
 -- their names are distinct identifiers
-abbrev pub are_variables : List Named → Bool
+abbrev pub are_variables : List NamedExpression → Bool
 are_variables ns = list_all is_identifier (names_of ns) && are_distinct (names_of ns)
 
 -- ---- validations

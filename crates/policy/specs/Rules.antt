@@ -5,8 +5,8 @@ use Rattle.serde_json.specs.View.{view}
 use Rattle.names.specs.Key.{Key}
 use Rattle.documents.specs.Requirement.{Requirement, requirement_seen}
 use Rattle.policy.specs.declared.attempt.Attempt as code_attempt
-use Rattle.policy.specs.declared.match_rules.Entry as code_entry
-use Rattle.policy.specs.declared.match_rules.Entry.TheVariants.{Any, Exactly}
+use Rattle.policy.specs.declared.match_rules.RuleEntry as code_entry
+use Rattle.policy.specs.declared.match_rules.RuleEntry.TheVariants.{Any, Exactly}
 use Rattle.policy.specs.declared.match_rules.MatchRules as code_match_rules
 use Rattle.policy.specs.declared.match_rules.Operation.{Operation}
 use Rattle.policy.specs.declared.match_rules.OperationEntry.{OperationEntry}
@@ -14,18 +14,18 @@ use Rattle.policy.specs.declared.match_rules.Rule as code_rule
 use Rattle.policy.specs.declared.match_rules.RuleScope.{RuleScope}
 
 -- the texts that an entry of a rule stands for
-pub data Entry : Type 0 where
+pub data RuleEntry : Type 0 where
   -- every text, written `*`
-  any : Entry
+  any : RuleEntry
   -- this one
-  exactly : (value : List ℕ) → Entry
+  exactly : (value : List ℕ) → RuleEntry
 
 -- a rule on writes: the operations, the resources by group, version and plural, the names of objects, and the scope
 pub record Rule : Type 0 where
   pub operations : List OperationEntry
-  pub groups : List Entry
-  pub versions : List Entry
-  pub resources : List Entry
+  pub groups : List RuleEntry
+  pub versions : List RuleEntry
+  pub resources : List RuleEntry
   pub names : List (List ℕ)
   pub scope : RuleScope
 
@@ -47,7 +47,7 @@ pub record Attempt : Type 0 where
 
 -- ---- what the code's types stand for
 
-abbrev pub entry_seen : code_entry.Entry → Entry
+abbrev pub entry_seen : code_entry.RuleEntry → RuleEntry
 entry_seen Any = any
 entry_seen (Exactly value) = exactly (string_bytes value)
 

@@ -3,22 +3,22 @@ use Rattle.std.specs.Prelude.{List, Option, map, option_map, string_bytes}
 use Rattle.names.specs.declared.resource.Resource.{Resource}
 use Rattle.documents.specs.Requirement.{Requirement, requirement_seen}
 use Rattle.policy.specs.Rules.{MatchRules, match_rules_seen}
-use Rattle.denials.specs.declared.asked.Action.{Action}
+use Rattle.policy.specs.declared.binding.Action.{Action}
 use Rattle.policy.specs.declared.binding.Binding as code_binding
 use Rattle.policy.specs.declared.params.NotFound.{NotFound}
 use Rattle.policy.specs.declared.params.ParamRef as code_param_ref
 use Rattle.policy.specs.declared.params.Wanted as code_wanted
 use Rattle.policy.specs.declared.params.Wanted.TheVariants.{ByName, BySelector}
-use Rattle.denials.specs.declared.asked.FailurePolicy.{FailurePolicy}
+use Rattle.policy.specs.declared.policy.FailurePolicy.{FailurePolicy}
 use Rattle.policy.specs.declared.policy.Policy as code_policy
-use Rattle.policy.specs.declared.named.Named as code_named
-use Rattle.denials.specs.Validation.{Validation, validation_seen}
+use Rattle.policy.specs.declared.named.NamedExpression as code_named
+use Rattle.policy.specs.Validation.{Validation, validation_seen}
 use Rattle.policy.specs.Forms.{Text}
 
 -- ---- policies
 
 -- a match condition or a variable
-pub record Named : Type 0 where
+pub record NamedExpression : Type 0 where
   pub name : Text
   pub expression : Text
 
@@ -27,8 +27,8 @@ pub record Policy : Type 0 where
   -- of which resource the parameters are, if there are any
   pub param_kind : Option Resource
   pub constraints : MatchRules
-  pub conditions : List Named
-  pub variables : List Named
+  pub conditions : List NamedExpression
+  pub variables : List NamedExpression
   pub validations : List Validation
 
 -- ---- bindings
@@ -53,7 +53,7 @@ pub record Binding : Type 0 where
 
 -- ---- what the code's types stand for
 
-abbrev pub named_seen : code_named.Named → Named
+abbrev pub named_seen : code_named.NamedExpression → NamedExpression
 named_seen n = record { name = string_bytes n.name; expression = string_bytes n.expression }
 
 abbrev pub policy_seen : code_policy.Policy → Policy

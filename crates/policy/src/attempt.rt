@@ -10,7 +10,7 @@ ghost use Rattle.policy.specs.Rules.{attempt_seen, entry_seen, match_rules_seen,
 ghost use Rattle.documents.specs.Requirement.{requirement_seen};
 ghost use Rattle.documents.specs.Selecting.{selects};
 
-use crate::match_rules::{Entry, MatchRules, Operation, OperationEntry, Rule, RuleScope};
+use crate::match_rules::{MatchRules, Operation, OperationEntry, Rule, RuleEntry, RuleScope};
 use documents::{Requirement, is_among, selects};
 use names::{Key, Resource, Scope};
 use serde_json::Value;
@@ -166,19 +166,19 @@ fn holds_operation(entries: &[OperationEntry], operation: Operation) -> bool
 }
 
 // Whether the list holds the text, or `*`.
-fn holds_text(entries: &[Entry], text: &str) -> bool
+fn holds_text(entries: &[RuleEntry], text: &str) -> bool
     ensures { result ≡ holds_text (map entry_seen entries.now) text.now }
 {
     entries.iter().any(|entry| is_text(entry, text))
 }
 
 // Whether the entry is the text, or `*`.
-fn is_text(entry: &Entry, text: &str) -> bool
+fn is_text(entry: &RuleEntry, text: &str) -> bool
     ensures { result ≡ is_text text.now (entry_seen entry.now) }
 {
     match entry {
-        Entry::Any => true,
-        Entry::Exactly(wanted) => text == wanted.as_str(),
+        RuleEntry::Any => true,
+        RuleEntry::Exactly(wanted) => text == wanted.as_str(),
     }
 }
 

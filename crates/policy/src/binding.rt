@@ -14,7 +14,6 @@ use crate::form::{
 };
 use crate::match_rules::MatchRules;
 use crate::params::ParamRef;
-use denials::Action;
 use names::check_name;
 use serde_json::Value as Json;
 use std::alloc::{AllocError, Global};
@@ -57,9 +56,18 @@ impl Binding {
     }
 }
 
+/// What becomes of a write that a policy denies.
+#[derive(Clone, Copy)]
+pub enum Action {
+    /// It is refused.
+    Deny,
+    /// Its reply has a warning.
+    Warn,
+}
+
 impl Form for Action {
     ghost use Rattle.policy.specs.Bindings.{action_of};
-    ghost use Rattle.denials.specs.declared.asked.Action.{Action};
+    ghost use Rattle.policy.specs.declared.binding.Action.{Action};
 
     ghost Spelled = { Action };
 

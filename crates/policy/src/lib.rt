@@ -34,8 +34,9 @@ mod selector;
 mod validation;
 
 pub use attempt::{Attempt, is_guarded, matches};
-pub use binding::Binding;
-pub use match_rules::{Entry, MatchRules, Operation, OperationEntry, Rule, RuleScope};
-pub use named::Named;
+pub use binding::{Action, Binding};
+pub use match_rules::{MatchRules, Operation, OperationEntry, Rule, RuleEntry, RuleScope};
+pub use named::NamedExpression;
 pub use params::{NotFound, ParamRef, Wanted};
-pub use policy::Policy;
+pub use policy::{FailurePolicy, Policy};
+pub use validation::{Reason, Validation};

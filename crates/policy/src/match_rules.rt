@@ -26,7 +26,7 @@ pub enum OperationEntry {
 
 /// The texts that an entry of a rule stands for.
 #[derive(Drop)]
-pub enum Entry {
+pub enum RuleEntry {
     /// Every text, written `*`.
     Any,
     /// This one.
@@ -50,11 +50,11 @@ pub struct Rule {
     /// What the write does is one of these.
     pub operations: Vec<OperationEntry>,
     /// The API group of the resource is one of these. The core group's name is empty.
-    pub groups: Vec<Entry>,
+    pub groups: Vec<RuleEntry>,
     /// The version of the resource is one of these.
-    pub versions: Vec<Entry>,
+    pub versions: Vec<RuleEntry>,
     /// The plural of the resource is one of these.
-    pub resources: Vec<Entry>,
+    pub resources: Vec<RuleEntry>,
     /// The name of the object is one of these; where there are none, it may have any.
     pub names: Vec<String>,
     /// The scope of the resource.

@@ -15,28 +15,28 @@ use std::alloc::Global;
 
 /// A match condition or a variable.
 #[derive(Drop)]
-pub struct Named {
+pub struct NamedExpression {
     pub name: String,
     /// A text of the Common Expression Language.
     pub expression: String,
 }
 
-impl Form for Named {
+impl Form for NamedExpression {
     ghost use Rattle.policy.specs.Policies.{named_of};
     ghost use Rattle.policy.specs.Spec as spec;
     ghost use Rattle.policy.specs.Spec.{named_seen};
 
-    ghost Spelled = { spec.Named };
+    ghost Spelled = { spec.NamedExpression };
 
     ghost form_of = { named_of };
 
     ghost seen = { named_seen };
 
-    fn read(alloc: Global, part: &Json) -> Result<Named, FormFault> {
+    fn read(alloc: Global, part: &Json) -> Result<NamedExpression, FormFault> {
         if !has_only(part, &["name", "expression"]) {
             return Err(FormFault::BadForm);
         }
-        Ok(Named {
+        Ok(NamedExpression {
             name: required(alloc, part, "name")?,
             expression: required(alloc, part, "expression")?,
         })
@@ -44,20 +44,20 @@ impl Form for Named {
 }
 
 /// Whether the names are distinct and not empty.
-pub fn are_conditions(conditions: &[Named]) -> bool
+pub fn are_conditions(conditions: &[NamedExpression]) -> bool
     ensures { result ≡ are_conditions (map named_seen conditions.now) }
 {
     have_text(conditions) && are_distinct(conditions)
 }
 
 /// Whether the names are distinct identifiers.
-pub fn are_variables(variables: &[Named]) -> bool
+pub fn are_variables(variables: &[NamedExpression]) -> bool
     ensures { result ≡ are_variables (map named_seen variables.now) }
 {
     are_identifiers(variables) && are_distinct(variables)
 }
 
-fn have_text(conditions: &[Named]) -> bool
+fn have_text(conditions: &[NamedExpression]) -> bool
     ensures { result ≡ list_all is_filled (names_of (map named_seen conditions.now)) }
 {
     for condition in conditions {
@@ -68,7 +68,7 @@ fn have_text(conditions: &[Named]) -> bool
     true
 }
 
-fn are_identifiers(variables: &[Named]) -> bool
+fn are_identifiers(variables: &[NamedExpression]) -> bool
     ensures { result ≡ list_all is_identifier (names_of (map named_seen variables.now)) }
 {
     for variable in variables {
@@ -79,7 +79,7 @@ fn are_identifiers(variables: &[Named]) -> bool
     true
 }
 
-fn are_distinct(named: &[Named]) -> bool
+fn are_distinct(named: &[NamedExpression]) -> bool
     ensures { result ≡ are_distinct (names_of (map named_seen named.now)) }
 {
     let mut rest = named;
@@ -92,7 +92,7 @@ fn are_distinct(named: &[Named]) -> bool
     true
 }
 
-fn has_name(named: &[Named], name: &str) -> bool
+fn has_name(named: &[NamedExpression], name: &str) -> bool
     ensures { result ≡ is_among (names_of (map named_seen named.now)) name.now }
 {
     for other in named {

@@ -15,8 +15,8 @@ use crate::form::{
     required_filled_list, spec_of,
 };
 use crate::match_rules::MatchRules;
-use crate::named::{Named, are_conditions, are_variables};
-use denials::{FailurePolicy, Validation};
+use crate::named::{NamedExpression, are_conditions, are_variables};
+use crate::validation::Validation;
 use names::{Resource, ResourceTable};
 use serde_json::Value as Json;
 use std::alloc::{AllocError, Global};
@@ -30,9 +30,9 @@ pub struct Policy {
     /// The writes that it is for, by at least one rule.
     pub constraints: MatchRules,
     /// What must hold of a write for the policy to be asked, with distinct names.
-    pub conditions: Vec<Named>,
+    pub conditions: Vec<NamedExpression>,
     /// Expressions for variables, with distinct identifiers; later ones may use earlier ones.
-    pub variables: Vec<Named>,
+    pub variables: Vec<NamedExpression>,
     /// What must hold of a write, at least one.
     pub validations: Vec<Validation>,
 }
@@ -65,9 +65,18 @@ impl Policy {
     }
 }
 
+/// What becomes of a write where a policy cannot be evaluated.
+#[derive(Clone, Copy)]
+pub enum FailurePolicy {
+    /// It is denied.
+    Fail,
+    /// The policy lets it pass.
+    Ignore,
+}
+
 impl Form for FailurePolicy {
     ghost use Rattle.policy.specs.Policies.{failure_policy_of};
-    ghost use Rattle.denials.specs.declared.asked.FailurePolicy.{FailurePolicy};
+    ghost use Rattle.policy.specs.declared.policy.FailurePolicy.{FailurePolicy};
 
     ghost Spelled = { FailurePolicy };
 
@@ -161,11 +170,11 @@ fn constraints(alloc: Global, spec: &Json) -> Result<MatchRules, FormFault>
 }
 
 // The conditions, with distinct names.
-fn conditions(alloc: Global, spec: &Json) -> Result<Vec<Named>, FormFault>
+fn conditions(alloc: Global, spec: &Json) -> Result<Vec<NamedExpression>, FormFault>
     ensures read { IfOk result (λ v. passing are_conditions (perhaps (codes "matchConditions") (list_of named_of) [] (view spec.now)) ≡ Some (map named_seen v.items)) }
     ensures refused { IsErrOf result FormFault.BadForm → passing are_conditions (perhaps (codes "matchConditions") (list_of named_of) [] (view spec.now)) ≡ None }
 {
-    let conditions: Vec<Named> = optional_list(alloc, spec, "matchConditions")?;
+    let conditions: Vec<NamedExpression> = optional_list(alloc, spec, "matchConditions")?;
     if are_conditions(&conditions) {
         Ok(conditions)
     } else {
@@ -174,11 +183,11 @@ fn conditions(alloc: Global, spec: &Json) -> Result<Vec<Named>, FormFault>
 }
 
 // The variables, with distinct identifiers.
-fn variables(alloc: Global, spec: &Json) -> Result<Vec<Named>, FormFault>
+fn variables(alloc: Global, spec: &Json) -> Result<Vec<NamedExpression>, FormFault>
     ensures read { IfOk result (λ v. passing are_variables (perhaps (codes "variables") (list_of named_of) [] (view spec.now)) ≡ Some (map named_seen v.items)) }
     ensures refused { IsErrOf result FormFault.BadForm → passing are_variables (perhaps (codes "variables") (list_of named_of) [] (view spec.now)) ≡ None }
 {
-    let variables: Vec<Named> = optional_list(alloc, spec, "variables")?;
+    let variables: Vec<NamedExpression> = optional_list(alloc, spec, "variables")?;
     if are_variables(&variables) {
         Ok(variables)
     } else {

@@ -12,7 +12,7 @@ use crate::form::{
     Form, FormFault, choice, has_only, list, optional, optional_list, optional_or,
     required_filled_list,
 };
-use crate::match_rules::{Entry, MatchRules, Operation, OperationEntry, Rule, RuleScope};
+use crate::match_rules::{MatchRules, Operation, OperationEntry, Rule, RuleEntry, RuleScope};
 use crate::selector::Selector;
 use documents::Requirement;
 use serde_json::Value as Json;
@@ -32,21 +32,21 @@ fn is_entry(text: &str) -> bool
     text == "*" || is_plain(text)
 }
 
-impl Form for Entry {
+impl Form for RuleEntry {
     ghost use Rattle.policy.specs.Rules as rules;
     ghost use Rattle.policy.specs.Rules.{entry_seen};
     ghost use Rattle.policy.specs.MatchRules.{entry_of};
 
-    ghost Spelled = { rules.Entry };
+    ghost Spelled = { rules.RuleEntry };
 
     ghost form_of = { entry_of };
 
     ghost seen = { entry_seen };
 
-    fn read(alloc: Global, part: &Json) -> Result<Entry, FormFault> {
+    fn read(alloc: Global, part: &Json) -> Result<RuleEntry, FormFault> {
         match part.as_str() {
-            Some("*") => Ok(Entry::Any),
-            Some(text) if is_plain(text) => Ok(Entry::Exactly(String::from_str(alloc, text)?)),
+            Some("*") => Ok(RuleEntry::Any),
+            Some(text) if is_plain(text) => Ok(RuleEntry::Exactly(String::from_str(alloc, text)?)),
             _ => Err(FormFault::BadForm),
         }
     }

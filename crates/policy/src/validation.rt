@@ -1,13 +1,21 @@
 //! Validations of policies.
 
 use crate::form::{Form, FormFault, choice, has_only, optional, optional_or, required};
-use denials::{Reason, Validation};
 use serde_json::Value as Json;
 use std::alloc::Global;
 
+/// The reason of a refusal, which decides its status code.
+#[derive(Clone, Copy)]
+pub enum Reason {
+    Unauthorized,
+    Forbidden,
+    Invalid,
+    RequestEntityTooLarge,
+}
+
 impl Form for Reason {
     ghost use Rattle.policy.specs.Policies.{reason_of};
-    ghost use Rattle.denials.specs.declared.asked.Reason.{Reason};
+    ghost use Rattle.policy.specs.declared.validation.Reason.{Reason};
 
     ghost Spelled = { Reason };
 
@@ -28,10 +36,23 @@ impl Form for Reason {
     }
 }
 
+/// What must hold of a write, and what is said where it does not.
+#[derive(Drop)]
+pub struct Validation {
+    /// What must hold: a text of the Common Expression Language.
+    pub expression: String,
+    /// What is said where it does not hold.
+    pub message: Option<String>,
+    /// An expression for what is said, which goes before the message.
+    pub message_expression: Option<String>,
+    /// The reason of the refusal.
+    pub reason: Reason,
+}
+
 impl Form for Validation {
     ghost use Rattle.policy.specs.Policies.{validation_of};
-    ghost use Rattle.denials.specs.Validation as said;
-    ghost use Rattle.denials.specs.Validation.{validation_seen};
+    ghost use Rattle.policy.specs.Validation as said;
+    ghost use Rattle.policy.specs.Validation.{validation_seen};
 
     ghost Spelled = { said.Validation };
 

@@ -5,10 +5,9 @@
 //! fails, which is told on standard error.
 #![tactic(auto)]
 
-use httpmsg::write_all;
 use std::fmt::Display;
 use std::process::ExitCode;
-use store::{FileStorage, Format, Std, Storage, answer, create};
+use store::{FileStorage, Format, Std, Storage, answer, create, write_all};
 
 const STORE: &str = "store.db";
 

@@ -11,10 +11,10 @@ use Rattle.std.proofs.lemmas.Bool.{and_parts}
 use Rattle.byteorder.specs.Endian.{big_bytes}
 use Rattle.names.specs.declared.format.Rules.{Rules}
 use Rattle.names.specs.Key.{Key, key_bytes, key_cmp}
-use Rattle.objects.specs.declared.event.Event.{Event}
+use Rattle.window.specs.declared.event.Event.{Event}
 use Rattle.documents.specs.Document.{Document}
-use Rattle.requests.specs.declared.stored.Stored.{Stored}
-use Rattle.requests.specs.View.{View}
+use Rattle.histories.specs.declared.stored.Stored.{Stored}
+use Rattle.histories.specs.View.{View}
 use Rattle.pages.specs.Page.{Entry}
 use Rattle.records.specs.declared.object.StoredObject.{StoredObject}
 use Rattle.requests.specs.Codes.{document_in}

@@ -11,15 +11,15 @@ use Rattle.names.specs.declared.format.Rules.{Rules}
 use Rattle.names.specs.Key.{Key, key_cmp}
 use Rattle.names.proofs.KeyOrder.{key_cmp-IsAntisymmetric}
 use Rattle.objects.specs.Objects.{value_at, with_value, without_key}
-use Rattle.objects.specs.declared.event.Event.{Event}
-use Rattle.objects.specs.Window.{events_above}
-use Rattle.objects.proofs.Numbered.{IsNumberedTo, AreTold, told_push}
+use Rattle.window.specs.declared.event.Event.{Event}
+use Rattle.window.specs.Window.{events_above}
+use Rattle.window.proofs.Numbered.{IsNumberedTo, AreTold, told_push}
 use Rattle.documents.specs.Document.{Document}
-use Rattle.requests.specs.Manifest.{HasForm}
-use Rattle.requests.specs.declared.stored.Stored.{Stored}
-use Rattle.requests.specs.History.{Write, put, delete}
-use Rattle.requests.proofs.ViewLemmas.{objects_ascend}
-use Rattle.requests.specs.View.{View, event_of, after, after_all, view, empty, MayFollow, AllMayFollow, AllFollow}
+use Rattle.documents.specs.Form.{HasForm}
+use Rattle.histories.specs.declared.stored.Stored.{Stored}
+use Rattle.histories.specs.History.{Write, put, delete}
+use Rattle.histories.proofs.ViewLemmas.{objects_ascend}
+use Rattle.histories.specs.View.{View, event_of, after, after_all, view, empty, MayFollow, AllMayFollow, AllFollow}
 use Rattle.records.specs.Holding.{IsShort, CanHoldObject, CanHoldEvent, HasFewPlans, IsHoldable}
 
 all-append : {A : Type 0} (Q : A → Type 0) (xs ys : List A) → AllByRecursion Q xs → AllByRecursion Q ys → AllByRecursion Q (xs ++ ys)

@@ -3,12 +3,12 @@ use Rattle.std.proofs.Common.{◌≡◌, ap, refl, ℕ, List, [], ◌∷◌, ◌
 use Rattle.byteorder.specs.Endian.{big_bytes}
 use Rattle.fields.specs.Field.{field}
 use Rattle.fields.proofs.Fields.{same-fields}
-use Rattle.documents.specs.Json.{text}
+use Rattle.jsondoc.specs.Json.{text}
 use Rattle.names.specs.Key.{Key, key_bytes}
 use Rattle.names.proofs.KeyOrder.{key_bytes-injective}
-use Rattle.objects.specs.declared.event.Change.{Change}
-use Rattle.objects.specs.declared.event.Change.TheVariants.{Added, Modified, Deleted}
-use Rattle.objects.specs.declared.event.Event.{Event}
+use Rattle.window.specs.declared.event.Change.{Change}
+use Rattle.window.specs.declared.event.Change.TheVariants.{Added, Modified, Deleted}
+use Rattle.window.specs.declared.event.Event.{Event}
 use Rattle.documents.specs.Document.{Document}
 use Rattle.records.proofs.Writes.{key-fits, same-documents}
 use Rattle.pages.specs.Page.{Entry}

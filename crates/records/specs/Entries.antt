@@ -4,14 +4,14 @@ use Rattle.std.specs.Int.{div_ceil}
 use Rattle.std.specs.List.{flat_map, range_with_len}
 use Rattle.byteorder.specs.Endian.{big_bytes}
 use Rattle.fields.specs.Field.{field}
-use Rattle.documents.specs.Json.{text}
+use Rattle.jsondoc.specs.Json.{text}
 use Rattle.names.specs.Key.{Key, key_bytes}
-use Rattle.objects.specs.declared.event.Change.{Change}
-use Rattle.objects.specs.declared.event.Change.TheVariants.{Added, Modified, Deleted}
-use Rattle.objects.specs.declared.event.Event.{Event}
+use Rattle.window.specs.declared.event.Change.{Change}
+use Rattle.window.specs.declared.event.Change.TheVariants.{Added, Modified, Deleted}
+use Rattle.window.specs.declared.event.Event.{Event}
 use Rattle.documents.specs.Document.{Document}
-use Rattle.requests.specs.declared.stored.Stored.{Stored}
-use Rattle.requests.specs.View.{View}
+use Rattle.histories.specs.declared.stored.Stored.{Stored}
+use Rattle.histories.specs.View.{View}
 use Rattle.pages.specs.Page.{Entry}
 
 -- An object: 1 and its key's bytes. Under them stand the revision of its last write, in eight bytes, and its document's text.

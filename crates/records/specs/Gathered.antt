@@ -1,7 +1,7 @@
 -- The writes that a group has gathered.
 use Rattle.std.specs.Prelude.{◌≡◌, ℕ, List, ◌∷◌, length, flat_map}
 use Rattle.gatelog.specs.Payload.{payload_of}
-use Rattle.requests.specs.History.{Write}
+use Rattle.histories.specs.History.{Write}
 use Rattle.records.specs.Payload.{write_bytes}
 use Rattle.records.specs.declared.group.Group.{Group}
 

@@ -5,9 +5,9 @@ use Rattle.std.specs.FinMap.Entries.{below_all}
 use Rattle.names.specs.Key.{Key}
 use Rattle.requests.specs.Codes.{document_in}
 use Rattle.names.specs.declared.resource.Resource.TheVariants.{ValidatingAdmissionPolicy}
-use Rattle.objects.specs.Window.{AreNumberedFrom}
-use Rattle.requests.specs.declared.stored.Stored.{Stored}
-use Rattle.requests.specs.View.{View}
+use Rattle.window.specs.Window.{AreNumberedFrom}
+use Rattle.histories.specs.declared.stored.Stored.{Stored}
+use Rattle.histories.specs.View.{View}
 use Rattle.pages.specs.Page.{Entry, bytes_cmp}
 use Rattle.records.specs.declared.object.StoredObject.{StoredObject}
 use Rattle.records.specs.Entries.{object_entry, plan_entry, plans_among}

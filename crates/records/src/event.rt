@@ -3,12 +3,12 @@
 ghost use Rattle.std.specs.Prelude.{◌≡◌, ◌≢◌, ◌∷◌, ◌++◌, ℕ, List, None, IfOk, IfSome, IsErrOf};
 ghost use Rattle.byteorder.specs.Endian.{big_bytes};
 ghost use Rattle.fields.specs.Field.{field};
-ghost use Rattle.documents.specs.Json.{text};
+ghost use Rattle.jsondoc.specs.Json.{text};
 ghost use Rattle.names.specs.Key.{Key as KeyData, key_bytes};
 ghost use Rattle.documents.specs.Document.{Document as DocumentData};
-ghost use Rattle.requests.specs.Manifest.{HasForm};
-ghost use Rattle.objects.specs.declared.event.Change.{Change as ChangeData};
-ghost use Rattle.objects.specs.declared.event.Event.{Event as EventData};
+ghost use Rattle.documents.specs.Form.{HasForm};
+ghost use Rattle.window.specs.declared.event.Change.{Change as ChangeData};
+ghost use Rattle.window.specs.declared.event.Event.{Event as EventData};
 ghost use Rattle.records.specs.declared.entry_fault.EntryFault.TheVariants as EntryFault;
 ghost use Rattle.records.specs.Entries.{change_number, event_entry};
 ghost use Rattle.records.specs.Holding.{IsStorableEvent};
@@ -21,8 +21,8 @@ use crate::write_bytes::add_key;
 use documents::Document;
 use fields::short_field;
 use names::Key;
-use objects::{Change, Event};
 use std::alloc::{AllocError, Global};
+use window::{Change, Event};
 
 fn change_number(change: Change) -> u8
     ensures { result ≡ change_number change }

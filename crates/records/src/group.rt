@@ -3,9 +3,9 @@
 ghost use Rattle.std.specs.Prelude.{◌≡◌, ◌≢◌, ◌<◌, ◌≤◌, ◌+◌, ◌++◌, ◌∷◌, ◌⊎◌, [], ℕ, List, length, IfOk, OnOk, OnErr, IsErrOf, MatchOption};
 ghost use Rattle.gatelog.specs.declared.fault.LogFault.TheVariants as LogFault;
 ghost use Rattle.gatelog.specs.Payload.{payload_of};
-ghost use Rattle.documents.specs.Json.{text};
+ghost use Rattle.jsondoc.specs.Json.{text};
 ghost use Rattle.documents.specs.Document.{Document};
-ghost use Rattle.requests.specs.History.{Write, put, delete};
+ghost use Rattle.histories.specs.History.{Write, put, delete};
 ghost use Rattle.records.specs.Payload.{write_bytes, payload, group_limit};
 
 use crate::write_bytes::{delete_bytes, put_bytes};

@@ -1,9 +1,9 @@
 //! The view that entries keep.
 
 use documents::Document;
-use objects::Event;
 use requests::Manifest;
 use std::marker::Model;
+use window::Event;
 
 /// An object as entries keep it, with the bytes of its plans, which are none but for a policy.
 #[derive(Drop)]
@@ -18,12 +18,12 @@ impl Model for KeptObject {
     ghost use Rattle.std.specs.Prelude.{ℕ, List};
     ghost use Rattle.names.specs.Key.{Key as KeyData};
     ghost use Rattle.requests.specs.Codes.{document_in};
-    ghost use Rattle.requests.specs.declared.stored.Stored.{Stored};
+    ghost use Rattle.histories.specs.declared.stored.Stored.{Stored};
 
     ghost Value = { KeyData × Stored (List ℕ) };
 
     ghost use Rattle.std.specs.Coded.{codes};
-    ghost use Rattle.documents.specs.DataCode.{coded_data};
+    ghost use Rattle.jsondoc.specs.DataCode.{coded_data};
 
     ghost coded = { Prim.hlevel (codes, coded_data) };
 
@@ -42,12 +42,12 @@ pub struct KeptView {
 
 impl Model for KeptView {
     ghost use Rattle.std.specs.Prelude.{ℕ, List};
-    ghost use Rattle.requests.specs.View.{View};
+    ghost use Rattle.histories.specs.View.{View};
 
     ghost Value = { View (List ℕ) };
 
     ghost use Rattle.std.specs.Coded.{codes};
-    ghost use Rattle.documents.specs.DataCode.{coded_data};
+    ghost use Rattle.jsondoc.specs.DataCode.{coded_data};
 
     ghost coded = { Prim.hlevel (codes, coded_data) };
 

@@ -2,7 +2,7 @@
 
 ghost use Rattle.std.specs.Prelude.{◌≡◌, ◌≢◌, ◌++◌, ℕ, IfOk, IsErrOf};
 ghost use Rattle.byteorder.specs.Endian.{big_bytes};
-ghost use Rattle.documents.specs.Json.{text};
+ghost use Rattle.jsondoc.specs.Json.{text};
 ghost use Rattle.names.specs.Key.{Key as KeyData};
 ghost use Rattle.documents.specs.Document.{Document as DocumentData};
 ghost use Rattle.requests.specs.Codes.{document_in};

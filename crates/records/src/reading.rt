@@ -5,11 +5,11 @@ ghost use Rattle.std.specs.FinMap.{is_sorted};
 ghost use Rattle.std.specs.List.{AllByRecursion};
 ghost use Rattle.names.specs.declared.format.Rules.{Rules};
 ghost use Rattle.names.specs.Key.{Key as KeyData, key_cmp};
-ghost use Rattle.objects.specs.declared.event.Event.{Event as EventData};
-ghost use Rattle.objects.specs.Window.{AreNumberedFrom};
+ghost use Rattle.window.specs.declared.event.Event.{Event as EventData};
+ghost use Rattle.window.specs.Window.{AreNumberedFrom};
 ghost use Rattle.documents.specs.Document.{Document as DocumentData};
-ghost use Rattle.requests.specs.declared.stored.Stored.{Stored};
-ghost use Rattle.requests.specs.View.{View};
+ghost use Rattle.histories.specs.declared.stored.Stored.{Stored};
+ghost use Rattle.histories.specs.View.{View};
 ghost use Rattle.pages.specs.Page.{Entry as EntryData};
 ghost use Rattle.records.specs.declared.entry_fault.EntryFault.TheVariants as EntryFault;
 ghost use Rattle.records.specs.Entries.{plan_entry, plan_entries, event_entry, stored_entry, plans_among, entries_of};
@@ -27,8 +27,8 @@ use crate::object::{StoredObject, read_object};
 use crate::plans::{piece_key, read_piece};
 use documents::Document;
 use names::{Key, Resource};
-use objects::Event;
 use std::alloc::{AllocError, Global};
+use window::Event;
 
 // Whether the entry is an object's, as far as its key says.
 fn is_object(entry: &Entry) -> bool

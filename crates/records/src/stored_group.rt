@@ -3,7 +3,7 @@
 ghost use Rattle.std.specs.Prelude.{◌≡◌, ◌≢◌, ◌≤◌, ◌++◌, ℕ, List, None, map, flat_map, length, IfOk, IfSome, IsErrOf};
 ghost use Rattle.std.specs.List.{AllByRecursion};
 ghost use Rattle.byteorder.specs.Endian.{big_bytes};
-ghost use Rattle.requests.specs.History.{Write};
+ghost use Rattle.histories.specs.History.{Write};
 ghost use Rattle.records.specs.declared.fault.RecordFault.TheVariants as RecordFault;
 ghost use Rattle.records.specs.Payload.{write_bytes, payload, group_limit, IsStorable, IsGroup};
 ghost use Rattle.records.specs.WriteOf.{write_of};

@@ -1,10 +1,10 @@
 ghost use Rattle.std.specs.Prelude.{◌≡◌, ◌≢◌, ◌++◌, ℕ, List, IsTrue, IfOk, IsErrOf};
-ghost use Rattle.documents.specs.Json.{text};
+ghost use Rattle.jsondoc.specs.Json.{text};
 ghost use Rattle.names.specs.Key.{Key as KeyData, is_key, key_bytes};
 ghost use Rattle.documents.specs.Document.{Document};
 ghost use Rattle.requests.specs.Codes.{document_in};
-ghost use Rattle.requests.specs.Manifest.{HasForm};
-ghost use Rattle.requests.specs.History.{Write, put, delete};
+ghost use Rattle.documents.specs.Form.{HasForm};
+ghost use Rattle.histories.specs.History.{Write, put, delete};
 ghost use Rattle.records.specs.declared.fault.RecordFault.TheVariants as RecordFault;
 ghost use Rattle.records.specs.Payload.{fields, write_bytes, IsStorable};
 ghost use Rattle.records.specs.WriteOf.{write_of};

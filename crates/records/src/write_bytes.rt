@@ -2,10 +2,10 @@
 
 ghost use Rattle.std.specs.Prelude.{◌≡◌, ◌≤◌, ◌++◌, ◌∷◌, ◌^◌, ◌⊎◌, [], length, IfOk, OnOk, OnErr, IsErrOf};
 ghost use Rattle.gatelog.specs.declared.fault.LogFault.TheVariants as LogFault;
-ghost use Rattle.documents.specs.Json.{text};
+ghost use Rattle.jsondoc.specs.Json.{text};
 ghost use Rattle.names.specs.Key.{key_bytes};
 ghost use Rattle.documents.specs.Document.{Document};
-ghost use Rattle.requests.specs.History.{put, delete};
+ghost use Rattle.histories.specs.History.{put, delete};
 ghost use Rattle.fields.specs.Field.{field};
 ghost use Rattle.records.specs.Payload.{write_bytes};
 

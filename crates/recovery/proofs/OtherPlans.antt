@@ -5,7 +5,7 @@ use Rattle.std.proofs.lemmas.List.Elements.{Contains-append_right}
 use Rattle.std.specs.Prelude.{◌≢◌}
 use Rattle.serde_json.specs.Data.{Data}
 use Rattle.names.specs.declared.resource.Resource.{Resource}
-use Rattle.requests.specs.History as plain
+use Rattle.histories.specs.History as plain
 use Rattle.expressions.specs.Specification.{Plans, MayHavePlans, plans_bytes}
 use Rattle.recovery.specs.Faults.{PutsOtherPlans, OneHasOther}
 

@@ -1,7 +1,7 @@
 -- What is wrong with payloads of which one gives no write, or one that may not follow.
 use Rattle.std.specs.Prelude.{◌≡◌, ◌≢◌, ℕ, List, Contains, codes}
-use Rattle.requests.specs.History as plain
-use Rattle.requests.specs.History.{put, delete}
+use Rattle.histories.specs.History as plain
+use Rattle.histories.specs.History.{put, delete}
 use Rattle.records.specs.Payload as bytes
 use Rattle.expressions.specs.Specification as stored
 use Rattle.expressions.specs.Specification.{MayHavePlans, plans_bytes}
@@ -9,8 +9,8 @@ use Rattle.holdings.specs.declared.redo.RedoFault as redo
 use Rattle.holdings.specs.declared.redo.RedoFault.TheVariants as redo_fault
 use Rattle.records.specs.declared.fault.RecordFault as record_of
 use Rattle.records.specs.declared.fault.RecordFault.TheVariants as record_fault
-use Rattle.planlist.specs.declared.reading.ReadPlansFault as plans_of
-use Rattle.planlist.specs.declared.reading.ReadPlansFault.TheVariants as plans_fault
+use Rattle.plancode.specs.declared.list_reading.ReadPlansFault as plans_of
+use Rattle.plancode.specs.declared.list_reading.ReadPlansFault.TheVariants as plans_fault
 use Rattle.recovery.specs.declared.fault.RecoveryFault.{RecoveryFault}
 use Rattle.recovery.specs.declared.fault.RecoveryFault.TheVariants.{Damaged, Plans, Memory}
 

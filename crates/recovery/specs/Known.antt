@@ -2,13 +2,13 @@
 use Rattle.std.specs.Prelude.{◌≡◌, ℕ, List, map, Contains}
 use Rattle.std.specs.List.{AllByRecursion}
 use Rattle.names.specs.Key.{Key}
-use Rattle.requests.specs.declared.stored.Stored.{Stored}
-use Rattle.requests.specs.History as plain
-use Rattle.requests.specs.History.{put, delete}
+use Rattle.histories.specs.declared.stored.Stored.{Stored}
+use Rattle.histories.specs.History as plain
+use Rattle.histories.specs.History.{put, delete}
 use Rattle.holdings.specs.Holdings.{State}
 use Rattle.holdings.specs.Known.{IsKnown}
 use Rattle.records.specs.Payload as bytes
-use Rattle.recovery.specs.Beside.{Beside}
+use Rattle.decoded.specs.Decoded.{Decoded}
 
 -- the key that a write writes
 abbrev pub written_key : plain.Write (List ℕ) → Key
@@ -23,9 +23,9 @@ pub record Writes (payload : List ℕ) (key : Key) : Type 0 where
   pub has : Contains (map written_key writes) key
 
 -- Memory knows each key that these payloads write, over the objects that lie below.
-abbrev pub AllKnown : State Beside → List (Key × Stored Beside) → (payloads : List (List ℕ)) → Type 0
+abbrev pub AllKnown : State Decoded → List (Key × Stored Decoded) → (payloads : List (List ℕ)) → Type 0
 AllKnown core base payloads = (payload : List ℕ) (key : Key) → Contains payloads payload → Writes payload key → IsKnown core base key
 
 -- and each key that these writes write
-abbrev pub KnowsEach : State Beside → List (Key × Stored Beside) → List (plain.Write (List ℕ)) → Type 0
+abbrev pub KnowsEach : State Decoded → List (Key × Stored Decoded) → List (plain.Write (List ℕ)) → Type 0
 KnowsEach core base writes = AllByRecursion (λ w. IsKnown core base (written_key w)) writes

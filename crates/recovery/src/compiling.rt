@@ -5,19 +5,19 @@ ghost use Rattle.std.specs.List.{AllByRecursion};
 ghost use Rattle.celtree.specs.Tree.{Expr};
 ghost use Rattle.names.specs.Key.{Key as KeyData};
 ghost use Rattle.expressions.specs.Specification.{plans_bytes, plans_seen};
-ghost use Rattle.requests.specs.declared.stored.Stored.{Stored as StoredData};
-ghost use Rattle.requests.specs.View.{View as Held};
+ghost use Rattle.histories.specs.declared.stored.Stored.{Stored as StoredData};
+ghost use Rattle.histories.specs.View.{View as Held};
 ghost use Rattle.holdings.specs.Holdings.{Shows};
-ghost use Rattle.recovery.specs.Beside.{Beside as BesideData, beside_of};
+ghost use Rattle.decoded.specs.Decoded.{Decoded as DecodedData, decoded_of};
 ghost use Rattle.recovery.specs.Compiled.{HasOwnPlans, PutsOwnPlans};
-ghost use Rattle.recovery.specs.Shown.{ShowsOver};
-ghost use Rattle.recovery.specs.Standing.{View, IsView, HasTrees};
+ghost use Rattle.decoded.specs.Shown.{ShowsOver};
+ghost use Rattle.decoded.specs.Standing.{View, IsView, HasTrees};
 
-use crate::beside::{Beside, Core};
+use decoded::{Core, Decoded};
 use expressions::{Specification, StoredPlans, plans_bytes, specification_of};
+use histories::Stored;
 use names::{Format, Key, Resource};
-use objects::Entry;
-use requests::Stored;
+use objects::KeyValue;
 use std::alloc::{AllocError, Global};
 
 // Whether two lists of plans have the same bytes, as those of an object of a resource.
@@ -45,11 +45,11 @@ fn has_own(
     alloc: Global,
     format: Format,
     key: &Key,
-    stored: &Stored<Beside>,
+    stored: &Stored<Decoded>,
 ) -> Result<bool, AllocError>
     ensures yes { IfOk result (λ has. IsTrue has → HasOwnPlans format (key.now, stored.now)) }
     ensures no { IfOk result (λ has. has ≡ false → (trees : List Expr) → HasTrees format key.now.resource stored.now.document.json trees
-        → stored.now.beside ≡ beside_of stored.now.document.json trees → ⊥) }
+        → stored.now.beside ≡ decoded_of stored.now.document.json trees → ⊥) }
 {
     match specification_of(alloc, format, key.resource(), stored.document.json())? {
         Specification::Sound(plans) => have_same_bytes(
@@ -66,11 +66,11 @@ fn has_own(
 fn puts_own(
     alloc: Global,
     format: Format,
-    change: &Entry<Option<Stored<Beside>>>,
+    change: &KeyValue<Option<Stored<Decoded>>>,
 ) -> Result<bool, AllocError>
     ensures yes { IfOk result (λ puts. IsTrue puts → PutsOwnPlans format change.now) }
-    ensures no { IfOk result (λ puts. puts ≡ false → (stored : StoredData BesideData) × (change.now.1 ≡ Some stored)
-        × ((trees : List Expr) → HasTrees format change.now.0.resource stored.document.json trees → stored.beside ≡ beside_of stored.document.json trees → ⊥)) }
+    ensures no { IfOk result (λ puts. puts ≡ false → (stored : StoredData DecodedData) × (change.now.1 ≡ Some stored)
+        × ((trees : List Expr) → HasTrees format change.now.0.resource stored.document.json trees → stored.beside ≡ decoded_of stored.document.json trees → ⊥)) }
 {
     match change.value() {
         Some(stored) => has_own(alloc, format, change.key(), stored),
@@ -85,9 +85,9 @@ fn puts_own(
 ///
 /// Out of memory.
 pub fn has_own_plans(alloc: Global, core: &Core) -> Result<bool, AllocError>
-    ensures yes { (base : List (KeyData × StoredData BesideData)) (held : Held BesideData) → Shows core.now base held → AllByRecursion (HasOwnPlans core.now.rules.format) base
+    ensures yes { (base : List (KeyData × StoredData DecodedData)) (held : Held DecodedData) → Shows core.now base held → AllByRecursion (HasOwnPlans core.now.rules.format) base
         → IfOk result (λ has. IsTrue has → AllByRecursion (HasOwnPlans core.now.rules.format) held.objects) }
-    ensures no { (base : List (KeyData × StoredData BesideData)) (v : View) → ShowsOver core.now base v → IsView core.now.rules.format v → IfOk result (λ has. has ≡ false → ⊥) }
+    ensures no { (base : List (KeyData × StoredData DecodedData)) (v : View) → ShowsOver core.now base v → IsView core.now.rules.format v → IfOk result (λ has. has ≡ false → ⊥) }
 {
     let format = core.rules().format;
     for change in core.changes() {

@@ -1,7 +1,7 @@
 ghost use Rattle.std.specs.Prelude.{◌≡◌};
 
 use holdings::RedoFault;
-use planlist::ReadPlansFault;
+use plancode::ReadPlansFault;
 use records::RecordFault;
 use std::alloc::AllocError;
 use std::fmt;

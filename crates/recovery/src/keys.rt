@@ -2,7 +2,7 @@
 
 ghost use Rattle.std.specs.Prelude.{◌≡◌, ◌≢◌, ◌++◌, ℕ, List, map, Contains, IfOk, OnOk, IsErrOf};
 ghost use Rattle.names.specs.Key.{Key as KeyData};
-ghost use Rattle.requests.specs.History.{Write};
+ghost use Rattle.histories.specs.History.{Write};
 ghost use Rattle.records.specs.Payload.{payload, IsGroup};
 ghost use Rattle.records.specs.WriteOf.{write_of};
 ghost use Rattle.recovery.specs.Known.{written_key, Writes};

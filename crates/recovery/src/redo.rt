@@ -1,24 +1,24 @@
 ghost use Rattle.std.specs.Prelude.{◌≡◌, ◌⊎◌, ℕ, List, [], map, Contains, IfOk, OnOk, IsErrOf};
 ghost use Rattle.names.specs.Key.{Key as KeyData};
-ghost use Rattle.requests.specs.declared.stored.Stored.{Stored as StoredData};
-ghost use Rattle.requests.specs.View.{View, after_all, MayFollow, AllMayFollow};
-ghost use Rattle.requests.specs.Mapped.{mapped};
+ghost use Rattle.histories.specs.declared.stored.Stored.{Stored as StoredData};
+ghost use Rattle.histories.specs.View.{View, after_all, MayFollow, AllMayFollow};
+ghost use Rattle.histories.specs.Mapped.{mapped};
 ghost use Rattle.requests.specs.Codes.{document_in};
-ghost use Rattle.requests.specs.History.{put, delete};
+ghost use Rattle.histories.specs.History.{put, delete};
 ghost use Rattle.holdings.specs.Holdings.{Shows};
 ghost use Rattle.holdings.specs.Known.{IsKnown, KnowsSame};
 ghost use Rattle.records.specs.WriteOf.{write_of};
-ghost use Rattle.recovery.specs.Beside.{Beside as BesideData};
+ghost use Rattle.decoded.specs.Decoded.{Decoded as DecodedData};
 ghost use Rattle.recovery.specs.Faults.{PutsOtherPlans, OneHasOther, HasOtherPlans};
 ghost use Rattle.recovery.specs.Known.{written_key, Writes, AllKnown, KnowsEach};
-ghost use Rattle.recovery.specs.Standing.{recorded};
-ghost use Rattle.recovery.specs.Shown.{plans_held};
+ghost use Rattle.decoded.specs.Standing.{recorded};
+ghost use Rattle.decoded.specs.Shown.{plans_held};
 ghost use Rattle.recovery.specs.declared.fault.RecoveryFault.TheVariants as RecoveryFault;
 ghost use Rattle.recovery.specs.Written.{Write, payload, HasPlans, IsGroup, IsWritten};
 ghost use Rattle.recovery.specs.Taken.{AreRecorded, AreTaken, IsTaken, HasRedone};
 
-use crate::beside::{Beside, Core};
 use crate::fault::RecoveryFault;
+use decoded::{Core, Decoded};
 use expressions::stored_plans;
 use names::Key;
 use records::{StoredWrite, read_writes};
@@ -34,9 +34,9 @@ use std::alloc::Global;
 /// `Memory` where there was none.
 pub fn redone(alloc: Global, core: Core, payloads: &[Vec<u8>]) -> Result<Core, RecoveryFault>
     ensures rules { IfOk result (λ new. new.rules ≡ core.rules) }
-    ensures found { (base : List (KeyData × StoredData BesideData)) (held : View BesideData) → Shows core base held → AllKnown core base (map (λ p. p.items) payloads.now)
+    ensures found { (base : List (KeyData × StoredData DecodedData)) (held : View DecodedData) → Shows core base held → AllKnown core base (map (λ p. p.items) payloads.now)
         → IfOk result (λ new. HasRedone core.rules base held new (map (λ p. p.items) payloads.now)) }
-    ensures damaged { (base : List (KeyData × StoredData BesideData)) (held : View BesideData) → Shows core base held → AllKnown core base (map (λ p. p.items) payloads.now)
+    ensures damaged { (base : List (KeyData × StoredData DecodedData)) (held : View DecodedData) → Shows core base held → AllKnown core base (map (λ p. p.items) payloads.now)
         → IsErrOf result RecoveryFault.Damaged ⊎ IsErrOf result RecoveryFault.Plans
         → (ws : List Write) → IsWritten core.rules (mapped plans_held held) ws (map (λ p. p.items) payloads.now) → ⊥ }
     // Plans are told only where an object that is no policy has some.
@@ -53,12 +53,12 @@ pub fn redone(alloc: Global, core: Core, payloads: &[Vec<u8>]) -> Result<Core, R
 fn redo(alloc: Global, core: &mut Core, bytes: &[u8]) -> Result<(), RecoveryFault>
     ensures rules { core.new.rules ≡ core.old.rules }
     ensures known { KnowsSame core.old core.new }
-    ensures taken { (base : List (KeyData × StoredData BesideData)) (held : View BesideData) → Shows core.old base held
+    ensures taken { (base : List (KeyData × StoredData DecodedData)) (held : View DecodedData) → Shows core.old base held
         → ((key : KeyData) → Writes bytes.now key → IsKnown core.old base key)
-        → OnOk result ((now : View BesideData) × Shows core.new base now
+        → OnOk result ((now : View DecodedData) × Shows core.new base now
         × ((ws : List Write) × IsGroup ws × (payload ws ≡ bytes.now)
         × AllMayFollow core.old.rules (mapped plans_held held) ws × (mapped plans_held now ≡ after_all core.old.rules (mapped plans_held held) ws))) }
-    ensures damaged { (base : List (KeyData × StoredData BesideData)) (held : View BesideData) → Shows core.old base held
+    ensures damaged { (base : List (KeyData × StoredData DecodedData)) (held : View DecodedData) → Shows core.old base held
         → ((key : KeyData) → Writes bytes.now key → IsKnown core.old base key)
         → IsErrOf result RecoveryFault.Damaged ⊎ IsErrOf result RecoveryFault.Plans
         → (ws : List Write) → IsGroup ws → payload ws ≡ bytes.now → AllMayFollow core.old.rules (mapped plans_held held) ws → ⊥ }
@@ -76,11 +76,11 @@ fn redo_writes(
 ) -> Result<(), RecoveryFault>
     ensures rules { core.new.rules ≡ core.old.rules }
     ensures known { KnowsSame core.old core.new }
-    ensures taken { (base : List (KeyData × StoredData BesideData)) (held : View BesideData) → Shows core.old base held
+    ensures taken { (base : List (KeyData × StoredData DecodedData)) (held : View DecodedData) → Shows core.old base held
         → KnowsEach core.old base (map write_of writes.entry.items)
-        → OnOk result ((now : View BesideData) × Shows core.new base now
+        → OnOk result ((now : View DecodedData) × Shows core.new base now
         × AreTaken core.old.rules (mapped plans_held held) (mapped plans_held now) (map write_of writes.entry.items) []) }
-    ensures damaged { (base : List (KeyData × StoredData BesideData)) (held : View BesideData) → Shows core.old base held
+    ensures damaged { (base : List (KeyData × StoredData DecodedData)) (held : View DecodedData) → Shows core.old base held
         → KnowsEach core.old base (map write_of writes.entry.items)
         → IsErrOf result RecoveryFault.Damaged ⊎ IsErrOf result RecoveryFault.Plans
         → (ws : List Write) → AreRecorded ws (map write_of writes.entry.items) → AllMayFollow core.old.rules (mapped plans_held held) ws → ⊥ }
@@ -96,11 +96,11 @@ fn redo_writes(
 fn redo_write(alloc: Global, core: &mut Core, write: StoredWrite<'_>) -> Result<(), RecoveryFault>
     ensures rules { core.new.rules ≡ core.old.rules }
     ensures known { KnowsSame core.old core.new }
-    ensures taken { (base : List (KeyData × StoredData BesideData)) (held : View BesideData) → Shows core.old base held
+    ensures taken { (base : List (KeyData × StoredData DecodedData)) (held : View DecodedData) → Shows core.old base held
         → IsKnown core.old base (written_key (write_of write.entry))
-        → OnOk result ((now : View BesideData) × Shows core.new base now
+        → OnOk result ((now : View DecodedData) × Shows core.new base now
         × IsTaken core.old.rules (mapped plans_held held) (mapped plans_held now) (write_of write.entry)) }
-    ensures damaged { (base : List (KeyData × StoredData BesideData)) (held : View BesideData) → Shows core.old base held
+    ensures damaged { (base : List (KeyData × StoredData DecodedData)) (held : View DecodedData) → Shows core.old base held
         → IsKnown core.old base (written_key (write_of write.entry))
         → IsErrOf result RecoveryFault.Damaged ⊎ IsErrOf result RecoveryFault.Plans
         → (w : Write) → HasPlans w → recorded w ≡ write_of write.entry → MayFollow core.old.rules (mapped plans_held held) w → ⊥ }
@@ -122,10 +122,10 @@ fn redo_put(
 ) -> Result<(), RecoveryFault>
     ensures rules { core.new.rules ≡ core.old.rules }
     ensures known { KnowsSame core.old core.new }
-    ensures taken { (base : List (KeyData × StoredData BesideData)) (held : View BesideData) → Shows core.old base held → IsKnown core.old base manifest.now.key
-        → OnOk result ((now : View BesideData) × Shows core.new base now
+    ensures taken { (base : List (KeyData × StoredData DecodedData)) (held : View DecodedData) → Shows core.old base held → IsKnown core.old base manifest.now.key
+        → OnOk result ((now : View DecodedData) × Shows core.new base now
         × IsTaken core.old.rules (mapped plans_held held) (mapped plans_held now) (put manifest.now.key (document_in manifest.now.body) plans.now)) }
-    ensures damaged { (base : List (KeyData × StoredData BesideData)) (held : View BesideData) → Shows core.old base held → IsKnown core.old base manifest.now.key
+    ensures damaged { (base : List (KeyData × StoredData DecodedData)) (held : View DecodedData) → Shows core.old base held → IsKnown core.old base manifest.now.key
         → IsErrOf result RecoveryFault.Damaged ⊎ IsErrOf result RecoveryFault.Plans
         → (w : Write) → HasPlans w → recorded w ≡ put manifest.now.key (document_in manifest.now.body) plans.now → MayFollow core.old.rules (mapped plans_held held) w → ⊥ }
     ensures plans { IsErrOf result RecoveryFault.Plans → PutsOtherPlans (put manifest.now.key (document_in manifest.now.body) plans.now) }
@@ -137,7 +137,7 @@ fn redo_put(
         manifest.document().json(),
         plans,
     )?;
-    let beside = Beside::of(alloc, manifest.document().json(), plans)?;
+    let beside = Decoded::of(alloc, manifest.document().json(), plans)?;
     core.redo_put(alloc, manifest, beside)?;
     Ok(())
 }
@@ -146,10 +146,10 @@ fn redo_put(
 fn redo_delete(alloc: Global, core: &mut Core, key: &Key) -> Result<(), RecoveryFault>
     ensures rules { core.new.rules ≡ core.old.rules }
     ensures known { KnowsSame core.old core.new }
-    ensures taken { (base : List (KeyData × StoredData BesideData)) (held : View BesideData) → Shows core.old base held → IsKnown core.old base key.now
-        → OnOk result ((now : View BesideData) × Shows core.new base now
+    ensures taken { (base : List (KeyData × StoredData DecodedData)) (held : View DecodedData) → Shows core.old base held → IsKnown core.old base key.now
+        → OnOk result ((now : View DecodedData) × Shows core.new base now
         × IsTaken core.old.rules (mapped plans_held held) (mapped plans_held now) (delete key.now)) }
-    ensures damaged { (base : List (KeyData × StoredData BesideData)) (held : View BesideData) → Shows core.old base held → IsKnown core.old base key.now
+    ensures damaged { (base : List (KeyData × StoredData DecodedData)) (held : View DecodedData) → Shows core.old base held → IsKnown core.old base key.now
         → IsErrOf result RecoveryFault.Damaged ⊎ IsErrOf result RecoveryFault.Plans
         → MayFollow core.old.rules (mapped plans_held held) (delete key.now) → ⊥ }
     ensures plans { IsErrOf result RecoveryFault.Plans → ⊥ }

@@ -5,8 +5,8 @@ use Rattle.std.proofs.lemmas.Slice.Eq.{bytes_eq-Decides}
 use Rattle.std.specs.Option.{option_map_or}
 use Rattle.serde_json.specs.Data.{Data, null, boolean, number, string, array, object, depth}
 use Rattle.serde_json.specs.Find.{get, as_str, as_object}
-use Rattle.documents.specs.Json.{text, reading, document, IsDocument, with_member, without_member}
-use Rattle.documents.proofs.Json.{both, get-with_member, get-with_member_other, get-without_member, get-without_member_other}
+use Rattle.jsondoc.specs.Json.{text, reading, document, IsDocument, with_member, without_member}
+use Rattle.jsondoc.proofs.Json.{both, get-with_member, get-with_member_other, get-without_member, get-without_member_other}
 use Rattle.names.specs.declared.resource.Resource.{Resource}
 use Rattle.names.specs.declared.resource.Scope.{Scope}
 use Rattle.names.specs.declared.resource.Scope.TheVariants.{Namespaced, Cluster}
@@ -16,7 +16,8 @@ use Rattle.names.specs.Resource.{row, api_version}
 use Rattle.documents.specs.Document.{Document, metadata_of, metadata_text, is_metadata, is_metadata_of, is_metadata_member, is_object_of, is_text_that, has_kind, has_text}
 use Rattle.documents.proofs.MemberLemmas.{each_member-get_member, each_member-put, each_member-without, depth-with_member, depth-without_member, depth-get}
 use Rattle.requests.specs.declared.refusal.Refusal.TheVariants.{WrongKind, BadMetadata, WrongName, VersionOnCreate}
-use Rattle.requests.specs.Manifest.{Target, is_target, fits_path, asks_for_version, document_conditions, stored_document, with_namespace, namespace_at, key_at, manifest_of, Manifest, sound, HasForm}
+use Rattle.requests.specs.Manifest.{Target, is_target, fits_path, asks_for_version, document_conditions, stored_document, with_namespace, key_at, manifest_of, Manifest, sound}
+use Rattle.documents.specs.Form.{namespace_at, HasForm}
 use Rattle.requests.specs.Refusal.{first_of}
 
 abbrev pub ManifestIs : Key → Document → Option (List ℕ) → Manifest → Type 0

@@ -3,16 +3,16 @@ use Rattle.std.proofs.Common.{◌≡◌, ℕ, Bool, true, false, cond, List, [],
 use Rattle.std.specs.List.{filter, concat}
 use Rattle.serde_json.specs.Data.{Data, array, Items, no_items, item}
 use Rattle.serde_json.specs.View.{items_of}
-use Rattle.documents.specs.Json.{with_item, with_item_at_end}
+use Rattle.jsondoc.specs.Json.{with_item, with_item_at_end}
 use Rattle.names.specs.Key.{Key}
-use Rattle.objects.specs.declared.event.Event.{Event}
-use Rattle.requests.specs.declared.stored.Stored.{Stored}
+use Rattle.window.specs.declared.event.Event.{Event}
+use Rattle.histories.specs.declared.stored.Stored.{Stored}
 use Rattle.documents.specs.Document.{Document, shown}
 use Rattle.requests.specs.Collection.{Collection, has_key}
 use Rattle.documents.specs.Requirement.{Requirement}
 use Rattle.requests.specs.Selector.{selects}
 use Rattle.requests.specs.Listing.{shown_items, lines_of, event_document, line_feed}
-use Rattle.documents.specs.Json.{text}
+use Rattle.jsondoc.specs.Json.{text}
 
 -- a list with more items, one after the other
 abbrev pub with_items : List Data → Data → Data

@@ -9,8 +9,9 @@ use Rattle.names.specs.declared.resource.Resource.TheVariants.{Namespace}
 use Rattle.names.specs.Key.{Key, key_of}
 use Rattle.names.specs.Name.{dot, is_label_byte, is_label, is_name, is_namespace}
 use Rattle.documents.specs.Document.{Document}
-use Rattle.documents.specs.Json.{IsDocument}
-use Rattle.requests.specs.Manifest.{key_at, HasForm}
+use Rattle.jsondoc.specs.Json.{IsDocument}
+use Rattle.requests.specs.Manifest.{key_at}
+use Rattle.documents.specs.Form.{HasForm}
 use Rattle.requests.specs.Namespaces.{namespace_document}
 
 -- ---- a namespace is a name

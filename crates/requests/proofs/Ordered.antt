@@ -9,8 +9,8 @@ use Rattle.json.specs.Lex.{tokens}
 use Rattle.serde_json.specs.Data.{Data, null, boolean, number, string, array, object, Items, no_items, item, Members, no_members, member, put}
 use Rattle.serde_json.specs.Find.{get, get_member}
 use Rattle.serde_json.specs.Read.{read, of_json, of_items, of_members, number_of, max_depth}
-use Rattle.documents.specs.Json.{is_whole, reading, reading_of, json_of, not_json, not_whole, document, with_member}
-use Rattle.documents.proofs.Json.{both, chosen, found_inside}
+use Rattle.jsondoc.specs.Json.{is_whole, reading, reading_of, json_of, not_json, not_whole, document, with_member}
+use Rattle.jsondoc.proofs.Json.{both, chosen, found_inside}
 
 -- the name stands below the first member's
 abbrev precedes : List ℕ → Members → Bool

@@ -3,15 +3,16 @@ use Rattle.std.proofs.Common.{◌≡◌, ℕ, List, [], ◌∷◌, Bool, true, f
 use Rattle.std.proofs.lemmas.Slice.Eq.{bytes_eq-Decides}
 use Rattle.serde_json.specs.Data.{Data, null, boolean, number, string, array, object}
 use Rattle.serde_json.specs.Find.{get, as_str}
-use Rattle.documents.specs.Json.{text, reading, document, with_member, without_member}
-use Rattle.documents.proofs.Json.{both, without_member-none}
+use Rattle.jsondoc.specs.Json.{text, reading, document, with_member, without_member}
+use Rattle.jsondoc.proofs.Json.{both, without_member-none}
 use Rattle.names.specs.declared.resource.Scope.{Scope}
 use Rattle.names.specs.declared.resource.Scope.TheVariants.{Namespaced, Cluster}
 use Rattle.names.specs.Key.{Key, is_key, is_name_of, fits_scope}
 use Rattle.names.specs.Resource.{row}
 use Rattle.documents.specs.Document.{Document, metadata_of, metadata_text, is_metadata, is_metadata_of, has_kind, is_metadata_member, is_object_of, is_text}
 use Rattle.requests.specs.declared.refusal.Refusal.TheVariants.{WrongKind, BadMetadata, WrongName, VersionOnCreate}
-use Rattle.requests.specs.Manifest.{Target, item, is_target, fits_path, asks_for_version, document_conditions, body_refusal, stored_document, with_namespace, namespace_at, sound, HasForm, IsManifestOf}
+use Rattle.requests.specs.Manifest.{Target, item, is_target, fits_path, asks_for_version, document_conditions, body_refusal, stored_document, with_namespace, sound, IsManifestOf}
+use Rattle.documents.specs.Form.{namespace_at, HasForm}
 use Rattle.requests.specs.Refusal.{first_of}
 use Rattle.requests.proofs.Forms.{is_object_of-get}
 use Rattle.requests.proofs.Ordered.{is_ordered, is_ordered-reading, is_ordered-get, with_member-same}

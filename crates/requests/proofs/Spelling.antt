@@ -3,7 +3,7 @@ use Rattle.std.proofs.Common.{◌≡◌, ℕ, ◌+◌, suc, Bool, true, false, c
 use Rattle.std.proofs.lemmas.List.Folds.{list_all-append}
 use Rattle.std.specs.List.{list_all, position_or_len}
 use Rattle.std.specs.Option.{option_map_or}
-use Rattle.documents.proofs.Json.{both}
+use Rattle.jsondoc.proofs.Json.{both}
 use Rattle.documents.specs.Requirement.{Requirement, is_one_of, is_none_of, is_there, is_absent}
 use Rattle.requests.specs.Selector.{equals, differs, is_label, is_label_byte, is_value, is_value_byte, parted, rest_after, on_label, on_pair, negated, equated, affirmed, requirement_of}
 use Rattle.requests.specs.Spelling.{IsWellFormed, Spells}

@@ -3,7 +3,7 @@ use Rattle.std.specs.Prelude.{ℕ, List, [], ◌∷◌, Bool, true, not, ◌&&�
 use Rattle.std.specs.Str.{bytes_eq}
 use Rattle.serde_json.specs.Data.{Data}
 use Rattle.serde_json.specs.Find.{get, as_str}
-use Rattle.documents.specs.Json.{Reading, not_json, not_whole, document, reading}
+use Rattle.jsondoc.specs.Json.{Reading, not_json, not_whole, document, reading}
 use Rattle.documents.specs.Document.{is_text, is_text_that, is_object_of}
 use Rattle.requests.specs.declared.refusal.Refusal.{Refusal}
 use Rattle.requests.specs.declared.refusal.Refusal.TheVariants.{BodyIsNotJson, NumberOutsideRange, BadDeleteOptions}

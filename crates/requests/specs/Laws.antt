@@ -1,9 +1,10 @@
 -- The law of what is stored.
 use Rattle.std.specs.Prelude.{None}
-use Rattle.documents.specs.Json.{text}
+use Rattle.jsondoc.specs.Json.{text}
 use Rattle.names.specs.Key.{Key}
 use Rattle.documents.specs.Document.{Document}
-use Rattle.requests.specs.Manifest.{item, sound, HasForm, IsManifestOf}
+use Rattle.requests.specs.Manifest.{item, sound, IsManifestOf}
+use Rattle.documents.specs.Form.{HasForm}
 
 -- What is stored is read as itself: the text of a stored document, sent to the item of its key, asks for that document.
 abbrev pub StoredIsRead : Type 0

@@ -3,16 +3,16 @@ use Rattle.std.specs.Prelude.{ℕ, ◌+◌, List, [], ◌∷◌, ◌++◌, map, 
 use Rattle.std.specs.List.{filter, concat}
 use Rattle.serde_json.specs.Data.{Data, string, array}
 use Rattle.serde_json.specs.View.{items_of}
-use Rattle.documents.specs.Json.{text}
+use Rattle.jsondoc.specs.Json.{text}
 use Rattle.names.specs.declared.format.Rules.{Rules}
 use Rattle.names.specs.declared.resource.Resource.{Resource}
 use Rattle.names.specs.Key.{Key}
 use Rattle.names.specs.Resource.{row, api_version}
-use Rattle.objects.specs.declared.event.Change.{Change}
-use Rattle.objects.specs.declared.event.Change.TheVariants.{Added, Modified, Deleted}
-use Rattle.objects.specs.declared.event.Event.{Event}
-use Rattle.objects.specs.Window.{events_above}
-use Rattle.requests.specs.declared.stored.Stored.{Stored}
+use Rattle.window.specs.declared.event.Change.{Change}
+use Rattle.window.specs.declared.event.Change.TheVariants.{Added, Modified, Deleted}
+use Rattle.window.specs.declared.event.Event.{Event}
+use Rattle.window.specs.Window.{events_above}
+use Rattle.histories.specs.declared.stored.Stored.{Stored}
 use Rattle.documents.specs.Document.{Document, object_of, shown}
 use Rattle.requests.specs.declared.refusal.Refusal.TheVariants.{BadVersion, Expired}
 use Rattle.requests.specs.Collection.{Collection, has_key}
@@ -20,7 +20,7 @@ use Rattle.requests.specs.Refusal.{Condition}
 use Rattle.documents.specs.Requirement.{Requirement}
 use Rattle.requests.specs.Selector.{selects}
 use Rattle.requests.specs.Reply.{Reply}
-use Rattle.requests.specs.View.{View}
+use Rattle.histories.specs.View.{View}
 
 -- a reply with this body to a request that is served
 abbrev pub served : (body : List ℕ) → Reply

@@ -10,9 +10,9 @@ use Rattle.names.specs.declared.resource.Scope.TheVariants.{Namespaced, Cluster}
 use Rattle.names.specs.Key.{Key, key_of}
 use Rattle.names.specs.Resource.{row}
 use Rattle.documents.specs.Document.{Document, object_of}
-use Rattle.requests.specs.declared.stored.Stored.{Stored}
-use Rattle.requests.specs.History.{Write, put}
-use Rattle.requests.specs.View.{View}
+use Rattle.histories.specs.declared.stored.Stored.{Stored}
+use Rattle.histories.specs.History.{Write, put}
+use Rattle.histories.specs.View.{View}
 
 -- the document of a Namespace of which only the name is told
 abbrev pub namespace_document : (name : List ℕ) → Document

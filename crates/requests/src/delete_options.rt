@@ -8,7 +8,7 @@ ghost use Rattle.requests.specs.declared.refusal.Refusal.{Refusal};
 
 use crate::manifest::BodyFault;
 use crate::refusal::Refusal;
-use documents::{Doc, Map, ReadFault, Value};
+use jsondoc::{Doc, JsonFault, Map, Value};
 use std::alloc::{AllocError, Global};
 
 /// Reads the options in the body of a DELETE (Kubernetes API, `DeleteOptions`), which may be empty: the text of the revision
@@ -29,9 +29,9 @@ pub fn read_delete_options(alloc: Global, body: &[u8]) -> Result<Option<String>,
     }
     let options = match Doc::read(alloc, body) {
         Ok(options) => options,
-        Err(ReadFault::NotJson) => return Err(BodyFault::Refused(Refusal::BodyIsNotJson)),
-        Err(ReadFault::Number) => return Err(BodyFault::Refused(Refusal::NumberOutsideRange)),
-        Err(ReadFault::Memory) => return Err(BodyFault::Memory),
+        Err(JsonFault::NotJson) => return Err(BodyFault::Refused(Refusal::BodyIsNotJson)),
+        Err(JsonFault::Number) => return Err(BodyFault::Refused(Refusal::NumberOutsideRange)),
+        Err(JsonFault::Memory) => return Err(BodyFault::Memory),
     };
     if !are_delete_options(options.value()) {
         return Err(BodyFault::Refused(Refusal::BadDeleteOptions));

@@ -2,7 +2,7 @@
 ghost use Rattle.std.specs.Prelude.{◌≡◌, ◌++◌, ◌∷◌, [], codes, decimal, string_bytes, if◌then◌else◌, IfOk, OnOk};
 ghost use Rattle.serde_json.specs.Data.{string, array, object, no_members};
 ghost use Rattle.serde_json.specs.View.{items_of};
-ghost use Rattle.documents.specs.Json.{text, with_item};
+ghost use Rattle.jsondoc.specs.Json.{text, with_item};
 ghost use Rattle.names.specs.Resource.{row};
 ghost use Rattle.documents.specs.Document.{object_of, shown};
 ghost use Rattle.requests.specs.Selector.{selects, selector_seen};
@@ -10,8 +10,9 @@ ghost use Rattle.requests.specs.Listing.{shown_items, list_of, served};
 
 use crate::reply::{Reply, put_text};
 use crate::selector::Selector;
-use crate::stored::Stored;
-use documents::{Doc, shown_document};
+use documents::shown_document;
+use histories::Stored;
+use jsondoc::Doc;
 use names::Resource;
 use objects::Lent;
 use std::alloc::{AllocError, Global};

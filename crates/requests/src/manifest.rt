@@ -2,9 +2,10 @@ ghost use Rattle.std.specs.Prelude.{◌≡◌, ◌≤◌, ℕ, List, [], Option,
 ghost use Rattle.std.specs.Option.{option_map_or};
 ghost use Rattle.std.specs.Str.{bytes_eq};
 ghost use Rattle.serde_json.specs.Data.{depth};
-ghost use Rattle.documents.specs.Json.{text, without_member};
+ghost use Rattle.jsondoc.specs.Json.{text, without_member};
 ghost use Rattle.documents.specs.Document.{Document as DocumentData, metadata_of, metadata_text};
-ghost use Rattle.requests.specs.Manifest.{target, is_target, key_at, fits_path, asks_for_version, document_conditions, body_refusal, with_namespace, stored_document, manifest_of, sound, IsManifestOf, HasForm, BodyHasForm};
+ghost use Rattle.requests.specs.Manifest.{target, is_target, key_at, fits_path, asks_for_version, document_conditions, body_refusal, with_namespace, stored_document, manifest_of, sound, IsManifestOf, BodyHasForm};
+ghost use Rattle.documents.specs.Form.{HasForm};
 ghost use Rattle.names.specs.declared.resource.Resource.TheVariants.{Namespace};
 ghost use Rattle.names.specs.Key.{is_key, key_of};
 ghost use Rattle.names.specs.Name.{is_namespace};
@@ -16,7 +17,8 @@ ghost use Rattle.requests.specs.declared.manifest.BodyFault.TheVariants.{Memory}
 use crate::namespaces::namespace_document;
 use crate::refusal::Refusal;
 use crate::reply::put_text;
-use documents::{Doc, Document, ReadFault, has_kind, has_metadata, metadata_copy, metadata_text};
+use documents::{Document, has_kind, has_metadata, metadata_copy, metadata_text};
+use jsondoc::{Doc, JsonFault};
 use names::{Key, KeyFault, Resource, Scope, check_name_of, check_namespace};
 use std::alloc::{AllocError, Global};
 use std::marker::Model;
@@ -59,8 +61,9 @@ impl Model for Manifest {
     ghost coded = { coded_manifest };
 
     ghost use Rattle.std.specs.Prelude.{◌≡◌, option_map, string_bytes};
-    ghost use Rattle.documents.specs.Json.{text as text_of};
-    ghost use Rattle.requests.specs.Manifest.{sound, HasForm};
+    ghost use Rattle.jsondoc.specs.Json.{text as text_of};
+    ghost use Rattle.requests.specs.Manifest.{sound};
+    ghost use Rattle.documents.specs.Form.{HasForm};
 
     ghost view = { λ m. record { key = m.key; body = sound m.document; version = option_map string_bytes m.version } };
 
@@ -90,9 +93,9 @@ impl Manifest {
         }
         let document = match Doc::read(alloc, body) {
             Ok(document) => document,
-            Err(ReadFault::NotJson) => return Err(BodyFault::Refused(Refusal::BodyIsNotJson)),
-            Err(ReadFault::Number) => return Err(BodyFault::Refused(Refusal::NumberOutsideRange)),
-            Err(ReadFault::Memory) => return Err(BodyFault::Memory),
+            Err(JsonFault::NotJson) => return Err(BodyFault::Refused(Refusal::BodyIsNotJson)),
+            Err(JsonFault::Number) => return Err(BodyFault::Refused(Refusal::NumberOutsideRange)),
+            Err(JsonFault::Memory) => return Err(BodyFault::Memory),
         };
         match document_refusal(resource, namespace, name, &document) {
             Some(refusal) => Err(BodyFault::Refused(refusal)),

@@ -4,7 +4,7 @@ ghost use Rattle.documents.specs.Document.{object_of};
 ghost use Rattle.requests.specs.Namespaces.{namespace_document};
 
 use crate::reply::put_text;
-use documents::Doc;
+use jsondoc::Doc;
 use std::alloc::{AllocError, Global};
 
 // The document of a Namespace of which only the name is told.

@@ -1,11 +1,12 @@
 ghost use Rattle.std.specs.Prelude.{◌≡◌, [], map, string_bytes, IfOk, OnOk};
 ghost use Rattle.serde_json.specs.Data.{object, no_members, string};
-ghost use Rattle.documents.specs.Json.{with_member};
+ghost use Rattle.jsondoc.specs.Json.{with_member};
 ghost use Rattle.requests.specs.Listing.{served};
 ghost use Rattle.requests.specs.Reply.{saying, status, showing, status_document};
 
 use crate::refusal::Refusal;
-use documents::{Doc, Document, shown_document, shown_from};
+use documents::{Document, shown_document, shown_from};
+use jsondoc::Doc;
 use std::alloc::{AllocError, Global};
 use std::marker::Model;
 

@@ -1,15 +1,16 @@
 // The events of a collection, as a watch tells them.
 ghost use Rattle.std.specs.Prelude.{◌≡◌, ◌++◌, ◌∷◌, [], string_bytes, if◌then◌else◌, IfOk, OnOk};
 ghost use Rattle.serde_json.specs.Data.{object, no_members};
-ghost use Rattle.documents.specs.Json.{text};
+ghost use Rattle.jsondoc.specs.Json.{text};
 ghost use Rattle.requests.specs.Collection.{collection_of};
 ghost use Rattle.requests.specs.Listing.{change_text, event_document, line_feed, lines_of, served};
 
 use crate::collection::Collection;
 use crate::reply::{Reply, put_text};
-use documents::{Doc, Document, shown_document};
-use objects::{Change, Event, Events};
+use documents::{Document, shown_document};
+use jsondoc::Doc;
 use std::alloc::{AllocError, Global};
+use window::{Change, Event, Events};
 
 /// The reply that tells those of some events that are of a collection, in order.
 pub fn told(

@@ -71,6 +71,7 @@ fn check_empty<D: Device>(device: &mut D) -> Result<(), StartFault>
     ensures not_empty { D.disk.keeps device.old → IsErrOf result StartFault.NotEmpty → D.disk.content device.old ≡ [] → ⊥ }
     ensures ran { Ran D.disk device.old device.new Same }
     ensures cause { IsErrOf result StartFault.Device → HasFailed D.disk device.old device.new }
+    ensures steady { OnOk result (D.disk.failures device.new ≡ D.disk.failures device.old) }
 {
     if device.len()? != 0 {
         return Err(StartFault::NotEmpty);
@@ -121,6 +122,7 @@ pub fn start<D: Device>(device: &mut D, format: Format) -> Result<Root, StartFau
     ensures untouched { IsErrOf result StartFault.NotEmpty → Ran D.disk device.old device.new Same }
 
     ensures cause { IsErrOf result StartFault.Device → HasFailed D.disk device.old device.new }
+    ensures steady { OnOk result (D.disk.failures device.new ≡ D.disk.failures device.old) }
 {
     check_empty(device)?;
     write_sectors(device, &nine_sectors(format))?;

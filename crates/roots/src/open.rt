@@ -60,6 +60,7 @@ pub fn counted_root<D: Device>(device: &mut D) -> Result<Root, RootFault>
     ensures in_data { IfOk result (λ root. 8 ≤ root.first) }
     ensures ran { Ran D.disk device.old device.new Same }
     ensures cause { IsErrOf result RootFault.Device → HasFailed D.disk device.old device.new }
+    ensures steady { OnOk result (D.disk.failures device.new ≡ D.disk.failures device.old) }
 {
     let sectors = device.len()?;
     if sectors < 9 {
@@ -94,6 +95,7 @@ pub fn synced_root<D: Device>(device: &mut D) -> Result<Root, RootFault>
     ensures durable { D.disk.keeps device.old → OnOk result (Only (D.disk.content device.new) (D.disk.left device.new)) }
     ensures ran { Ran D.disk device.old device.new Same }
     ensures cause { IsErrOf result RootFault.Device → HasFailed D.disk device.old device.new }
+    ensures steady { OnOk result (D.disk.failures device.new ≡ D.disk.failures device.old) }
 {
     device.sync()?;
     counted_root(device)

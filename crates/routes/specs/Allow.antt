@@ -3,11 +3,11 @@ use Rattle.std.specs.Prelude.{ℕ, List, codes, if◌then◌else◌, Option, Som
 use Rattle.std.specs.Option.{option_map_or}
 use Rattle.names.specs.declared.format.Format.{Format}
 use Rattle.httpmsg.specs.Stream.{Message}
-use Rattle.routes.specs.Path.{Place, everywhere, within}
+use Rattle.routes.specs.Path.{PathPlace, everywhere, within}
 use Rattle.routes.specs.Asked.{asked_at, place_in}
 
 -- the methods that a place allows
-abbrev pub allowed : Place → List ℕ
+abbrev pub allowed : PathPlace → List ℕ
 allowed (everywhere r) = codes "GET"
 allowed (within t) = option_map_or (λ name. codes "GET, PUT, DELETE") t.name (codes "GET, POST")
 

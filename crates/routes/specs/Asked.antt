@@ -1,7 +1,7 @@
 -- The request that a message spells.
 use Rattle.std.specs.Prelude.{ℕ, List, [], ◌∷◌, true, not, Option, Some, None, unwrap_or}
 use Rattle.std.specs.Option.{option_map_or}
-use Rattle.documents.specs.Json.{Reading, not_json, not_whole, document, reading}
+use Rattle.jsondoc.specs.Json.{Reading, not_json, not_whole, document, reading}
 use Rattle.names.specs.declared.format.Format.{Format}
 use Rattle.names.specs.Key.{Key, key_of}
 use Rattle.names.specs.Name.{is_namespace}
@@ -9,14 +9,15 @@ use Rattle.names.specs.Resource.{row}
 use Rattle.requests.specs.declared.refusal.Refusal.TheVariants.{NoSuchPath, MethodNotAllowed, BadQuery, BadNameInPath, UnexpectedBody, BadVersion, BodyIsNotJson, NumberOutsideRange}
 use Rattle.requests.specs.Collection.{Collection}
 use Rattle.requests.specs.DeleteOptions.{delete_body_conditions, version_of_body}
-use Rattle.requests.specs.Manifest.{Target, is_target, namespace_at, manifest_of, body_conditions}
+use Rattle.requests.specs.Manifest.{Target, is_target, manifest_of, body_conditions}
+use Rattle.documents.specs.Form.{namespace_at}
 use Rattle.requests.specs.Refusal.{Condition, first_of}
 use Rattle.requests.specs.Request.{Request, get, list, watch, create, replace, delete, refused}
 use Rattle.httpmsg.specs.declared.head.Method.{Method}
 use Rattle.httpmsg.specs.declared.head.Method.TheVariants.{Get, Head, Post, Put, Delete, Other}
 use Rattle.httpmsg.specs.Stream.{Message}
 use Rattle.names.specs.declared.resource.Resource.{Resource}
-use Rattle.routes.specs.Path.{path_of, query_of, parts_of, is_empty, Place, everywhere, within, place_at}
+use Rattle.routes.specs.Path.{path_of, query_of, parts_of, is_empty, PathPlace, everywhere, within, place_at}
 use Rattle.routes.specs.Query.{has_pairs, pairs_of, Question, objects, events, question_of}
 
 -- the first refusal whose condition holds, or else the request
@@ -138,12 +139,12 @@ of_everywhere m r Delete = None
 of_everywhere m r Other = None
 
 -- what a message asks of a place, if the place allows its method
-abbrev pub asked_at : Message → Place → Option Request
+abbrev pub asked_at : Message → PathPlace → Option Request
 asked_at m (everywhere r) = of_everywhere m r m.method
 asked_at m (within t) = option_map_or (λ name. of_item m t name m.method) t.name (of_collection m t m.method)
 
 -- the place that a message points to, if a store of the format serves it
-abbrev pub place_in : Format → Message → Option Place
+abbrev pub place_in : Format → Message → Option PathPlace
 place_in format m = place_at format (parts_of (path_of m.target))
 
 -- the request that a message spells to a store of a format: what its method asks of where its path points

@@ -103,12 +103,12 @@ resource_of format path = option_and_then (λ r. if has_resource format r then S
 -- ---- where a path points
 
 -- Where a path points: to the objects of a namespaced resource in all namespaces, or to another collection or an item of it.
-pub data Place : Type 0 where
-  everywhere : Resource → Place
-  within : Target → Place
+pub data PathPlace : Type 0 where
+  everywhere : Resource → PathPlace
+  within : Target → PathPlace
 
 -- a place of a resource: namespaced objects stand in a namespace, and the others in none
-abbrev pub in_scope : Scope → Resource → (namespace name : Option (List ℕ)) → Option Place
+abbrev pub in_scope : Scope → Resource → (namespace name : Option (List ℕ)) → Option PathPlace
 in_scope Namespaced r (Some namespace) name = Some (within (target r namespace name))
 in_scope Namespaced r None None = Some (everywhere r)
 in_scope Namespaced r None (Some name) = None
@@ -120,11 +120,11 @@ abbrev pub is_left_out : Option (List ℕ) → Bool
 is_left_out piece = option_map_or is_empty piece false
 
 -- where the pieces of a path point, if a store of the format serves that
-abbrev pub place_of : Format → Pieces → Option Place
+abbrev pub place_of : Format → Pieces → Option PathPlace
 place_of format p =
     if is_left_out p.namespace || is_left_out p.name then None
     else option_and_then (λ r. in_scope (row r).scope r p.namespace p.name) (resource_of format (literal p.group p.version p.plural))
 
 -- where the parts of a path point, if a store of the format serves that
-abbrev pub place_at : Format → List (List ℕ) → Option Place
+abbrev pub place_at : Format → List (List ℕ) → Option PathPlace
 place_at format parts = option_and_then (place_of format) (pieces_of parts)

@@ -15,32 +15,32 @@ use std::alloc::{AllocError, Global};
 
 /// Messages that are routed.
 #[derive(Drop)]
-pub struct Front {
+pub struct RoutedMessages {
     /// What they ask.
     pub requests: Vec<Request>,
     /// The methods that the path of each allows, if the request's method is not among them.
     pub allows: Vec<Option<&'static str>>,
 }
 
-impl Front {
+impl RoutedMessages {
     // No message. It takes no memory.
-    fn new(alloc: Global) -> Front
+    fn new(alloc: Global) -> RoutedMessages
         ensures requests { result.requests.items ≡ [] }
         ensures allows { result.allows.items ≡ [] }
     {
-        Front {
+        RoutedMessages {
             requests: Vec::new(alloc),
             allows: Vec::new(alloc),
         }
     }
 
     // No message, with room for this many.
-    fn with_capacity(alloc: Global, count: usize) -> Result<Front, AllocError>
+    fn with_capacity(alloc: Global, count: usize) -> Result<RoutedMessages, AllocError>
         ensures requests { IfOk result (λ front. front.requests.items ≡ []) }
         ensures allows { IfOk result (λ front. front.allows.items ≡ []) }
         ensures room { IfOk result (λ front. (count ≤ vec_capacity front.requests) × (count ≤ vec_capacity front.allows)) }
     {
-        Ok(Front {
+        Ok(RoutedMessages {
             requests: Vec::with_capacity(alloc, count)?,
             allows: Vec::with_capacity(alloc, count)?,
         })
@@ -62,14 +62,19 @@ impl Front {
 }
 
 /// Routes messages to a store of a format from the first on, up to the first to which memory is refused.
-pub fn route_front(alloc: Global, routes: &Routes, format: Format, messages: &[Message]) -> Front
+pub fn route_front(
+    alloc: Global,
+    routes: &Routes,
+    format: Format,
+    messages: &[Message],
+) -> RoutedMessages
     ensures few { length result.requests.items ≤ length messages.now }
     ensures requests { map request_of result.requests.items ≡ map (asked format) (take (length result.requests.items) messages.now) }
     ensures allows { map (option_map (λ methods. methods.now)) result.allows.items ≡ map (allow_of format) (take (length result.requests.items) messages.now) }
 {
-    let mut front = match Front::with_capacity(alloc, messages.len()) {
+    let mut front = match RoutedMessages::with_capacity(alloc, messages.len()) {
         Ok(front) => front,
-        Err(AllocError) => return Front::new(alloc),
+        Err(AllocError) => return RoutedMessages::new(alloc),
     };
     for message in messages {
         match route(alloc, routes, format, message) {

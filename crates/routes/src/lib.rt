@@ -26,7 +26,7 @@ mod routes;
 mod table;
 
 pub use bodies::fault_body;
-pub use front::{Front, route_front};
+pub use front::{RoutedMessages, route_front};
 pub use reply::{
     methods_at, write_answer, write_answers, write_fault, write_no_more, write_storage_failed,
 };

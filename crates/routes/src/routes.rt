@@ -18,7 +18,7 @@ ghost use Rattle.routes.specs.Allow.{allowed, allow_of};
 use crate::collection::collection_request;
 use crate::path::path_and_query;
 use crate::query::has_pairs;
-use crate::table::{Place, Routes, Target};
+use crate::table::{PathPlace, Routes, Target};
 use httpmsg::{Message, Method};
 use names::{Format, Key, KeyFault, Resource};
 use requests::{BodyFault, Manifest, Refusal, Request, read_delete_options};
@@ -62,7 +62,7 @@ pub fn route(
 fn route_at(
     alloc: Global,
     message: &Message,
-    place: &Place,
+    place: &PathPlace,
     query: &str,
 ) -> Result<Routed, AllocError>
     requires { query.now ≡ query_of message.now.target }
@@ -86,15 +86,15 @@ fn route_at(
 fn asked_at(
     alloc: Global,
     message: &Message,
-    place: &Place,
+    place: &PathPlace,
     query: &str,
 ) -> Result<Option<Request>, AllocError>
     requires { query.now ≡ query_of message.now.target }
     ensures { IfOk result (λ request. option_map request_of request ≡ asked_at message.now (seen place.now)) }
 {
     match place {
-        Place::Everywhere(resource) => of_everywhere(alloc, message, *resource, query),
-        Place::Within(target) => match target.name {
+        PathPlace::Everywhere(resource) => of_everywhere(alloc, message, *resource, query),
+        PathPlace::Within(target) => match target.name {
             Some(name) => of_item(alloc, message, target, name, query),
             None => of_collection(alloc, message, target, query),
         },

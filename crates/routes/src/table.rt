@@ -2,7 +2,7 @@
 
 ghost use Rattle.std.specs.Prelude.{◌≡◌, [], IfOk, OnOk, Some, None, option_map, if◌then◌else◌, ◌||◌, string_bytes};
 ghost use Rattle.matchit.specs.declared.router.Router.{Router};
-ghost use Rattle.requests.specs.Manifest.{namespace_at};
+ghost use Rattle.documents.specs.Form.{namespace_at};
 ghost use Rattle.routes.specs.Path.{resource_of, in_scope, place_of, place_at, parts_of};
 ghost use Rattle.routes.specs.PlaceOf.{seen};
 ghost use Rattle.routes.specs.Allow.{allowed};
@@ -48,21 +48,21 @@ impl<'p> Target<'p> {
 
 /// Where a path points.
 #[derive(Drop)]
-pub(crate) enum Place<'p> {
+pub(crate) enum PathPlace<'p> {
     /// The objects of a namespaced resource, in all namespaces.
     Everywhere(Resource),
     /// Another collection, or an item of one.
     Within(Target<'p>),
 }
 
-impl Place<'_> {
+impl PathPlace<'_> {
     /// The methods that the place allows, as an `Allow` field lists them (RFC 9110 section 10.2.1).
     pub(crate) fn allowed(&self) -> &'static str
         ensures { result.now ≡ allowed (seen self.now) }
     {
         match self {
-            Place::Everywhere(_) => "GET",
-            Place::Within(target) => match target.name {
+            PathPlace::Everywhere(_) => "GET",
+            PathPlace::Within(target) => match target.name {
                 Some(_) => "GET, PUT, DELETE",
                 None => "GET, POST",
             },
@@ -124,20 +124,20 @@ fn in_scope<'p>(
     resource: Resource,
     namespace: Option<&'p str>,
     name: Option<&'p str>,
-) -> Option<Place<'p>>
+) -> Option<PathPlace<'p>>
     ensures { option_map seen result ≡ in_scope (row resource).scope resource (option_map (λ n. n.now) namespace.entry) (option_map (λ n. n.now) name.entry) }
 {
     match (resource.scope(), namespace) {
-        (Scope::Namespaced, Some(namespace)) => Some(Place::Within(Target {
+        (Scope::Namespaced, Some(namespace)) => Some(PathPlace::Within(Target {
             resource,
             namespace,
             name,
         })),
         (Scope::Namespaced, None) => match name {
             Some(_) => None,
-            None => Some(Place::Everywhere(resource)),
+            None => Some(PathPlace::Everywhere(resource)),
         },
-        (Scope::Cluster, None) => Some(Place::Within(Target {
+        (Scope::Cluster, None) => Some(PathPlace::Within(Target {
             resource,
             namespace: "",
             name,
@@ -175,7 +175,7 @@ impl Routes {
         alloc: Global,
         format: Format,
         pieces: &Pieces<'p>,
-    ) -> Result<Option<Place<'p>>, AllocError>
+    ) -> Result<Option<PathPlace<'p>>, AllocError>
         ensures { IfOk result (λ place. option_map seen place ≡ place_of format pieces.now) }
     {
         if pieces.leaves_out() {
@@ -194,7 +194,7 @@ impl Routes {
         alloc: Global,
         format: Format,
         path: &'p str,
-    ) -> Result<Option<Place<'p>>, AllocError>
+    ) -> Result<Option<PathPlace<'p>>, AllocError>
         ensures { IfOk result (λ place. option_map seen place ≡ place_at format (parts_of path.now)) }
     {
         match pieces_of(alloc, path)? {

@@ -2,7 +2,7 @@
 
 use crate::{documents_asked, edits, names_asked, record_bench, stored};
 use cases::{Bench, Told, Wrong, compared, first_word, run_text};
-use documents::Doc;
+use jsondoc::Doc;
 use objects::Objects;
 use std::alloc::Global;
 

@@ -8,10 +8,11 @@ use crate::streams::routed_first;
 use crate::texts::parted;
 use apicore::{Prepared, prepare};
 use cases::{Wrong, first_word, numbered};
+use decoded::Core;
 use diskcases::Line;
 use holdings::Nothing;
 use names::{Format, Rules};
-use recovery::{Core, RecoveryFault, redone};
+use recovery::{RecoveryFault, redone};
 use routes::{Routed, Routes};
 use std::alloc::Global;
 

@@ -3,9 +3,8 @@
 use crate::names_asked::resource;
 use crate::texts::{document_text, made_text, or_empty, push_times};
 use cases::{TextBuilder, Wrong, first_word, number, push_bytes, text, yes_or_no};
-use documents::{
-    Doc, Document, ReadFault, has_kind, has_metadata, metadata_copy, metadata_text, shown_document,
-};
+use documents::{Document, has_kind, has_metadata, metadata_copy, metadata_text, shown_document};
+use jsondoc::{Doc, JsonFault};
 use requests::Selector;
 use std::alloc::Global;
 
@@ -13,9 +12,9 @@ use std::alloc::Global;
 pub fn document(alloc: Global, bytes: &[u8]) -> Result<Doc, Wrong> {
     match Doc::read(alloc, bytes) {
         Ok(document) => Ok(document),
-        Err(ReadFault::Memory) => Err(Wrong::Memory),
-        Err(ReadFault::NotJson) => Err(Wrong::Told("no JSON")),
-        Err(ReadFault::Number) => Err(Wrong::Told("a number that is not taken")),
+        Err(JsonFault::Memory) => Err(Wrong::Memory),
+        Err(JsonFault::NotJson) => Err(Wrong::Told("no JSON")),
+        Err(JsonFault::Number) => Err(Wrong::Told("a number that is not taken")),
     }
 }
 

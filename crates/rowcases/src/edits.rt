@@ -2,7 +2,7 @@
 
 use crate::texts::{document_text, made_text};
 use cases::{Wrong, first_word, shown, text};
-use documents::Doc;
+use jsondoc::Doc;
 use std::alloc::Global;
 
 // A value made without reading: nothing, an empty list, an empty object, a text or a number.

@@ -4,12 +4,12 @@ use cases::Wrong;
 use diskcases::Line;
 use documents::Document;
 use names::{Key, Resource};
-use objects::{Change, Event};
 use records::{
     Entry, StoredObject, event_entry, object_entry, plan_entries, read_event, read_object,
     read_piece,
 };
 use std::alloc::{AllocError, Global};
+use window::{Change, Event};
 
 /// Asks that what was read from an entry is written as that entry again.
 pub(crate) fn check_written(

@@ -1,19 +1,19 @@
 //! The laws of what the rows are about, each called once.
 
 use apicore::{accepted_are_admitted, runs_are_steps, view_decides, writes_follow};
-use documents::text_escapes;
+use decoded::{
+    events_are_last, histories_show, key_has_last_write, objects_ascend, revision_counts,
+};
 use expressions::{expressions_fit_the_text, one_stored_list};
 use httpmsg::one_stream;
+use jsondoc::text_escapes;
 use objects::{
     change_counts, change_is_one_more, found_over, found_where_covered, listed_over,
     listed_where_covered, same_is_nothing,
 };
-use planlist::one_list;
+use plancode::one_list;
 use records::payload_has_one_group;
-use recovery::{
-    events_are_last, histories_show, key_has_last_write, objects_ascend, payloads_have_one_list,
-    revision_counts,
-};
+use recovery::payloads_have_one_list;
 use requests::{parts_are_spelled, stored_is_read};
 use snapshots::{kept_are_of_a_view, views_hold_objects};
 use verdict::bindings_ascend;

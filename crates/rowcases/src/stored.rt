@@ -2,7 +2,7 @@
 
 use crate::names_asked::key;
 use cases::{WordReader, Wrong, number, shown, text};
-use objects::{Entry, Objects};
+use objects::{KeyValue, Objects};
 use std::alloc::Global;
 
 // A number, or none.
@@ -19,7 +19,7 @@ pub fn store(alloc: Global, objects: &mut Objects<u64>, text: &str) -> Result<St
     let mut words = WordReader::new(text);
     let key = key(alloc, &mut words)?;
     let value = number(words.rest())?;
-    match Entry::new(alloc, key, value) {
+    match KeyValue::new(alloc, key, value) {
         Ok(entry) => number_or_none(alloc, objects.put(entry)),
         Err(_) => Err(Wrong::Memory),
     }

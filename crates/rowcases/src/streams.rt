@@ -1,8 +1,7 @@
 //! The messages of a stream, what they ask for, and the words of their faults.
 
 use cases::Wrong;
-use cutter::{Cutter, HeadRoom};
-use httpmsg::{Message, MessageFault};
+use httpmsg::{Cutter, HeadRoom, Message, MessageFault};
 use names::Format;
 use routes::{Routed, Routes, route};
 use std::alloc::Global;

@@ -1,7 +1,7 @@
 //! Texts of a row, and of the documents that it makes.
 
 use cases::{TextBuilder, Wrong, number};
-use documents::Doc;
+use jsondoc::Doc;
 use std::alloc::{AllocError, Global};
 
 /// A document's text.

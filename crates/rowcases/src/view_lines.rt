@@ -3,10 +3,10 @@
 use crate::entry_lines::check_written;
 use cases::Wrong;
 use diskcases::Line;
+use histories::Stored;
 use holdings::Holdings;
 use names::{Format, Key};
 use records::{Entry, KeptObject, KeptView, event_entry, object_entry, plan_entries, read_view};
-use requests::Stored;
 use std::alloc::{AllocError, Global};
 
 // Entries, with ` | ` between them; none where the rest is empty.

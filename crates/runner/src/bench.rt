@@ -1,7 +1,7 @@
 //! What a case stands on, what was sent to it, and the questions by their words.
 
 use crate::compactions::compaction_damage;
-use crate::place::Place;
+use crate::place::StorePlace;
 use crate::refusals::{at_hand, fault};
 use crate::scripts::{applied, driven};
 use crate::streams::{cuts, readers, writers};
@@ -17,7 +17,7 @@ const ROOM_SECTORS: u64 = 64;
 /// What a case stands on, and what was sent to it.
 #[derive(Drop)]
 pub struct Stand {
-    place: Place,
+    place: StorePlace,
     // what was sent since the case began, and of that the connections that ask for a write
     all_sent: String,
     writes: Vec<String>,
@@ -37,7 +37,7 @@ impl Service for Stand {
     // A new store, opened.
     fn new(alloc: Global) -> Result<Stand, Wrong> {
         let mut stand = Stand {
-            place: Place::new(alloc, ROOM_SECTORS),
+            place: StorePlace::new(alloc, ROOM_SECTORS),
             all_sent: String::new(alloc),
             writes: Vec::new(alloc),
             steps: Vec::new(alloc),

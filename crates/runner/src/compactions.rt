@@ -1,7 +1,7 @@
 //! Compactions that are stopped, or that fail, at a call of the device, and sectors of a compacted store that are overwritten.
 
 use crate::looks::{is_look, leaves, push_look};
-use crate::place::Place;
+use crate::place::StorePlace;
 use crate::steps::Stop;
 use crate::stops::make;
 use cases::{TextBuilder, Wrong};
@@ -14,15 +14,15 @@ const ROOM_SECTORS: u64 = 160;
 const CHANGED: &str = "something else is found";
 
 // Compacts the open store.
-fn compact(place: &mut Place) {
+fn compact(place: &mut StorePlace) {
     place.compact();
     let is_compacted = place.told().starts_with("generation ");
     place.note(is_compacted, "the store is not compacted");
 }
 
 /// A new store with these writes, compacted this many times.
-pub fn made(alloc: Global, writes: &[String], times: u64) -> Place {
-    let mut place = Place::new(alloc, ROOM_SECTORS);
+pub fn made(alloc: Global, writes: &[String], times: u64) -> StorePlace {
+    let mut place = StorePlace::new(alloc, ROOM_SECTORS);
     place.open();
     for write in writes {
         make(&mut place, write.as_str());
@@ -34,14 +34,14 @@ pub fn made(alloc: Global, writes: &[String], times: u64) -> Place {
 }
 
 // Such a store, and what it shows.
-fn begun(alloc: Global, writes: &[String], times: u64, looks: &mut Vec<String>) -> Place {
+fn begun(alloc: Global, writes: &[String], times: u64, looks: &mut Vec<String>) -> StorePlace {
     let mut place = made(alloc, writes, times);
     push_look(&mut place, looks);
     place
 }
 
 // Asks that an opening finds what was shown, another one after a crash, and one after a compaction that follows.
-fn keeps(place: &mut Place, looks: &[String]) {
+fn keeps(place: &mut StorePlace, looks: &[String]) {
     leaves(place, looks, [0, 0], CHANGED);
     place.crash(&[Pick::Fill(0xA5)], u64::MAX);
     leaves(place, looks, [0, 0], CHANGED);
@@ -50,7 +50,7 @@ fn keeps(place: &mut Place, looks: &[String]) {
 }
 
 // Opens and compacts a store, one of which must fail: whether it is the compaction.
-fn fails(place: &mut Place) -> bool {
+fn fails(place: &mut StorePlace) -> bool {
     place.open();
     let is_open = place.told() == "ok";
     if is_open {

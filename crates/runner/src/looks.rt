@@ -1,11 +1,11 @@
 //! What a store shows after each step, and whether a place shows it again.
 
-use crate::place::Place;
+use crate::place::StorePlace;
 use crate::steps::Stop;
 use device::Pick;
 
 /// Adds what is shown now.
-pub fn push_look(place: &mut Place, looks: &mut Vec<String>) {
+pub fn push_look(place: &mut StorePlace, looks: &mut Vec<String>) {
     place.look();
     let is_pushed = looks.push(place.take_told()).is_ok();
     place.note(is_pushed, "out of memory");
@@ -21,7 +21,7 @@ pub fn is_look(looks: &[String], at: usize, found: &str) -> bool {
 
 /// Opens the store, and asks that what is shown is what this many left, or the other number of them: which of the two.
 pub fn leaves(
-    place: &mut Place,
+    place: &mut StorePlace,
     looks: &[String],
     counts: [usize; 2],
     otherwise: &'static str,
@@ -36,7 +36,7 @@ pub fn leaves(
 }
 
 /// Crashes, and asks that what is shown is what this many left, or the other number of them, and the same after a second crash.
-pub fn crash_leaves(place: &mut Place, looks: &[String], counts: [usize; 2], stop: Stop<'_>) {
+pub fn crash_leaves(place: &mut StorePlace, looks: &[String], counts: [usize; 2], stop: Stop<'_>) {
     place.crash(stop.picks, stop.length);
     let count = leaves(
         place,

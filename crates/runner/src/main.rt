@@ -28,7 +28,7 @@ use bench::Stand;
 use cases::{Report, Told, Wrong, paths, run_text};
 use celcases::{laws_of_expressions, run_expressions};
 use diskcases::{check_files, run_disk};
-use opening::one_view;
+use durable::one_view;
 use rowcases::{
     Exchange, laws_of_histories, laws_of_records, laws_of_requests, run_records, run_rows,
 };

@@ -7,10 +7,9 @@ use crate::streams::{Parted, Taker};
 use api::serve;
 use cases::{TextBuilder, Wrong, shown, text, yes_or_no};
 use device::{MemDevice, Pick};
-use durable::{Checked, Compacted, Fault, Store, Upgraded};
+use durable::{Checked, Compacted, Episode, Fault, Found, Store, Upgraded, create, drive};
 use httpmsg::Std;
 use names::Format;
-use opening::{Episode, Found, create, drive, open};
 use requests::{Reply, Request};
 use std::alloc::Global;
 use std::mem::replace;
@@ -30,7 +29,7 @@ enum Ground {
 }
 
 /// What a case stands on.
-pub struct Place {
+pub struct StorePlace {
     alloc: Global,
     ground: Ground,
     // what the last step told
@@ -40,9 +39,9 @@ pub struct Place {
 }
 
 // Written out, so that each function that lets a place go calls it: what is derived stands in each of them.
-impl Drop for Place {
+impl Drop for StorePlace {
     fn drop(self) {
-        let Place {
+        let StorePlace {
             alloc: _,
             ground: _,
             told: _,
@@ -111,10 +110,10 @@ fn created(alloc: Global, room_sectors: u64) -> Result<MemDevice, &'static str> 
     }
 }
 
-impl Place {
+impl StorePlace {
     /// A new store on a device with so much room, shut.
-    pub fn new(alloc: Global, room_sectors: u64) -> Place {
-        let mut place = Place {
+    pub fn new(alloc: Global, room_sectors: u64) -> StorePlace {
+        let mut place = StorePlace {
             alloc,
             ground: Ground::Nothing,
             told: String::new(alloc),
@@ -259,7 +258,7 @@ impl Place {
         let Some(device) = self.taken() else {
             return self.note(false, "there is no device");
         };
-        let told = match open(self.alloc, device) {
+        let told = match Store::open(self.alloc, device) {
             Ok(store) => {
                 drop(replace(&mut self.ground, Ground::Open(store)));
                 text(self.alloc, "ok")

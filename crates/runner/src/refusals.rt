@@ -2,9 +2,8 @@
 
 use api::{ServeFault, fault_body};
 use cases::{Wrong, first_word, shown, text};
-use durable::{Damage, Fault, UpgradeFault};
+use durable::{CreateFault, Damage, Fault, UpgradeFault};
 use httpmsg::MessageFault;
-use opening::CreateFault;
 use requests::Reply;
 use rowcases::fault_word;
 use std::alloc::Global;

@@ -2,11 +2,11 @@
 //! episodes of one life.
 
 use crate::looks::{crash_leaves, is_look, leaves, push_look};
-use crate::place::Place;
+use crate::place::StorePlace;
 use crate::steps::{Stop, push_steps, stop_step};
 use cases::{TextBuilder, WordReader, Wrong, shown, wanted};
 use diskcases::crash_words;
-use opening::{Episode, Found};
+use durable::{Episode, Found};
 use std::alloc::Global;
 
 const ROOM_SECTORS: u64 = 160;
@@ -16,7 +16,7 @@ pub const PROBE: &str =
     "POST /api/v1/namespaces/default/configmaps HTTP/1.1\r\nHost: x\r\nContent-Length: 66\r\n\r\n{\"apiVersion\":\"v1\",\"kind\":\"ConfigMap\",\"metadata\":{\"name\":\"probe\"}}";
 
 // Does what a step says.
-fn go(place: &mut Place, step: &Episode) {
+fn go(place: &mut StorePlace, step: &Episode) {
     match step.requests.first() {
         Some(request) => place.apply(request),
         None if step.compacts => place.compact(),
@@ -25,7 +25,7 @@ fn go(place: &mut Place, step: &Episode) {
 }
 
 // Takes a step, unless the device fails in it.
-fn take(place: &mut Place, step: &Episode) -> bool {
+fn take(place: &mut StorePlace, step: &Episode) -> bool {
     go(place, step);
     let told = place.told();
     if told == "device failed" {
@@ -40,7 +40,7 @@ fn take(place: &mut Place, step: &Episode) -> bool {
 }
 
 // Takes steps up to one in which the device fails: how many are taken.
-fn taken(place: &mut Place, steps: &[Episode]) -> usize {
+fn taken(place: &mut StorePlace, steps: &[Episode]) -> usize {
     let mut count = 0_usize;
     for step in steps {
         if !take(place, step) {
@@ -57,7 +57,7 @@ pub fn push_script_looks(
     steps: &[Episode],
     looks: &mut Vec<String>,
 ) -> Result<u64, Wrong> {
-    let mut place = Place::new(alloc, ROOM_SECTORS);
+    let mut place = StorePlace::new(alloc, ROOM_SECTORS);
     for step in steps {
         let is_taken = take(&mut place, step);
         place.note(is_taken, "the device fails");
@@ -67,7 +67,7 @@ pub fn push_script_looks(
 }
 
 // Asks that a further stop and crash, in the next request or in the compaction after it, leaves the revision, or one more, and that where it was told.
-fn stops_again(place: &mut Place, probe: &[Episode]) {
+fn stops_again(place: &mut StorePlace, probe: &[Episode]) {
     let revision = place.revision();
     let Ok(found) = place.live(probe) else {
         return place.note(false, "the store does not open again");
@@ -91,7 +91,7 @@ pub fn script_stopped(
     looks: &[String],
     stop: Stop<'_>,
 ) -> Result<u64, Wrong> {
-    let mut place = Place::new(alloc, ROOM_SECTORS);
+    let mut place = StorePlace::new(alloc, ROOM_SECTORS);
     place.stop_on(stop.call);
     let count = taken(&mut place, steps);
     crash_leaves(&mut place, looks, [count.saturating_sub(1), count], stop);
@@ -107,7 +107,7 @@ pub fn script_failed(
     looks: &[String],
     call: u64,
 ) -> Result<u64, Wrong> {
-    let mut place = Place::new(alloc, ROOM_SECTORS);
+    let mut place = StorePlace::new(alloc, ROOM_SECTORS);
     place.fail_on(call);
     let count = taken(&mut place, steps);
     let Some(step) = steps.get(count) else {
@@ -127,7 +127,7 @@ pub fn script_failed(
 }
 
 // Asks that a place shows what these steps leave.
-fn is_as_before(alloc: Global, place: &mut Place, words: &[String]) -> Result<(), Wrong> {
+fn is_as_before(alloc: Global, place: &mut StorePlace, words: &[String]) -> Result<(), Wrong> {
     let (mut steps, mut looks) = (Vec::new(alloc), Vec::new(alloc));
     push_steps(alloc, words, &[], false, &mut steps)?;
     push_script_looks(alloc, &steps, &mut looks)?;
@@ -141,7 +141,7 @@ fn is_as_before(alloc: Global, place: &mut Place, words: &[String]) -> Result<()
 
 /// `apply STEP`: takes the last of these steps by a call of the store, and gives what is told of it. Where that is out of memory, a store that is
 /// open must show what the steps before left, and the step is taken once more.
-pub fn applied(alloc: Global, place: &mut Place, words: &[String]) -> Result<String, Wrong> {
+pub fn applied(alloc: Global, place: &mut StorePlace, words: &[String]) -> Result<String, Wrong> {
     let (before, last) = words.split_at(words.len().saturating_sub(1));
     let mut steps = Vec::new(alloc);
     push_steps(alloc, last, &[], false, &mut steps)?;
@@ -201,7 +201,7 @@ pub fn driven(alloc: Global, words: &[String], line: &str) -> Result<String, Wro
         stop,
         false,
     )?;
-    let mut place = Place::new(alloc, room);
+    let mut place = StorePlace::new(alloc, room);
     let lived = place.live(&steps);
     drop(place);
     match lived {

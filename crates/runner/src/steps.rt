@@ -2,8 +2,8 @@
 
 use cases::Wrong;
 use device::Pick;
+use durable::Episode;
 use names::Format;
-use opening::Episode;
 use routes::Routes;
 use rowcases::routed_first;
 use std::alloc::{AllocError, Global};

@@ -1,23 +1,23 @@
 //! Writes that are stopped at a call of the device, and the crash that follows.
 
 use crate::looks::{crash_leaves, push_look};
-use crate::place::Place;
+use crate::place::StorePlace;
 use crate::steps::Stop;
 use cases::Wrong;
-use opening::Episode;
+use durable::Episode;
 use records::GROUP_LIMIT;
 use std::alloc::Global;
 
 const ROOM_SECTORS: u64 = 24;
 
 // Makes a write in a connection: whether it is taken.
-fn is_taken(place: &mut Place, write: &str) -> bool {
+fn is_taken(place: &mut StorePlace, write: &str) -> bool {
     place.send(write);
     place.told().starts_with("HTTP/1.1 20")
 }
 
 /// Makes a write in a connection, which must be taken.
-pub fn make(place: &mut Place, write: &str) {
+pub fn make(place: &mut StorePlace, write: &str) {
     let is_taken = is_taken(place, write);
     place.note(is_taken, "a write is refused");
 }
@@ -28,7 +28,7 @@ pub fn push_write_looks(
     writes: &[String],
     looks: &mut Vec<String>,
 ) -> Result<u64, Wrong> {
-    let mut place = Place::new(alloc, ROOM_SECTORS);
+    let mut place = StorePlace::new(alloc, ROOM_SECTORS);
     place.open();
     push_look(&mut place, looks);
     for write in writes {
@@ -39,7 +39,7 @@ pub fn push_write_looks(
 }
 
 // Makes the writes as far as they are taken, the first in a connection and each of the others in a run of its own: how many are.
-fn run_each(place: &mut Place, writes: &[String], steps: &[Episode]) -> usize {
+fn run_each(place: &mut StorePlace, writes: &[String], steps: &[Episode]) -> usize {
     let (Some(first), Some((_, others))) = (writes.first(), steps.split_first()) else {
         return 0;
     };
@@ -63,7 +63,7 @@ pub fn writes_stopped(
     is_group: bool,
     stop: Stop<'_>,
 ) -> Result<u64, Wrong> {
-    let mut place = Place::new(alloc, ROOM_SECTORS);
+    let mut place = StorePlace::new(alloc, ROOM_SECTORS);
     place.stop_on(stop.call);
     place.open();
     let counts = match steps.first() {

@@ -1,6 +1,6 @@
 //! Streams that are read in parts, and readers and writers that fail, each on a new store.
 
-use crate::place::Place;
+use crate::place::StorePlace;
 use cases::{WordReader, Wrong, compare, text};
 use rowcases::short;
 use std::alloc::Global;
@@ -86,7 +86,7 @@ impl Write for Taker {
 
 // What is written on a new store, with its end after it.
 fn served(alloc: Global, reader: Parted<'_>, writer: Taker) -> Result<String, Wrong> {
-    let mut place = Place::new(alloc, ROOM_SECTORS);
+    let mut place = StorePlace::new(alloc, ROOM_SECTORS);
     place.open();
     place.serve(reader, writer);
     let answer = place.answer();

@@ -7,7 +7,7 @@ use crate::stops::{push_write_looks, writes_stopped};
 use crate::upgrades::{push_upgrade_looks, upgrade_failed, upgrade_stopped};
 use cases::{WordReader, Wrong, shown};
 use device::Pick;
-use opening::Episode;
+use durable::Episode;
 use std::alloc::{AllocError, Global};
 
 // No crash of these devices leaves this many sectors open.

@@ -2,7 +2,7 @@
 
 use crate::compactions::made;
 use crate::looks::{leaves, push_look};
-use crate::place::Place;
+use crate::place::StorePlace;
 use crate::steps::Stop;
 use cases::Wrong;
 use device::Pick;
@@ -11,7 +11,7 @@ use std::alloc::Global;
 const NEITHER: &str = "neither the store as it was nor the upgraded one is found";
 
 // Upgrades the open store, which must be of an older format.
-fn upgrade(place: &mut Place) {
+fn upgrade(place: &mut StorePlace) {
     place.upgrade();
     let is_upgraded = place.told().starts_with("format 2, ");
     place.note(is_upgraded, "the store is not upgraded");
@@ -32,7 +32,7 @@ pub fn push_upgrade_looks(
 }
 
 // Asks that an opening finds one of the two, another one after a crash the same, and one after an upgrade that follows the upgraded store.
-fn keeps(place: &mut Place, looks: &[String]) {
+fn keeps(place: &mut StorePlace, looks: &[String]) {
     let count = leaves(place, looks, [0, 1], NEITHER);
     place.crash(&[Pick::Fill(0xA5)], u64::MAX);
     leaves(
@@ -51,7 +51,7 @@ fn keeps(place: &mut Place, looks: &[String]) {
 }
 
 // Opens and upgrades a store, one of which must fail: whether it is the upgrade.
-fn fails(place: &mut Place) -> bool {
+fn fails(place: &mut StorePlace) -> bool {
     place.open();
     let is_open = place.told() == "ok";
     if is_open {

@@ -4,7 +4,7 @@ use Rattle.device.specs.declared.device.Device.{Ghosts}
 use Rattle.requests.specs.Reply.{Reply}
 use Rattle.names.specs.declared.format.Rules.{Rules}
 use Rattle.records.specs.Payload.{group_limit}
-use Rattle.recovery.specs.Standing.{View}
+use Rattle.decoded.specs.Standing.{View}
 use Rattle.durable.specs.declared.store.Store.{Store}
 use Rattle.durable.specs.Settled.{ServesAt, HasServed}
 use Rattle.httpmsg.specs.Stream.{Message}

@@ -3,11 +3,11 @@ use Rattle.std.proofs.Common.{arith, ◌≡◌, ◌∙◌, sym, ap, refl, ◌<�
 use Rattle.std.proofs.lemmas.List.{drop-drop, get_or-drop, length-drop, drop_all}
 use Rattle.requests.specs.declared.refusal.Refusal.TheVariants.{OutOfMemory}
 use Rattle.requests.specs.Reply.{Reply, status}
-use Rattle.requests.specs.View.{after_all}
-use Rattle.requests.proofs.ViewLemmas.{after_all-append}
+use Rattle.histories.specs.View.{after_all}
+use Rattle.histories.proofs.ViewLemmas.{after_all-append}
 use Rattle.names.specs.declared.format.Format.{Format}
 use Rattle.names.specs.declared.format.Rules.{Rules}
-use Rattle.recovery.specs.Standing.{Write, View}
+use Rattle.decoded.specs.Standing.{Write, View}
 use Rattle.apicore.specs.Step.{Asked, writes, reply, replies}
 use Rattle.httpmsg.specs.Flow.{HasCause, Writes}
 use Rattle.httpmsg.specs.Stream.{Message}

@@ -4,10 +4,10 @@ use Rattle.std.proofs.lemmas.List.{append_assoc, map-append, length-map}
 use Rattle.device.specs.declared.device.Device.{Ghosts}
 use Rattle.requests.specs.declared.refusal.Refusal.TheVariants.{OutOfMemory}
 use Rattle.requests.specs.Reply.{status}
-use Rattle.requests.specs.View.{after_all}
-use Rattle.requests.proofs.ViewLemmas.{after_all-append}
+use Rattle.histories.specs.View.{after_all}
+use Rattle.histories.proofs.ViewLemmas.{after_all-append}
 use Rattle.names.specs.declared.format.Rules.{Rules}
-use Rattle.recovery.specs.Standing.{Write, View}
+use Rattle.decoded.specs.Standing.{Write, View}
 use Rattle.apicore.specs.Step.{Asked, writes, reply, replies}
 use Rattle.httpmsg.specs.Stream.{Message}
 use Rattle.routes.specs.ReplyBytes.{reply_bytes}

@@ -3,10 +3,10 @@ use Rattle.std.specs.Prelude.{◌≡◌, ℕ, ◌<◌, List, [], ◌∷◌, ◌+
 use Rattle.device.specs.declared.device.Device.{Ghosts}
 use Rattle.requests.specs.declared.refusal.Refusal.TheVariants.{OutOfMemory}
 use Rattle.requests.specs.Reply.{Reply, status}
-use Rattle.requests.specs.View.{after_all}
+use Rattle.histories.specs.View.{after_all}
 use Rattle.names.specs.declared.format.Format.{Format}
 use Rattle.names.specs.declared.format.Rules.{Rules}
-use Rattle.recovery.specs.Standing.{View}
+use Rattle.decoded.specs.Standing.{View}
 use Rattle.durable.specs.declared.store.Store.{Store}
 use Rattle.httpmsg.specs.Stream.{Message}
 use Rattle.routes.specs.ReplyBytes.{reply_bytes}

@@ -4,7 +4,7 @@ ghost use Rattle.std.specs.Prelude.{◌≡◌, ◌<◌, ◌≤◌, ℕ, All, [],
 ghost use Rattle.std.specs.Vec.{vec_capacity};
 ghost use Rattle.names.specs.declared.format.Rules.{Rules};
 ghost use Rattle.records.specs.Payload.{group_limit};
-ghost use Rattle.recovery.specs.Standing.{View};
+ghost use Rattle.decoded.specs.Standing.{View};
 ghost use Rattle.durable.specs.Settled.{device_of, serves};
 ghost use Rattle.api.specs.Answers.{ShowsAt, HasCauses};
 ghost use Rattle.sessions.specs.Turn.{Turned};

@@ -4,7 +4,7 @@ ghost use Rattle.std.specs.Prelude.{◌≡◌, ◌<◌, ◌≤◌, All, length, 
 ghost use Rattle.names.specs.declared.format.Format.{Format};
 ghost use Rattle.names.specs.declared.format.Rules.{Rules};
 ghost use Rattle.records.specs.Payload.{group_limit};
-ghost use Rattle.recovery.specs.Standing.{View};
+ghost use Rattle.decoded.specs.Standing.{View};
 ghost use Rattle.durable.specs.Settled.{device_of, serves};
 ghost use Rattle.api.specs.Answers.{ShowsAt, HasCauses};
 ghost use Rattle.routes.specs.AnswerBytes.{CanAnswerAll};

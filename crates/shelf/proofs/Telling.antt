@@ -6,11 +6,11 @@ use Rattle.device.specs.Disk.{Disk}
 use Rattle.pages.specs.Page.{Entry}
 use Rattle.checkpoint.specs.Pages.{joined}
 use Rattle.checkpoint.specs.Reader.{IsRefused}
-use Rattle.checkpoint.specs.declared.reader.ReadFault as reader
-use Rattle.checkpoint.specs.declared.reader.ReadFault.TheVariants as ReadFault
+use Rattle.checkpoint.specs.declared.reader.ReaderFault as reader
+use Rattle.checkpoint.specs.declared.reader.ReaderFault.TheVariants as ReaderFault
 use Rattle.checkpoint.proofs.Faults.{no_fault}
 use Rattle.checkpoint.proofs.Hearing.{refused_more, refused_then}
-use Rattle.shelf.specs.Faults.{of_read_fault}
+use Rattle.shelf.specs.Faults.{of_reader_fault}
 use Rattle.shelf.specs.declared.fault.ShelfFault.{ShelfFault as Fault}
 use Rattle.shelf.specs.declared.fault.ShelfFault.TheVariants as ShelfFault
 use Rattle.shelf.specs.declared.shelf.Shelf.{Shelf}
@@ -26,14 +26,14 @@ use Rattle.shelf.proofs.Ranging.{beginning-append, pages_from, range_more, range
 err_same : {T E : Type 0} {a b : E} → ◌≡◌ {A = Result T E} (Err a) (Err b) → a ≡ b
 err_same told = cc
 
-pub an_entry : (f : reader.ReadFault) → ShelfFault.Entry ≡ of_read_fault f → ReadFault.Entry ≡ f
-an_entry ReadFault.Entry is = refl
-an_entry ReadFault.Memory is = cc
+pub an_entry : (f : reader.ReaderFault) → ShelfFault.Entry ≡ of_reader_fault f → ReaderFault.Entry ≡ f
+an_entry ReaderFault.Entry is = refl
+an_entry ReaderFault.Memory is = cc
 
-pub told_by : {T : Type 0} (r : Result T Fault) (f : reader.ReadFault) → IsErrAnd r (λ e. e ≡ of_read_fault f) → OnErr r (IsErrOf r ShelfFault.Entry ⊎ IsErrOf r ShelfFault.Memory)
+pub told_by : {T : Type 0} (r : Result T Fault) (f : reader.ReaderFault) → IsErrAnd r (λ e. e ≡ of_reader_fault f) → OnErr r (IsErrOf r ShelfFault.Entry ⊎ IsErrOf r ShelfFault.Memory)
 told_by (Ok x) f passed = tt
-told_by (Err e) ReadFault.Entry passed = inl (ap (λ x. Err x) passed)
-told_by (Err e) ReadFault.Memory passed = inr (ap (λ x. Err x) passed)
+told_by (Err e) ReaderFault.Entry passed = inl (ap (λ x. Err x) passed)
+told_by (Err e) ReaderFault.Memory passed = inr (ap (λ x. Err x) passed)
 
 -- when out of memory no other fault is told
 pub no_want : {T : Type 0} (r : Result T Fault) (fault : Fault) → (fault ≡ ShelfFault.Memory → ⊥) → IsErrAnd r (λ e. e ≡ ShelfFault.Memory) → IsErrOf r fault → ⊥

@@ -1,6 +1,6 @@
 ghost use Rattle.std.specs.Prelude.{◌≡◌};
 
-use checkpoint::ReadFault;
+use checkpoint::ReaderFault;
 use device::DeviceFault;
 use pages::PageDamage;
 use std::alloc::{AllocError, AllocFailed};
@@ -38,15 +38,15 @@ impl From<PageDamage> for ShelfFault {
     }
 }
 
-impl From<ReadFault> for ShelfFault {
-    ghost use Rattle.shelf.specs.Faults.{of_read_fault};
+impl From<ReaderFault> for ShelfFault {
+    ghost use Rattle.shelf.specs.Faults.{of_reader_fault};
 
-    ghost from_gives = { λ read fault. fault ≡ of_read_fault read };
+    ghost from_gives = { λ read fault. fault ≡ of_reader_fault read };
 
-    fn from(fault: ReadFault) -> ShelfFault {
+    fn from(fault: ReaderFault) -> ShelfFault {
         match fault {
-            ReadFault::Entry => ShelfFault::Entry,
-            ReadFault::Memory => ShelfFault::Memory,
+            ReaderFault::Entry => ShelfFault::Entry,
+            ReaderFault::Memory => ShelfFault::Memory,
         }
     }
 }

@@ -7,12 +7,12 @@ ghost use Rattle.device.specs.Run.{Ran};
 ghost use Rattle.gatelog.specs.Record.{part};
 ghost use Rattle.pages.specs.Page.{entries_in, IsSound};
 ghost use Rattle.checkpoint.specs.Reader.{IsRefused};
-ghost use Rattle.checkpoint.specs.declared.reader.ReadFault.TheVariants as ReadFault;
+ghost use Rattle.checkpoint.specs.declared.reader.ReaderFault.TheVariants as ReaderFault;
 ghost use Rattle.shelf.specs.declared.fault.ShelfFault.TheVariants as ShelfFault;
 ghost use Rattle.shelf.specs.Prefix.{begins, beginning};
 
 use crate::fault::ShelfFault;
-use checkpoint::{ReadFault, Reader};
+use checkpoint::{Reader, ReaderFault};
 use device::Device;
 use pages::{OwnedPage, PAGE_BYTES, Page};
 use std::alloc::{AllocError, Global};
@@ -36,6 +36,8 @@ pub(crate) fn read_page<D: Device>(
     ensures refusal { IsErrOf result ShelfFault.Entry → ⊥ }
     ensures ran { Ran D.disk device.old device.new Same }
     ensures cause { IsErrOf result ShelfFault.Device → HasFailed D.disk device.old device.new }
+    ensures steady { OnOk result (D.disk.failures device.new ≡ D.disk.failures device.old) }
+    ensures memory { IsErrOf result ShelfFault.Memory → D.disk.failures device.new ≡ D.disk.failures device.old }
 {
     let mut bytes = page_buffer(alloc)?;
     device.read(at, &mut bytes)?;
@@ -56,9 +58,9 @@ fn tell_entry<R: Reader>(
     cell: &[u8],
     prefix: &[u8],
     reader: &mut R,
-) -> Result<(), ReadFault>
+) -> Result<(), ReaderFault>
     ensures told { OnOk result (R.told reader.old reader.new (beginning prefix.now ((key.now, cell.now) ∷ []))) }
-    ensures refused { IsErrOf result ReadFault.Entry → IsRefused R.told R.refuses reader.old (beginning prefix.now ((key.now, cell.now) ∷ [])) }
+    ensures refused { IsErrOf result ReaderFault.Entry → IsRefused R.told R.refuses reader.old (beginning prefix.now ((key.now, cell.now) ∷ [])) }
 {
     if !begins(prefix, key) {
         return Ok(());

@@ -158,6 +158,8 @@ impl Shelf {
         ensures refusal { IsErrOf result ShelfFault.Entry → ⊥ }
         ensures ran { Ran D.disk device.old device.new Same }
         ensures cause { IsErrOf result ShelfFault.Device → HasFailed D.disk device.old device.new }
+        ensures steady { OnOk result (D.disk.failures device.new ≡ D.disk.failures device.old) }
+        ensures memory { IsErrOf result ShelfFault.Memory → D.disk.failures device.new ≡ D.disk.failures device.old }
     {
         if self.cache.promote(&page) {
             return Ok(());
@@ -201,6 +203,8 @@ impl Shelf {
         ensures refusal { IsErrOf result ShelfFault.Entry → ⊥ }
         ensures ran { Ran D.disk device.old device.new Same }
         ensures cause { IsErrOf result ShelfFault.Device → HasFailed D.disk device.old device.new }
+        ensures steady { OnOk result (D.disk.failures device.new ≡ D.disk.failures device.old) }
+        ensures memory { IsErrOf result ShelfFault.Memory → D.disk.failures device.new ≡ D.disk.failures device.old }
     {
         let count = self.count_up_to(key);
         if count == 0 {
@@ -238,6 +242,8 @@ impl Shelf {
         ensures refusal { IsErrOf result ShelfFault.Entry → ⊥ }
         ensures ran { Ran D.disk device.old device.new Same }
         ensures cause { IsErrOf result ShelfFault.Device → HasFailed D.disk device.old device.new }
+        ensures steady { OnOk result (D.disk.failures device.new ≡ D.disk.failures device.old) }
+        ensures memory { IsErrOf result ShelfFault.Memory → D.disk.failures device.new ≡ D.disk.failures device.old }
     {
         let at = self.root.first + PAGE_SECTORS * u64::from(page);
         read_page(alloc, device, at)
@@ -266,6 +272,8 @@ impl Shelf {
         ensures damaged { (entries : List Entry) → Shelves D.disk device.old self.old entries → IsErrOf result ShelfFault.Page → ⊥ }
         ensures ran { Ran D.disk device.old device.new Same }
         ensures cause { IsErrOf result ShelfFault.Device → HasFailed D.disk device.old device.new }
+        ensures steady { OnOk result (D.disk.failures device.new ≡ D.disk.failures device.old) }
+        ensures memory { IsErrOf result ShelfFault.Memory → D.disk.failures device.new ≡ D.disk.failures device.old }
     {
         match reading {
             Reading::Kept => {
@@ -306,6 +314,8 @@ impl Shelf {
         ensures damaged { (entries : List Entry) → Shelves D.disk device.old self.old entries → IsErrOf result ShelfFault.Page → ⊥ }
         ensures ran { Ran D.disk device.old device.new Same }
         ensures cause { IsErrOf result ShelfFault.Device → HasFailed D.disk device.old device.new }
+        ensures steady { OnOk result (D.disk.failures device.new ≡ D.disk.failures device.old) }
+        ensures memory { IsErrOf result ShelfFault.Memory → D.disk.failures device.new ≡ D.disk.failures device.old }
     {
         let start = self.count_up_to(prefix).saturating_sub(1);
         for i in 0..self.count_with(prefix).saturating_sub(start) {

@@ -4,26 +4,42 @@ use Rattle.std.proofs.lemmas.Bool.Decides.{nat_tests}
 use Rattle.std.proofs.lemmas.List.{append-nil, length-drop}
 use Rattle.std.specs.FinMap.{find, put}
 use Rattle.std.specs.FinMap.Entries.{by_order}
+use Rattle.std.specs.List.{AllByRecursion}
 use Rattle.std.specs.Ordering.{is_eq}
 use Rattle.std.specs.declared.cmp.Ordering.{Ordering}
+use Rattle.std.specs.declared.cmp.Ordering.TheVariants.{Greater}
 use Rattle.circular_buffer.specs.Buffer.{keep_last}
 use Rattle.names.specs.declared.format.Rules.{Rules}
 use Rattle.names.specs.Key.{Key, key_cmp}
 use Rattle.documents.specs.Document.{Document}
-use Rattle.objects.specs.declared.event.Change.TheVariants.{Added, Modified}
-use Rattle.objects.specs.declared.event.Event.{Event}
-use Rattle.objects.specs.Window.{event_at, events_above}
-use Rattle.objects.proofs.Kept.{keep_last-append}
-use Rattle.requests.specs.declared.stored.Stored.{Stored}
-use Rattle.requests.specs.View.{View, after, after_all, exists}
-use Rattle.requests.proofs.ViewLemmas.{keep_last-short}
-use Rattle.snapshots.specs.Added.{NewObject, stored_from, objects_from, events_from, with_added, put_of, IsBehind, StandBehind}
+use Rattle.window.specs.declared.event.Change.TheVariants.{Added, Modified}
+use Rattle.window.specs.declared.event.Event.{Event}
+use Rattle.window.specs.Window.{event_at, events_above}
+use Rattle.window.proofs.Kept.{keep_last-append}
+use Rattle.histories.specs.declared.stored.Stored.{Stored}
+use Rattle.histories.specs.History.{Write, put as put_write}
+use Rattle.histories.specs.View.{View, after, after_all, exists}
+use Rattle.histories.proofs.ViewLemmas.{keep_last-short}
+use Rattle.snapshots.specs.Added.{NewObject, stored_from, objects_from, events_from, with_added}
 
 -- an event behind a revision that is not below the floor is told
 is_told : (floor revision : ℕ) → floor ≤ revision → nat_lt floor (revision + 1) ≡ true
 is_told floor revision above = grind (arith, nat_tests)
 
 module _ {P : Type 0} where
+  -- the write that puts a new object
+  abbrev pub put_of : NewObject P → Write P
+  put_of n = put_write n.key n.document n.beside
+
+  -- The key is behind those of all these objects.
+  abbrev pub IsBehind : Key → List (Key × Stored P) → Type 0
+  IsBehind k objects = AllByRecursion (λ o. key_cmp k o.0 ≡ Greater) objects
+
+  -- The keys of the new objects ascend, behind those of these objects.
+  abbrev pub StandBehind : List (Key × Stored P) → (revision : ℕ) → List (NewObject P) → Type 0
+  StandBehind objects revision [] = Unit {0}
+  StandBehind objects revision (n ∷ ns) = IsBehind n.key objects × StandBehind (objects ++ stored_from revision n ∷ []) (revision + 1) ns
+
   pub length-objects_from : (revision : ℕ) (ns : List (NewObject P)) → length (objects_from revision ns) ≡ length ns
   length-objects_from revision [] = refl
   length-objects_from revision (n ∷ ns) = ap suc (length-objects_from (revision + 1) ns)

@@ -2,14 +2,14 @@
 use Rattle.std.proofs.Common.{arith, ◌≡◌, ◌∙◌, sym, ap, subst, refl, ◌+◌, ◌-◌, ◌<◌, ◌≤◌, ◌^◌, ℕ, List, [], ◌∷◌, ◌++◌, length, append_assoc, length-append}
 use Rattle.std.proofs.lemmas.List.{append-nil}
 use Rattle.circular_buffer.specs.Buffer.{keep_last}
-use Rattle.objects.specs.declared.event.Event.{Event}
-use Rattle.objects.specs.Window.{event_at, events_above, AreNumberedFrom}
-use Rattle.objects.proofs.Numbered.{told_above}
+use Rattle.window.specs.declared.event.Event.{Event}
+use Rattle.window.specs.Window.{event_at, events_above, AreNumberedFrom}
+use Rattle.window.proofs.Numbered.{told_above}
 use Rattle.names.specs.declared.format.Rules.{Rules}
 use Rattle.documents.specs.Document.{Document}
-use Rattle.requests.specs.View.{View}
+use Rattle.histories.specs.View.{View}
 use Rattle.holdings.specs.Holdings.{Shows}
-use Rattle.recovery.specs.Beside.{Beside}
+use Rattle.decoded.specs.Decoded.{Decoded}
 use Rattle.snapshots.specs.Restoring.{CanKeep, with_events}
 use Rattle.snapshots.proofs.Held.{Core, Object}
 
@@ -24,7 +24,7 @@ numbered_at r [] e rest is = omega (arith, is.0)
 numbered_at r (d ∷ done) e rest is = omega (arith, numbered_at (r + 1) done e rest is.1)
 
 -- the view with one event more, if it is above the floor, and without those that the window has no place for
-abbrev pub with_next : Rules → View Beside → Told → View Beside
+abbrev pub with_next : Rules → View Decoded → Told → View Decoded
 with_next rules v e = record {
   objects = v.objects;
   revision = v.revision + 1;
@@ -32,7 +32,7 @@ with_next rules v e = record {
 }
 
 -- the next of some events has its revision, and a place
-next_event : (rules : Rules) (v : View Beside) (done : List Told) (e : Told) (rest all : List Told) → done ++ e ∷ rest ≡ all → AreNumberedFrom v.revision all
+next_event : (rules : Rules) (v : View Decoded) (done : List Told) (e : Told) (rest all : List Told) → done ++ e ∷ rest ≡ all → AreNumberedFrom v.revision all
     → (0 < length all → rules.floor ≤ v.revision) → length v.events + length all ≤ rules.window_events
     → with_next rules (with_events v done) e ≡ with_events v (done ++ e ∷ [])
 next_event rules v done e rest all parts numbered above places =
@@ -69,9 +69,9 @@ pub record AreKept (start now : Core) (all left : List Told) : Type 0 where
   pub done : List Told
   pub parts : done ++ left ≡ all
   pub revision : now.revision ≡ start.revision + length done
-  pub shows : (base : List Object) (v : View Beside) → CanKeep start base v all → Shows now base (with_events v done)
+  pub shows : (base : List Object) (v : View Decoded) → CanKeep start base v all → Shows now base (with_events v done)
 
-no_more : (v : View Beside) → v ≡ with_events v []
+no_more : (v : View Decoded) → v ≡ with_events v []
 no_more v =
     let count : v.revision ≡ v.revision + 0 = omega arith in
     let events : v.events ≡ v.events ++ [] = sym (append-nil v.events) in
@@ -85,7 +85,7 @@ kept_none start all = record {
   shows = λ base v can. subst (Shows start base) (no_more v) can.shows;
 }
 
-pub kept_all : (start now : Core) (all : List Told) → AreKept start now all [] → (base : List Object) (v : View Beside) → CanKeep start base v all
+pub kept_all : (start now : Core) (all : List Told) → AreKept start now all [] → (base : List Object) (v : View Decoded) → CanKeep start base v all
     → Shows now base (with_events v all)
 kept_all start now all kept base v can =
     let same : kept.done ≡ all = sym (append-nil kept.done) ∙ kept.parts in
@@ -106,7 +106,7 @@ next_revision start now all left e rest kept step room =
 
 pub one_more : (start now new : Core) (all left : List Told) (e : Told) (rest : List Told) → AreKept start now all left → left ≡ e ∷ rest → now.rules ≡ start.rules
     → new.revision ≡ now.revision + 1
-    → ((base : List Object) (v : View Beside) → Shows now base v → Shows new base (with_next now.rules v e)) → AreKept start new all rest
+    → ((base : List Object) (v : View Decoded) → Shows now base v → Shows new base (with_next now.rules v e)) → AreKept start new all rest
 one_more start now new all left e rest kept step same number next =
     let done : List Told = kept.done in
     let parts : done ++ e ∷ rest ≡ all = ap (λ (es : List Told). done ++ es) (sym step) ∙ kept.parts in

@@ -9,15 +9,15 @@ use Rattle.objects.specs.Objects.{value_at, with_value}
 use Rattle.objects.proofs.Each.{one_each}
 use Rattle.objects.specs.Merged.{merged}
 use Rattle.documents.specs.Document.{Document}
-use Rattle.requests.specs.declared.stored.Stored.{Stored}
-use Rattle.requests.specs.View.{View}
+use Rattle.histories.specs.declared.stored.Stored.{Stored}
+use Rattle.histories.specs.View.{View}
 use Rattle.holdings.specs.Holdings.{State, Shows}
 use Rattle.expressions.specs.Specification.{plans_bytes, MayHavePlans}
 use Rattle.expressions.proofs.StoredLists.{one_stored_list}
 use Rattle.records.specs.Holding.{IsStorableObject, HasFewPlans}
 use Rattle.records.specs.EntryLaws.{bytes_beside}
 use Rattle.records.specs.Reading.{IsStorableStored}
-use Rattle.recovery.specs.Beside.{Beside, spelled}
+use Rattle.decoded.specs.Decoded.{Decoded, spelled}
 use Rattle.snapshots.specs.LyingBelow.{puts_of, below_at, HasThoseBelow}
 use Rattle.snapshots.specs.Keeping.{held_plans, IsHeldObject}
 use Rattle.snapshots.specs.Restoring.{in_bytes, IsSpelled, IsHeldOf, AreHeldOf, HasTaken, with_objects}
@@ -26,13 +26,13 @@ use Rattle.snapshots.proofs.InBytes.{sorted_in_bytes}
 use Rattle.snapshots.proofs.Sorted.{sorted_front}
 
 abbrev pub Object : Type 0
-Object = Key × Stored Beside
+Object = Key × Stored Decoded
 
 abbrev pub Kept : Type 0
 Kept = Key × Stored (List ℕ)
 
 abbrev pub Core : Type 0
-Core = State Beside
+Core = State Decoded
 
 -- at most one object is held of what is kept of it
 one_held : (o p : Object) → IsSpelled o → IsSpelled p → in_bytes held_plans o ≡ in_bytes held_plans p → o ≡ p
@@ -133,7 +133,7 @@ pub record HoldsSome (lies : Resource → Bool) (start now : Core) (all left : L
   pub objects : List Object
   pub held : AreHeldOf objects done
   pub made : now.changes.made ≡ puts_of objects
-  pub shows : (base : List Object) (v : View Beside) → Shows start base v → HasThoseBelow lies objects base
+  pub shows : (base : List Object) (v : View Decoded) → Shows start base v → HasThoseBelow lies objects base
       → Shows now base (with_objects v (merged (puts_of objects) base))
 
 pub holds_none : (lies : Resource → Bool) (start : Core) (all : List Kept) → start.changes.made ≡ [] → HoldsSome lies start start all all
@@ -144,11 +144,11 @@ holds_none lies start all none = record {
   held = record { are = refl; spelled = tt; ascends = refl };
   made = none;
   shows = λ base v shows there.
-      let same : v.objects ≡ base = sym shows.objects.are ∙ ap (λ (cs : List (Key × Option (Stored Beside))). merged cs base) none in
+      let same : v.objects ≡ base = sym shows.objects.are ∙ ap (λ (cs : List (Key × Option (Stored Decoded))). merged cs base) none in
       subst (Shows start base) (λ i. record { objects = same i; revision = v.revision; events = v.events }) shows;
 }
 
-pub holds_more : (lies : Resource → Bool) (start now new : Core) (all left : List Kept) (kept : Kept) (rest : List Kept) (s : Stored Beside)
+pub holds_more : (lies : Resource → Bool) (start now new : Core) (all left : List Kept) (kept : Kept) (rest : List Kept) (s : Stored Decoded)
     → is_sorted key_cmp all ≡ true → HoldsSome lies start now all left → left ≡ kept ∷ rest → IsHeldOf (kept.0, s) kept → HasTaken lies now new (kept.0, s)
     → HoldsSome lies start new all rest
 holds_more lies start now new all left kept rest s ascend some step one taken =
@@ -177,7 +177,7 @@ holds_more lies start now new all left kept rest s ascend some step one taken =
 
 -- Where objects are held of all, one is held of the next.
 pub holds_next : (lies : Resource → Bool) (start now : Core) (all left : List Kept) (kept : Kept) (rest : List Kept) (os : List Object)
-    → HoldsSome lies start now all left → left ≡ kept ∷ rest → AreHeldOf os all → (s : Stored Beside) × IsHeldOf (kept.0, s) kept
+    → HoldsSome lies start now all left → left ≡ kept ∷ rest → AreHeldOf os all → (s : Stored Decoded) × IsHeldOf (kept.0, s) kept
 holds_next lies start now all left kept rest os some step are =
     let found = held_at os some.done kept rest are.spelled (are.are ∙ sym some.parts ∙ ap (λ (ks : List Kept). some.done ++ ks) step) in
     let o : Object = found.0 in

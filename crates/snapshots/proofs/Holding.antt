@@ -21,10 +21,10 @@ use Rattle.shelf.specs.Prefix.{beginning}
 use Rattle.shelf.specs.Shelf.{Shelves}
 use Rattle.shelf.proofs.Staying.{HoldsAsBefore, shelves_stay, shelves_ran}
 use Rattle.records.proofs.One.{one_object}
-use Rattle.snapshots.specs.declared.stocked.Stocked.{Stocked}
-use Rattle.snapshots.specs.declared.listed.Listed.{Listed}
-use Rattle.snapshots.specs.declared.stock.Stock.{Stock}
-use Rattle.snapshots.specs.Stock.{cell_of, stocked_entry, IsStorable, IsOther, HoldObjects, Stocks, AreAmong, AreOf, prefix_of, root_of}
+use Rattle.snapshots.specs.declared.cached_object.CachedObject.{CachedObject}
+use Rattle.snapshots.specs.declared.listed.ListingReader.{ListingReader}
+use Rattle.snapshots.specs.declared.object_cache.ObjectCache.{ObjectCache}
+use Rattle.snapshots.specs.ObjectCache.{cell_of, cached_entry, IsStorable, IsOther, HoldObjects, ObjectCaches, AreAmong, AreOf, prefix_of, root_of}
 use Rattle.snapshots.specs.Listed.{IsTold, Refuses}
 use Rattle.snapshots.proofs.Prefixes.{begins_of, other_begins, object_begins, other_object}
 
@@ -42,14 +42,14 @@ other_key bytes entry other =
     (λ no. no) (cases_Bool (is_eq (bytes_cmp (1 ∷ bytes) entry.0)))
 
 -- Under an object's key stands what is stored under it, and nothing where nothing is.
-pub found_cell : (key : Key) → IsTrue (is_key key) → (objects : List (Key × Stocked)) → AllByRecursion IsStorable objects
+pub found_cell : (key : Key) → IsTrue (is_key key) → (objects : List (Key × CachedObject)) → AllByRecursion IsStorable objects
     → (rest : List Entry) → AllByRecursion IsOther rest
-    → find bytes_cmp (1 ∷ key_bytes key) (map stocked_entry objects ++ rest) ≡ option_map cell_of (value_at key objects)
+    → find bytes_cmp (1 ∷ key_bytes key) (map cached_entry objects ++ rest) ≡ option_map cell_of (value_at key objects)
 found_cell key is [] can [] other = refl
 found_cell key is [] can (entry ∷ rest) other =
     ap (λ b. cond b (Some entry.1) (find bytes_cmp (1 ∷ key_bytes key) rest)) (other_key (key_bytes key) entry other.0) ∙ found_cell key is [] can rest other.1
 found_cell key is (o ∷ objects) can rest other =
-    let behind : Option (List ℕ) = find bytes_cmp (1 ∷ key_bytes key) (map stocked_entry objects ++ rest) in
+    let behind : Option (List ℕ) = find bytes_cmp (1 ∷ key_bytes key) (map cached_entry objects ++ rest) in
     let more = found_cell key is objects can.1 rest other in
     ap (λ order. cond (is_eq order) (Some (cell_of o.1)) behind) (slice_cmp-key_bytes key o.0 is can.0.0.key)
     ∙ elim (is_eq (key_cmp key o.0)) as (λ b. cond b (Some (cell_of o.1)) behind ≡ option_map cell_of (cond b (Some o.1) (value_at key objects))) [
@@ -58,51 +58,51 @@ found_cell key is (o ∷ objects) can rest other =
     ]
 
 -- What is stored under a key is storable under it.
-pub found_storable : (key : Key) (objects : List (Key × Stocked)) (stocked : Stocked) → AllByRecursion IsStorable objects → value_at key objects ≡ Some stocked
-    → IsStorable (key, stocked)
-found_storable key [] stocked can is = cc
-found_storable key (o ∷ objects) stocked can is =
-    elim (is_eq (key_cmp key o.0)) as (λ b. is_eq (key_cmp key o.0) ≡ b → cond b (Some o.1) (value_at key objects) ≡ Some stocked → IsStorable (key, stocked)) [
+pub found_storable : (key : Key) (objects : List (Key × CachedObject)) (cached : CachedObject) → AllByRecursion IsStorable objects → value_at key objects ≡ Some cached
+    → IsStorable (key, cached)
+found_storable key [] cached can is = cc
+found_storable key (o ∷ objects) cached can is =
+    elim (is_eq (key_cmp key o.0)) as (λ b. is_eq (key_cmp key o.0) ≡ b → cond b (Some o.1) (value_at key objects) ≡ Some cached → IsStorable (key, cached)) [
       | true ↦ λ tie found.
           let same_key : o.0 ≡ key = sym (key_cmp-IsAntisymmetric key o.0 (equal_from (key_cmp key o.0) tie)) in
-          let same : o.1 ≡ stocked = cc in
-          let Can : Key × Stocked → Type 0 = λ p. IsStorable p in
+          let same : o.1 ≡ cached = cc in
+          let Can : Key × CachedObject → Type 0 = λ p. IsStorable p in
           subst Can (λ i. (same_key i, same i)) can.0
-      | false ↦ λ other found. found_storable key objects stocked can.1 found
+      | false ↦ λ other found. found_storable key objects cached can.1 found
     ] refl is
 
 -- ---- that begin so
 
 -- The entries that begin with a resource's prefix are those of its objects.
-pub beginning_of : (resource : Resource) (namespace : Option (List ℕ)) (objects : List (Key × Stocked)) → AllByRecursion IsStorable objects
+pub beginning_of : (resource : Resource) (namespace : Option (List ℕ)) (objects : List (Key × CachedObject)) → AllByRecursion IsStorable objects
     → (rest : List Entry) → AllByRecursion IsOther rest
-    → beginning (prefix_of resource namespace) (map stocked_entry objects ++ rest) ≡ map stocked_entry (filter (λ o. is_of resource namespace o.0) objects)
+    → beginning (prefix_of resource namespace) (map cached_entry objects ++ rest) ≡ map cached_entry (filter (λ o. is_of resource namespace o.0) objects)
 beginning_of resource namespace [] can [] other = refl
 beginning_of resource namespace [] can (entry ∷ rest) other =
     let behind : List Entry = beginning (prefix_of resource namespace) rest in
     ap (λ b. cond b (entry ∷ behind) behind) (other_begins resource namespace entry other.0) ∙ beginning_of resource namespace [] can rest other.1
 beginning_of resource namespace (o ∷ objects) can rest other =
-    let behind : List Entry = beginning (prefix_of resource namespace) (map stocked_entry objects ++ rest) in
-    let others : List (Key × Stocked) = filter (λ o. is_of resource namespace o.0) objects in
+    let behind : List Entry = beginning (prefix_of resource namespace) (map cached_entry objects ++ rest) in
+    let others : List (Key × CachedObject) = filter (λ o. is_of resource namespace o.0) objects in
     let more = beginning_of resource namespace objects can.1 rest other in
-    ap (λ b. cond b (stocked_entry o ∷ behind) behind) (begins_of resource namespace o.0 can.0.0.key)
-    ∙ elim (is_of resource namespace o.0) as (λ b. cond b (stocked_entry o ∷ behind) behind ≡ map stocked_entry (cond b (o ∷ others) others)) [
-      | true ↦ ap (λ (es : List Entry). stocked_entry o ∷ es) more
+    ap (λ b. cond b (cached_entry o ∷ behind) behind) (begins_of resource namespace o.0 can.0.0.key)
+    ∙ elim (is_of resource namespace o.0) as (λ b. cond b (cached_entry o ∷ behind) behind ≡ map cached_entry (cond b (o ∷ others) others)) [
+      | true ↦ ap (λ (es : List Entry). cached_entry o ∷ es) more
       | false ↦ more
     ]
 
 -- The entries that begin with 1 are those of objects.
-pub beginning_all : (objects : List (Key × Stocked)) (rest : List Entry) → AllByRecursion IsOther rest
-    → beginning (1 ∷ []) (map stocked_entry objects ++ rest) ≡ map stocked_entry objects
+pub beginning_all : (objects : List (Key × CachedObject)) (rest : List Entry) → AllByRecursion IsOther rest
+    → beginning (1 ∷ []) (map cached_entry objects ++ rest) ≡ map cached_entry objects
 beginning_all [] [] other = refl
 beginning_all [] (entry ∷ rest) other =
     let behind : List Entry = beginning (1 ∷ []) rest in
     ap (λ b. cond b (entry ∷ behind) behind) (other_object entry other.0) ∙ beginning_all [] rest other.1
 beginning_all (o ∷ objects) rest other =
-    let behind : List Entry = beginning (1 ∷ []) (map stocked_entry objects ++ rest) in
-    ap (λ b. cond b (stocked_entry o ∷ behind) behind) (object_begins o.0) ∙ ap (λ (es : List Entry). stocked_entry o ∷ es) (beginning_all objects rest other)
+    let behind : List Entry = beginning (1 ∷ []) (map cached_entry objects ++ rest) in
+    ap (λ b. cond b (cached_entry o ∷ behind) behind) (object_begins o.0) ∙ ap (λ (es : List Entry). cached_entry o ∷ es) (beginning_all objects rest other)
 
-pub filter_storable : (p : Key × Stocked → Bool) (objects : List (Key × Stocked)) → AllByRecursion IsStorable objects → AllByRecursion IsStorable (filter p objects)
+pub filter_storable : (p : Key × CachedObject → Bool) (objects : List (Key × CachedObject)) → AllByRecursion IsStorable objects → AllByRecursion IsStorable (filter p objects)
 filter_storable p [] can = tt
 filter_storable p (o ∷ objects) can =
     elim (p o) as (λ b. AllByRecursion IsStorable (cond b (o ∷ filter p objects) (filter p objects))) [
@@ -113,32 +113,32 @@ filter_storable p (o ∷ objects) can =
 -- ---- of entries the objects
 
 -- Objects with the same entries are the same.
-pub same_objects : (xs ys : List (Key × Stocked)) → AllByRecursion IsStorable xs → AllByRecursion IsStorable ys → map stocked_entry xs ≡ map stocked_entry ys → xs ≡ ys
+pub same_objects : (xs ys : List (Key × CachedObject)) → AllByRecursion IsStorable xs → AllByRecursion IsStorable ys → map cached_entry xs ≡ map cached_entry ys → xs ≡ ys
 same_objects [] [] a b same = refl
 same_objects [] (y ∷ ys) a b same = cc
 same_objects (x ∷ xs) [] a b same = cc
 same_objects (x ∷ xs) (y ∷ ys) a b same =
-    let head : stocked_entry x ≡ stocked_entry y = cc in
-    let others : map stocked_entry xs ≡ map stocked_entry ys = cc in
+    let head : cached_entry x ≡ cached_entry y = cc in
+    let others : map cached_entry xs ≡ map cached_entry ys = cc in
     let parts = one_object x.0 y.0 x.1.document y.1.document x.1.revision y.1.revision a.0 b.0 head in
     let rest = same_objects xs ys a.1 b.1 others in
     λ i. (parts.0 i, record { document = parts.1 i; revision = parts.2 i }) ∷ rest i
 
 -- Each entry among those of objects is one's.
-pub stands_among : (objects : List (Key × Stocked)) → AllByRecursion IsStorable objects → (before : List Entry) (entry : Entry) (after : List Entry)
-    → map stocked_entry objects ≡ before ++ entry ∷ after → (o : Key × Stocked) × IsStorable o × (stocked_entry o ≡ entry)
+pub stands_among : (objects : List (Key × CachedObject)) → AllByRecursion IsStorable objects → (before : List Entry) (entry : Entry) (after : List Entry)
+    → map cached_entry objects ≡ before ++ entry ∷ after → (o : Key × CachedObject) × IsStorable o × (cached_entry o ≡ entry)
 stands_among [] can [] entry after same = cc
 stands_among [] can (e ∷ before) entry after same = cc
 stands_among (o ∷ objects) can [] entry after same =
-    let head : stocked_entry o ≡ entry = cc in
+    let head : cached_entry o ≡ entry = cc in
     (o, can.0, head)
 stands_among (o ∷ objects) can (e ∷ before) entry after same =
-    let others : map stocked_entry objects ≡ before ++ entry ∷ after = cc in
+    let others : map cached_entry objects ≡ before ++ entry ∷ after = cc in
     stands_among objects can.1 before entry after others
 
 -- ---- of entries that hold objects
 
-module _ (entries : List Entry) (objects : List (Key × Stocked)) (hold : HoldObjects entries objects) where
+module _ (entries : List Entry) (objects : List (Key × CachedObject)) (hold : HoldObjects entries objects) where
   module _ (key : Key) (is : IsTrue (is_key key)) (bytes : List ℕ) (are : bytes ≡ 1 ∷ key_bytes key) where
     found_there : find bytes_cmp bytes entries ≡ option_map cell_of (value_at key objects)
     found_there =
@@ -148,33 +148,33 @@ module _ (entries : List Entry) (objects : List (Key × Stocked)) (hold : HoldOb
     pub none_there : None ≡ find bytes_cmp bytes entries → None ≡ value_at key objects
     none_there none = step (value_at key objects) (none ∙ found_there)
       where
-        step : (value : Option Stocked) → None ≡ option_map cell_of value → None ≡ value
+        step : (value : Option CachedObject) → None ≡ option_map cell_of value → None ≡ value
         step None same = refl
         step (Some s) same = cc
 
     -- Where a cell does, it is that of what is stored.
     pub stands_there : (cell : List ℕ) → Some cell ≡ find bytes_cmp bytes entries
-        → (s : Stocked) × (value_at key objects ≡ Some s) × IsStorable (key, s) × (stocked_entry (key, s) ≡ (bytes, cell))
+        → (s : CachedObject) × (value_at key objects ≡ Some s) × IsStorable (key, s) × (cached_entry (key, s) ≡ (bytes, cell))
     stands_there cell found = step (value_at key objects) refl (found ∙ found_there)
       where
-        step : (value : Option Stocked) → value_at key objects ≡ value → Some cell ≡ option_map cell_of value
-            → (s : Stocked) × (value_at key objects ≡ Some s) × IsStorable (key, s) × (stocked_entry (key, s) ≡ (bytes, cell))
+        step : (value : Option CachedObject) → value_at key objects ≡ value → Some cell ≡ option_map cell_of value
+            → (s : CachedObject) × (value_at key objects ≡ Some s) × IsStorable (key, s) × (cached_entry (key, s) ≡ (bytes, cell))
         step None stored same = cc
         step (Some s) stored same =
             let cells : cell ≡ cell_of s = cc in
             (s, stored, found_storable key objects s hold.storable stored, λ i. (sym are i, sym cells i))
 
     -- So is an object that is read from it.
-    pub read_there : (cell : List ℕ) (o : Key × Stocked) → Some cell ≡ find bytes_cmp bytes entries → IsStorable o → stocked_entry o ≡ (bytes, cell)
+    pub read_there : (cell : List ℕ) (o : Key × CachedObject) → Some cell ≡ find bytes_cmp bytes entries → IsStorable o → cached_entry o ≡ (bytes, cell)
         → Some o.1 ≡ value_at key objects
     read_there cell o found can read =
         let there = stands_there cell found in
         let same = same_objects (o ∷ []) ((key, there.0) ∷ []) (can, tt) (there.2, tt) (λ i. (read ∙ sym there.3) i ∷ []) in
         let first : o ≡ (key, there.0) = cc in
-        ap (λ (p : Key × Stocked). Some p.1) first ∙ sym there.1
+        ap (λ (p : Key × CachedObject). Some p.1) first ∙ sym there.1
 
   module _ (resource : Resource) (namespace : Option (List ℕ)) (prefix : List ℕ) (are : prefix ≡ prefix_of resource namespace) where
-    begin_so : beginning prefix entries ≡ map stocked_entry (filter (λ o. is_of resource namespace o.0) objects)
+    begin_so : beginning prefix entries ≡ map cached_entry (filter (λ o. is_of resource namespace o.0) objects)
     begin_so =
         (λ i. beginning (are i) (hold.are i)) ∙ beginning_of resource namespace objects hold.storable hold.rest hold.other
 
@@ -191,14 +191,23 @@ module _ (entries : List Entry) (objects : List (Key × Stocked)) (hold : HoldOb
 
 -- ---- of a reader of objects' entries
 
-module _ (entries : List Entry) (objects : List (Key × Stocked)) (of : AreOf entries objects) where
+-- A reader that was told entries has the objects that they are of.
+pub told_are : (entries : List Entry) (old new : ListingReader) → old.objects.items ≡ [] → IsTold old new entries → AreOf entries new.objects.items
+told_are entries old new none told =
+    let items : new.objects.items ≡ told.objects = told.added ∙ ap (λ (os : List (Key × CachedObject)). os ++ told.objects) none in
+    record {
+      are = sym told.are ∙ ap (map cached_entry) (sym items);
+      storable = subst (λ (os : List (Key × CachedObject)). AllByRecursion IsStorable os) (sym items) told.storable;
+    }
+
+module _ (entries : List Entry) (objects : List (Key × CachedObject)) (of : AreOf entries objects) where
   -- A reader that was told them has the objects.
-  pub told_objects : (old new : Listed) → old.objects.items ≡ [] → IsTold old new entries → new.objects.items ≡ objects
+  pub told_objects : (old new : ListingReader) → old.objects.items ≡ [] → IsTold old new entries → new.objects.items ≡ objects
   told_objects old new none told =
-      told.added ∙ ap (λ (os : List (Key × Stocked)). os ++ told.objects) none ∙ same_objects told.objects objects told.storable of.storable (told.are ∙ of.are)
+      told.added ∙ ap (λ (os : List (Key × CachedObject)). os ++ told.objects) none ∙ same_objects told.objects objects told.storable of.storable (told.are ∙ of.are)
 
   -- It refuses none of them.
-  pub none_refused : (old : Listed) → IsRefused IsTold Refuses old entries → ⊥
+  pub none_refused : (old : ListingReader) → IsRefused IsTold Refuses old entries → ⊥
   none_refused old refused =
       let found = stands_among objects of.storable refused.before refused.entry refused.after (sym of.are ∙ refused.are) in
       refused.refused found.0 found.1 found.2
@@ -206,12 +215,12 @@ module _ (entries : List Entry) (objects : List (Key × Stocked)) (of : AreOf en
 -- ---- of objects that were found
 
 -- None are among all.
-pub none_among : (some objects : List (Key × Stocked)) → some ≡ [] → AreAmong some objects
+pub none_among : (some objects : List (Key × CachedObject)) → some ≡ [] → AreAmong some objects
 none_among some objects none = λ key s is.
     let never : None ≡ Some s = ap (value_at key) (sym none) ∙ is in cc
 
 -- One more is, where it is one of the others.
-pub one_among : (some more objects : List (Key × Stocked)) (key : Key) (s : Stocked)
+pub one_among : (some more objects : List (Key × CachedObject)) (key : Key) (s : CachedObject)
     → ((k : Key) → value_at k more ≡ cond (eq_by_cmp key_cmp k key) (Some s) (value_at k some)) → value_at key objects ≡ Some s
     → AreAmong some objects → AreAmong more objects
 one_among some more objects key s put is among = λ k x found.
@@ -221,34 +230,34 @@ one_among some more objects key s put is among = λ k x found.
       | false ↦ λ other same. among k x same
     ] refl found_in
 
--- ---- of stocks
+-- ---- of caches
 
 module _ {D : Type 0} (disk : Disk D) where
-  -- A stock whose pages hold what another's do, and whose found objects are among those, holds the same objects.
-  pub still : (before after : D) (old new : Stock) → ((entries : List Entry) → Shelves disk before old.shelf entries → Shelves disk after new.shelf entries)
-      → (objects : List (Key × Stocked)) → (AreAmong old.found.entries objects → AreAmong new.found.entries objects)
-      → Stocks disk before old objects → Stocks disk after new objects
-  still before after old new kept objects among stocks =
-      record { entries = stocks.entries; shelves = kept stocks.entries stocks.shelves; hold = stocks.hold; found = among stocks.found }
+  -- A cache whose pages hold what another's do, and whose found objects are among those, holds the same objects.
+  pub still : (before after : D) (old new : ObjectCache) → ((entries : List Entry) → Shelves disk before old.shelf entries → Shelves disk after new.shelf entries)
+      → (objects : List (Key × CachedObject)) → (AreAmong old.found.entries objects → AreAmong new.found.entries objects)
+      → ObjectCaches disk before old objects → ObjectCaches disk after new objects
+  still before after old new kept objects among caches =
+      record { entries = caches.entries; shelves = kept caches.entries caches.shelves; hold = caches.hold; found = among caches.found }
 
   -- So it does where an object is kept that was read from its page.
-  pub still_with : (at : D) (old new : Stock) → new.shelf ≡ old.shelf → (key : Key) → IsTrue (is_key key) → (bytes : List ℕ) → bytes ≡ 1 ∷ key_bytes key
-      → (cell : List ℕ) (o : Key × Stocked) → ((entries : List Entry) → Shelves disk at old.shelf entries → Some cell ≡ find bytes_cmp bytes entries)
-      → IsStorable o → stocked_entry o ≡ (bytes, cell)
-      → ((objects : List (Key × Stocked)) → value_at key objects ≡ Some o.1 → AreAmong old.found.entries objects → AreAmong new.found.entries objects)
-      → (objects : List (Key × Stocked)) → Stocks disk at old objects → Stocks disk at new objects
-  still_with at old new same key is bytes are cell o found can read among objects stocks =
-      let At : Shelf → Type 0 = λ s. Shelves disk at s stocks.entries in
-      let there = read_there stocks.entries objects stocks.hold key is bytes are cell o (found stocks.entries stocks.shelves) can read in
-      record { entries = stocks.entries; shelves = subst At (sym same) stocks.shelves; hold = stocks.hold; found = among objects (sym there) stocks.found }
+  pub still_with : (at : D) (old new : ObjectCache) → new.shelf ≡ old.shelf → (key : Key) → IsTrue (is_key key) → (bytes : List ℕ) → bytes ≡ 1 ∷ key_bytes key
+      → (cell : List ℕ) (o : Key × CachedObject) → ((entries : List Entry) → Shelves disk at old.shelf entries → Some cell ≡ find bytes_cmp bytes entries)
+      → IsStorable o → cached_entry o ≡ (bytes, cell)
+      → ((objects : List (Key × CachedObject)) → value_at key objects ≡ Some o.1 → AreAmong old.found.entries objects → AreAmong new.found.entries objects)
+      → (objects : List (Key × CachedObject)) → ObjectCaches disk at old objects → ObjectCaches disk at new objects
+  still_with at old new same key is bytes are cell o found can read among objects caches =
+      let At : Shelf → Type 0 = λ s. Shelves disk at s caches.entries in
+      let there = read_there caches.entries objects caches.hold key is bytes are cell o (found caches.entries caches.shelves) can read in
+      record { entries = caches.entries; shelves = subst At (sym same) caches.shelves; hold = caches.hold; found = among objects (sym there) caches.found }
 
-  -- What a stock holds stays where the device holds, up to the start of the log, what it held. Where there are no pages nothing is asked of it.
-  pub stocks_stay : (stock : Stock) (old new : D) (objects : List (Key × Stocked)) → (0 < (root_of stock).pages → HoldsAsBefore disk stock.shelf old new)
-      → Stocks disk old stock objects → Stocks disk new stock objects
-  stocks_stay stock old new objects as_before stocks =
-      still old new stock stock (λ entries shelves. shelves_stay disk stock.shelf old new entries as_before shelves) objects (λ among. among) stocks
+  -- What a cache holds stays where the device holds, up to the start of the log, what it held. Where there are no pages nothing is asked of it.
+  pub caches_stay : (cache : ObjectCache) (old new : D) (objects : List (Key × CachedObject)) → (0 < (root_of cache).pages → HoldsAsBefore disk cache.shelf old new)
+      → ObjectCaches disk old cache objects → ObjectCaches disk new cache objects
+  caches_stay cache old new objects as_before caches =
+      still old new cache cache (λ entries shelves. shelves_stay disk cache.shelf old new entries as_before shelves) objects (λ among. among) caches
 
   -- So it does where the device was read, and nothing was written.
-  pub stocks_ran : (stock : Stock) (old new : D) (objects : List (Key × Stocked)) → Ran disk old new Same → Stocks disk old stock objects → Stocks disk new stock objects
-  stocks_ran stock old new objects ran stocks =
-      still old new stock stock (λ entries shelves. shelves_ran disk stock.shelf old new entries ran shelves) objects (λ among. among) stocks
+  pub caches_ran : (cache : ObjectCache) (old new : D) (objects : List (Key × CachedObject)) → Ran disk old new Same → ObjectCaches disk old cache objects → ObjectCaches disk new cache objects
+  caches_ran cache old new objects ran caches =
+      still old new cache cache (λ entries shelves. shelves_ran disk cache.shelf old new entries ran shelves) objects (λ among. among) caches

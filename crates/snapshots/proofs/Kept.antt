@@ -5,7 +5,7 @@ use Rattle.celtree.specs.Tree.{Expr}
 use Rattle.names.specs.declared.format.Format.{Format}
 use Rattle.names.specs.Key.{Key}
 use Rattle.documents.specs.Document.{Document}
-use Rattle.requests.specs.declared.stored.Stored.{Stored}
+use Rattle.histories.specs.declared.stored.Stored.{Stored}
 use Rattle.expressions.specs.Specification.{Spells}
 use Rattle.pages.specs.Page.{Entry}
 use Rattle.checkpoint.specs.Filling.{AllFit}
@@ -13,7 +13,7 @@ use Rattle.records.proofs.Ascending as ascending
 use Rattle.records.proofs.Fitting as fitting
 use Rattle.records.proofs.Fitting.{Fits}
 use Rattle.records.proofs.Views.{one_view_of}
-use Rattle.recovery.specs.Standing.{HasTrees}
+use Rattle.decoded.specs.Standing.{HasTrees}
 use Rattle.snapshots.specs.Keeping.{tree_plans, entries_of}
 use Rattle.snapshots.specs.Laws.{AtMostOneView, EntriesAscend, EntriesFit}
 use Rattle.snapshots.proofs.Spelling.{spelled_there}

@@ -14,7 +14,7 @@ pub mod Events
 pub mod Spelling
 pub mod Kept
 mod Prefixes
-mod BaseFaults
+pub mod BaseFaults
 pub mod Holding
 pub mod Views
 pub mod Sieving

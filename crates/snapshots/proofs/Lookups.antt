@@ -9,12 +9,12 @@ use Rattle.device.proofs.Runs.{ran_then}
 use Rattle.names.specs.declared.resource.Resource.{Resource}
 use Rattle.names.specs.Key.{Key}
 use Rattle.documents.specs.Document.{Document}
-use Rattle.requests.specs.declared.stored.Stored.{Stored}
+use Rattle.histories.specs.declared.stored.Stored.{Stored}
 use Rattle.roots.specs.declared.root.Root.{Root}
 use Rattle.roots.specs.Root.{log_start}
-use Rattle.snapshots.specs.declared.stocked.Stocked.{Stocked}
-use Rattle.snapshots.specs.declared.stock.Stock.{Stock}
-use Rattle.snapshots.specs.Stock.{root_of, Stocks}
+use Rattle.snapshots.specs.declared.cached_object.CachedObject.{CachedObject}
+use Rattle.snapshots.specs.declared.object_cache.ObjectCache.{ObjectCache}
+use Rattle.snapshots.specs.ObjectCache.{root_of, ObjectCaches}
 use Rattle.snapshots.specs.Whole.{whole}
 use Rattle.snapshots.specs.declared.base.Base.{Base}
 use Rattle.snapshots.specs.Base.{not_held, HoldsBase, GoesTo}
@@ -30,40 +30,40 @@ inside_still disk before after old new root ran inside keeps =
 
 module _ {D M : Type 0} {g : Ghosts D} where
   -- what the pages hold stays
-  pub held_still : {P : Type 0} (made : M → Document → P) (held : M → Resource → Bool) (old new : Base D M g) (device : D) (stock : Stock) (objects : List (Key × Stored P))
-      → new.making ≡ old.making → new.is_damaged ≡ old.is_damaged → new.device.now ≡ device → new.stock.now ≡ stock
-      → ((os : List (Key × Stocked)) → Stocks g.disk old.device.now old.stock.now os → Stocks g.disk device stock os)
+  pub held_still : {P : Type 0} (made : M → Document → P) (held : M → Resource → Bool) (old new : Base D M g) (device : D) (cache : ObjectCache) (objects : List (Key × Stored P))
+      → new.making ≡ old.making → new.is_damaged ≡ old.is_damaged → new.device.now ≡ device → new.cache.now ≡ cache
+      → ((os : List (Key × CachedObject)) → ObjectCaches g.disk old.device.now old.cache.now os → ObjectCaches g.disk device cache os)
       → HoldsBase made held old objects → HoldsBase made held new objects
-  held_still made held old new device stock objects making undamaged device_is stock_is stocks holds =
-      let all : List (Key × Stocked) = holds.lies.all in
-      let On : D → Type 0 = λ d. Stocks g.disk d new.stock.now all in
-      let Of : Stock → Type 0 = λ s. Stocks g.disk device s all in
+  held_still made held old new device cache objects making undamaged device_is cache_is caches holds =
+      let all : List (Key × CachedObject) = holds.lies.all in
+      let On : D → Type 0 = λ d. ObjectCaches g.disk d new.cache.now all in
+      let Of : ObjectCache → Type 0 = λ s. ObjectCaches g.disk device s all in
       let Are : M → Type 0 = λ m. objects ≡ map (whole (made m)) (not_held (held m) all) in
       record {
         whole = undamaged ∙ holds.whole;
         lies = record {
           all = all;
-          stocks = subst On (sym device_is) (subst Of (sym stock_is) (stocks all holds.lies.stocks));
+          caches = subst On (sym device_is) (subst Of (sym cache_is) (caches all holds.lies.caches));
           are = subst Are (sym making) holds.lies.are;
         };
       }
 
   -- one run of calls more which changes nothing
-  pub goes : (old new : Base D M g) (device : D) (stock : Stock)
-      → new.device.ghost_name ≡ old.device.ghost_name → new.stock.ghost_name ≡ old.stock.ghost_name → new.making ≡ old.making
-      → new.device.now ≡ device → new.stock.now ≡ stock → root_of stock ≡ root_of old.stock.now
-      → ((os : List (Key × Stocked)) → Stocks g.disk old.device.now old.stock.now os → Stocks g.disk device stock os) → Ran g.disk old.device.now device Same → GoesTo old new
-  goes old new device stock same_device same_stock making device_is stock_is root stocks ran =
-      let Root_is : Stock → Type 0 = λ s. root_of s ≡ root_of old.stock.now in
-      let On : List (Key × Stocked) → D → Type 0 = λ os d. Stocks g.disk d new.stock.now os in
-      let Of : List (Key × Stocked) → Stock → Type 0 = λ os s. Stocks g.disk device s os in
+  pub goes : (old new : Base D M g) (device : D) (cache : ObjectCache)
+      → new.device.ghost_name ≡ old.device.ghost_name → new.cache.ghost_name ≡ old.cache.ghost_name → new.making ≡ old.making
+      → new.device.now ≡ device → new.cache.now ≡ cache → root_of cache ≡ root_of old.cache.now
+      → ((os : List (Key × CachedObject)) → ObjectCaches g.disk old.device.now old.cache.now os → ObjectCaches g.disk device cache os) → Ran g.disk old.device.now device Same → GoesTo old new
+  goes old new device cache same_device same_cache making device_is cache_is root caches ran =
+      let Root_is : ObjectCache → Type 0 = λ s. root_of s ≡ root_of old.cache.now in
+      let On : List (Key × CachedObject) → D → Type 0 = λ os d. ObjectCaches g.disk d new.cache.now os in
+      let Of : List (Key × CachedObject) → ObjectCache → Type 0 = λ os s. ObjectCaches g.disk device s os in
       let To : D → Type 0 = λ d. Ran g.disk old.device.now d Same in
       record {
         same_device = same_device;
-        same_stock = same_stock;
+        same_cache = same_cache;
         making = making;
-        root = subst Root_is (sym stock_is) root;
-        stocks = λ os held. subst (On os) (sym device_is) (subst (Of os) (sym stock_is) (stocks os held));
+        root = subst Root_is (sym cache_is) root;
+        caches = λ os held. subst (On os) (sym device_is) (subst (Of os) (sym cache_is) (caches os held));
         ran = λ first before.
             ran_then g.disk first old.device.now new.device.now Same Same Same before (subst To (sym device_is) ran) (λ _ _ same. same) (λ _ _ _ one two. two ∙ one);
       }

@@ -7,10 +7,10 @@ use Rattle.names.specs.declared.resource.Resource.{Resource}
 use Rattle.names.specs.Key.{Key, key_bytes}
 use Rattle.names.specs.Resource.{numbered}
 use Rattle.names.proofs.KeyOrder.{numbered-number}
-use Rattle.requests.specs.declared.stored.Stored.{Stored}
-use Rattle.requests.specs.View.{View}
-use Rattle.snapshots.specs.Sieve.{chosen_of}
-use Rattle.recovery.specs.Beside.{Beside}
+use Rattle.histories.specs.declared.stored.Stored.{Stored}
+use Rattle.histories.specs.View.{View}
+use Rattle.snapshots.specs.KeptEntries.{chosen_of}
+use Rattle.decoded.specs.Decoded.{Decoded}
 use Rattle.snapshots.specs.Keeping.{held_entries}
 use Rattle.snapshots.specs.LyingBelow.{apart_of, AreChosen}
 
@@ -24,18 +24,18 @@ module _ (lies : Resource → Bool) where
   apart_key : (k : Key) → is_apart (1 ∷ key_bytes k) ≡ not (lies k.resource)
   apart_key k = ap (λ (r : Option Resource). option_map_or (λ r. not (lies r)) r false) (numbered-number k.resource)
 
-  same_objects : (os : List (Key × Stored Beside)) → filter (λ o. not (lies o.0.resource)) os ≡ filter (λ o. is_apart (1 ∷ key_bytes o.0)) os
+  same_objects : (os : List (Key × Stored Decoded)) → filter (λ o. not (lies o.0.resource)) os ≡ filter (λ o. is_apart (1 ∷ key_bytes o.0)) os
   same_objects [] = refl
   same_objects (o ∷ os) = λ i. cond (sym (apart_key o.0) i) (o ∷ same_objects os i) (same_objects os i)
 
   -- What does not lie below is the chosen part of a view,
-  pub apart_is_chosen : (held : View Beside) → held_entries (apart_of lies held) ≡ held_entries (chosen_of is_apart held)
+  pub apart_is_chosen : (held : View Decoded) → held_entries (apart_of lies held) ≡ held_entries (chosen_of is_apart held)
   apart_is_chosen held = λ i. held_entries (record { objects = same_objects held.objects i; revision = held.revision; events = held.events })
 
-  each_chosen : (os : List (Key × Stored Beside)) → AllByRecursion (λ o. lies o.0.resource ≡ false → is_apart (1 ∷ key_bytes o.0) ≡ true) os
+  each_chosen : (os : List (Key × Stored Decoded)) → AllByRecursion (λ o. lies o.0.resource ≡ false → is_apart (1 ∷ key_bytes o.0) ≡ true) os
   each_chosen [] = tt
   each_chosen (o ∷ os) = (λ apart. apart_key o.0 ∙ ap not apart, each_chosen os)
 
   -- which has each object that does not.
-  pub all_apart : (held : View Beside) → AreChosen lies is_apart held
+  pub all_apart : (held : View Decoded) → AreChosen lies is_apart held
   all_apart held = each_chosen held.objects

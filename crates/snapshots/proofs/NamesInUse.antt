@@ -16,7 +16,7 @@ use Rattle.names.specs.declared.resource.Scope.TheVariants.{Namespaced, Cluster}
 use Rattle.names.specs.Key.{Key, fits_scope, is_key, is_name_of}
 use Rattle.names.specs.Name.{is_namespace}
 use Rattle.names.specs.Resource.{row}
-use Rattle.requests.specs.declared.stored.Stored.{Stored}
+use Rattle.histories.specs.declared.stored.Stored.{Stored}
 use Rattle.requests.specs.Namespaces.{and_name, names_among}
 
 abbrev pub Name : Type 0

@@ -13,10 +13,10 @@ use Rattle.names.proofs.KeyOrder.{numbered-number}
 use Rattle.documents.specs.Document.{Document}
 use Rattle.objects.specs.Objects.{value_at, is_of}
 use Rattle.objects.proofs.Changing.{find-filter}
-use Rattle.requests.specs.declared.stored.Stored.{Stored}
+use Rattle.histories.specs.declared.stored.Stored.{Stored}
 use Rattle.holdings.specs.Sources.{found_in}
-use Rattle.snapshots.specs.declared.stocked.Stocked.{Stocked}
-use Rattle.snapshots.specs.Stock.{plain}
+use Rattle.snapshots.specs.declared.cached_object.CachedObject.{CachedObject}
+use Rattle.snapshots.specs.ObjectCache.{plain}
 use Rattle.snapshots.specs.Whole.{found_of, stored_of, whole}
 use Rattle.snapshots.specs.Base.{not_held}
 
@@ -40,7 +40,7 @@ resource_is r (Some namespace) key is =
 module _ {P : Type 0} (made : Document → P) where
   -- ---- under a key
 
-  found_whole : (key : Key) (os : List (Key × Stocked)) → option_map found_of (value_at key os) ≡ option_map found_in (value_at key (map (whole made) os))
+  found_whole : (key : Key) (os : List (Key × CachedObject)) → option_map found_of (value_at key os) ≡ option_map found_in (value_at key (map (whole made) os))
   found_whole key [] = refl
   found_whole key (o ∷ os) =
       elim (eq_by_cmp key_cmp key o.0)
@@ -49,7 +49,7 @@ module _ {P : Type 0} (made : Document → P) where
         | false ↦ found_whole key os
       ]
 
-  value_whole : (key : Key) (os : List (Key × Stocked)) → value_at key (map (whole made) os) ≡ option_map (stored_of made) (value_at key os)
+  value_whole : (key : Key) (os : List (Key × CachedObject)) → value_at key (map (whole made) os) ≡ option_map (stored_of made) (value_at key os)
   value_whole key [] = refl
   value_whole key (o ∷ os) =
       elim (eq_by_cmp key_cmp key o.0)
@@ -59,22 +59,22 @@ module _ {P : Type 0} (made : Document → P) where
       ]
 
   module _ (held : Resource → Bool) where
-    among : (key : Key) (all : List (Key × Stocked)) (b : Bool) → held key.resource ≡ b → value_at key (not_held held all) ≡ cond (not b) (value_at key all) None
+    among : (key : Key) (all : List (Key × CachedObject)) (b : Bool) → held key.resource ≡ b → value_at key (not_held held all) ≡ cond (not b) (value_at key all) None
     among key all b is = find-filter (λ k. not (held k.resource)) key all ∙ ap (λ t. cond (not t) (value_at key all) None) is
 
     -- What is found in the pages under a key whose resource is not held is found of what lies below,
-    pub found_lying : (key : Key) (all : List (Key × Stocked)) → held key.resource ≡ false
+    pub found_lying : (key : Key) (all : List (Key × CachedObject)) → held key.resource ≡ false
         → option_map found_of (value_at key all) ≡ option_map found_in (value_at key (map (whole made) (not_held held all)))
     found_lying key all is = ap (option_map found_of) (sym (among key all false is)) ∙ found_whole key (not_held held all)
 
     -- and of a held resource nothing lies there.
-    pub none_lies : (key : Key) (all : List (Key × Stocked)) → held key.resource ≡ true → value_at key (map (whole made) (not_held held all)) ≡ None
+    pub none_lies : (key : Key) (all : List (Key × CachedObject)) → held key.resource ≡ true → value_at key (map (whole made) (not_held held all)) ≡ None
     none_lies key all is = value_whole key (not_held held all) ∙ ap (option_map (stored_of made)) (among key all true is)
 
     -- ---- of a resource
 
     module _ (r : Resource) (namespace : Option (List ℕ)) where
-      listed_one : (o : Key × Stocked) (nh os : List (Key × Stocked)) (b c : Bool) → held r ≡ false → held o.0.resource ≡ b → is_of r namespace o.0 ≡ c
+      listed_one : (o : Key × CachedObject) (nh os : List (Key × CachedObject)) (b c : Bool) → held r ≡ false → held o.0.resource ≡ b → is_of r namespace o.0 ≡ c
           → map (whole made) os ≡ filter (λ o. is_of r namespace o.0) (map (whole made) nh)
           → map (whole made) (cond c (o ∷ os) os) ≡ filter (λ o. is_of r namespace o.0) (map (whole made) (cond (not b) (o ∷ nh) nh))
       listed_one o nh os false true shown is of more =
@@ -87,13 +87,13 @@ module _ {P : Type 0} (made : Document → P) where
       listed_one o nh os true true shown is of more = absurd (no_both (ap held (sym (resource_is r namespace o.0 of)) ∙ is) shown)
 
       -- What the pages list of a resource that is not held is what lies below of it,
-      pub listed_lying : (all : List (Key × Stocked)) → held r ≡ false
+      pub listed_lying : (all : List (Key × CachedObject)) → held r ≡ false
           → map (whole made) (filter (λ o. is_of r namespace o.0) all) ≡ filter (λ o. is_of r namespace o.0) (map (whole made) (not_held held all))
       listed_lying [] shown = refl
       listed_lying (o ∷ all) shown =
           listed_one o (not_held held all) (filter (λ o. is_of r namespace o.0) all) (held o.0.resource) (is_of r namespace o.0) shown refl refl (listed_lying all shown)
 
-      none_one : (o : Key × Stocked) (nh : List (Key × Stocked)) (b c : Bool) → held r ≡ true → held o.0.resource ≡ b → is_of r namespace o.0 ≡ c
+      none_one : (o : Key × CachedObject) (nh : List (Key × CachedObject)) (b c : Bool) → held r ≡ true → held o.0.resource ≡ b → is_of r namespace o.0 ≡ c
           → filter (λ o. is_of r namespace o.0) (map (whole made) nh) ≡ [] → filter (λ o. is_of r namespace o.0) (map (whole made) (cond (not b) (o ∷ nh) nh)) ≡ []
       none_one o nh true c hidden is of none = none
       none_one o nh false false hidden is of none =
@@ -101,7 +101,7 @@ module _ {P : Type 0} (made : Document → P) where
       none_one o nh false true hidden is of none = absurd (no_both (ap held (resource_is r namespace o.0 of) ∙ hidden) is)
 
       -- and of a held resource nothing lies there.
-      pub none_listed : (all : List (Key × Stocked)) → held r ≡ true → filter (λ o. is_of r namespace o.0) (map (whole made) (not_held held all)) ≡ []
+      pub none_listed : (all : List (Key × CachedObject)) → held r ≡ true → filter (λ o. is_of r namespace o.0) (map (whole made) (not_held held all)) ≡ []
       none_listed [] hidden = refl
       none_listed (o ∷ all) hidden = none_one o (not_held held all) (held o.0.resource) (is_of r namespace o.0) hidden refl refl (none_listed all hidden)
 
@@ -111,7 +111,7 @@ module _ {P : Type 0} (made : Document → P) where
   abbrev pub AreMade : (Key → Bool) → List (Key × Stored P) → Type 0
   AreMade chosen os = AllByRecursion (λ o. chosen o.0 ≡ true → o.1.beside ≡ made o.1.document) os
 
-  again_one : (chosen : Key → Bool) (o : Key × Stored P) (plains : List (Key × Stocked)) (wholes : List (Key × Stored P)) (b : Bool) → chosen o.0 ≡ b
+  again_one : (chosen : Key → Bool) (o : Key × Stored P) (plains : List (Key × CachedObject)) (wholes : List (Key × Stored P)) (b : Bool) → chosen o.0 ≡ b
       → (chosen o.0 ≡ true → o.1.beside ≡ made o.1.document) → map (whole made) plains ≡ wholes → map (whole made) (cond b (plain o ∷ plains) plains) ≡ cond b (o ∷ wholes) wholes
   again_one chosen o plains wholes false is beside more = more
   again_one chosen o plains wholes true is beside more =

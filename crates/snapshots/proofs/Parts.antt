@@ -1,17 +1,17 @@
 -- The chosen part of a view that a checkpoint may keep.
 use Rattle.std.proofs.Common.{arith, refl, ◌+◌, ◌≤◌, Bool, true, false, cond, ℕ, List, [], ◌∷◌, length}
 use Rattle.std.specs.List.{AllByRecursion, filter}
-use Rattle.documents.specs.Json.{text}
+use Rattle.jsondoc.specs.Json.{text}
 use Rattle.names.specs.declared.format.Format.TheVariants.{First}
 use Rattle.names.specs.declared.format.Rules.{Rules}
 use Rattle.names.specs.Key.{Key, key_bytes}
-use Rattle.objects.specs.declared.event.Event.{Event}
+use Rattle.window.specs.declared.event.Event.{Event}
 use Rattle.documents.specs.Document.{Document}
-use Rattle.requests.specs.View.{View}
+use Rattle.histories.specs.View.{View}
 use Rattle.records.specs.Holding.{IsStorableEvent, CanHoldObject, CanHoldEvent, HasFewPlans, IsHoldable}
 use Rattle.records.specs.EntryLaws.{bytes_beside}
-use Rattle.snapshots.specs.Sieve.{chosen_of}
-use Rattle.recovery.specs.Beside.{Beside}
+use Rattle.snapshots.specs.KeptEntries.{chosen_of}
+use Rattle.decoded.specs.Decoded.{Decoded}
 use Rattle.snapshots.specs.Keeping.{held_plans, IsHeldObject, HasLastEvents, IsHeld}
 use Rattle.snapshots.specs.Restoring.{view_in_bytes, IsSpelled, AreHeldOf}
 use Rattle.snapshots.proofs.LyingBelow.{sorted_filter}
@@ -31,7 +31,7 @@ all_filter Q p (x ∷ xs) all =
     ]
 
 -- of a view that may be held the chosen part may be
-pub part_held : (rules : Rules) (chosen : List ℕ → Bool) (held : View Beside) → IsHeld rules held → IsHeld rules (chosen_of chosen held)
+pub part_held : (rules : Rules) (chosen : List ℕ → Bool) (held : View Decoded) → IsHeld rules held → IsHeld rules (chosen_of chosen held)
 part_held rules chosen held is = record {
   ascends = sorted_filter (λ (k : Key). chosen (1 ∷ key_bytes k)) held.objects is.ascends;
   objects = all_filter IsHeldObject (λ o. chosen (1 ∷ key_bytes o.0)) held.objects is.objects;
@@ -51,7 +51,7 @@ told_texts [] = 0
 told_texts (e ∷ es) = length (text e.document.json) + told_texts es
 
 -- numbers by which all its texts may be held
-abbrev pub wide : View Beside → Rules
+abbrev pub wide : View Decoded → Rules
 wide held = record {
   format = First;
   window_events = 0;
@@ -73,7 +73,7 @@ few_plans : (os : List Object) → AllByRecursion IsHeldObject os → AllByRecur
 few_plans [] all = tt
 few_plans (o ∷ os) all = ((only_policies o.0.resource o.1.beside.plans, all.0.few), few_plans os all.1)
 
-pub holdable_held : (rules : Rules) (held : View Beside) → IsHeld rules held → IsHoldable held_plans (wide held) held
+pub holdable_held : (rules : Rules) (held : View Decoded) → IsHeld rules held → IsHoldable held_plans (wide held) held
 holdable_held rules held is = record {
   objects = can_objects (wide held) held.objects is.objects (omega arith);
   few = few_plans held.objects is.objects;
@@ -82,16 +82,16 @@ holdable_held rules held is = record {
   numbered = is.numbered;
 }
 
-pub held_holdable : (rules : Rules) (held : View Beside) → IsHeld rules held → IsHoldable bytes_beside (wide held) (view_in_bytes held_plans held)
+pub held_holdable : (rules : Rules) (held : View Decoded) → IsHeld rules held → IsHoldable bytes_beside (wide held) (view_in_bytes held_plans held)
 held_holdable rules held is = holdable_in_bytes held_plans (wide held) held (holdable_held rules held is)
 
 -- and its events are the last ones
-pub held_last : (rules : Rules) (held : View Beside) → IsHeld rules held → HasLastEvents rules (view_in_bytes held_plans held)
+pub held_last : (rules : Rules) (held : View Decoded) → IsHeld rules held → HasLastEvents rules (view_in_bytes held_plans held)
 held_last rules held is = record { begun = is.last.begun; events = is.last.events }
 
 all_spelled : (os : List Object) → AllByRecursion IsHeldObject os → AllByRecursion IsSpelled os
 all_spelled [] all = tt
 all_spelled (o ∷ os) all = (record { plans = all.0.plans; beside = all.0.beside }, all_spelled os all.1)
 
-pub objects_held : (rules : Rules) (held : View Beside) → IsHeld rules held → AreHeldOf held.objects (view_in_bytes held_plans held).objects
+pub objects_held : (rules : Rules) (held : View Decoded) → IsHeld rules held → AreHeldOf held.objects (view_in_bytes held_plans held).objects
 objects_held rules held is = record { are = refl; spelled = all_spelled held.objects is.objects; ascends = is.ascends }

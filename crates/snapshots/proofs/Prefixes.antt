@@ -12,7 +12,7 @@ use Rattle.names.proofs.KeyOrder.{IsPlain-namespace, IsPlain-name}
 use Rattle.objects.specs.Objects.{is_of}
 use Rattle.pages.specs.Page.{Entry}
 use Rattle.shelf.specs.Prefix.{begins}
-use Rattle.snapshots.specs.Stock.{IsOther, prefix_of}
+use Rattle.snapshots.specs.ObjectCache.{IsOther, prefix_of}
 
 turned : (a b : ℕ) → nat_eq a b ≡ (b == a)
 turned a b = grind (arith, nat_tests)

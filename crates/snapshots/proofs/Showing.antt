@@ -6,21 +6,21 @@ use Rattle.std.specs.Ordering.{is_lt}
 use Rattle.celtree.specs.Tree.{Expr}
 use Rattle.names.specs.Key.{Key, key_cmp}
 use Rattle.documents.specs.Document.{Document}
-use Rattle.requests.specs.declared.stored.Stored.{Stored}
-use Rattle.requests.specs.Mapped.{each, mapped}
-use Rattle.requests.specs.View as seen
+use Rattle.histories.specs.declared.stored.Stored.{Stored}
+use Rattle.histories.specs.Mapped.{each, mapped}
+use Rattle.histories.specs.View as seen
 use Rattle.records.specs.Entries.{entries_of as view_entries}
 use Rattle.records.specs.EntryLaws.{bytes_beside}
-use Rattle.recovery.specs.Beside.{Beside}
-use Rattle.recovery.specs.Shown.{plans_held, Shows}
-use Rattle.recovery.specs.Standing.{View, plans_beside, with_plans}
+use Rattle.decoded.specs.Decoded.{Decoded}
+use Rattle.decoded.specs.Shown.{plans_held, Shows}
+use Rattle.decoded.specs.Standing.{View, plans_beside, with_plans}
 use Rattle.snapshots.specs.Keeping.{tree_plans, entries_of, held_plans, held_entries}
 use Rattle.snapshots.specs.Restoring.{in_bytes}
 use Rattle.snapshots.proofs.Held.{Object, Kept}
 use Rattle.snapshots.proofs.InBytes.{entries_in_bytes}
 
 abbrev Held : Type 0
-Held = seen.View Beside
+Held = seen.View Decoded
 
 -- ---- as it is held
 

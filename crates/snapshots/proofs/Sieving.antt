@@ -1,15 +1,15 @@
--- What a sieve keeps of entries, and what it counts.
+-- What a `KeptEntries` keeps of the entries that it is told, and what it counts.
 use Rattle.std.proofs.Common.{◌≡◌, ◌≢◌, ℕ, ◌+◌, zero, suc, Bool, true, false, cond, List, [], ◌∷◌, ◌++◌, map, length, refl, ap, ◌∙◌, arith}
 use Rattle.std.specs.Int.{div_ceil}
 use Rattle.std.specs.List.{AllByRecursion, filter, range_with_len}
 use Rattle.names.specs.Key.{Key, key_bytes}
-use Rattle.objects.specs.declared.event.Event.{Event}
+use Rattle.window.specs.declared.event.Event.{Event}
 use Rattle.documents.specs.Document.{Document}
-use Rattle.requests.specs.declared.stored.Stored.{Stored}
-use Rattle.requests.specs.View.{View}
+use Rattle.histories.specs.declared.stored.Stored.{Stored}
+use Rattle.histories.specs.View.{View}
 use Rattle.pages.specs.Page.{Entry}
 use Rattle.records.specs.Entries.{plan_entry, plan_entries, event_entry, stored_entry, plans_among, entries_of}
-use Rattle.snapshots.specs.Sieve.{kept_of, objects_among, chosen_of, kept-append, objects-append}
+use Rattle.snapshots.specs.KeptEntries.{kept_of, objects_among, chosen_of, kept-append, objects-append}
 
 -- ---- the entries of a view
 

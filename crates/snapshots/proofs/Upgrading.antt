@@ -17,25 +17,25 @@ use Rattle.names.specs.declared.resource.Resource.{Resource}
 use Rattle.names.specs.declared.resource.Resource.TheVariants.{ConfigMap, Node, Pod, Service, Deployment, ValidatingAdmissionPolicy, ValidatingAdmissionPolicyBinding, Namespace}
 use Rattle.names.specs.Key.{Key, key_of, key_cmp}
 use Rattle.names.specs.Resource.{row}
-use Rattle.requests.specs.declared.stored.Stored.{Stored}
-use Rattle.requests.specs.History.{Write}
+use Rattle.histories.specs.declared.stored.Stored.{Stored}
+use Rattle.histories.specs.History.{Write}
 use Rattle.requests.specs.Manifest.{Manifest, BodyHasForm}
 use Rattle.requests.specs.Namespaces.{namespace_puts, names_among, namespaces_in_use}
-use Rattle.requests.specs.View.{View, after_all}
+use Rattle.histories.specs.View.{View, after_all}
 use Rattle.expressions.specs.Expressions.{Source, sources}
 use Rattle.expressions.specs.Plans.{each_plan}
 use Rattle.expressions.specs.Specification.{these, plans_in}
-use Rattle.recovery.specs.Beside.{Beside, beside_of, spelled}
-use Rattle.recovery.specs.Upgraded.{newest, upgraded_rules, upgraded_view, HaveForm, IsOfOlderFormat}
-use Rattle.snapshots.specs.Added.{NewObject, stored_from, with_added, put_of, IsBehind, StandBehind, new_of, namespace_manifest}
-use Rattle.snapshots.proofs.Behind.{all-behind}
+use Rattle.decoded.specs.Decoded.{Decoded, decoded_of, spelled}
+use Rattle.decoded.specs.Upgraded.{newest, upgraded_rules, upgraded_view, HaveForm, IsOfOlderFormat}
+use Rattle.snapshots.specs.Added.{NewObject, stored_from, with_added, new_of, namespace_manifest}
+use Rattle.snapshots.proofs.Behind.{put_of, IsBehind, StandBehind, all-behind}
 use Rattle.snapshots.proofs.NamesInUse.{Name, bytes_cmp, sorted_names}
 
 abbrev Object : Type 0
-Object = Key × Stored Beside
+Object = Key × Stored Decoded
 
 -- the Namespaces of these names, as objects that were not there
-abbrev pub news_of : List (List ℕ) → List (NewObject Beside)
+abbrev pub news_of : List (List ℕ) → List (NewObject Decoded)
 news_of names = map new_of (map namespace_manifest names)
 
 -- ---- a Namespace is behind all objects of an older format
@@ -84,7 +84,7 @@ behind_one_more : (k : Key) (os : List Object) (o : Object) → IsBehind k os �
 behind_one_more k [] o behind last = (last, tt)
 behind_one_more k (x ∷ os) o behind last = (behind.0, behind_one_more k os o behind.1 last)
 
-behind_next : (os : List Object) (name : List ℕ) (s : Stored Beside) (ns : List Name) → T (below_all bytes_cmp name ns) → AreBehind os ns
+behind_next : (os : List Object) (name : List ℕ) (s : Stored Decoded) (ns : List Name) → T (below_all bytes_cmp name ns) → AreBehind os ns
     → AreBehind (os ++ (key_of Namespace [] name, s) ∷ []) ns
 behind_next os name s [] below behind = tt
 behind_next os name s (n ∷ ns) below behind =
@@ -116,20 +116,20 @@ none_of f none (Some a) = none a
 no_plans_in : (d : Document) → plans_in d.json [] ≡ []
 no_plans_in d = none_of _ (λ p. no_plans (sources p)) _
 
-spelled_bare : (d : Document) → spelled d.json (these []) ≡ beside_of d.json []
+spelled_bare : (d : Document) → spelled d.json (these []) ≡ decoded_of d.json []
 spelled_bare d = ap (λ ps. spelled d.json (these ps)) (sym (no_plans_in d))
 
-same_puts : (names : List (List ℕ)) → map put_of (news_of names) ≡ namespace_puts (λ d. beside_of d.json []) names
+same_puts : (names : List (List ℕ)) → map put_of (news_of names) ≡ namespace_puts (λ d. decoded_of d.json []) names
 same_puts [] = refl
 same_puts (name ∷ names) =
     let m : Manifest = namespace_manifest name in
-    let Put : Beside → Write Beside = λ b. put_of (record { key = (new_of m).key; document = (new_of m).document; beside = b }) in
+    let Put : Decoded → Write Decoded = λ b. put_of (record { key = (new_of m).key; document = (new_of m).document; beside = b }) in
     λ i. Put (spelled_bare (new_of m).document i) ∷ same_puts names i
 
 -- ---- all of it
 
 -- An upgrade leaves a view of an older format with the Namespaces of its names.
-pub upgraded_is : (held : View Beside) → IsOfOlderFormat held → with_added upgraded_rules.window_events held (news_of (namespaces_in_use held)) ≡ upgraded_view held
+pub upgraded_is : (held : View Decoded) → IsOfOlderFormat held → with_added upgraded_rules.window_events held (news_of (namespaces_in_use held)) ≡ upgraded_view held
 upgraded_is held older =
     let names : List (List ℕ) = namespaces_in_use held in
     let floor : upgraded_rules.floor ≤ held.revision = subst (λ (n : ℕ). n ≤ held.revision) (sym (numbers_small newest 0).of_floor) (omega arith) in

@@ -1,8 +1,8 @@
 -- How the faults of the layers below are told.
 use Rattle.records.specs.declared.entry_fault.EntryFault as entry
 use Rattle.records.specs.declared.entry_fault.EntryFault.TheVariants as entry_fault
-use Rattle.planlist.specs.declared.reading.ReadPlansFault as plans_of
-use Rattle.planlist.specs.declared.reading.ReadPlansFault.TheVariants as plans_fault
+use Rattle.plancode.specs.declared.list_reading.ReadPlansFault as plans_of
+use Rattle.plancode.specs.declared.list_reading.ReadPlansFault.TheVariants as plans_fault
 use Rattle.snapshots.specs.declared.fault.SnapshotFault.{SnapshotFault}
 use Rattle.snapshots.specs.declared.fault.SnapshotFault.TheVariants.{Entry, Plans, Memory}
 

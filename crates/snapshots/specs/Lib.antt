@@ -4,11 +4,11 @@ pub mod Faults
 pub mod Restoring
 pub mod Added
 pub mod Laws
-pub mod Stock
-pub mod StockFaults
+pub mod ObjectCache
+pub mod ObjectCacheFaults
 pub mod Listed
-pub mod StockLaws
-pub mod Sieve
+pub mod ObjectCacheLaws
+pub mod KeptEntries
 pub mod Whole
 pub mod Base
 pub mod BaseFaults

@@ -5,8 +5,8 @@ use Rattle.std.specs.List.{AllByRecursion, filter}
 use Rattle.names.specs.declared.resource.Resource.{Resource}
 use Rattle.names.specs.Key.{Key, key_bytes, key_cmp}
 use Rattle.objects.specs.Objects.{value_at}
-use Rattle.requests.specs.declared.stored.Stored.{Stored}
-use Rattle.requests.specs.View.{View}
+use Rattle.histories.specs.declared.stored.Stored.{Stored}
+use Rattle.histories.specs.View.{View}
 
 -- the changes that put these objects
 abbrev pub puts_of : {X : Type 0} → List (Key × X) → List (Key × Option X)

@@ -4,26 +4,28 @@ ghost use Rattle.std.specs.Prelude.{◌≡◌, ◌+◌, ◌^◌, ◌<◌, [], le
 ghost use Rattle.std.specs.List.{AllByRecursion};
 ghost use Rattle.expressions.specs.Specification.{these};
 ghost use Rattle.names.specs.Name.{is_namespace};
-ghost use Rattle.recovery.specs.Beside.{spelled};
+ghost use Rattle.decoded.specs.Decoded.{spelled};
 ghost use Rattle.requests.specs.Manifest.{BodyHasForm};
 ghost use Rattle.requests.specs.Namespaces.{names_among, namespaces_in_use};
 ghost use Rattle.snapshots.specs.Added.{AreAdded, namespace_manifest, new_of};
 
 use crate::lent::LentView;
+use decoded::Decoded;
 use documents::Document;
 use expressions::StoredPlans;
+use histories::Stored;
 use names::Key;
-use objects::{Change, Event, Lent};
-use recovery::Beside;
-use requests::{Manifest, Stored};
+use objects::Lent;
+use requests::Manifest;
 use std::alloc::{AllocError, Global};
 use std::collections::BTreeSet;
+use window::{Change, Event};
 
 /// Objects that were not there, each stored by one write more, and the events of these writes.
 #[derive(Drop)]
 pub struct Added {
     /// The objects, in the order of their writes.
-    pub(crate) objects: Vec<(Key, Stored<Beside>)>,
+    pub(crate) objects: Vec<(Key, Stored<Decoded>)>,
     /// The events, oldest first.
     pub(crate) events: Vec<Event<Document>>,
 }
@@ -58,11 +60,15 @@ impl Added {
 }
 
 // What the write of a revision stores, with what the document spells beside it, and no plans.
-fn stored_by(alloc: Global, revision: u64, document: Document) -> Result<Stored<Beside>, AllocError>
+fn stored_by(
+    alloc: Global,
+    revision: u64,
+    document: Document,
+) -> Result<Stored<Decoded>, AllocError>
     ensures { IfOk result (λ stored. stored ≡ record { document = document; beside = spelled document.json (these []); revision = revision }) }
 {
     let plans = StoredPlans::Plans(Vec::new(alloc));
-    let beside = Beside::of(alloc, document.json(), plans)?;
+    let beside = Decoded::of(alloc, document.json(), plans)?;
     Ok(Stored {
         document,
         beside,
@@ -73,7 +79,7 @@ fn stored_by(alloc: Global, revision: u64, document: Document) -> Result<Stored<
 // The namespaces that objects stand in, ascending by their bytes, each once.
 fn names_of<'a>(
     alloc: Global,
-    objects: &[Lent<'a, Stored<Beside>>],
+    objects: &[Lent<'a, Stored<Decoded>>],
 ) -> Result<BTreeSet<&'a str>, AllocError>
     ensures names { IfOk result (λ names. map (λ name. name.now) names.keys ≡ map (λ n. n.0) (names_among objects.now)) }
     ensures sound { OnOk result (AllByRecursion (λ n. IsTrue (is_namespace n)) (map (λ n. n.0) (names_among objects.now))) }

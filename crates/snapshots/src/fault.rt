@@ -1,6 +1,6 @@
 ghost use Rattle.std.specs.Prelude.{◌≡◌};
 
-use planlist::ReadPlansFault;
+use plancode::ReadPlansFault;
 use records::EntryFault;
 use std::alloc::{AllocError, AllocFailed};
 

@@ -2,7 +2,7 @@
 
 ghost use Rattle.std.specs.Prelude.{◌≡◌, ◌∷◌, option_map, IsTrue, IfOk};
 ghost use Rattle.names.specs.Key.{is_key, key_bytes};
-ghost use Rattle.snapshots.specs.Stock.{prefix_of};
+ghost use Rattle.snapshots.specs.ObjectCache.{prefix_of};
 
 use names::{Key, Resource};
 use std::alloc::{AllocError, Global};

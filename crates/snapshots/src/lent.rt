@@ -2,27 +2,28 @@
 
 ghost use Rattle.std.specs.Prelude.{◌≡◌, ◌+◌, ◌^◌, ◌<◌, ◌++◌, List, length, map, IfOk, OnOk};
 ghost use Rattle.circular_buffer.specs.Buffer.{keep_last};
-ghost use Rattle.requests.specs.View.{View};
+ghost use Rattle.histories.specs.View.{View};
 ghost use Rattle.holdings.specs.Holdings.{Shows};
-ghost use Rattle.recovery.specs.Beside.{Beside as BesideData};
+ghost use Rattle.decoded.specs.Decoded.{Decoded as DecodedData};
 ghost use Rattle.snapshots.specs.Added.{AreAdded, NewObject, with_added};
 ghost use Rattle.snapshots.specs.LyingBelow.{apart_of};
 
 use crate::added::Added;
 use crate::below::Below;
+use decoded::{Core, Decoded};
 use documents::Document;
+use histories::Stored;
 use names::Key;
-use objects::{Event, Events, Lent};
-use recovery::{Beside, Core};
-use requests::Stored;
+use objects::Lent;
 use std::alloc::{AllocError, Global};
 use std::marker::Model;
+use window::{Event, Events};
 
 /// A view whose parts are lent: what a checkpoint is to keep.
 #[derive(Drop)]
 pub struct LentView<'a> {
     /// The objects, in key order.
-    pub(crate) objects: Vec<Lent<'a, Stored<Beside>>>,
+    pub(crate) objects: Vec<Lent<'a, Stored<Decoded>>>,
     /// The last events, oldest first.
     pub(crate) events: Vec<&'a Event<Document>>,
     /// The revision of the last write, 1 where there was none.
@@ -31,12 +32,12 @@ pub struct LentView<'a> {
 
 impl<'a> Model for LentView<'a> {
     ghost use Rattle.std.specs.Prelude.{map};
-    ghost use Rattle.requests.specs.View.{View};
-    ghost use Rattle.recovery.specs.Beside.{Beside as BesideData};
+    ghost use Rattle.histories.specs.View.{View};
+    ghost use Rattle.decoded.specs.Decoded.{Decoded as DecodedData};
     ghost use Rattle.std.specs.Coded.{codes};
-    ghost use Rattle.documents.specs.DataCode.{coded_data};
+    ghost use Rattle.jsondoc.specs.DataCode.{coded_data};
 
-    ghost Value = { View BesideData };
+    ghost Value = { View DecodedData };
 
     ghost coded = { Prim.hlevel (codes, coded_data) };
 
@@ -70,7 +71,7 @@ impl<'a> LentView<'a> {
         places: usize,
     ) -> Result<LentView<'a>, AllocError>
         requires { self.revision + length added.now.objects.items < 2 ^ 64 }
-        ensures { (news : List (NewObject BesideData)) → AreAdded added.now self.entry.revision news
+        ensures { (news : List (NewObject DecodedData)) → AreAdded added.now self.entry.revision news
             → IfOk result (λ view. view ≡ with_added places self.entry news) }
     {
         let LentView {
@@ -107,8 +108,8 @@ impl<'a> LentView<'a> {
 
 // Lends objects, behind others.
 fn lend_objects<'a>(
-    lent: &mut Vec<Lent<'a, Stored<Beside>>>,
-    objects: &'a [(Key, Stored<Beside>)],
+    lent: &mut Vec<Lent<'a, Stored<Decoded>>>,
+    objects: &'a [(Key, Stored<Decoded>)],
 ) -> Result<(), AllocError>
     ensures { OnOk result (lent.new.items ≡ lent.old.items ++ objects.now) }
 {
@@ -165,9 +166,9 @@ fn lent_events<'a>(
 pub fn shown<'a>(
     alloc: Global,
     core: &'a Core,
-    below: &'a [(Key, Stored<Beside>)],
+    below: &'a [(Key, Stored<Decoded>)],
 ) -> Result<LentView<'a>, AllocError>
-    ensures { (held : View BesideData) → Shows core.now below.now held → IfOk result (λ view. view ≡ held) }
+    ensures { (held : View DecodedData) → Shows core.now below.now held → IfOk result (λ view. view ≡ held) }
 {
     let objects = core.objects(alloc, below)?;
     let events = lent_events(alloc, core.events())?;

@@ -2,19 +2,22 @@
 //!
 //! ```text
 //! let view = shown(alloc, &core, &objects_below)?;              // to be kept
+//! let manifests = new_namespaces(alloc, &view)?;                // for an upgrade, with the Namespaces that it has not
+//! let added = Added::of(alloc, view.revision(), manifests)?;
+//! let view = view.with(alloc, &added, rules.window_events)?;
 //! let mut entries = entries_of(alloc, &view)?;                  // to be written
 //! let written = write(alloc, &mut device, &root, last_gate, label, &mut entries)?;
 //!
-//! let mut sieve = Sieve::new(alloc, &chosen);                   // to be read again
-//! scan(alloc, &mut device, &root, &mut sieve)?;
-//! let core = restored(alloc, rules, sieve.kept(), &below, sieve.objects(), root.label.revision)?;
+//! let mut kept_entries = KeptEntries::new(alloc, &chosen);                   // to be read again
+//! scan(alloc, &mut device, &root, &mut kept_entries)?;
+//! let core = restored(alloc, rules, kept_entries.kept(), &below, kept_entries.objects(), root.label.revision)?;
 //!
 //! let core = renewed(alloc, rules, view, &below)?;              // or held on once it is written
 //!
-//! let mut stock = Stock::new(alloc, shelf);                     // and the objects in its pages
-//! let stocked = stock.find(alloc, &mut device, &key)?;          // reads one page, or none
-//! let pods = stock.list(alloc, &mut device, Resource::Pod, Some("default"))?;
-//! let mut base = Base::new(&mut device, &mut stock, making);
+//! let mut cache = ObjectCache::new(alloc, shelf);                     // and the objects in its pages
+//! let cached = cache.find(alloc, &mut device, &key)?;          // reads one page, or none
+//! let pods = cache.list(alloc, &mut device, Resource::Pod, Some("default"))?;
+//! let mut base = Base::new(&mut device, &mut cache, making);
 //! let found = holdings.find(alloc, &mut base, &key)?;
 //! ```
 //!
@@ -25,7 +28,7 @@
 //!
 //! # The objects in the pages
 //!
-//! A shelf holds objects where their entries stand in front in its pages, as `records` makes them, and no entry after them has an object's key. `find` of a [`Stock`]
+//! A shelf holds objects where their entries stand in front in its pages, as `records` makes them, and no entry after them has an object's key. `find` of a [`ObjectCache`]
 //! answers what is stored under a key, `list` the objects of a resource, in one namespace or in all, and `list_all` all objects, as a map in memory
 //! would. What the shelf holds stays, and damage is answered only where it does not hold objects so. The documents of objects that were found are kept, up
 //! to [`BYTES_IN_MEMORY`], so that a text is not read at each look. The entries of a view hold its objects ([`views_hold_objects`]).
@@ -38,33 +41,34 @@
 mod added;
 mod base;
 mod below;
+mod cached_object;
+mod event_entries;
 mod fault;
+mod kept_entries;
 mod keys;
 mod laws;
 mod lent;
 mod listed;
 mod making;
+mod object_cache;
+mod object_cache_fault;
+mod object_cache_laws;
 mod renewing;
 mod restoring;
-mod sieve;
-mod stock;
-mod stock_fault;
-mod stock_laws;
-mod stocked;
 mod storing;
 
 pub use added::{Added, new_namespaces};
 pub use base::Base;
 pub use below::Below;
+pub use cached_object::CachedObject;
 pub use fault::SnapshotFault;
+pub use kept_entries::{Choice, KeptEntries};
 pub use laws::{entries_ascend, entries_fit, entries_have_one_view, histories_are_kept};
 pub use lent::{LentView, shown};
 pub use making::FromDocument;
+pub use object_cache::{BYTES_IN_MEMORY, ObjectCache};
+pub use object_cache_fault::ObjectCacheFault;
+pub use object_cache_laws::{kept_are_of_a_view, views_hold_objects};
 pub use renewing::renewed;
 pub use restoring::restored;
-pub use sieve::{Choice, Sieve};
-pub use stock::{BYTES_IN_MEMORY, Stock};
-pub use stock_fault::StockFault;
-pub use stock_laws::{kept_are_of_a_view, views_hold_objects};
-pub use stocked::Stocked;
 pub use storing::entries_of;

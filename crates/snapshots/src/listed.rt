@@ -1,18 +1,18 @@
 //! Objects, as their entries are told.
 
-use crate::stocked::{Stocked, read_entry};
-use checkpoint::{ReadFault, Reader};
+use crate::cached_object::{CachedObject, read_entry};
+use checkpoint::{Reader, ReaderFault};
 use names::Key;
 use records::EntryFault;
 use std::alloc::Global;
 
 /// The objects of the entries that were told, in order. It refuses an entry of no object.
 #[derive(Drop)]
-pub(crate) struct Listed {
-    pub(crate) objects: Vec<(Key, Stocked)>,
+pub(crate) struct ListingReader {
+    pub(crate) objects: Vec<(Key, CachedObject)>,
 }
 
-impl Reader for Listed {
+impl Reader for ListingReader {
     ghost use Rattle.snapshots.specs.Listed.{IsTold, Refuses, told_none, told_then};
 
     ghost told = { IsTold };
@@ -23,11 +23,11 @@ impl Reader for Listed {
 
     ghost told_then = { told_then };
 
-    fn entry(&mut self, alloc: Global, key: &[u8], cell: &[u8]) -> Result<(), ReadFault> {
+    fn entry(&mut self, alloc: Global, key: &[u8], cell: &[u8]) -> Result<(), ReaderFault> {
         match read_entry(alloc, key, cell) {
             Ok(object) => Ok(self.objects.push(object)?),
-            Err(EntryFault::Damaged) => Err(ReadFault::Entry),
-            Err(EntryFault::Memory) => Err(ReadFault::Memory),
+            Err(EntryFault::Damaged) => Err(ReaderFault::Entry),
+            Err(EntryFault::Memory) => Err(ReaderFault::Memory),
         }
     }
 }

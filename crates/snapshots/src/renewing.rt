@@ -12,9 +12,9 @@ use crate::fault::SnapshotFault;
 use crate::lent::LentView;
 use crate::restoring::restored;
 use crate::storing::pairs_of;
+use decoded::Core;
 use names::Rules;
 use records::Entry;
-use recovery::Core;
 use std::alloc::{AllocError, Global};
 
 // Of what a checkpoint keeps, what does not lie below.

@@ -5,27 +5,27 @@ ghost use Rattle.std.specs.FinMap.{is_sorted};
 ghost use Rattle.std.specs.Ordering.{is_lt};
 ghost use Rattle.names.specs.declared.format.Rules.{Rules as RulesData};
 ghost use Rattle.names.specs.Key.{Key as KeyData, key_bytes, key_cmp};
-ghost use Rattle.requests.specs.declared.stored.Stored.{Stored as StoredData};
-ghost use Rattle.requests.specs.View.{View};
+ghost use Rattle.histories.specs.declared.stored.Stored.{Stored as StoredData};
+ghost use Rattle.histories.specs.View.{View};
 ghost use Rattle.holdings.specs.Holdings.{Shows};
 ghost use Rattle.holdings.specs.Known.{IsKnown};
-ghost use Rattle.snapshots.specs.Sieve.{chosen_of};
-ghost use Rattle.recovery.specs.Beside.{Beside as BesideData};
+ghost use Rattle.snapshots.specs.KeptEntries.{chosen_of};
+ghost use Rattle.decoded.specs.Decoded.{Decoded as DecodedData};
 ghost use Rattle.snapshots.specs.LyingBelow.{base_of, AreChosen};
 ghost use Rattle.snapshots.specs.Keeping.{held_entries, HasLastEvents, IsHeld};
 ghost use Rattle.snapshots.specs.Restoring.{IsDamaged, IsHeldOf, AreHeldOf, HasTaken, AreRestored, CanKeep, IsRestored, without_events, with_events};
 
 use crate::below::Below;
 use crate::fault::SnapshotFault;
+use decoded::{Core, Decoded};
 use documents::Document;
 use expressions::stored_plans;
+use histories::Stored;
 use holdings::Holdings;
 use names::{Key, Rules};
-use objects::Event;
 use records::{Entry, KeptObject, KeptView, read_view};
-use recovery::{Beside, Core};
-use requests::Stored;
 use std::alloc::{AllocError, Global};
+use window::Event;
 
 // Whether the key of an object comes after that of another.
 fn is_after(object: &KeptObject, before: &KeptObject) -> bool
@@ -52,9 +52,9 @@ fn ascends(objects: &[KeptObject]) -> bool
 }
 
 // What is held of an object: its document, and beside it what that spells, with the plans of these bytes.
-fn stored_of(alloc: Global, object: &KeptObject) -> Result<Stored<Beside>, SnapshotFault>
+fn stored_of(alloc: Global, object: &KeptObject) -> Result<Stored<Decoded>, SnapshotFault>
     ensures stored { IfOk result (λ s. IsHeldOf (object.now.0, s) object.now) }
-    ensures damaged { IsDamaged result → (s : StoredData BesideData) → IsHeldOf (object.now.0, s) object.now → ⊥ }
+    ensures damaged { IsDamaged result → (s : StoredData DecodedData) → IsHeldOf (object.now.0, s) object.now → ⊥ }
 {
     let kept = object.manifest.document();
     let plans = stored_plans(
@@ -64,7 +64,7 @@ fn stored_of(alloc: Global, object: &KeptObject) -> Result<Stored<Beside>, Snaps
         &object.plans,
     )?;
     let document = kept.clone()?;
-    let beside = Beside::of(alloc, document.json(), plans)?;
+    let beside = Decoded::of(alloc, document.json(), plans)?;
     Ok(Stored {
         document,
         beside,
@@ -78,7 +78,7 @@ fn hold<B: Below>(
     core: &mut Core,
     below: &B,
     key: &Key,
-    stored: Stored<Beside>,
+    stored: Stored<Decoded>,
 ) -> Result<(), AllocError>
     ensures rules { core.new.rules ≡ core.old.rules }
     ensures taken { OnOk result (HasTaken (B.lies below.now) core.old core.new (key.now, stored)) }
@@ -98,8 +98,8 @@ fn restore<B: Below>(
     object: &KeptObject,
 ) -> Result<(), SnapshotFault>
     ensures rules { core.new.rules ≡ core.old.rules }
-    ensures held { OnOk result ((s : StoredData BesideData) × IsHeldOf (object.now.0, s) object.now × HasTaken (B.lies below.now) core.old core.new (object.now.0, s)) }
-    ensures damaged { IsDamaged result → (s : StoredData BesideData) → IsHeldOf (object.now.0, s) object.now → ⊥ }
+    ensures held { OnOk result ((s : StoredData DecodedData) × IsHeldOf (object.now.0, s) object.now × HasTaken (B.lies below.now) core.old core.new (object.now.0, s)) }
+    ensures damaged { IsDamaged result → (s : StoredData DecodedData) → IsHeldOf (object.now.0, s) object.now → ⊥ }
 {
     let stored = stored_of(alloc, object)?;
     hold(alloc, core, below, object.manifest.key(), stored)?;
@@ -117,7 +117,7 @@ fn restore_all<B: Below>(
     requires ascend { IsTrue (is_sorted key_cmp objects.now) }
     ensures rules { core.new.rules ≡ core.old.rules }
     ensures held { OnOk result (AreRestored (B.lies below.now) core.old core.new objects.now) }
-    ensures damaged { IsDamaged result → (os : List (KeyData × StoredData BesideData)) → AreHeldOf os objects.now → ⊥ }
+    ensures damaged { IsDamaged result → (os : List (KeyData × StoredData DecodedData)) → AreHeldOf os objects.now → ⊥ }
 {
     for object in objects {
         restore(alloc, core, below, object)?;
@@ -130,7 +130,7 @@ fn keep_all(core: &mut Core, events: Vec<Event<Document>>)
     requires { core.old.revision + length events.items < 2 ^ 64 }
     ensures rules { core.new.rules ≡ core.old.rules }
     ensures changes { core.new.changes ≡ core.old.changes }
-    ensures shows { (base : List (KeyData × StoredData BesideData)) (v : View BesideData) → CanKeep core.old base v events.items
+    ensures shows { (base : List (KeyData × StoredData DecodedData)) (v : View DecodedData) → CanKeep core.old base v events.items
         → Shows core.new base (with_events v events.items) }
 {
     for event in events {
@@ -157,7 +157,7 @@ fn core_without_events(
     ensures rules { IfOk result (λ core. core.rules ≡ rules) }
     ensures revision { IfOk result (λ core. core.revision ≡ view.now.revision - length view.now.events) }
     ensures none { IfOk result (λ core. core.changes.made ≡ []) }
-    ensures shows { (base : List (KeyData × StoredData BesideData)) → IsTrue (is_sorted key_cmp base) → length base ≡ count
+    ensures shows { (base : List (KeyData × StoredData DecodedData)) → IsTrue (is_sorted key_cmp base) → length base ≡ count
         → IfOk result (λ core. Shows core base (without_events base view.now)) }
     ensures ascends { OnOk result (IsTrue (is_sorted key_cmp view.now.objects)) }
     ensures last { OnOk result (HasLastEvents rules view.now) }
@@ -188,11 +188,11 @@ pub fn restored<B: Below>(
     ensures rules { IfOk result (λ core. core.rules ≡ rules) }
 
     // Where a view may be kept: it is shown over what lies below of it, and memory knows what is chosen.
-    ensures shows { (held : View BesideData) (chosen : List ℕ → Bool) → IsHeld rules held → AreChosen (B.lies below.now) chosen held
+    ensures shows { (held : View DecodedData) (chosen : List ℕ → Bool) → IsHeld rules held → AreChosen (B.lies below.now) chosen held
         → kept.now ≡ held_entries (chosen_of chosen held) → held.revision ≡ revision → length (base_of (B.lies below.now) held) ≡ count
         → IfOk result (λ core. Shows core (base_of (B.lies below.now) held) held
         × ((k : KeyData) → chosen (1 ∷ key_bytes k) ≡ true → IsKnown core (base_of (B.lies below.now) held) k)) }
-    ensures damaged { IsDamaged result → (held : View BesideData) (chosen : List ℕ → Bool) → IsHeld rules held → AreChosen (B.lies below.now) chosen held
+    ensures damaged { IsDamaged result → (held : View DecodedData) (chosen : List ℕ → Bool) → IsHeld rules held → AreChosen (B.lies below.now) chosen held
         → kept.now ≡ held_entries (chosen_of chosen held) → held.revision ≡ revision → length (base_of (B.lies below.now) held) ≡ count → ⊥ }
 
     // And whatever the entries.

@@ -3,25 +3,25 @@
 ghost use Rattle.std.specs.Prelude.{◌≡◌, ◌≤◌, ◌^◌, ◌++◌, length, map, IfOk, OnOk};
 ghost use Rattle.checkpoint.specs.EntryList.{listed, entries_of as in_list};
 ghost use Rattle.records.specs.Entries.{plan_entries, stored_entry, plans_among};
-ghost use Rattle.recovery.specs.Shown.{Shows};
-ghost use Rattle.recovery.specs.Standing.{View};
+ghost use Rattle.decoded.specs.Shown.{Shows};
+ghost use Rattle.decoded.specs.Standing.{View};
 ghost use Rattle.snapshots.specs.Keeping.{entries_of, held_plans, held_entries};
 
+use crate::event_entries::add_events;
 use crate::lent::LentView;
 use checkpoint::EntryList;
-use eventlist::add_events;
+use decoded::Decoded;
 use expressions::plans_bytes;
+use histories::Stored;
 use objects::Lent;
 use records::{Entry, object_entry, plan_entries};
-use recovery::Beside;
-use requests::Stored;
 use std::alloc::{AllocError, Global};
 
 // More bytes of plans than a policy can have.
 const MOST_PLAN_BYTES: usize = 1 << 30;
 
 // The entry of an object.
-fn stored_entry(alloc: Global, held: &Lent<'_, Stored<Beside>>) -> Result<Entry, AllocError>
+fn stored_entry(alloc: Global, held: &Lent<'_, Stored<Decoded>>) -> Result<Entry, AllocError>
     ensures { IfOk result (λ entry. entry ≡ stored_entry held.now) }
 {
     let stored = held.value;
@@ -32,7 +32,7 @@ fn stored_entry(alloc: Global, held: &Lent<'_, Stored<Beside>>) -> Result<Entry,
 fn add_objects(
     alloc: Global,
     entries: &mut Vec<(Vec<u8>, Vec<u8>)>,
-    objects: &[Lent<'_, Stored<Beside>>],
+    objects: &[Lent<'_, Stored<Decoded>>],
 ) -> Result<(), AllocError>
     ensures { OnOk result (listed entries.new.items ≡ listed entries.old.items ++ map stored_entry objects.now) }
 {
@@ -43,7 +43,7 @@ fn add_objects(
 }
 
 // The bytes of the plans that stand beside an object.
-fn bytes_of(alloc: Global, held: &Lent<'_, Stored<Beside>>) -> Result<Vec<u8>, AllocError>
+fn bytes_of(alloc: Global, held: &Lent<'_, Stored<Decoded>>) -> Result<Vec<u8>, AllocError>
     ensures bytes { IfOk result (λ bytes. bytes.items ≡ held_plans held.now) }
     ensures few { IfOk result (λ bytes. length bytes.items ≤ 2 ^ 30) }
 {
@@ -56,7 +56,7 @@ fn bytes_of(alloc: Global, held: &Lent<'_, Stored<Beside>>) -> Result<Vec<u8>, A
 }
 
 // The entries of the plans that stand beside an object.
-fn pieces_of(alloc: Global, held: &Lent<'_, Stored<Beside>>) -> Result<Vec<Entry>, AllocError>
+fn pieces_of(alloc: Global, held: &Lent<'_, Stored<Decoded>>) -> Result<Vec<Entry>, AllocError>
     ensures { IfOk result (λ pieces. pieces.items ≡ plan_entries held.now.0 (held_plans held.now)) }
 {
     let bytes = bytes_of(alloc, held)?;
@@ -67,7 +67,7 @@ fn pieces_of(alloc: Global, held: &Lent<'_, Stored<Beside>>) -> Result<Vec<Entry
 fn add_plans(
     alloc: Global,
     entries: &mut Vec<(Vec<u8>, Vec<u8>)>,
-    held: &Lent<'_, Stored<Beside>>,
+    held: &Lent<'_, Stored<Decoded>>,
 ) -> Result<(), AllocError>
     ensures { OnOk result (listed entries.new.items ≡ listed entries.old.items ++ plan_entries held.now.0 (held_plans held.now)) }
 {
@@ -81,7 +81,7 @@ fn add_plans(
 fn add_all_plans(
     alloc: Global,
     entries: &mut Vec<(Vec<u8>, Vec<u8>)>,
-    objects: &[Lent<'_, Stored<Beside>>],
+    objects: &[Lent<'_, Stored<Decoded>>],
 ) -> Result<(), AllocError>
     ensures { OnOk result (listed entries.new.items ≡ listed entries.old.items ++ plans_among held_plans objects.now) }
 {

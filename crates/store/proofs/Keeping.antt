@@ -1,5 +1,5 @@
 -- The history that a device holds stays where its store is written anew or checked.
-use Rattle.std.proofs.Common.{◌≡◌, ◌≢◌, ◌∙◌, ap, sym, subst, refl, ◌++◌, ◌+◌, ℕ, suc, List, [], ◌∷◌, length, true≢false, inl, inr, Result, Err, IsErrOf, false, true, ◌⊎◌}
+use Rattle.std.proofs.Common.{◌≡◌, ◌∙◌, ap, sym, subst, refl, ◌++◌, ◌+◌, ℕ, suc, List, [], ◌∷◌, length, inl, inr, Result, Err, IsErrOf, ◌⊎◌}
 use Rattle.std.proofs.lemmas.List.{append-nil}
 use Rattle.device.specs.Disk.{Disk, LeavesOnly}
 use Rattle.device.specs.Run.{Ran}
@@ -9,16 +9,16 @@ use Rattle.device.proofs.Moments.{weaker, followed_by}
 use Rattle.names.specs.declared.format.Rules.{Rules}
 use Rattle.names.specs.Key.{Key}
 use Rattle.documents.specs.Document.{Document}
-use Rattle.requests.specs.declared.stored.Stored.{Stored}
-use Rattle.requests.specs.Mapped.{each, mapped}
-use Rattle.requests.specs.View as seen
-use Rattle.requests.specs.View.{view}
+use Rattle.histories.specs.declared.stored.Stored.{Stored}
+use Rattle.histories.specs.Mapped.{each, mapped}
+use Rattle.histories.specs.View as seen
+use Rattle.histories.specs.View.{view}
 use Rattle.roots.specs.declared.root.Root.{Root}
 use Rattle.roots.specs.Root.{HoldsRoot}
 use Rattle.roots.proofs.Counting.{one_counts}
-use Rattle.recovery.specs.Beside.{Beside}
-use Rattle.recovery.specs.Shown.{Shows, plans_held}
-use Rattle.recovery.specs.Standing.{Write, History, plans_beside, with_plans}
+use Rattle.decoded.specs.Decoded.{Decoded}
+use Rattle.decoded.specs.Shown.{Shows, plans_held}
+use Rattle.decoded.specs.Standing.{Write, History, plans_beside, with_plans}
 use Rattle.durable.specs.declared.compacted.Checked.{Checked}
 use Rattle.durable.specs.declared.fault.Damage.{Damage}
 use Rattle.durable.specs.declared.fault.Fault.{Fault}
@@ -27,7 +27,7 @@ use Rattle.durable.specs.declared.store.Store.{Store}
 use Rattle.durable.specs.Compacted.{IsCheckOf}
 use Rattle.durable.specs.Ready.{HoldsHistory}
 use Rattle.durable.specs.Stands.{StandsFor}
-use Rattle.durable.specs.Settled.{device_of, root_of, serves, Holds, IsFound, IsSettledAt, IsLeftAt, LeavesSome}
+use Rattle.durable.specs.Settled.{device_of, IsFound, IsSettledAt, IsLeftAt, LeavesSome}
 use Rattle.durable.proofs.Answering.{held}
 use Rattle.durable.proofs.Unwritten.{held_after, moments_read}
 use Rattle.store.specs.Upkeep.{KeepsHistory, IsToldOfHistory}
@@ -116,12 +116,12 @@ length-each f [] = refl
 length-each f (o ∷ os) = ap suc (length-each f os)
 
 -- what is told of what a store holds is told of the view that it shows
-pub told_of_view : (rules : Rules) (h : History) (root other : Root) (stored : seen.View Beside) (c : Checked) → Shows stored (view rules h) → IsCheckOf other stored c
+pub told_of_view : (rules : Rules) (h : History) (root other : Root) (stored : seen.View Decoded) (c : Checked) → Shows stored (view rules h) → IsCheckOf other stored c
     → other.generation ≡ root.generation → other.label.format ≡ root.label.format → IsToldOfHistory rules h root c
 told_of_view rules h root other stored c shows told same format =
-    let counted : length (mapped plans_held stored).objects ≡ length (with_plans (view rules h)).objects = ap (λ (v : seen.View Beside). length v.objects) shows in
+    let counted : length (mapped plans_held stored).objects ≡ length (with_plans (view rules h)).objects = ap (λ (v : seen.View Decoded). length v.objects) shows in
     record {
-      revision = told.revision ∙ ap (λ (v : seen.View Beside). v.revision) shows;
+      revision = told.revision ∙ ap (λ (v : seen.View Decoded). v.revision) shows;
       objects = told.objects ∙ (sym (length-each plans_held stored.objects) ∙ (counted ∙ length-each plans_beside (view rules h).objects));
       generation = told.generation ∙ same;
       format = told.format ∙ format;

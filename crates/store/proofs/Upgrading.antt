@@ -1,13 +1,13 @@
 -- The history that a device holds where its store is upgraded: as it was, or upgraded.
-use Rattle.std.proofs.Common.{arith, ◌≡◌, ◌≤◌, ◌∙◌, ap, sym, subst, refl, ◌⊎◌, inl, inr, Result, Err, IsErrOf}
+use Rattle.std.proofs.Common.{arith, ◌≡◌, ◌≢◌, ◌≤◌, ◌∙◌, ap, sym, subst, refl, ◌⊎◌, inl, inr, Result, Err, IsErrOf}
 use Rattle.device.specs.Disk.{Disk, HasFailed, LeavesOnly}
 use Rattle.device.specs.Run.{Ran}
 use Rattle.device.specs.Step.{Same}
 use Rattle.device.specs.declared.device.Device.{Ghosts}
 use Rattle.device.proofs.Moments.{weaker, followed_by}
 use Rattle.names.specs.declared.format.Rules.{Rules}
-use Rattle.recovery.specs.Standing.{History}
-use Rattle.recovery.specs.Upgraded.{upgraded_rules, upgraded_history}
+use Rattle.decoded.specs.Standing.{History}
+use Rattle.decoded.specs.Upgraded.{upgraded_rules, upgraded_history}
 use Rattle.durable.specs.declared.fault.Damage.{Damage}
 use Rattle.durable.specs.declared.fault.Fault.{Fault}
 use Rattle.durable.specs.declared.fault.Fault.TheVariants as fault
@@ -44,6 +44,25 @@ unrefused_memory (inr (inr told)) = cc
 pub opening_unrefused : (f : Fault) → WasRefused f → IsRefusal (of_fault f) → ⊥
 opening_unrefused f (inl is) told = unrefused_device (subst (λ x. IsRefusal (of_fault x)) is told)
 opening_unrefused f (inr is) told = unrefused_memory (subst (λ x. IsRefusal (of_fault x)) is told)
+
+-- where nothing changed, memory was refused
+pub opening_unfailed : (f : Fault) → (f ≢ fault.Failed) × (f ≢ fault.Exhausted) → (of_fault f ≡ upgrade.Memory) ⊎ IsRefusal (of_fault f) → f ≡ fault.Memory
+opening_unfailed fault.Memory never told = refl
+opening_unfailed fault.Device never (inl is) = cc
+opening_unfailed fault.Device never (inr told) = absurd (unrefused_device told)
+opening_unfailed (fault.Damaged damage) never (inl is) = cc
+opening_unfailed (fault.Damaged damage) never (inr (inl is)) = cc
+opening_unfailed (fault.Damaged damage) never (inr (inr (inl is))) = cc
+opening_unfailed (fault.Damaged damage) never (inr (inr (inr is))) = cc
+opening_unfailed fault.Failed never told = absurd (never.0 refl)
+opening_unfailed fault.Exhausted never told = absurd (never.1 refl)
+
+-- and so it is told by the call of a store that was opened
+pub unchanged_by : {T : Type 0} (r : Result T UpgradeFault) (f : UpgradeFault) → r ≡ Err f → (f ≡ upgrade.Memory) ⊎ IsRefusal f → IsUnchanged r
+unchanged_by r f was (inl is) = inl (was ∙ ap Err is)
+unchanged_by r f was (inr (inl is)) = inr (inr (inr (was ∙ ap Err is)))
+unchanged_by r f was (inr (inr (inl is))) = inr (inl (was ∙ ap Err is))
+unchanged_by r f was (inr (inr (inr is))) = inr (inr (inl (was ∙ ap Err is)))
 
 -- a device that failed after it was opened failed
 pub failed_since : {D : Type 0} (disk : Disk D) (old mid new : D) → disk.failures old ≤ disk.failures mid → HasFailed disk mid new → HasFailed disk old new

@@ -7,8 +7,8 @@ use Rattle.device.proofs.Moments.{weaker, followed_by}
 use Rattle.names.specs.declared.format.Rules.{Rules}
 use Rattle.objects.specs.Failing.{HasGrown}
 use Rattle.requests.specs.declared.refusal.Refusal.TheVariants.{OutOfMemory, StorageFailed}
-use Rattle.requests.specs.View.{view}
-use Rattle.recovery.specs.Standing.{Write, History, View}
+use Rattle.histories.specs.View.{view}
+use Rattle.decoded.specs.Standing.{Write, History, View}
 use Rattle.apicore.specs.Admitted.{AreAdmitted}
 use Rattle.durable.specs.declared.fault.Damage.{Damage}
 use Rattle.durable.specs.declared.fault.Fault.{Fault}
@@ -35,7 +35,7 @@ exchanged_as : {I O : Type 0} {gave : I → I → List ℕ → Type 0} {took : O
 exchanged_as f e = record { read = e.read; written = e.written; gave_them = e.gave_them; took_them = e.took_them; holds = f e.read e.written e.holds }
 
 -- all the kept writes, and none of the next
-found_kept : (rules : Rules) (h : History) (kept : List Write) (c : List ℕ) → StandsFor rules c (h ++ kept) → IsFound rules h kept kept c
+pub found_kept : (rules : Rules) (h : History) (kept : List Write) (c : List ℕ) → StandsFor rules c (h ++ kept) → IsFound rules h kept kept c
 found_kept rules h kept c stands =
     let At : List Write → Type 0 = λ ws. StandsFor rules c (h ++ ws) in
     record { more = []; rest = []; parts = sym (append-nil kept); stands = subst At (sym (append-nil kept)) stands }

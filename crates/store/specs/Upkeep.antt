@@ -2,11 +2,11 @@
 use Rattle.std.specs.Prelude.{◌≡◌, ◌+◌, ℕ, true, List, length}
 use Rattle.device.specs.Disk.{Disk, LeavesOnly}
 use Rattle.names.specs.declared.format.Rules.{Rules}
-use Rattle.requests.specs.View.{view}
+use Rattle.histories.specs.View.{view}
 use Rattle.roots.specs.declared.root.Root.{Root}
 use Rattle.roots.specs.Root.{HoldsRoot}
-use Rattle.recovery.specs.Standing.{History}
-use Rattle.recovery.specs.Upgraded.{is_newest, upgraded_rules, upgraded_history}
+use Rattle.decoded.specs.Standing.{History}
+use Rattle.decoded.specs.Upgraded.{is_newest, upgraded_rules, upgraded_history}
 use Rattle.durable.specs.declared.compacted.Checked.{Checked}
 use Rattle.durable.specs.declared.compacted.Compacted.{Compacted}
 use Rattle.durable.specs.declared.upgraded.Upgraded.{Upgraded}

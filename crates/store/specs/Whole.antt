@@ -3,12 +3,12 @@ use Rattle.std.specs.Prelude.{◌≡◌, ℕ, ◌≤◌, ◌⊎◌, List, [], �
 use Rattle.device.specs.declared.device.Device.{Ghosts}
 use Rattle.device.specs.Disk.{Disk, LeavesOnly}
 use Rattle.names.specs.declared.format.Rules.{Rules}
-use Rattle.requests.specs.View as seen
-use Rattle.requests.specs.View.{view}
+use Rattle.histories.specs.View as seen
+use Rattle.histories.specs.View.{view}
 use Rattle.requests.specs.declared.refusal.Refusal.TheVariants.{StorageFailed}
 use Rattle.records.specs.Payload.{group_limit}
-use Rattle.recovery.specs.Beside.{Beside}
-use Rattle.recovery.specs.Standing.{History, View}
+use Rattle.decoded.specs.Decoded.{Decoded}
+use Rattle.decoded.specs.Standing.{History, View}
 use Rattle.apicore.specs.Admitted.{AreAdmitted}
 use Rattle.durable.specs.declared.fault.Fault.{Fault}
 use Rattle.durable.specs.declared.fault.Fault.TheVariants as fault
@@ -16,7 +16,7 @@ use Rattle.durable.specs.declared.store.Store.{Store}
 use Rattle.durable.specs.Rules.{rules_at}
 use Rattle.durable.specs.Ready.{HoldsHistory}
 use Rattle.durable.specs.Settled.{device_of, root_of, serves, kept_rules, Holds, IsFound, ServesAt, IsSettledAt}
-use Rattle.opening.specs.Opened.{IsRedone}
+use Rattle.durable.specs.Opened.{IsRedone}
 use Rattle.httpmsg.specs.declared.head.End.{End}
 use Rattle.httpmsg.specs.Stream.{Message, Progress, IsCut}
 use Rattle.routes.specs.ReplyBytes.{end_bytes, closing_bytes}
@@ -112,7 +112,7 @@ pub record WasServed {D : Type 0} (g : Ghosts D) (old new : D) (IsSo : (opened s
   pub settled : (rules : Rules) (h : History) → HoldsHistory rules g.disk old h → IsSettledAt rules opened h
   pub serving : serves opened ≡ true
   pub numbers : kept_rules opened ≡ rules_at (root_of opened)
-  pub redone : (root_of opened).pages ≡ 0 → (held : seen.View Beside) × Holds opened held × IsRedone (kept_rules opened) held
+  pub redone : (root_of opened).pages ≡ 0 → (held : seen.View Decoded) × Holds opened held × IsRedone (kept_rules opened) held
   pub at_views : (rules : Rules) (v : View) → ServesAt rules opened v → IsSo opened served rules v
 
 module _ {I O D : Type 0} {g : Ghosts D} (gave : I → I → List ℕ → Type 0) (took : O → O → List ℕ → Type 0) (input_old input_new : I) (output_old output_new : O)

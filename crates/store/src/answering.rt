@@ -3,7 +3,7 @@
 ghost use Rattle.std.specs.Prelude.{◌≡◌, IfOk, IfErr};
 ghost use Rattle.names.specs.declared.format.Rules.{Rules};
 ghost use Rattle.objects.specs.Failing.{HasGrown};
-ghost use Rattle.recovery.specs.Standing.{History};
+ghost use Rattle.decoded.specs.Standing.{History};
 ghost use Rattle.durable.specs.Ready.{HoldsHistory};
 ghost use Rattle.api.specs.Serving.{Exchanged};
 ghost use Rattle.store.specs.Whole.{HasAnswered, HasEndedEarly, IsCaused, IsUndamaged, WasServed, HasEndedAt, HasStoppedAt, IfOpening, IfServing};
@@ -11,8 +11,8 @@ ghost use Rattle.store.specs.Whole.{HasAnswered, HasEndedEarly, IsCaused, IsUnda
 use crate::fault::AnswerFault;
 use api::serve;
 use device::Device;
+use durable::Store;
 use httpmsg::{Input, Output};
-use opening::open;
 use std::alloc::Global;
 
 /// Opens the store on a device, answers the requests of an input to their end, and gives the device back.
@@ -47,7 +47,7 @@ pub fn answer<D: Device, I: Input, O: Output>(
         (HasGrown (I.failures input.old) (I.failures input.new)) (HasGrown (O.failures output.old) (O.failures output.new))) }
     ensures unread { IfErr result (λ e. IfOpening e.0 (λ _. (input.new ≡ input.old) × (output.new ≡ output.old))) }
 {
-    let mut store = match open(alloc, device) {
+    let mut store = match Store::open(alloc, device) {
         Ok(store) => store,
         Err((fault, device)) => return Err((AnswerFault::Opening(fault), device)),
     };

@@ -1,10 +1,32 @@
 //! A store, for a program that keeps one: the few calls that it needs, and what they promise from the bytes of a connection to the sectors of a device.
 //!
 //! ```text
-//! let mut device = storage.create("store.db")?;
-//! create(&mut device, Format::First)?;
-//! let device = answer(alloc, device, &mut input, &mut output)?;
+//! fn main(rt: HostRuntime) -> ExitCode {
+//!     let mut device = match FileStorage::new(&rt).create("store.db") {
+//!         Ok(device) => device,
+//!         Err(fault) => return failed(&rt, fault),
+//!     };
+//!     if let Err(fault) = create(&mut device, Format::Second) {
+//!         return failed(&rt, fault);
+//!     }
+//!     let mut requests = Std::new(rt.stdin());
+//!     let mut replies = Std::new(rt.stdout());
+//!     match answer(rt.alloc(), device, &mut requests, &mut replies) {
+//!         Ok(_) => ExitCode::from(0),
+//!         Err((fault, _)) => failed(&rt, fault),
+//!     }
+//! }
 //! ```
+//!
+//! This is the program `quickstart`: it makes a store in a new file, and answers the HTTP requests of its input. Its `failed` tells the fault, and ends with 1.
+//!
+//! | To | Call |
+//! |---|---|
+//! | have a device | [`Storage`], [`FileStorage`], or a [`Device`] of your own |
+//! | make a store on it | [`create`] |
+//! | answer one connection | [`answer`], which opens the store and gives the device back |
+//! | answer many | [`Store::open`], [`serve`] for each, [`Store::into_device`] |
+//! | make it small, check it, upgrade it | [`compact`], [`check`], [`upgrade`] |
 //!
 //! [`answer`] has the theorem of this project. From a device that holds a history, the bytes that are written are the model's replies to the messages that
 //! were read. Each write that was accepted was admitted by the policies just before it. The device then holds the history followed by these writes, and a
@@ -23,8 +45,9 @@ pub use crate::fault::AnswerFault;
 pub use crate::storage::{FileStorage, Storage};
 pub use crate::upkeep::{check, compact, upgrade};
 pub use api::{ServeFault, serve};
-pub use device::{Device, FileDevice};
-pub use durable::{Checked, Compacted, Damage, Fault, Store, UpgradeFault, Upgraded};
-pub use httpmsg::{End, Input, Output, Std};
+pub use device::{CreateFault as FileCreateFault, Device, DeviceFault, FileDevice, OpenFault};
+pub use durable::{
+    Checked, Compacted, CreateFault, Damage, Fault, Store, UpgradeFault, Upgraded, create,
+};
+pub use httpmsg::{End, Input, Output, Std, StreamFault, write_all};
 pub use names::Format;
-pub use opening::{CreateFault, create, open};

@@ -1,20 +1,20 @@
 //! What is done with a whole store: it is written anew, it is upgraded, and it is checked.
 
-ghost use Rattle.std.specs.Prelude.{◌≡◌, ◌≢◌, Some, IfOk, IfErr};
+ghost use Rattle.std.specs.Prelude.{◌≡◌, ◌≢◌, ◌⊎◌, Some, IfOk, IfErr};
 ghost use Rattle.device.specs.Disk.{HasFailed};
 ghost use Rattle.names.specs.declared.format.Rules.{Rules};
-ghost use Rattle.requests.specs.View.{view};
-ghost use Rattle.recovery.specs.Standing.{History};
+ghost use Rattle.histories.specs.View.{view};
+ghost use Rattle.decoded.specs.Standing.{History};
 ghost use Rattle.durable.specs.declared.fault.Damage.{Damage as DamageData};
 ghost use Rattle.durable.specs.declared.fault.Fault.TheVariants as FaultData;
 ghost use Rattle.durable.specs.declared.upgraded.UpgradeFault.TheVariants as UpgradeFaultData;
 ghost use Rattle.durable.specs.Ready.{HoldsHistory};
+ghost use Rattle.durable.specs.ReadWhole.{HoldsObjects};
 ghost use Rattle.durable.specs.Upgraded.{refusals, first_of, IsRefusal};
 ghost use Rattle.store.specs.Upkeep.{KeepsHistory, IsWrittenAnew, IsUpgraded, IsEither, IsToldUpgraded, IsToldOfHistory};
 
 use device::Device;
-use durable::{Checked, Compacted, Fault, UpgradeFault, Upgraded};
-use opening::open;
+use durable::{Checked, Compacted, Fault, Store, UpgradeFault, Upgraded};
 use std::alloc::Global;
 
 /// Opens the store on a device, writes what it shows as the next generation, with an empty log, and gives the device back.
@@ -32,8 +32,11 @@ pub fn compact<D: Device>(alloc: Global, device: D) -> Result<(Compacted, D), (F
         → IfErr result (λ e. (damage : DamageData) → e.0 ≢ FaultData.Damaged damage) }
     ensures never_failed { IfErr result (λ e. e.0 ≢ FaultData.Failed) }
     ensures cause { IfErr result (λ e. e.0 ≡ FaultData.Device → HasFailed D.disk device e.1) }
+    ensures steady { IfOk result (λ done. D.disk.failures done.1 ≡ D.disk.failures device) }
+    ensures unfailed { (rules : Rules) (h : History) → HoldsHistory rules D.disk device h
+        → IfErr result (λ e. (e.0 ≡ FaultData.Memory) ⊎ (e.0 ≡ FaultData.Exhausted) → D.disk.failures e.1 ≡ D.disk.failures device) }
 {
-    let mut store = match open(alloc, device) {
+    let mut store = match Store::open(alloc, device) {
         Ok(store) => store,
         Err((fault, device)) => return Err((fault, device)),
     };
@@ -63,8 +66,11 @@ pub fn upgrade<D: Device>(alloc: Global, device: D) -> Result<(Upgraded, D), (Up
         → IfErr result (λ e. (damage : DamageData) → e.0 ≢ UpgradeFaultData.Damaged damage) }
     ensures never_failed { IfErr result (λ e. e.0 ≢ UpgradeFaultData.Failed) }
     ensures cause { IfErr result (λ e. e.0 ≡ UpgradeFaultData.Device → HasFailed D.disk device e.1) }
+    ensures steady { IfOk result (λ done. D.disk.failures done.1 ≡ D.disk.failures device) }
+    ensures unfailed { (rules : Rules) (h : History) → HoldsHistory rules D.disk device h
+        → IfErr result (λ e. (e.0 ≡ UpgradeFaultData.Memory) ⊎ IsRefusal e.0 → D.disk.failures e.1 ≡ D.disk.failures device) }
 {
-    let mut store = match open(alloc, device) {
+    let mut store = match Store::open(alloc, device) {
         Ok(store) => store,
         Err((fault, device)) => return Err((UpgradeFault::from(fault), device)),
     };
@@ -84,13 +90,17 @@ pub fn check<D: Device>(alloc: Global, device: D) -> Result<(Checked, D), (Fault
     ensures ok { (rules : Rules) (h : History) → HoldsHistory rules D.disk device h → IfOk result (λ done. KeepsHistory rules D.disk device done.1 h) }
     ensures told { (rules : Rules) (h : History) (holds : HoldsHistory rules D.disk device h)
         → IfOk result (λ done. IsToldOfHistory rules h holds.read.root done.0) }
+    ensures whole { D.disk.keeps device → IfOk result (λ done. HoldsObjects (D.disk.content device)) }
     ensures failed { (rules : Rules) (h : History) → HoldsHistory rules D.disk device h → IfErr result (λ e. KeepsHistory rules D.disk device e.1 h) }
     ensures undamaged { (rules : Rules) (h : History) → HoldsHistory rules D.disk device h
         → IfErr result (λ e. (damage : DamageData) → e.0 ≢ FaultData.Damaged damage) }
     ensures never_failed { IfErr result (λ e. e.0 ≢ FaultData.Failed) }
     ensures cause { IfErr result (λ e. e.0 ≡ FaultData.Device → HasFailed D.disk device e.1) }
+    ensures steady { IfOk result (λ done. D.disk.failures done.1 ≡ D.disk.failures device) }
+    ensures unfailed { (rules : Rules) (h : History) → HoldsHistory rules D.disk device h
+        → IfErr result (λ e. e.0 ≡ FaultData.Memory → D.disk.failures e.1 ≡ D.disk.failures device) }
 {
-    let mut store = match open(alloc, device) {
+    let mut store = match Store::open(alloc, device) {
         Ok(store) => store,
         Err((fault, device)) => return Err((fault, device)),
     };

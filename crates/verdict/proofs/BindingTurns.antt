@@ -4,7 +4,7 @@ use Rattle.celtree.specs.Tree.{Expr}
 use Rattle.policy.specs.Rules.{Attempt}
 use Rattle.policy.specs.Matching.{is_matched}
 use Rattle.policy.specs.Spec as spec
-use Rattle.expressions.specs.Listed.{Shown}
+use Rattle.verdict.specs.Listed.{Shown}
 use Rattle.verdict.specs.OneBinding.{denial}
 use Rattle.verdict.specs.Asked.{asked}
 

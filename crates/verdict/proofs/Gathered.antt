@@ -5,7 +5,7 @@ use Rattle.celmean.specs.declared.value.Outcome as code
 use Rattle.celmean.specs.Seen.{outcome_of, outcomes_seen}
 use Rattle.celmean.specs.Value.{Outcome}
 use Rattle.instructions.specs.declared.instruction.Name.{Name}
-use Rattle.planmachine.specs.Machine.{World}
+use Rattle.instructions.specs.Machine.{World}
 use Rattle.plancode.specs.Plans.{Judged}
 use Rattle.verdict.specs.ByPlans.{given_by, outcomes_by}
 

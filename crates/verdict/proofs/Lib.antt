@@ -1,3 +1,4 @@
+pub mod LookupStanding
 pub mod Parts
 pub mod Lists
 pub mod Kept

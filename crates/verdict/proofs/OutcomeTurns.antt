@@ -1,14 +1,14 @@
 -- One validation before the others.
 use Rattle.std.proofs.Common.{◌≡◌, List, ◌∷◌, Option, Some, None, option_map, map, string_bytes, sym, ap, ◌∙◌}
 use Rattle.std.specs.Option.{option_map_or}
-use Rattle.planmachine.specs.Machine.{World}
+use Rattle.instructions.specs.Machine.{World}
 use Rattle.plancode.specs.Plans.{Judged}
-use Rattle.denials.specs.declared.asked.Validation as code_validation
-use Rattle.denials.specs.Validation.{Validation, validation_seen}
-use Rattle.denials.specs.declared.asked.FailurePolicy.{FailurePolicy}
-use Rattle.denials.specs.declared.denial.Denial as code_denial
-use Rattle.denials.specs.Seen.{denial_seen}
-use Rattle.denials.specs.Denials.{Denial, told}
+use Rattle.policy.specs.declared.validation.Validation as code_validation
+use Rattle.policy.specs.Validation.{Validation, validation_seen}
+use Rattle.policy.specs.declared.policy.FailurePolicy.{FailurePolicy}
+use Rattle.verdict.specs.declared.denials.Denial as code_denial
+use Rattle.verdict.specs.DenialSeen.{denial_seen}
+use Rattle.verdict.specs.Told.{Denial, told}
 use Rattle.verdict.specs.ByPlans.{given_by, message_plan, after_plan, line_by, tests_by}
 
 -- one that says nothing leaves it to the others

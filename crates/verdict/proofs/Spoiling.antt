@@ -11,14 +11,15 @@ use Rattle.objects.specs.declared.fault.LookupFault.{LookupFault}
 use Rattle.policy.specs.Forms.{Text}
 use Rattle.policy.specs.Rules.{Attempt}
 use Rattle.policy.specs.Spec.{Binding}
-use Rattle.denials.specs.declared.asked.Action.{Action}
-use Rattle.denials.specs.declared.asked.Action.TheVariants.{Deny, Warn}
-use Rattle.denials.specs.declared.asked.Reason.TheVariants.{Forbidden}
-use Rattle.denials.specs.Denials.{Denial}
-use Rattle.denials.specs.Seen.{verdict_seen}
-use Rattle.denials.specs.declared.verdict.Verdict as code_verdict
-use Rattle.denials.specs.Verdict.{Verdict, denied, decision}
-use Rattle.expressions.specs.Objects.{Held, policy_key}
+use Rattle.policy.specs.declared.binding.Action.{Action}
+use Rattle.policy.specs.declared.binding.Action.TheVariants.{Deny, Warn}
+use Rattle.policy.specs.declared.validation.Reason.TheVariants.{Forbidden}
+use Rattle.verdict.specs.Told.{Denial}
+use Rattle.verdict.specs.DenialSeen.{verdict_seen}
+use Rattle.verdict.specs.declared.verdict.Verdict as code_verdict
+use Rattle.verdict.specs.Verdict.{Verdict, denied, decision}
+use Rattle.expressions.specs.Bindings.{policy_key}
+use Rattle.verdict.specs.Objects.{Held}
 use Rattle.verdict.specs.Deciding.{on_decision, decide, after_warnings}
 use Rattle.verdict.specs.Spoiled.{AsksSpoiled, IsDenied}
 

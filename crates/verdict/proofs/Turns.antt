@@ -3,9 +3,9 @@ use Rattle.std.proofs.Common.{◌≡◌, ℕ, suc, ◌+◌, ◌<◌, ◌≤◌, 
 use Rattle.std.proofs.lemmas.List.{append-nil, drop_all}
 use Rattle.policy.specs.Forms.{Text}
 use Rattle.policy.specs.Spec as spec
-use Rattle.denials.specs.Verdict.{Verdict, admitted, denied}
+use Rattle.verdict.specs.Verdict.{Verdict, admitted, denied}
 use Rattle.verdict.specs.Deciding.{decide, verdict_of, after_warnings}
-use Rattle.expressions.specs.Objects.{Objects}
+use Rattle.verdict.specs.Objects.{Objects}
 use Rattle.policy.specs.Rules.{Attempt}
 use Rattle.verdict.specs.Admission.{denial_by, finding}
 

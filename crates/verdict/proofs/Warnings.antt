@@ -3,10 +3,10 @@ use Rattle.std.proofs.Common.{◌≡◌, List, [], ◌∷◌, ◌++◌, refl, sy
 use Rattle.std.proofs.lemmas.Grind.{common_steps}
 use Rattle.policy.specs.Forms.{Text}
 use Rattle.verdict.specs.Texts.{warning}
-use Rattle.denials.specs.declared.asked.Action.{Action}
-use Rattle.denials.specs.declared.asked.Action.TheVariants.{Deny, Warn}
-use Rattle.denials.specs.Denials.{Denial}
-use Rattle.denials.specs.Verdict.{Verdict, admitted, denied, decided, warned, decision}
+use Rattle.policy.specs.declared.binding.Action.{Action}
+use Rattle.policy.specs.declared.binding.Action.TheVariants.{Deny, Warn}
+use Rattle.verdict.specs.Told.{Denial}
+use Rattle.verdict.specs.Verdict.{Verdict, admitted, denied, decided, warned, decision}
 use Rattle.verdict.specs.Deciding.{and_warn, on_decision, after_warnings}
 
 one_more : (ws : List Text) (t : Text) (rest : Verdict) → after_warnings ws (and_warn t rest) ≡ after_warnings (ws ++ t ∷ []) rest

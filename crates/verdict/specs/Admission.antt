@@ -8,11 +8,12 @@ use Rattle.policy.specs.Forms.{Text}
 use Rattle.policy.specs.Bindings.{binding_of}
 use Rattle.policy.specs.Policies.{policy_of}
 use Rattle.policy.specs.Spec.{Binding}
-use Rattle.denials.specs.Denials.{Denial}
-use Rattle.denials.specs.Verdict.{Verdict}
+use Rattle.verdict.specs.Told.{Denial}
+use Rattle.verdict.specs.Verdict.{Verdict}
 use Rattle.verdict.specs.Deciding.{Finding, verdict_of}
-use Rattle.expressions.specs.Objects.{Object, Objects, policy_key, shown_objects}
-use Rattle.expressions.specs.Listed.{listed}
+use Rattle.expressions.specs.Bindings.{policy_key}
+use Rattle.verdict.specs.Objects.{Object, Objects, shown_objects}
+use Rattle.verdict.specs.Listed.{listed}
 use Rattle.verdict.specs.OneBinding.{denial}
 
 -- the denial by a binding: none where its policy is not there

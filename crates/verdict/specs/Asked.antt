@@ -4,11 +4,11 @@ use Rattle.celtree.specs.Tree.{Expr}
 use Rattle.policy.specs.Rules.{Attempt}
 use Rattle.verdict.specs.Trees.{conditions_of}
 use Rattle.verdict.specs.Environment.{seen}
-use Rattle.denials.specs.Denials.{Denial}
+use Rattle.verdict.specs.Told.{Denial}
 use Rattle.verdict.specs.Denials.{conditions}
 use Rattle.policy.specs.Spec as spec
 use Rattle.policy.specs.Spec.{Binding}
-use Rattle.expressions.specs.Listed.{Shown}
+use Rattle.verdict.specs.Listed.{Shown}
 use Rattle.verdict.specs.OneBinding.{on_conditions}
 
 -- the denial of a write that the policy and the binding are for

@@ -5,13 +5,13 @@ use Rattle.celmean.specs.Value.{Outcome, Error}
 use Rattle.instructions.specs.declared.instruction.Name.{Name}
 use Rattle.celmean.specs.Meaning.{Environment, bound}
 use Rattle.plan.specs.Correct.{spelled}
-use Rattle.planmachine.specs.Machine.{World, outcome}
+use Rattle.instructions.specs.Machine.{World, outcome}
 use Rattle.plancode.specs.Plans.{Judged}
 use Rattle.policy.specs.Forms.{Text}
-use Rattle.policy.specs.Spec.{Named, Policy}
-use Rattle.denials.specs.Validation.{Validation}
-use Rattle.denials.specs.declared.asked.FailurePolicy.{FailurePolicy}
-use Rattle.denials.specs.Denials.{Denial, line_of, told}
+use Rattle.policy.specs.Spec.{NamedExpression, Policy}
+use Rattle.policy.specs.Validation.{Validation}
+use Rattle.policy.specs.declared.policy.FailurePolicy.{FailurePolicy}
+use Rattle.verdict.specs.Told.{Denial, line_of, told}
 use Rattle.verdict.specs.Denials.{Conditions, met, and_then}
 
 -- the declared names stand for the same
@@ -22,7 +22,7 @@ Agree names env = (x : Name) → names x ≡ bound (spelled x) env.names
 abbrev pub given_by : Judged → World → Outcome
 given_by j w = if length w.variables == j.vars then outcome w j.ops else Error
 
-abbrev pub conditions_by : List Named → List Judged → World → Conditions
+abbrev pub conditions_by : List NamedExpression → List Judged → World → Conditions
 conditions_by [] js w = met
 conditions_by (n ∷ ns) [] w = met
 conditions_by (n ∷ ns) (j ∷ js) w = and_then n.name (given_by j w) (conditions_by ns js w)

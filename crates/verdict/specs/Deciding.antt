@@ -3,8 +3,8 @@ use Rattle.std.specs.Prelude.{◌∷◌, ◌++◌, List, [], Option, Some, None}
 use Rattle.policy.specs.Forms.{Text}
 use Rattle.policy.specs.Spec as spec
 use Rattle.verdict.specs.Texts.{warning}
-use Rattle.denials.specs.Denials.{Denial}
-use Rattle.denials.specs.Verdict.{Verdict, admitted, denied, Decision, decided, warned, decision}
+use Rattle.verdict.specs.Told.{Denial}
+use Rattle.verdict.specs.Verdict.{Verdict, admitted, denied, Decision, decided, warned, decision}
 
 -- a binding with its name, and what it gives
 pub record Finding : Type 0 where

@@ -7,8 +7,8 @@ use Rattle.celmean.specs.Meaning.{Environment, mean}
 use Rattle.celmean.specs.Macros.{is_true, is_false}
 use Rattle.policy.specs.Forms as form
 use Rattle.policy.specs.Spec.{Policy}
-use Rattle.denials.specs.declared.asked.FailurePolicy.{FailurePolicy}
-use Rattle.denials.specs.Denials.{Denial, line_of, told}
+use Rattle.policy.specs.declared.policy.FailurePolicy.{FailurePolicy}
+use Rattle.verdict.specs.Told.{Denial, line_of, told}
 use Rattle.verdict.specs.Trees.{NamedTree, Test, variables_of, tests_of}
 
 -- ---- match conditions

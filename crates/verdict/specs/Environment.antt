@@ -6,7 +6,7 @@ use Rattle.policy.specs.Rules.{Attempt}
 use Rattle.verdict.specs.Request.{request_of}
 use Rattle.celmean.specs.Value.{Value, Null, Gives}
 use Rattle.celmean.specs.Meaning.{Environment}
-use Rattle.planstack.specs.Documents.{json_value}
+use Rattle.planrun.specs.Documents.{json_value}
 
 -- null where there is none
 abbrev pub value_or_null : Option Data → Value

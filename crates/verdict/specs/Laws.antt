@@ -5,7 +5,7 @@ use Rattle.std.specs.FinMap.{is_sorted}
 use Rattle.std.specs.List.{AllByRecursion}
 use Rattle.std.specs.Ordering.{nat_cmp}
 use Rattle.names.specs.Key.{is_key, key_cmp}
-use Rattle.expressions.specs.Objects.{Objects}
+use Rattle.verdict.specs.Objects.{Objects}
 use Rattle.verdict.specs.Admission.{bindings}
 
 -- Where the keys of the objects ascend and are well formed, the names of the bindings ascend, byte by byte.

@@ -1,3 +1,6 @@
+pub mod Listed
+pub mod Objects
+pub mod LookupSeen
 pub mod Request
 pub mod Texts
 pub mod Trees
@@ -15,3 +18,6 @@ pub mod Parameters
 pub mod OneBinding
 pub mod ParametersSeen
 pub mod Asked
+pub mod Told
+pub mod Verdict
+pub mod DenialSeen

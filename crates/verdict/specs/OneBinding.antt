@@ -8,9 +8,9 @@ use Rattle.policy.specs.declared.params.NotFound.{NotFound}
 use Rattle.policy.specs.declared.params.NotFound.TheVariants as when_not_found
 use Rattle.verdict.specs.Trees.{conditions_of}
 use Rattle.verdict.specs.Environment.{seen}
-use Rattle.denials.specs.Denials.{Denial, failure}
+use Rattle.verdict.specs.Told.{Denial, failure}
 use Rattle.verdict.specs.Denials.{Conditions, met, unmet, neither, conditions, first_denial, evaluate}
-use Rattle.expressions.specs.Listed.{Shown}
+use Rattle.verdict.specs.Listed.{Shown}
 use Rattle.verdict.specs.Parameters.{Parameters, found, misconfigured, not_found, parameters}
 
 -- where no parameter is found, the binding says whether the write passes

@@ -8,7 +8,7 @@ use Rattle.names.specs.declared.resource.Scope.TheVariants.{Namespaced, Cluster}
 use Rattle.policy.specs.Rules.{Attempt}
 use Rattle.policy.specs.Forms.{Text}
 use Rattle.policy.specs.Spec.{Wanted, ParamRef}
-use Rattle.expressions.specs.Listed.{Shown, listed, wanted_of}
+use Rattle.verdict.specs.Listed.{Shown, listed, wanted_of}
 
 pub data Parameters : Type 0 where
   -- those found, of which one may be that there is none

@@ -8,10 +8,11 @@ use Rattle.policy.specs.Forms.{Text}
 use Rattle.policy.specs.Matching.{is_matched}
 use Rattle.policy.specs.Rules.{Attempt}
 use Rattle.policy.specs.Spec.{Policy, Binding}
-use Rattle.denials.specs.Verdict.{Verdict, admitted, denied}
-use Rattle.expressions.specs.Objects.{Held, policy_key}
+use Rattle.verdict.specs.Verdict.{Verdict, admitted, denied}
+use Rattle.expressions.specs.Bindings.{policy_key}
+use Rattle.verdict.specs.Objects.{Held}
 use Rattle.expressions.specs.Specification.{spoiled}
-use Rattle.expressions.specs.Listed.{listed}
+use Rattle.verdict.specs.Listed.{listed}
 use Rattle.verdict.specs.Turns.{held_binding}
 
 -- The policy that the binding names is there, both are for the write, and the policy's plans are spoiled.

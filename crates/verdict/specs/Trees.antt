@@ -2,8 +2,8 @@
 use Rattle.std.specs.Prelude.{◌∷◌, List, [], length, drop, Option, Some, None}
 use Rattle.celtree.specs.Tree.{Expr}
 use Rattle.policy.specs.Forms.{Text}
-use Rattle.policy.specs.Spec.{Named, Policy}
-use Rattle.denials.specs.Validation.{Validation}
+use Rattle.policy.specs.Spec.{NamedExpression, Policy}
+use Rattle.policy.specs.Validation.{Validation}
 
 -- a match condition or a variable
 pub record NamedTree : Type 0 where
@@ -16,7 +16,7 @@ pub record Test : Type 0 where
   pub tree : Expr
   pub message : Option Expr
 
-abbrev pub named_trees : List Named → List Expr → List NamedTree
+abbrev pub named_trees : List NamedExpression → List Expr → List NamedTree
 named_trees [] es = []
 named_trees (n ∷ ns) [] = []
 named_trees (n ∷ ns) (e ∷ es) = record { name = n.name; tree = e } ∷ named_trees ns es

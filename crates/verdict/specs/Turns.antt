@@ -3,10 +3,10 @@ use Rattle.std.specs.Prelude.{option_map, option_and_then, Option}
 use Rattle.names.specs.Key.{Key}
 use Rattle.policy.specs.Rules.{Attempt}
 use Rattle.policy.specs.Policies.{policy_of}
-use Rattle.denials.specs.Denials.{Denial}
+use Rattle.verdict.specs.Told.{Denial}
 use Rattle.policy.specs.Forms.{Text}
 use Rattle.policy.specs.Spec.{Binding}
-use Rattle.expressions.specs.Objects.{Object, Objects, Held, shown_objects}
+use Rattle.verdict.specs.Objects.{Object, Objects, Held, shown_objects}
 use Rattle.verdict.specs.OneBinding.{denial}
 
 -- the binding with its name

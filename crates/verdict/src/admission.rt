@@ -9,16 +9,16 @@ ghost use Rattle.plancode.specs.Plans.{Judged};
 ghost use Rattle.policy.specs.Forms.{Text};
 ghost use Rattle.policy.specs.Matching.{is_matched};
 ghost use Rattle.policy.specs.Rules.{attempt_seen};
-ghost use Rattle.policy.specs.Spec.{Policy, Binding, policy_seen};
+ghost use Rattle.policy.specs.Spec.{Policy, Binding};
 ghost use Rattle.expressions.specs.Specification.{these, spoiled, plans_seen};
 ghost use Rattle.verdict.specs.Request.{request_of};
-ghost use Rattle.denials.specs.Seen.{denial_seen, verdict_seen};
-ghost use Rattle.denials.specs.Verdict as verdicts;
+ghost use Rattle.verdict.specs.DenialSeen.{denial_seen, verdict_seen};
+ghost use Rattle.verdict.specs.Verdict as verdicts;
 ghost use Rattle.verdict.specs.Deciding as model;
 ghost use Rattle.verdict.specs.Deciding.{after_warnings};
-ghost use Rattle.expressions.specs.Objects.{Object, Objects, Held, HasTrees, HaveTrees, held};
-ghost use Rattle.expressions.specs.Listed.{listed};
-ghost use Rattle.expressions.specs.LookupSeen.{held_by, listed_seen};
+ghost use Rattle.verdict.specs.Objects.{Object, Objects, Held, HasTrees, HaveTrees, held};
+ghost use Rattle.verdict.specs.Listed.{listed};
+ghost use Rattle.verdict.specs.LookupSeen.{held_by, listed_seen};
 ghost use Rattle.verdict.specs.Admission.{bindings, denial_by, finding, verdict};
 ghost use Rattle.verdict.specs.Turns.{held_binding, denial_by_policy};
 ghost use Rattle.verdict.specs.Spoiled.{AsksSpoiled, HasSpoiled, IsDenied};
@@ -29,9 +29,11 @@ ghost use Rattle.objects.specs.declared.fault.Part.TheVariants as Part;
 ghost use Rattle.objects.specs.declared.fault.LookupFault.TheVariants as LookupFault;
 
 use crate::deciding::decided;
+use crate::denials::Denial;
+use crate::lookup::{FoundObject, ListedObject, Lookup};
 use crate::one_binding::denial;
-use denials::{Denial, Verdict};
-use expressions::{Bound, Found, Listed, Lookup};
+use crate::verdict::Verdict;
+use expressions::Bound;
 use objects::LookupFault;
 use policy::Attempt;
 use serde_json::Value as Json;
@@ -40,12 +42,12 @@ use std::marker::Model;
 
 // A binding with its name, lent.
 #[derive(Drop)]
-struct Named<'a> {
+struct NamedBinding<'a> {
     name: &'a str,
     bound: &'a Bound,
 }
 
-impl<'a> Model for Named<'a> {
+impl<'a> Model for NamedBinding<'a> {
     ghost use Rattle.policy.specs.Forms.{Text};
     ghost use Rattle.policy.specs.Spec as spec;
 
@@ -55,7 +57,10 @@ impl<'a> Model for Named<'a> {
 }
 
 // The bindings among what was listed, with their names.
-fn bindings_among<'a>(alloc: Global, listed: &[Listed<'a>]) -> Result<Vec<Named<'a>>, AllocError>
+fn bindings_among<'a>(
+    alloc: Global,
+    listed: &[ListedObject<'a>],
+) -> Result<Vec<NamedBinding<'a>>, AllocError>
     ensures { IfOk result (λ v. v.items ≡ filter_map held_binding (map listed_seen listed.now)) }
 {
     let mut bindings = Vec::with_capacity(alloc, listed.len())?;
@@ -63,7 +68,7 @@ fn bindings_among<'a>(alloc: Global, listed: &[Listed<'a>]) -> Result<Vec<Named<
         let found = entry.found;
         if let Some(bound) = found.bound {
             let name = entry.key.name();
-            bindings.push(Named { name, bound })?;
+            bindings.push(NamedBinding { name, bound })?;
         }
     }
     Ok(bindings)
@@ -71,7 +76,10 @@ fn bindings_among<'a>(alloc: Global, listed: &[Listed<'a>]) -> Result<Vec<Named<
 
 // The bindings, ascending by name.
 #[tactic(auto, using(crate::proofs::Standing::bindings_held))]
-fn bindings<'a, L: Lookup<'a>>(alloc: Global, lookup: &mut L) -> Result<Vec<Named<'a>>, LookupFault>
+fn bindings<'a, L: Lookup<'a>>(
+    alloc: Global,
+    lookup: &mut L,
+) -> Result<Vec<NamedBinding<'a>>, LookupFault>
     ensures found { (objects : Objects) → L.shows lookup.old objects → IfOk result (λ v. v.items ≡ bindings objects) }
     ensures lent { (all : List (KeyData × Held)) → L.lends lookup.old all
         → IfOk result (λ v. v.items ≡ filter_map held_binding (listed ValidatingAdmissionPolicyBinding None all)) }
@@ -93,7 +101,7 @@ fn bindings<'a, L: Lookup<'a>>(alloc: Global, lookup: &mut L) -> Result<Vec<Name
 fn denial_of<'a, L: Lookup<'a>>(
     alloc: Global,
     lookup: &mut L,
-    found: &Found<'_>,
+    found: &FoundObject<'_>,
     bound: &Bound,
     attempt: &Attempt<'_>,
     request: &mut Option<Json>,
@@ -165,7 +173,7 @@ fn denial_by<'a, L: Lookup<'a>>(
 fn turn<'a, L: Lookup<'a>>(
     alloc: Global,
     lookup: &mut L,
-    named: &Named<'_>,
+    named: &NamedBinding<'_>,
     attempt: &Attempt<'_>,
     request: &mut Option<Json>,
     warnings: &mut Vec<String>,
@@ -197,7 +205,7 @@ fn turn<'a, L: Lookup<'a>>(
 fn verdict_of<'a, L: Lookup<'a>>(
     alloc: Global,
     lookup: &mut L,
-    bindings: &[Named<'_>],
+    bindings: &[NamedBinding<'_>],
     attempt: &Attempt<'_>,
 ) -> Result<Verdict, LookupFault>
     ensures found { (objects : Objects) → L.shows lookup.old objects → HaveTrees objects

@@ -2,13 +2,14 @@
 
 ghost use Rattle.std.specs.Prelude.{◌≡◌, map, Some, IfOk, string_bytes};
 ghost use Rattle.std.specs.Option.{option_map_or};
-ghost use Rattle.denials.specs.Seen.{denial_seen, verdict_seen};
-ghost use Rattle.denials.specs.Verdict as verdicts;
+ghost use Rattle.verdict.specs.DenialSeen.{denial_seen, verdict_seen};
+ghost use Rattle.verdict.specs.Verdict as verdicts;
 ghost use Rattle.policy.specs.Spec.{binding_seen};
 ghost use Rattle.verdict.specs.Deciding.{after_warnings, decide};
 
+use crate::denials::Denial;
 use crate::texts::warning;
-use denials::{Decision, Denial, Verdict, decide};
+use crate::verdict::{Decision, Verdict, decide};
 use policy::Binding;
 use std::alloc::{AllocError, Global};
 

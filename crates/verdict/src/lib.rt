@@ -10,7 +10,19 @@
 //! }
 //! ```
 //!
-//! What policies, bindings and parameters there are is asked of a `expressions::Lookup`, as it stands before the write.
+//! What one validation says by its outcome is said by `specs/Told.antt`, and what a denial by a binding comes to by `specs/Verdict.antt`.
+//!
+//! What policies, bindings and parameters there are is asked of a [`Lookup`], as it stands before the write: it lends what documents spell as
+//! policies, with their plans, and as bindings, so that none is read again or copied, and may read parameters from a device. `specs/Objects.antt` says what is held
+//! of an object, and each look of a [`Lookup`] gives that of any list of objects which the lookup shows, and of policies and bindings that of what it lends.
+//!
+//! ```text
+//! for listed in lookup.bindings(alloc)? {
+//!     if let Some(bound) = listed.found.bound {
+//!         let policy = lookup.policy(bound.policy_key());
+//!     }
+//! }
+//! ```
 //!
 //! What a policy says of a write is evaluated by the plans of its expressions. `specs/Denials.antt` says it by what its expressions mean, and
 //! `specs/Environment.antt` what they see of the write. Where the plans are those of the policy's expressions, each with a type (`specs/Ready.antt`),
@@ -31,7 +43,10 @@
 mod admission;
 mod answers;
 mod deciding;
+mod denials;
 mod laws;
+mod lookup;
+mod messages;
 mod one_binding;
 mod outcomes;
 mod parameters;
@@ -40,12 +55,17 @@ mod scene;
 mod texts;
 mod together;
 mod validations;
+mod verdict;
 
 pub use admission::admit;
 pub use answers::Conditions;
+pub use denials::Denial;
+pub use expressions::TypedPolicy;
 pub use laws::bindings_ascend;
+pub use lookup::{FoundObject, ListedObject, Lookup};
 pub use one_binding::denial;
 pub use request::request_document;
 pub use texts::{denial_text, warning};
 pub use together::conditions;
 pub use validations::evaluate;
+pub use verdict::Verdict;

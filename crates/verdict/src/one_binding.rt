@@ -1,21 +1,21 @@
 //! What one binding of a policy says of a write.
 
-ghost use Rattle.std.specs.Prelude.{◌≡◌, ◌≤◌, ◌⊎◌, ◌++◌, ℕ, List, map, option_map, Some, None, false, IfOk, OnOk, OnErr, IfSome, IsErrOf, IsTrue, string_bytes};
+ghost use Rattle.std.specs.Prelude.{◌≡◌, ◌≤◌, ◌⊎◌, ◌++◌, ℕ, List, map, option_map, Some, None, false, IfOk, OnOk, OnErr, IfSome, IsErrOf, IsTrue};
 ghost use Rattle.serde_json.specs.View.{view};
 ghost use Rattle.celtree.specs.Tree.{Expr};
 ghost use Rattle.policy.specs.Rules.{attempt_seen};
 ghost use Rattle.policy.specs.Matching.{is_matched};
 ghost use Rattle.plancode.specs.Plans.{Judged};
 ghost use Rattle.expressions.specs.Specification.{these, spoiled, plans_seen};
-ghost use Rattle.policy.specs.Spec.{policy_seen, binding_seen, param_ref_seen};
+ghost use Rattle.policy.specs.Spec.{policy_seen, binding_seen};
 ghost use Rattle.verdict.specs.Request.{request_of};
 ghost use Rattle.verdict.specs.Environment.{seen};
-ghost use Rattle.denials.specs.Denials.{failure};
-ghost use Rattle.denials.specs.Seen.{denial_seen};
+ghost use Rattle.verdict.specs.Told.{failure};
+ghost use Rattle.verdict.specs.DenialSeen.{denial_seen};
 ghost use Rattle.verdict.specs.Denials.{first_denial, evaluate};
 ghost use Rattle.verdict.specs.Ready.{AreReady};
 ghost use Rattle.verdict.specs.Seen.{conditions_seen};
-ghost use Rattle.expressions.specs.Objects.{Objects, shown_objects};
+ghost use Rattle.verdict.specs.Objects.{Objects, shown_objects};
 ghost use Rattle.verdict.specs.OneBinding.{on_not_found, on_parameters, on_conditions, denial};
 ghost use Rattle.verdict.specs.Asked.{asked};
 ghost use Rattle.verdict.specs.ParametersSeen.{parameters_seen};
@@ -25,13 +25,14 @@ ghost use Rattle.objects.specs.declared.fault.Part.TheVariants as Part;
 ghost use Rattle.objects.specs.declared.fault.LookupFault.TheVariants as LookupFault;
 
 use crate::answers::Conditions;
+use crate::denials::{Denial, failure};
+use crate::lookup::Lookup;
 use crate::parameters::{Parameters, parameters_of};
 use crate::request::request_document;
 use crate::together::conditions;
 use crate::validations::evaluate;
-use denials::{Denial, failure};
-use documents::Doc;
-use expressions::{Lookup, StoredPlans};
+use expressions::StoredPlans;
+use jsondoc::Doc;
 use objects::{LookupFault, Part};
 use plancode::Verified;
 use policy::{Attempt, Binding, NotFound, Policy, matches};

@@ -4,15 +4,15 @@ ghost use Rattle.std.specs.Prelude.{◌≡◌, ◌≤◌, map, option_map, Some,
 ghost use Rattle.names.specs.Resource.{row};
 ghost use Rattle.policy.specs.Rules.{attempt_seen};
 ghost use Rattle.policy.specs.Spec.{binding_seen, param_ref_seen, wanted_seen};
-ghost use Rattle.expressions.specs.Objects.{Objects, shown_objects};
+ghost use Rattle.verdict.specs.Objects.{Objects, shown_objects};
 ghost use Rattle.verdict.specs.Parameters.{found_or_not, namespace_of, looked_up, parameters};
 ghost use Rattle.verdict.specs.ParametersSeen.{parameters_seen};
 ghost use Rattle.objects.specs.Failing.{HasGrown};
 ghost use Rattle.objects.specs.declared.fault.Part.{Part};
 ghost use Rattle.objects.specs.declared.fault.LookupFault.TheVariants as LookupFault;
 
-use documents::Doc;
-use expressions::Lookup;
+use crate::lookup::Lookup;
+use jsondoc::Doc;
 use names::{Resource, Scope};
 use objects::LookupFault;
 use policy::{Attempt, Binding, ParamRef, Wanted};

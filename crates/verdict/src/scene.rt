@@ -3,7 +3,7 @@
 ghost use Rattle.std.specs.Prelude.{◌≡◌, option_map};
 ghost use Rattle.serde_json.specs.Data.{null};
 ghost use Rattle.serde_json.specs.View.{view};
-ghost use Rattle.planstack.specs.Documents.{json_value};
+ghost use Rattle.planrun.specs.Documents.{json_value};
 ghost use Rattle.verdict.specs.Environment.{value_or_null};
 
 use serde_json::Value as Json;

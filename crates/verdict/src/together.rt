@@ -18,14 +18,14 @@ use crate::outcomes::given_by;
 use crate::scene::{Scene, or_null};
 use celmean::{is_false, is_true};
 use plancode::Verified;
-use policy::{Attempt, Named, Policy};
+use policy::{Attempt, NamedExpression, Policy};
 use serde_json::Value as Json;
 use std::alloc::{AllocError, Global};
 
 // What match conditions say together, by their plans: one that is false counts most, wherever it stands.
 fn conditions_by<'p>(
     alloc: Global,
-    conditions: &'p [Named],
+    conditions: &'p [NamedExpression],
     plans: &[Verified],
     scene: &Scene<'_, '_, '_, '_, '_>,
 ) -> Result<Conditions<'p>, AllocError>

@@ -5,22 +5,23 @@ ghost use Rattle.serde_json.specs.View.{view};
 ghost use Rattle.celtree.specs.Tree.{Expr};
 ghost use Rattle.policy.specs.Rules.{attempt_seen};
 ghost use Rattle.policy.specs.Spec.{policy_seen};
-ghost use Rattle.denials.specs.Validation.{validation_seen};
+ghost use Rattle.policy.specs.Validation.{validation_seen};
 ghost use Rattle.verdict.specs.Request.{request_of};
 ghost use Rattle.verdict.specs.Environment.{seen};
 ghost use Rattle.verdict.specs.Denials.{evaluate};
 ghost use Rattle.verdict.specs.Ready.{AreReady};
-ghost use Rattle.denials.specs.Denials.{told};
-ghost use Rattle.denials.specs.Seen.{denial_seen};
+ghost use Rattle.verdict.specs.Told.{told};
+ghost use Rattle.verdict.specs.DenialSeen.{denial_seen};
 ghost use Rattle.verdict.specs.Seen.{names_of, world_of};
 ghost use Rattle.verdict.specs.ByPlans.{given_by, message_plan, after_plan, line_by, tests_by, evaluate_by};
 
+use crate::denials::{Denial, told};
+use crate::messages::line_of;
 use crate::outcomes::{given_by, outcomes_by, split};
 use crate::scene::{Scene, or_null};
 use celmean::{Outcome, is_false};
-use denials::{Denial, FailurePolicy, Validation, line_of, told};
 use plancode::Verified;
-use policy::{Attempt, Policy};
+use policy::{Attempt, FailurePolicy, Policy, Validation};
 use serde_json::Value as Json;
 use std::alloc::{AllocError, Global};
 
@@ -135,7 +136,7 @@ fn evaluate_by(
 /// denial, if there is one. `request` is the write's [`request_document`](crate::request_document).
 ///
 /// A variable is bound to its outcome, so an error in it arises where it is used. A validation that is false is a denial with its
-/// reason. What is neither true nor false is a [`failure`](denials::failure).
+/// reason. What is neither true nor false is a failure to evaluate ([`crate::denials::failure`]).
 ///
 /// # Errors
 ///

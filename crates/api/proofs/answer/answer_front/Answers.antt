@@ -5,7 +5,7 @@ use Rattle.requests.specs.Reply.{Reply}
 use Rattle.requests.specs.declared.refusal.Refusal.TheVariants.{StorageFailed}
 use Rattle.names.specs.declared.format.Format.{Format}
 use Rattle.names.specs.declared.format.Rules.{Rules}
-use Rattle.recovery.specs.Standing.{View}
+use Rattle.decoded.specs.Standing.{View}
 use Rattle.durable.specs.Settled.{ServesAt, HasServed}
 use Rattle.httpmsg.specs.Flow.{TookSome}
 use Rattle.httpmsg.specs.Stream.{Message}
@@ -45,9 +45,9 @@ can_write g c rules v serving fits =
     let ms : List Message = take c.answered_count-count.result c.args.messages.now in
     let front = take (length c.route_front-front.result.requests.items) c.args.messages.now in
     let With : List Reply → Type 0 = λ rs. CanAnswerAll rules.format ms rs c.deref-in-Ok-2.result.now in
-    let Beside : List (Option (Bor (List ℕ))) → Type 0 = λ allows. CanAnswerAll rules.format ms c.in-Ok.replies.items allows in
+    let Decoded : List (Option (Bor (List ℕ))) → Type 0 = λ allows. CanAnswerAll rules.format ms c.in-Ok.replies.items allows in
     subst With (sym c.deref-in-Ok.ensures.value)
-    (subst Beside (sym c.deref-in-Ok-2.ensures.value)
+    (subst Decoded (sym c.deref-in-Ok-2.ensures.value)
     (front_can_answer rules c.args.store.now c.replies_to.new.store v c.args.messages.now (length c.route_front-front.result.requests.items) c.answered_count-count.result
     c.in-Ok.replies.items c.route_front-front.ensures.few (counted g c) serving (said_of g c rules v serving fits) c.route_front-front.result.allows.items
     (c.route_front-front.ensures.allows ∙ ap (λ (f : Format). map (allow_of f) front) fits)))

@@ -2,7 +2,7 @@ use Rattle.std.proofs.Common.{◌≡◌, ◌∙◌, refl, sym, subst, inl, inr}
 use Rattle.httpmsg.specs.Flow.{TookSome}
 use Rattle.httpmsg.specs.declared.head.BrokenMessage.{BrokenMessage}
 use Rattle.httpmsg.specs.declared.head.End.TheVariants.{Broken}
-use Rattle.cutter.specs.declared.cutting.CutFault.TheVariants as Cuts
+use Rattle.httpmsg.specs.declared.cutter.CutFault.TheVariants as Cuts
 use Rattle.routes.specs.ReplyBytes.{end_bytes}
 use Rattle.api.specs.declared.fault.ServeFault.TheVariants.{Write, Memory}
 use Rattle.api.specs.declared.piece.Told.{Told}

@@ -4,9 +4,9 @@ use Rattle.requests.specs.Reply.{showing}
 use Rattle.holdings.specs.Prepared.{writes_of}
 use Rattle.holdings.specs.Writes.{Deletion}
 use Rattle.holdings.specs.declared.prepared.PreparedWrite.TheVariants as prepared
-use Rattle.recovery.specs.Beside.{Beside}
+use Rattle.decoded.specs.Decoded.{Decoded}
 use Rattle.apicore.proofs.Deciding.{next_deletion, as_it_was}
-use Rattle.recovery.proofs.Faults.{only_memory}
+use Rattle.apicore.proofs.Faults.{only_memory}
 use Rattle.apicore.proofs.judging.admitted_delete.Goals as goal
 
 pub returns-in_err-reply : goal.returns-in_err-reply
@@ -40,7 +40,7 @@ returns c =
     record {
       same = record { rules = made.rules; revision = made.revision; shows = made.shows };
       reply = c.in_ok-reply.ensures ∙ (λ i. showing 200 (map string_bytes c.args.warnings.items) c.args.document (c.revision-revision.ensures i + 1));
-      write = ap (λ (d : Deletion). writes_of {P = Beside} (Some (prepared.Delete d))) c.in_ok-deletion.ensures.deletion;
+      write = ap (λ (d : Deletion). writes_of {P = Decoded} (Some (prepared.Delete d))) c.in_ok-deletion.ensures.deletion;
       next = λ held s there same. next_deletion held c.in_ok-deletion.deletion c.args.key.now c.args.document s c.in_ok-deletion.ensures.deletion there same;
       ready = c.in_ok-deletion.ensures.room;
       memory = tt;

@@ -2,15 +2,15 @@ use Rattle.std.proofs.Common.{◌≡◌, ◌∙◌, ◌+◌, [], ◌∷◌, map,
 use Rattle.std.proofs.lemmas.Result.{IfOk-from_err}
 use Rattle.documents.specs.Document.{Document}
 use Rattle.requests.specs.Codes.{document_in}
-use Rattle.requests.specs.History.{put}
+use Rattle.histories.specs.History.{put}
 use Rattle.requests.specs.Reply.{showing}
 use Rattle.holdings.specs.Prepared.{writes_of}
 use Rattle.holdings.specs.Writes.{Put}
 use Rattle.holdings.specs.declared.prepared.PreparedWrite.TheVariants as prepared
 use Rattle.expressions.specs.Specification.{these}
-use Rattle.recovery.specs.Beside.{Beside, spelled}
+use Rattle.decoded.specs.Decoded.{Decoded, spelled}
 use Rattle.apicore.proofs.Deciding.{next_put, as_it_was}
-use Rattle.recovery.proofs.Faults.{only_memory}
+use Rattle.apicore.proofs.Faults.{only_memory}
 use Rattle.apicore.proofs.judging.admitted_put.Goals as goal
 
 pub returns-in_err-reply : goal.returns-in_err-reply
@@ -62,7 +62,7 @@ returns c =
       same = record { rules = made.rules; revision = made.revision; shows = made.shows };
       reply = c.in_ok-reply.ensures
           ∙ (λ i. showing (c.put_code.ensures i) (map string_bytes c.args.warnings.items) (document i) (c.revision-revision.ensures i + 1));
-      write = ap (λ (p : Put Beside). writes_of (Some (prepared.Put p))) c.in_ok-put.ensures.put ∙ (λ i. put m.key (document_in m.body) (beside i) ∷ []);
+      write = ap (λ (p : Put Decoded). writes_of (Some (prepared.Put p))) c.in_ok-put.ensures.put ∙ (λ i. put m.key (document_in m.body) (beside i) ∷ []);
       next = λ held same stands. next_put held c.in_ok-put.put m.key _ _ _ c.args.stands c.in_ok-put.ensures.put same stands;
       ready = c.in_ok-put.ensures.room;
       memory = tt;

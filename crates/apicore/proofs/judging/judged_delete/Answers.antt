@@ -2,13 +2,13 @@ use Rattle.std.proofs.Common.{rules, ◌≡◌, ◌∙◌, ◌+◌, sym, ap, sub
 use Rattle.std.proofs.lemmas.Result.{IfOk-from_err}
 use Rattle.std.specs.Prelude.{IsErrOf}
 use Rattle.objects.specs.declared.fault.LookupFault.TheVariants as LookupFault
-use Rattle.requests.specs.History.{delete}
-use Rattle.requests.specs.Mapped.{mapped_write}
+use Rattle.histories.specs.History.{delete}
+use Rattle.histories.specs.Mapped.{mapped_write}
 use Rattle.requests.specs.Reply.{showing}
-use Rattle.denials.specs.Seen.{verdict_seen}
-use Rattle.recovery.specs.Shown.{plans_held}
-use Rattle.recovery.proofs.Found.{stored_found}
-use Rattle.recovery.proofs.Looking.{looked_after}
+use Rattle.verdict.specs.DenialSeen.{verdict_seen}
+use Rattle.decoded.specs.Shown.{plans_held}
+use Rattle.apicore.proofs.Found.{stored_found}
+use Rattle.apicore.proofs.Looking.{looked_after}
 use Rattle.apicore.proofs.Deciding.{if_ok, admitted_judged, denied_judged}
 use Rattle.apicore.proofs.judging.judged_delete.Goals as goal
 

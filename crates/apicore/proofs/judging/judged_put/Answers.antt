@@ -5,10 +5,10 @@ use Rattle.objects.specs.declared.fault.LookupFault.TheVariants as LookupFault
 use Rattle.serde_json.specs.declared.value.Value.{Value}
 use Rattle.serde_json.specs.View.{view}
 use Rattle.requests.specs.Codes.{document_in}
-use Rattle.requests.specs.History.{put}
+use Rattle.histories.specs.History.{put}
 use Rattle.requests.specs.Reply.{Reply, showing}
-use Rattle.denials.specs.Seen.{verdict_seen}
-use Rattle.recovery.proofs.Looking.{looked_after}
+use Rattle.verdict.specs.DenialSeen.{verdict_seen}
+use Rattle.apicore.proofs.Looking.{looked_after}
 use Rattle.apicore.proofs.Deciding.{admitted_judged, denied_judged, put_planned, some_mapped}
 use Rattle.apicore.proofs.judging.judged_put.Goals as goal
 

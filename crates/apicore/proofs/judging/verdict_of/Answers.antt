@@ -1,5 +1,5 @@
-use Rattle.recovery.specs.Attempts.{objects_of}
-use Rattle.recovery.proofs.Finding.{sees_shown, have_trees}
+use Rattle.apicore.specs.Attempts.{objects_of}
+use Rattle.apicore.proofs.Finding.{sees_shown, have_trees}
 use Rattle.apicore.proofs.judging.verdict_of.Goals as goal
 
 pub returns-clause-verdict : goal.returns-clause-verdict

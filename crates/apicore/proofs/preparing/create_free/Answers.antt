@@ -2,9 +2,9 @@ use Rattle.std.proofs.Common.{◌∙◌, sym, ap, is_some, IfOk, string_bytes}
 use Rattle.requests.specs.Codes.{document_in}
 use Rattle.requests.specs.Request.{create}
 use Rattle.expressions.specs.Specification.{specification_seen, bad_spec, bad_expression}
-use Rattle.recovery.proofs.Looking.{looked_not}
-use Rattle.recovery.proofs.Own.{create_bad_spec, create_bad_expression}
-use Rattle.recovery.proofs.Read.{sound_found, bad_spec_found, bad_expression_found}
+use Rattle.apicore.proofs.Looking.{looked_not}
+use Rattle.apicore.proofs.Own.{create_bad_spec, create_bad_expression}
+use Rattle.apicore.proofs.Read.{sound_found, bad_spec_found, bad_expression_found}
 use Rattle.apicore.specs.Prepared.{IsStepOf}
 use Rattle.apicore.proofs.Deciding.{refused_own}
 use Rattle.apicore.proofs.preparing.create_free.Goals as goal

@@ -1,12 +1,12 @@
 use Rattle.std.proofs.Common.{◌∙◌, sym}
 use Rattle.std.proofs.lemmas.Result.{IfOk-from_err}
 use Rattle.requests.specs.Request.{create}
-use Rattle.recovery.proofs.Over.{over_kept}
-use Rattle.recovery.proofs.Looking.{looked_on, looked_after}
-use Rattle.recovery.proofs.Found.{there_found, none_found}
-use Rattle.recovery.proofs.Own.{create_there}
+use Rattle.decoded.proofs.Over.{over_kept}
+use Rattle.apicore.proofs.Looking.{looked_on, looked_after}
+use Rattle.apicore.proofs.Found.{there_found, none_found}
+use Rattle.apicore.proofs.Own.{create_there}
 use Rattle.apicore.proofs.Deciding.{refused_own}
-use Rattle.recovery.proofs.Faults.{same_fault}
+use Rattle.apicore.proofs.Faults.{same_fault}
 use Rattle.apicore.proofs.preparing.create_in.Goals as goal
 
 pub returns-in-Some-clause-step : goal.returns-in-Some-clause-step

@@ -1,9 +1,9 @@
 use Rattle.std.proofs.Common.{◌∙◌, sym, ap, is_some, option_map}
 use Rattle.requests.specs.Request.{create}
 use Rattle.expressions.specs.Specification.{sound}
-use Rattle.recovery.specs.Conditions.{known}
-use Rattle.recovery.proofs.Looking.{looked_not}
-use Rattle.recovery.proofs.Own.{create_limited}
+use Rattle.apicore.specs.Conditions.{known}
+use Rattle.apicore.proofs.Looking.{looked_not}
+use Rattle.apicore.proofs.Own.{create_limited}
 use Rattle.apicore.proofs.Deciding.{refused_own, if_ok, create_judged}
 use Rattle.apicore.proofs.preparing.create_sound.Goals as goal
 

@@ -1,16 +1,16 @@
 use Rattle.std.proofs.Common.{◌∙◌, sym, refl, true, false, option_map, string_bytes}
 use Rattle.std.proofs.lemmas.Result.{IfOk-from_err}
-use Rattle.requests.specs.View.{is_exhausted}
+use Rattle.histories.specs.View.{is_exhausted}
 use Rattle.requests.specs.Request.{delete}
 use Rattle.requests.specs.declared.refusal.Refusal.TheVariants as refusal
-use Rattle.recovery.specs.Conditions.{known}
-use Rattle.recovery.specs.Namespaces.{is_in_use}
-use Rattle.recovery.proofs.Looking.{looked_not, looked_after, looked_as, looked_on}
-use Rattle.recovery.proofs.Over.{over_kept}
-use Rattle.recovery.proofs.Found.{delete_found}
-use Rattle.recovery.proofs.Own.{deleted}
+use Rattle.apicore.specs.Conditions.{known}
+use Rattle.apicore.specs.Namespaces.{is_in_use}
+use Rattle.apicore.proofs.Looking.{looked_not, looked_after, looked_as, looked_on}
+use Rattle.decoded.proofs.Over.{over_kept}
+use Rattle.apicore.proofs.Found.{delete_found}
+use Rattle.apicore.proofs.Own.{deleted}
 use Rattle.apicore.proofs.Deciding.{refused_own, refused_ready, as_it_was}
-use Rattle.recovery.proofs.Faults.{only_memory, same_fault}
+use Rattle.apicore.proofs.Faults.{only_memory, same_fault}
 use Rattle.apicore.proofs.preparing.delete_found.Goals as goal
 
 pub returns-in_err-deletion_conflicts : goal.returns-in_err-deletion_conflicts

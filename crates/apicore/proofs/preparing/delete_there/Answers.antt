@@ -2,11 +2,11 @@ use Rattle.std.proofs.Common.{◌∙◌, sym, ap, false, option_map, string_byte
 use Rattle.std.proofs.lemmas.Result.{IfOk-from_err}
 use Rattle.documents.specs.Document.{shown}
 use Rattle.serde_json.specs.View.{view}
-use Rattle.recovery.proofs.Found.{delete_found, said_found, told_found, not_exhausted}
-use Rattle.recovery.proofs.Looking.{looked_after, looked_as, looked_on}
-use Rattle.recovery.proofs.Over.{over_kept}
+use Rattle.apicore.proofs.Found.{delete_found, said_found, told_found, not_exhausted}
+use Rattle.apicore.proofs.Looking.{looked_after, looked_as, looked_on}
+use Rattle.decoded.proofs.Over.{over_kept}
 use Rattle.apicore.proofs.Deciding.{if_ok, delete_judged}
-use Rattle.recovery.proofs.Faults.{only_memory, same_fault}
+use Rattle.apicore.proofs.Faults.{only_memory, same_fault}
 use Rattle.apicore.proofs.preparing.delete_there.Goals as goal
 
 pub returns-clause-step : goal.returns-clause-step

@@ -3,8 +3,8 @@ use Rattle.requests.specs.Request.{RequestHasForm}
 use Rattle.requests.specs.RequestOf.{request_of}
 use Rattle.expressions.specs.Specification.{bad_spec}
 use Rattle.apicore.specs.Prepared.{IsPrepared}
-use Rattle.recovery.specs.Conditions.{known}
-use Rattle.recovery.proofs.Looking.{looked_not}
+use Rattle.apicore.specs.Conditions.{known}
+use Rattle.apicore.proofs.Looking.{looked_not}
 use Rattle.apicore.proofs.Deciding.{watch_prepared_in, refused_prepared_in, unwritten_ready, refused_ready, read_as}
 use Rattle.apicore.proofs.preparing.prepare.Goals as goal
 
@@ -104,13 +104,13 @@ returns-in-List g c =
 
 pub returns-in-Create : goal.returns-in-Create
 returns-in-Create g c =
-    let told = c.prepare_create.ensures in
+    let told = c.prepare_manifest.ensures in
     record {
       rules = told.same.rules;
       revision = told.same.revision;
       shows = told.same.shows;
       step =
-          subst (λ r. IfOk c.prepare_create.result (IsPrepared (g.S.Source.holds c.args.source.now) c.args.core.now (request_of r)))
+          subst (λ r. IfOk c.prepare_manifest.result (IsPrepared (g.S.Source.holds c.args.source.now) c.args.core.now (request_of r)))
           (sym c.in-Create.is) told.step;
       ready = told.ready;
       form = subst (λ r. RequestHasForm (request_of r)) (sym c.in-Create.is) told.form;
@@ -126,13 +126,13 @@ returns-in-Create g c =
 
 pub returns-in-Replace : goal.returns-in-Replace
 returns-in-Replace g c =
-    let told = c.prepare_replace.ensures in
+    let told = c.prepare_manifest-in-Replace.ensures in
     record {
       rules = told.same.rules;
       revision = told.same.revision;
       shows = told.same.shows;
       step =
-          subst (λ r. IfOk c.prepare_replace.result (IsPrepared (g.S.Source.holds c.args.source.now) c.args.core.now (request_of r)))
+          subst (λ r. IfOk c.prepare_manifest-in-Replace.result (IsPrepared (g.S.Source.holds c.args.source.now) c.args.core.now (request_of r)))
           (sym c.in-Replace.is) told.step;
       ready = told.ready;
       form = subst (λ r. RequestHasForm (request_of r)) (sym c.in-Replace.is) told.form;

@@ -1,9 +1,9 @@
 use Rattle.std.proofs.Common.{◌∙◌, sym, option_map, string_bytes}
 use Rattle.requests.specs.Request.{delete}
 use Rattle.expressions.specs.Specification.{bad_spec}
-use Rattle.recovery.proofs.Over.{over_kept}
-use Rattle.recovery.proofs.Looking.{looked_on, looked_after}
-use Rattle.recovery.proofs.Own.{delete_missing}
+use Rattle.decoded.proofs.Over.{over_kept}
+use Rattle.apicore.proofs.Looking.{looked_on, looked_after}
+use Rattle.apicore.proofs.Own.{delete_missing}
 use Rattle.apicore.proofs.Deciding.{refused_own, prepared_of}
 use Rattle.apicore.proofs.preparing.prepare_delete.Goals as goal
 

@@ -2,10 +2,10 @@ use Rattle.std.proofs.Common.{◌∙◌, sym, ap, false, IfOk, string_bytes}
 use Rattle.requests.specs.Codes.{document_in}
 use Rattle.requests.specs.Request.{replace}
 use Rattle.expressions.specs.Specification.{specification_seen, bad_spec, bad_expression}
-use Rattle.recovery.proofs.Looking.{looked_not}
-use Rattle.recovery.proofs.Found.{replace_found}
-use Rattle.recovery.proofs.Own.{replace_bad_spec, replace_bad_expression}
-use Rattle.recovery.proofs.Read.{sound_found, bad_spec_found, bad_expression_found}
+use Rattle.apicore.proofs.Looking.{looked_not}
+use Rattle.apicore.proofs.Found.{replace_found}
+use Rattle.apicore.proofs.Own.{replace_bad_spec, replace_bad_expression}
+use Rattle.apicore.proofs.Read.{sound_found, bad_spec_found, bad_expression_found}
 use Rattle.apicore.specs.Prepared.{IsStepOf}
 use Rattle.apicore.proofs.Deciding.{refused_own}
 use Rattle.apicore.proofs.preparing.replace_as.Goals as goal

@@ -1,11 +1,11 @@
 use Rattle.std.proofs.Common.{◌∙◌, sym}
 use Rattle.std.proofs.lemmas.Result.{IfOk-from_err}
 use Rattle.requests.specs.Request.{replace}
-use Rattle.recovery.proofs.Over.{over_kept}
-use Rattle.recovery.proofs.Looking.{looked_on, looked_after}
-use Rattle.recovery.proofs.Own.{replace_missing}
+use Rattle.decoded.proofs.Over.{over_kept}
+use Rattle.apicore.proofs.Looking.{looked_on, looked_after}
+use Rattle.apicore.proofs.Own.{replace_missing}
 use Rattle.apicore.proofs.Deciding.{refused_own}
-use Rattle.recovery.proofs.Faults.{same_fault}
+use Rattle.apicore.proofs.Faults.{same_fault}
 use Rattle.apicore.proofs.preparing.replace_in.Goals as goal
 
 pub returns-in-Some-clause-step : goal.returns-in-Some-clause-step

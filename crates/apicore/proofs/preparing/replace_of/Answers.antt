@@ -2,11 +2,11 @@ use Rattle.std.proofs.Common.{◌∙◌, sym}
 use Rattle.std.proofs.lemmas.Result.{IfOk-from_err}
 use Rattle.requests.specs.Request.{replace}
 use Rattle.requests.specs.declared.refusal.Refusal.TheVariants as refusal
-use Rattle.recovery.specs.Conditions.{known}
-use Rattle.recovery.proofs.Looking.{looked_not}
-use Rattle.recovery.proofs.Own.{replace_conflicting}
+use Rattle.apicore.specs.Conditions.{known}
+use Rattle.apicore.proofs.Looking.{looked_not}
+use Rattle.apicore.proofs.Own.{replace_conflicting}
 use Rattle.apicore.proofs.Deciding.{refused_own, refused_ready, as_it_was}
-use Rattle.recovery.proofs.Faults.{only_memory}
+use Rattle.apicore.proofs.Faults.{only_memory}
 use Rattle.apicore.proofs.preparing.replace_of.Goals as goal
 
 pub returns-in_err-update_conflicts : goal.returns-in_err-update_conflicts

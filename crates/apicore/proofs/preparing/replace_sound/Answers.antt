@@ -1,10 +1,10 @@
 use Rattle.std.proofs.Common.{◌∙◌, sym, ap, false, option_map}
 use Rattle.requests.specs.Request.{replace}
 use Rattle.expressions.specs.Specification.{sound}
-use Rattle.recovery.specs.Conditions.{known}
-use Rattle.recovery.proofs.Looking.{looked_not}
-use Rattle.recovery.proofs.Found.{replace_found}
-use Rattle.recovery.proofs.Own.{replace_limited}
+use Rattle.apicore.specs.Conditions.{known}
+use Rattle.apicore.proofs.Looking.{looked_not}
+use Rattle.apicore.proofs.Found.{replace_found}
+use Rattle.apicore.proofs.Own.{replace_limited}
 use Rattle.apicore.proofs.Deciding.{refused_own}
 use Rattle.apicore.proofs.preparing.replace_sound.Goals as goal
 

@@ -1,7 +1,7 @@
 use Rattle.std.proofs.Common.{◌∙◌, sym, ap, false, Some}
 use Rattle.documents.specs.Document.{shown}
 use Rattle.serde_json.specs.View.{view}
-use Rattle.recovery.proofs.Found.{replace_found, there_found, told_found}
+use Rattle.apicore.proofs.Found.{replace_found, there_found, told_found}
 use Rattle.apicore.proofs.Deciding.{if_ok, replace_judged}
 use Rattle.apicore.proofs.preparing.replace_there.Goals as goal
 

@@ -1,6 +1,6 @@
 use Rattle.std.proofs.Common.{rules, ◌∙◌, ap}
 use Rattle.std.proofs.lemmas.Result.{IfOk-from_err}
-use Rattle.recovery.proofs.Looking.{looked_as}
+use Rattle.apicore.proofs.Looking.{looked_as}
 use Rattle.apicore.proofs.Deciding.{get_prepared}
 use Rattle.apicore.proofs.reading.get.Goals as goal
 

@@ -5,10 +5,10 @@ use Rattle.std.proofs.lemmas.Result.{err_from_is_err_and}
 use Rattle.celtokens.specs.declared.token.Token.{Token}
 use Rattle.celtokens.specs.Terminal.{Terminal}
 use Rattle.celtokens.specs.Seen.{terminals}
-use Rattle.celparse.specs.declared.fault.ParseFault.{ParseFault}
-use Rattle.celparse.specs.declared.fault.ParseFault.TheVariants as parse_fault
-use Rattle.celparse.specs.Grammar.{Whole}
-use Rattle.celparse.specs.Ends.{HasNoTree, Refuses}
+use Rattle.celread.specs.declared.parse_fault.ParseFault.{ParseFault}
+use Rattle.celread.specs.declared.parse_fault.ParseFault.TheVariants as parse_fault
+use Rattle.celread.specs.Grammar.{Whole}
+use Rattle.celread.specs.Ends.{HasNoTree, Refuses}
 use Rattle.celread.specs.declared.fault.ReadFault.{ReadFault}
 use Rattle.celread.specs.Faults.{of_parse_fault}
 use Rattle.celread.specs.Limits.{opens_too_many}

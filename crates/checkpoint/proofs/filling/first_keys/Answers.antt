@@ -48,6 +48,7 @@ walk-preserved g c =
     let told : ◌≡◌ {A = Entry} (c.key.result.now, c.cell.result.now) here = λ j. (c.key.ensures j, c.cell.ensures j) in
     record {
       ran = same_then disk c.args.device.now c.walk.device c.advance.new.device inv.ran c.advance.ensures.ran;
+      steady = c.in_ok-advance.ensures.steady ∙ inv.steady;
       gives = λ x all gives. c.in_ok-advance.ensures.gives x all (inv.gives x all gives);
       reads = λ k reads. inv.reads k (c.in_ok-advance.ensures.reads k reads);
       walked = λ keeps all gives.
@@ -179,3 +180,24 @@ key-requires g c = c.in_ok-advance.ensures.stands c.if-not-branch.false
 
 pub cell-requires : goal.cell-requires
 cell-requires g c = c.in_ok-advance.ensures.stands c.if-not-branch.false
+
+pub returns-in_err-advance-clause-steady : goal.returns-in_err-advance-clause-steady
+returns-in_err-advance-clause-steady g c = IfOk-from_err c.from_residual.result _ c.from_residual.ensures.0
+
+pub returns-in_err-add-clause-steady : goal.returns-in_err-add-clause-steady
+returns-in_err-add-clause-steady g c = IfOk-from_err c.from_residual-in_err-add.result _ c.from_residual-in_err-add.ensures.0
+
+pub returns-then-not-branch-clause-steady : goal.returns-then-not-branch-clause-steady
+returns-then-not-branch-clause-steady g c = c.in_ok-advance.ensures.steady ∙ c.walk.invariant.steady
+
+pub returns-in_err-advance-clause-memory : goal.returns-in_err-advance-clause-memory
+returns-in_err-advance-clause-memory g c told =
+    absurd (⊎_elim (λ is. cc) (λ is. cc)
+    (one_of_two c.from_residual.result c.advance.result EntriesFault.Device EntriesFault.Damaged EntriesFault.Memory
+    c.from_residual.ensures.1 c.in_err-advance.was c.advance.ensures.refusal told))
+
+pub returns-in_err-add-clause-memory : goal.returns-in_err-add-clause-memory
+returns-in_err-add-clause-memory g c told = c.in_ok-advance.ensures.steady ∙ c.walk.invariant.steady
+
+pub returns-then-not-branch-clause-memory : goal.returns-then-not-branch-clause-memory
+returns-then-not-branch-clause-memory g c told = c.in_ok-advance.ensures.steady ∙ c.walk.invariant.steady

@@ -1,6 +1,6 @@
 use Rattle.std.proofs.Common.{rules, arith}
 use Rattle.std.specs.Prelude.{IsErrOf}
-use Rattle.checkpoint.specs.declared.reader.ReadFault.TheVariants as ReadFault
+use Rattle.checkpoint.specs.declared.reader.ReaderFault.TheVariants as ReaderFault
 use Rattle.checkpoint.proofs.Hearing.{told_more, told_all, refused_at}
 use Rattle.checkpoint.proofs.reader.tell_page.Goals as goal
 
@@ -14,7 +14,7 @@ loop-i-preserved g c =
 
 pub returns-in_err-entry-clause-refused : goal.returns-in_err-entry-clause-refused
 returns-in_err-entry-clause-refused g c is =
-    let refused : IsErrOf c.entry.result ReadFault.Entry = search rules in
+    let refused : IsErrOf c.entry.result ReaderFault.Entry = search rules in
     refused_at g.R.Reader.told g.R.Reader.refuses c.args.reader.now c.loop-i.reader c.args.page.now c.loop-i.i
     c.key.result.now c.cell.result.now (omega arith) c.key.ensures c.cell.ensures c.loop-i.invariant (c.entry.ensures.refused refused)
 

@@ -1,4 +1,4 @@
-use Rattle.std.proofs.Common.{◌≡◌}
+use Rattle.std.proofs.Common.{refl, ◌≡◌}
 use Rattle.std.proofs.lemmas.Result.{IfOk-from_err}
 use Rattle.device.specs.Step.{Same}
 use Rattle.device.proofs.Runs.{not_yet}
@@ -122,3 +122,29 @@ returns-clause-whole g c keeps = c.in_ok-take_pages.ensures.whole keeps
 
 pub returns-then-branch-clause-entry : goal.returns-then-branch-clause-entry
 returns-then-branch-clause-entry g c keeps told = c.in_ok-take_pages.ensures.whole keeps
+
+pub returns-in_err-buffer-clause-steady : goal.returns-in_err-buffer-clause-steady
+returns-in_err-buffer-clause-steady g c = IfOk-from_err c.from_residual.result _ c.from_residual.ensures.0
+
+pub returns-in_err-take_pages-clause-steady : goal.returns-in_err-take_pages-clause-steady
+returns-in_err-take_pages-clause-steady g c = IfOk-from_err c.from_residual-in_err-take_pages.result _ c.from_residual-in_err-take_pages.ensures.0
+
+pub returns-clause-steady : goal.returns-clause-steady
+returns-clause-steady g c = c.in_ok-take_pages.ensures.steady
+
+pub returns-then-root-eq0-clause-memory : goal.returns-then-root-eq0-clause-memory
+returns-then-root-eq0-clause-memory g c told = refl
+
+pub returns-in_err-buffer-clause-memory : goal.returns-in_err-buffer-clause-memory
+returns-in_err-buffer-clause-memory g c told = refl
+
+pub returns-in_err-take_pages-clause-memory : goal.returns-in_err-take_pages-clause-memory
+returns-in_err-take_pages-clause-memory g c told =
+    c.take_pages.ensures.memory (was_err c.in_err-take_pages.was
+    (err_is c.from_residual-in_err-take_pages.result _ ScanFault.Memory c.from_residual-in_err-take_pages.ensures.1 told))
+
+pub returns-then-branch-clause-memory : goal.returns-then-branch-clause-memory
+returns-then-branch-clause-memory g c told = c.in_ok-take_pages.ensures.steady
+
+pub returns-clause-memory : goal.returns-clause-memory
+returns-clause-memory g c told = c.in_ok-take_pages.ensures.steady

@@ -1,4 +1,4 @@
-use Rattle.std.proofs.Common.{rules, arith, ⊎_elim, ◌≡◌, ◌∙◌, sym, ap, subst, ◌+◌, ◌*◌, ℕ, List, [], ◌∷◌, ◌++◌, length, IsTrue}
+use Rattle.std.proofs.Common.{rules, arith, refl, ⊎_elim, ◌≡◌, ◌∙◌, sym, ap, subst, ◌+◌, ◌*◌, ℕ, List, [], ◌∷◌, ◌++◌, length, IsTrue}
 use Rattle.std.proofs.lemmas.Result.{IfOk-from_err}
 use Rattle.std.specs.Prelude.{IsErrOf}
 use Rattle.std.specs.FinMap.{is_sorted}
@@ -52,6 +52,7 @@ loop-i-preserved g c =
     let page : List Entry = entries_in (page_at root.first i content) in
     record {
       ran = same_then disk c.args.device.now c.loop-i.device c.read.new.self inv.ran c.read.ensures.ran;
+      steady = c.in_ok-read.ensures.cause.well refl ∙ inv.steady;
       sound = λ keeps.
           sound_more root.first i content (inv.sound keeps) (subst (λ (x : List ℕ). IsSound x) (read keeps) c.in_ok-refused.ensures.sound);
       indexed = λ keeps.
@@ -129,3 +130,23 @@ returns-clause-cause g c told = absurd (no_fault told)
 
 pub returns-clause-ran : goal.returns-clause-ran
 returns-clause-ran g c = c.loop-i.invariant.ran
+
+pub returns-in_err-read-clause-steady : goal.returns-in_err-read-clause-steady
+returns-in_err-read-clause-steady g c = IfOk-from_err c.from_residual.result _ c.from_residual.ensures.0
+
+pub returns-in_err-refused-clause-steady : goal.returns-in_err-refused-clause-steady
+returns-in_err-refused-clause-steady g c = IfOk-from_err c.from_residual-in_err-refused.result _ c.from_residual-in_err-refused.ensures.0
+
+pub returns-clause-steady : goal.returns-clause-steady
+returns-clause-steady g c = c.loop-i.invariant.steady
+
+pub returns-in_err-read-clause-memory : goal.returns-in_err-read-clause-memory
+returns-in_err-read-clause-memory g c told =
+    let is : ScanFault.Memory ≡ ScanFault.Device = err_is c.from_residual.result _ ScanFault.Memory c.from_residual.ensures.1 told in
+    absurd cc
+
+pub returns-in_err-refused-clause-memory : goal.returns-in_err-refused-clause-memory
+returns-in_err-refused-clause-memory g c told = c.in_ok-read.ensures.cause.well refl ∙ c.loop-i.invariant.steady
+
+pub returns-clause-memory : goal.returns-clause-memory
+returns-clause-memory g c told = c.loop-i.invariant.steady

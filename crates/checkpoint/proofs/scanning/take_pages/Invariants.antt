@@ -1,3 +1,4 @@
+use Rattle.std.specs.Prelude.{◌≡◌}
 use Rattle.device.specs.Step.{Same}
 use Rattle.device.specs.Run.{Ran}
 use Rattle.checkpoint.specs.Index.{IsIndexed}
@@ -8,6 +9,7 @@ use Rattle.checkpoint.proofs.scanning.take_pages.Given as goal
 abbrev pub invariant-loop-i : goal.invariant-loop-i
 invariant-loop-i g l = record {
   ran : Ran g.D.Device.disk l.fn.device l.device Same;
+  steady : g.D.Device.disk.failures l.device ≡ g.D.Device.disk.failures l.fn.device;
   sound : g.D.Device.disk.keeps l.fn.device → AreSound l.root.first l.i (g.D.Device.disk.content l.fn.device);
   indexed : g.D.Device.disk.keeps l.fn.device → IsIndexed l.index (pages_at l.root.first l.i (g.D.Device.disk.content l.fn.device));
   heard : g.D.Device.disk.keeps l.fn.device

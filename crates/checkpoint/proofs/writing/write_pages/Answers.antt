@@ -24,6 +24,7 @@ walk-init g c =
     record {
       ran = not_yet disk c.args.device.now (Torn (512 * writer.at) (32768 * (writer.filled + writer.left)))
           (λ x. torn_idle (512 * writer.at) (32768 * (writer.filled + writer.left)) x) (λ keeps x since. g.met.D.Device.only_now c.args.device.now x keeps since);
+      steady = refl;
       goes_on = record { at = omega arith; end = refl };
       inside = c.requires.inside;
       gives = λ x all gives. c.rewind.ensures.gives x all gives;
@@ -52,6 +53,7 @@ walk-preserved g c =
       ran = look_then_within disk c.args.device.now c.walk.device c.advance.new.device c.add.new.device (512 * start.at) (32768 * (start.filled + start.left))
           (512 * old.at) (32768 * (old.filled + old.left)) (omega (arith, inv.goes_on.at)) (omega (arith, inv.goes_on.end))
           inv.ran c.advance.ensures.ran c.add.ensures.ran;
+      steady = c.in_ok-add.ensures.steady ∙ (c.in_ok-advance.ensures.steady ∙ inv.steady);
       goes_on = record {
         at = omega (arith, inv.goes_on.at, c.in_ok-add.ensures.goes_on.at);
         end = c.in_ok-add.ensures.goes_on.end ∙ inv.goes_on.end;
@@ -243,3 +245,15 @@ key-requires g c = c.in_ok-advance.ensures.stands c.if-not-branch.false
 
 pub cell-requires : goal.cell-requires
 cell-requires g c = c.in_ok-advance.ensures.stands c.if-not-branch.false
+
+pub returns-then-writer-eq0-clause-steady : goal.returns-then-writer-eq0-clause-steady
+returns-then-writer-eq0-clause-steady g c = refl
+
+pub returns-in_err-advance-clause-steady : goal.returns-in_err-advance-clause-steady
+returns-in_err-advance-clause-steady g c = IfOk-from_err c.from_residual.result _ c.from_residual.ensures.0
+
+pub returns-in_err-add-clause-steady : goal.returns-in_err-add-clause-steady
+returns-in_err-add-clause-steady g c = IfOk-from_err c.from_residual-in_err-add.result _ c.from_residual-in_err-add.ensures.0
+
+pub returns-then-not-branch-clause-steady : goal.returns-then-not-branch-clause-steady
+returns-then-not-branch-clause-steady g c = on_ok_weaker c.finish.result (λ same. same ∙ (c.in_ok-advance.ensures.steady ∙ c.walk.invariant.steady)) c.finish.ensures.steady

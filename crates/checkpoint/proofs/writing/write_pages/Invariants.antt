@@ -10,6 +10,7 @@ use Rattle.checkpoint.proofs.writing.write_pages.Given as goal
 abbrev pub invariant-walk : goal.invariant-walk
 invariant-walk g l = record {
   ran : Ran g.D.Device.disk l.fn.device l.device (Torn (512 * l.fn.writer.at) (32768 * (l.fn.writer.filled + l.fn.writer.left)));
+  steady : g.D.Device.disk.failures l.device ≡ g.D.Device.disk.failures l.fn.device;
   goes_on : Advances l.fn.writer l.writer;
   inside : g.D.Device.disk.keeps l.device → 512 * l.writer.at ≤ length (g.D.Device.disk.content l.device);
   gives : (content : List ℕ) (all : List Entry) → g.E.Entries.gives l.fn.entries content all → g.E.Entries.gives l.entries content all;

@@ -1,8 +1,8 @@
 use Rattle.std.proofs.Common.{◌≡◌, ◌∙◌, ℕ, ◌+◌, List, [], ◌∷◌, ◌++◌, map, drop, sym, ap, append_assoc, append-nil}
 use Rattle.std.proofs.lemmas.List.{drop_more, drop_all}
 use Rattle.std.specs.List.{flat_map}
-use Rattle.denials.specs.declared.asked.Validation.{Validation}
-use Rattle.denials.specs.Validation.{validation_seen}
+use Rattle.policy.specs.declared.validation.Validation.{Validation}
+use Rattle.policy.specs.Validation.{validation_seen}
 use Rattle.expressions.specs.Places.{validation_places}
 use Rattle.expressions.proofs.places.with_validations.Goals as goal
 

@@ -1,6 +1,6 @@
 use Rattle.std.proofs.Common.{◌≡◌, ◌++◌, map, drop}
 use Rattle.std.specs.List.{flat_map}
-use Rattle.denials.specs.Validation.{validation_seen}
+use Rattle.policy.specs.Validation.{validation_seen}
 use Rattle.expressions.specs.Places.{validation_places}
 use Rattle.expressions.proofs.places.with_validations.Given as goal
 

@@ -1,14 +1,14 @@
 use Rattle.std.proofs.Common.{◌≡◌, ◌∙◌, ℕ, ◌+◌, ◌<◌, List, [], ◌∷◌, ◌++◌, length, map, drop, sym, ap, append_assoc, append-nil, arith}
 use Rattle.std.proofs.lemmas.List.{at_drop_more, drop_all}
-use Rattle.policy.specs.declared.named.Named.{Named}
+use Rattle.policy.specs.declared.named.NamedExpression.{NamedExpression}
 use Rattle.policy.specs.Spec.{named_seen}
 use Rattle.expressions.specs.Places.{variable_places}
 use Rattle.expressions.proofs.places.with_variables.Goals as goal
 
-abbrev places_after : ℕ → List Named → List ℕ
+abbrev places_after : ℕ → List NamedExpression → List ℕ
 places_after n variables = variable_places n (map named_seen variables)
 
-variable_more : (variables : List Named) (i n : ℕ) → i < length variables → places_after n (drop i variables) ≡ n ∷ places_after (n + 1) (drop (i + 1) variables)
+variable_more : (variables : List NamedExpression) (i n : ℕ) → i < length variables → places_after n (drop i variables) ≡ n ∷ places_after (n + 1) (drop (i + 1) variables)
 variable_more [] i n less = absurd (omega arith)
 variable_more (x ∷ xs) i n less = at_drop_more (places_after n) (x ∷ xs) i x less
 
@@ -31,4 +31,4 @@ returns c =
     let n = c.loop-variable.earlier in
     let places = c.loop-variable.places.items in
     let none : drop c.loop-variable._variable-index c.args.variables.now ≡ [] = drop_all c.loop-variable._variable-index c.args.variables.now c.loop-variable-test.false in
-    sym (c.loop-variable.invariant.1 ∙ ap (λ (vs : List Named). places ++ places_after n vs) none ∙ append-nil places)
+    sym (c.loop-variable.invariant.1 ∙ ap (λ (vs : List NamedExpression). places ++ places_after n vs) none ∙ append-nil places)

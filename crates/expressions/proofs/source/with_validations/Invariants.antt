@@ -2,7 +2,7 @@ use Rattle.std.proofs.Common.{◌≡◌, ◌++◌, map, drop}
 use Rattle.std.specs.List.{flat_map}
 use Rattle.expressions.specs.Expressions.{of_validation}
 use Rattle.expressions.specs.Seen.{source_seen}
-use Rattle.denials.specs.Validation.{validation_seen}
+use Rattle.policy.specs.Validation.{validation_seen}
 use Rattle.expressions.proofs.source.with_validations.Given as goal
 
 -- what was taken, and then what is left

@@ -1,8 +1,8 @@
 use Rattle.std.proofs.Common.{◌∙◌, ap, sym, subst, ◌≤◌, ◌+◌, ◌*◌, List, length, []}
-use Rattle.documents.specs.Json.{text}
+use Rattle.jsondoc.specs.Json.{text}
 use Rattle.std.specs.List.{AllByRecursion}
 use Rattle.plancode.specs.Plans.{Judged, IsVerified}
-use Rattle.planlist.specs.Plans.{list_bytes}
+use Rattle.plancode.specs.PlanList.{list_bytes}
 use Rattle.policy.specs.Spec.{Policy, policy_seen}
 use Rattle.expressions.specs.Expressions.{sources}
 use Rattle.expressions.specs.Plans.{plans_of}

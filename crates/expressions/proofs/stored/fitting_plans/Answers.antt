@@ -1,6 +1,6 @@
 use Rattle.std.proofs.Common.{rules, ◌≡◌, subst, List, ℕ, Some}
 use Rattle.std.proofs.lemmas.Result.{IfOk-weaker}
-use Rattle.planlist.specs.Plans.{IsListFor}
+use Rattle.plancode.specs.PlanList.{IsListFor}
 use Rattle.policy.specs.Spec.{policy_seen}
 use Rattle.expressions.specs.Places.{places_of, policy_in}
 use Rattle.expressions.proofs.stored.fitting_plans.Goals as goal

@@ -1,6 +1,6 @@
 use Rattle.std.proofs.Common.{rules, ap, false, ◌≡◌, ◌∙◌}
 use Rattle.std.proofs.lemmas.Result.{IfOk-weaker}
-use Rattle.clap.specs.Words.{Rule, rule_of}
+use Rattle.clap.specs.Words.{rule_of}
 use Rattle.clap.specs.declared.builder.arg.Arg.{Arg}
 use Rattle.gated.specs.CommandLine.{log_rule}
 use Rattle.gated.proofs.Unless.{needs_rule}

@@ -1,5 +1,5 @@
 use Rattle.names.specs.declared.format.Rules.{Rules}
-use Rattle.recovery.specs.Standing.{View}
+use Rattle.decoded.specs.Standing.{View}
 use Rattle.api.specs.Answers.{ShowsAt}
 use Rattle.clients.specs.Serving.{HasServedSome}
 use Rattle.gated.proofs.listening.serve_connections.Given as goal

@@ -1,4 +1,4 @@
-use Rattle.std.proofs.Common.{arith, ◌∙◌, sym, subst, ◌+◌}
+use Rattle.std.proofs.Common.{arith, refl, ◌∙◌, sym, subst, ◌+◌}
 use Rattle.std.proofs.lemmas.Result.{IfOk-from_err}
 use Rattle.gatelog.specs.Walk.{HoldsRecord}
 use Rattle.gatelog.proofs.Exits.{same_fault, device_alone, no_fault, has_failed, failed_after}
@@ -39,6 +39,7 @@ loop-gate-preserved g c =
       ran = same_then disk c.args.device.now c.read_sector.new.device c.check_body.new.device read c.check_body.ensures.ran;
       end = inv.end;
       at_most = inv.at_most;
+      steady = c.in_ok-gate.ensures.steady ∙ (c.in_ok-sector.ensures.cause.well refl ∙ inv.steady);
       later = omega (arith, inv.later);
       leads = λ keeps.
           let content = disk.content c.args.device.now in
@@ -108,3 +109,6 @@ returns-in_err-gate-clause-cause g c = λ told.
     let read = same_then disk c.args.device.now c.loop-gate.device c.read_sector.new.device c.loop-gate.invariant.ran c.read_sector.ensures.ran in
     failed_after disk c.args.device.now c.read_sector.new.device c.check_body.new.device read.count
     (c.check_body.ensures.cause (same_fault c.from_residual-in_err-gate.ensures.1 c.in_err-gate.was told))
+
+pub returns-then-sector-clause-steady : goal.returns-then-sector-clause-steady
+returns-then-sector-clause-steady g c = c.in_ok-sector.ensures.cause.well refl ∙ c.loop-gate.invariant.steady

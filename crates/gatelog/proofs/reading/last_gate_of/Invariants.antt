@@ -9,6 +9,7 @@ invariant-loop-gate g l = record {
   ran : Ran g.D.Device.disk l.fn.device l.device Same;
   end : g.D.Device.disk.keeps l.fn.device → length (g.D.Device.disk.content l.fn.device) ≡ 512 * l.end;
   at_most : l.end ≤ 2 ^ 54;
+  steady : g.D.Device.disk.failures l.device ≡ g.D.Device.disk.failures l.fn.device;
   later : l.fn.at ≤ l.gate;
   leads : g.D.Device.disk.keeps l.fn.device → Leads l.fn.at l.gate (g.D.Device.disk.content l.fn.device);
 }

@@ -33,6 +33,7 @@ loop-gate-preserved g c =
       ran = same_then disk c.args.device.now c.loop-gate.device c.read_payload.new.device inv.ran c.read_payload.ensures.ran;
       end = inv.end;
       at_most = inv.at_most;
+      steady = c.in_ok-payload.ensures.steady ∙ inv.steady;
       passes = λ keeps.
           passes-next c.args.start c.loop-gate.gate c.sectors_of.result c.args.last content
           (map (λ (v : Vec ℕ Global). v.items) c.loop-gate.found.items) (map (λ (v : Vec ℕ Global). v.items) c.push.new.self.items) payload (inv.passes keeps) c.loop-gate-test.true (search rules)
@@ -87,3 +88,19 @@ returns-in_err-push-clause-damaged g c = λ keeps told payloads log. memory_alon
 
 pub returns-in_err-push-clause-cause : goal.returns-in_err-push-clause-cause
 returns-in_err-push-clause-cause g c = λ told. absurd (memory_alone c.from_residual-in_err-push.ensures.1 told)
+
+pub returns-clause-steady : goal.returns-clause-steady
+returns-clause-steady g c = c.loop-gate.invariant.steady
+
+pub returns-in_err-end-clause-memory : goal.returns-in_err-end-clause-memory
+returns-in_err-end-clause-memory g c = λ told. absurd (device_alone c.from_residual.ensures.1 told)
+
+pub returns-then-gate-end-clause-memory : goal.returns-then-gate-end-clause-memory
+returns-then-gate-end-clause-memory g c = λ told. absurd (damaged_alone told)
+
+pub returns-in_err-payload-clause-memory : goal.returns-in_err-payload-clause-memory
+returns-in_err-payload-clause-memory g c = λ told.
+    c.read_payload.ensures.memory (same_fault c.from_residual-in_err-payload.ensures.1 c.in_err-payload.was told) ∙ c.loop-gate.invariant.steady
+
+pub returns-in_err-push-clause-memory : goal.returns-in_err-push-clause-memory
+returns-in_err-push-clause-memory g c = λ told. c.in_ok-payload.ensures.steady ∙ c.loop-gate.invariant.steady

@@ -5,7 +5,7 @@ use Rattle.instructions.specs.declared.fault.CodeFault.{CodeFault}
 use Rattle.instructions.specs.Seen.{op_of, ops_of}
 use Rattle.instructions.specs.Faults.{Gives}
 use Rattle.instructions.specs.Judging.{judge}
-use Rattle.instructions.specs.declared.bodies.Body.{Body as Held}
+use Rattle.instructions.specs.declared.bodies.OpenBody.{OpenBody as Held}
 use Rattle.instructions.specs.Macros.{Tells}
 use Rattle.instructions.specs.Bodies.{Table, table_of, tables_of, begun, AreOpen, AreKnown}
 use Rattle.instructions.proofs.Walking.{Reached, begins, op_here, goes_on, ends, at_end}

@@ -7,12 +7,12 @@ use Rattle.names.specs.Key.{Key}
 use Rattle.objects.specs.declared.fault.LookupFault.{LookupFault}
 use Rattle.objects.specs.declared.fault.LookupFault.TheVariants as lookup
 use Rattle.requests.specs.Manifest.{Manifest}
-use Rattle.requests.specs.declared.stored.Stored.{Stored}
+use Rattle.histories.specs.declared.stored.Stored.{Stored}
 use Rattle.requests.specs.Namespaces.{namespaces_in_use}
-use Rattle.requests.specs.View as seen
+use Rattle.histories.specs.View as seen
 use Rattle.holdings.specs.Holdings.{Shows}
-use Rattle.recovery.specs.Beside.{Beside}
-use Rattle.recovery.specs.Upgraded.{upgraded_rules, upgraded_view, IsOfOlderFormat}
+use Rattle.decoded.specs.Decoded.{Decoded}
+use Rattle.decoded.specs.Upgraded.{upgraded_rules, upgraded_view, IsOfOlderFormat}
 use Rattle.snapshots.specs.Added.{AreAdded, with_added, new_of}
 use Rattle.snapshots.specs.Keeping.{IsHeld, held_entries}
 use Rattle.snapshots.proofs.Behind.{length-objects_from}
@@ -25,10 +25,10 @@ use Rattle.paged.proofs.Upgrading.{of_fault, of_memory, has_room, too_many_for, 
 use Rattle.paged.proofs.compacting.upgraded.Goals as goal
 
 -- what may be held by some numbers may be held by equal ones
-held_as : (rules other : Rules) (view held : seen.View Beside) → rules ≡ other → view ≡ held → IsHeld other held → IsHeld rules view
+held_as : (rules other : Rules) (view held : seen.View Decoded) → rules ≡ other → view ≡ held → IsHeld other held → IsHeld rules view
 held_as rules other view held same lent is =
     let By : Rules → Type 0 = λ r. IsHeld r view in
-    let Of : seen.View Beside → Type 0 = λ w. IsHeld other w in
+    let Of : seen.View Decoded → Type 0 = λ w. IsHeld other w in
     subst By (sym same) (subst Of (sym lent) is)
 
 pub returns-in_err-manifests : goal.returns-in_err-manifests
@@ -36,7 +36,7 @@ returns-in_err-manifests c = of_memory c.args.view c.from_residual.result c.from
 
 pub returns-in_err-check_room : goal.returns-in_err-check_room
 returns-in_err-check_room c =
-    let v : seen.View Beside = c.args.view in
+    let v : seen.View Decoded = c.args.view in
     let handed = c.from_residual-in_err-check_room in
     let was = c.in_err-check_room.was in
     let told = c.check_room.ensures in
@@ -52,7 +52,7 @@ returns-in_err-check_room c =
 
 pub of-requires : goal.of-requires
 of-requires c =
-    let v : seen.View Beside = c.args.view in
+    let v : seen.View Decoded = c.args.view in
     let rules_are : c.rules-rules.result ≡ upgraded_rules = c.rules-rules.ensures ∙ ap (λ (f : Format). rules_of f 0) c.newest_format.ensures in
     let ms : List Manifest = c.in_ok-manifests.manifests.items in
     let ms_are = c.in_ok-manifests.ensures in
@@ -66,7 +66,7 @@ returns-in_err-added c = of_memory c.args.view c.from_residual-in_err-added.resu
 
 pub with-requires : goal.with-requires
 with-requires c =
-    let v : seen.View Beside = c.args.view in
+    let v : seen.View Decoded = c.args.view in
     let rules_are : c.rules-rules.result ≡ upgraded_rules = c.rules-rules.ensures ∙ ap (λ (f : Format). rules_of f 0) c.newest_format.ensures in
     let ms : List Manifest = c.in_ok-manifests.manifests.items in
     let ms_are = c.in_ok-manifests.ensures in
@@ -74,7 +74,7 @@ with-requires c =
     let count_is : c.len-namespaces.result ≡ length (namespaces_in_use v) = len_is ∙ count_of v ms ms_are in
     let few : v.revision + c.len-namespaces.result < 2 ^ 64 = fits c.rules-rules.result v c.len-namespaces.result rules_are count_is c.in_ok-check_room.ensures.revisions in
     let objects : length c.in_ok-added.added.objects.items ≡ length (map new_of ms) =
-    ap (λ (os : List (Key × Stored Beside)). length os) c.in_ok-added.ensures.added.objects ∙ length-objects_from c.revision.result (map new_of ms)
+    ap (λ (os : List (Key × Stored Decoded)). length os) c.in_ok-added.ensures.added.objects ∙ length-objects_from c.revision.result (map new_of ms)
     in
     let news : length (map new_of ms) ≡ length (namespaces_in_use v) = count_of_news v ms ms_are in
     omega (arith, few, objects, news, count_is)
@@ -87,7 +87,7 @@ returns-in_err-entries c = of_memory c.args.view c.from_residual-in_err-entries.
 
 pub returns-in_err-core : goal.returns-in_err-core
 returns-in_err-core c =
-    let v : seen.View Beside = c.args.view in
+    let v : seen.View Decoded = c.args.view in
     let rules_are : c.rules-rules.result ≡ upgraded_rules = c.rules-rules.ensures ∙ ap (λ (f : Format). rules_of f 0) c.newest_format.ensures in
     let ms : List Manifest = c.in_ok-manifests.manifests.items in
     let ms_are = c.in_ok-manifests.ensures in
@@ -114,7 +114,7 @@ returns-in_err-core c =
 
 pub returns : goal.returns
 returns c =
-    let v : seen.View Beside = c.args.view in
+    let v : seen.View Decoded = c.args.view in
     let rules_are : c.rules-rules.result ≡ upgraded_rules = c.rules-rules.ensures ∙ ap (λ (f : Format). rules_of f 0) c.newest_format.ensures in
     let ms : List Manifest = c.in_ok-manifests.manifests.items in
     let ms_are = c.in_ok-manifests.ensures in
@@ -130,13 +130,13 @@ returns c =
     let may_hold : IsOfOlderFormat v → IsHeld upgraded_rules (upgraded_view v) → IsHeld c.rules-rules.result c.in_ok-whole.whole =
     λ older is. held_as c.rules-rules.result upgraded_rules c.in_ok-whole.whole (upgraded_view v) rules_are (whole_is older) is
     in
-    let Shown : seen.View Beside → Type 0 = λ w. Shows c.in_ok-core.core (base_of w) w in
+    let Shown : seen.View Decoded → Type 0 = λ w. Shows c.in_ok-core.core (base_of w) w in
     record {
       next = record {
         entries = λ older. c.in_ok-entries.ensures.held ∙ ap held_entries (whole_is older);
         rules = c.in_ok-core.ensures.rules ∙ rules_are;
         revision =
-            c.revision-revision.ensures ∙ ap (λ (w : seen.View Beside). w.revision) whole_as
+            c.revision-revision.ensures ∙ ap (λ (w : seen.View Decoded). w.revision) whole_as
             ∙ ap (λ (n : ℕ). v.revision + n) (count_of_news v ms ms_are);
         namespaces = count_is;
         held = λ older is. subst Shown (whole_is older) (c.in_ok-core.ensures.held (may_hold older is));

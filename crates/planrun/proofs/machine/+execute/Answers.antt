@@ -2,8 +2,8 @@ use Rattle.std.proofs.Common.{rules, ◌≡◌, inl, suc, ◌+◌, ◌-◌, ◌<
 use Rattle.std.proofs.lemmas.Result.{IfOk-weaker}
 use Rattle.celmean.specs.Value as seen
 use Rattle.celmean.specs.Seen.{values_seen}
-use Rattle.planmachine.specs.Machine.{top}
-use Rattle.planstack.specs.Seen.{stack_seen}
+use Rattle.instructions.specs.Machine.{top}
+use Rattle.planrun.specs.StackSeen.{stack_seen}
 use Rattle.planrun.specs.Running.{items_of, world, next_of}
 use Rattle.planrun.proofs.Early.{early, gathered, all_gathered}
 use Rattle.planrun.proofs.Runs.{onward, ended}

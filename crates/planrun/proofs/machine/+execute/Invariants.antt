@@ -1,7 +1,7 @@
 use Rattle.std.proofs.Common.{◌≡◌, ◌+◌, ◌*◌, ◌<◌, ◌≤◌, [], ◌∷◌, ◌++◌, map, take, length}
 use Rattle.celmean.specs.Seen.{values_seen, outcomes_seen}
-use Rattle.planmachine.specs.Machine.{top}
-use Rattle.planstack.specs.Seen.{stack_seen}
+use Rattle.instructions.specs.Machine.{top}
+use Rattle.planrun.specs.StackSeen.{stack_seen}
 use Rattle.planrun.specs.Running.{items_of, next_of, IsAt}
 use Rattle.planrun.proofs.machine.+execute.Given as goal
 

@@ -1,6 +1,6 @@
 use Rattle.std.proofs.Common.{length}
 use Rattle.instructions.specs.Seen.{op_of}
-use Rattle.planstack.specs.Seen.{stack_seen}
+use Rattle.planrun.specs.StackSeen.{stack_seen}
 use Rattle.planrun.specs.Running.{items_of, world}
 use Rattle.planrun.proofs.Lengths.{stack_length, leads_on}
 use Rattle.planrun.proofs.Ways.{named, operands}

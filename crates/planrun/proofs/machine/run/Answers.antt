@@ -2,8 +2,8 @@ use Rattle.std.proofs.Common.{◌≡◌, ap, sym, ◌∙◌}
 use Rattle.std.proofs.lemmas.Result.{IfOk-weaker}
 use Rattle.celmean.specs.Meaning.{mean}
 use Rattle.celmean.specs.Seen.{outcome_of}
-use Rattle.planmachine.specs.Machine.{top, outcome}
-use Rattle.planstack.specs.Seen.{stack_seen}
+use Rattle.instructions.specs.Machine.{top, outcome}
+use Rattle.planrun.specs.StackSeen.{stack_seen}
 use Rattle.planrun.specs.Worlds.{world_of}
 use Rattle.planrun.proofs.Runs.{at_first, whole_run, meant}
 use Rattle.planrun.proofs.machine.run.Goals as goal

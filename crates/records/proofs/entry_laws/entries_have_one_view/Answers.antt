@@ -1,7 +1,7 @@
 use Rattle.std.proofs.Common.{List, [], ◌∷◌, ℕ}
 use Rattle.std.specs.List.{AllByRecursion}
 use Rattle.names.specs.Key.{Key}
-use Rattle.requests.specs.declared.stored.Stored.{Stored}
+use Rattle.histories.specs.declared.stored.Stored.{Stored}
 use Rattle.records.specs.EntryLaws.{bytes_beside}
 use Rattle.records.proofs.Views.{one_view_of}
 use Rattle.records.proofs.entry_laws.entries_have_one_view.Goals as goal

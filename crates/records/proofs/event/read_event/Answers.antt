@@ -1,6 +1,6 @@
 use Rattle.std.proofs.Common.{sym, ap, ◌++◌}
 use Rattle.fields.specs.Field.{field}
-use Rattle.documents.specs.Json.{text}
+use Rattle.jsondoc.specs.Json.{text}
 use Rattle.names.specs.Key.{key_bytes}
 use Rattle.pages.specs.Page.{Entry}
 use Rattle.records.proofs.event.read_event.Goals as goal

@@ -1,7 +1,7 @@
 use Rattle.std.proofs.Common.{rules, ◌≡◌, ◌∙◌, sym}
 use Rattle.std.specs.Prelude.{Err}
 use Rattle.fields.proofs.Fields.{same-fields}
-use Rattle.documents.specs.Json.{text}
+use Rattle.jsondoc.specs.Json.{text}
 use Rattle.names.specs.Key.{key_bytes}
 use Rattle.records.specs.declared.fault.RecordFault.TheVariants as RecordFault
 use Rattle.records.proofs.Writes.{key-fits}

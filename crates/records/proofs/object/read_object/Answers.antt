@@ -1,7 +1,7 @@
 use Rattle.std.proofs.Common.{rules, ◌≡◌, ◌∙◌, ap, ◌∷◌, ◌++◌}
 use Rattle.std.specs.Prelude.{Err}
 use Rattle.byteorder.specs.Endian.{big_bytes}
-use Rattle.documents.specs.Json.{text}
+use Rattle.jsondoc.specs.Json.{text}
 use Rattle.names.specs.Key.{key_bytes}
 use Rattle.pages.specs.Page.{Entry}
 use Rattle.records.specs.declared.fault.RecordFault.TheVariants as RecordFault

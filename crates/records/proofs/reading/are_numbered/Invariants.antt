@@ -1,5 +1,5 @@
 use Rattle.std.proofs.Common.{◌-◌, length, drop}
-use Rattle.objects.specs.Window.{AreNumberedFrom}
+use Rattle.window.specs.Window.{AreNumberedFrom}
 use Rattle.records.proofs.reading.are_numbered.Given as goal
 
 -- all are numbered where the rest is, from the last revision so far

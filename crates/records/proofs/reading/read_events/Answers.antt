@@ -3,7 +3,7 @@ use Rattle.std.specs.Prelude.{IsErrOf}
 use Rattle.std.proofs.lemmas.List.{take_more, map_push}
 use Rattle.std.specs.List.{AllByRecursion}
 use Rattle.records.proofs.Groups.{all-push}
-use Rattle.objects.specs.declared.event.Event.{Event}
+use Rattle.window.specs.declared.event.Event.{Event}
 use Rattle.documents.specs.Document.{Document}
 use Rattle.pages.specs.Page.{Entry}
 use Rattle.records.specs.declared.entry_fault.EntryFault.TheVariants as EntryFault

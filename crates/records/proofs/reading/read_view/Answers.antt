@@ -1,8 +1,8 @@
 use Rattle.std.proofs.Common.{rules, arith, ◌≡◌, ◌∙◌, sym, ap, subst, ◌-◌, true, ℕ, List, ◌++◌, map, take, drop, length}
 use Rattle.std.specs.Prelude.{IsErrOf}
 use Rattle.std.proofs.lemmas.List.{take_rest}
-use Rattle.objects.specs.declared.event.Event.{Event}
-use Rattle.objects.specs.Window.{AreNumberedFrom}
+use Rattle.window.specs.declared.event.Event.{Event}
+use Rattle.window.specs.Window.{AreNumberedFrom}
 use Rattle.documents.specs.Document.{Document}
 use Rattle.pages.specs.Page.{Entry}
 use Rattle.records.specs.declared.entry_fault.EntryFault.TheVariants as EntryFault

@@ -2,7 +2,7 @@ use Rattle.std.proofs.Common.{rules, arith, ◌≡◌, ◌∙◌, sym, ap, subst
 use Rattle.std.specs.Prelude.{IsErrOf, flat_map}
 use Rattle.std.specs.List.{AllByRecursion}
 use Rattle.std.proofs.lemmas.List.{map_push, length_push}
-use Rattle.requests.specs.History.{Write}
+use Rattle.histories.specs.History.{Write}
 use Rattle.records.specs.declared.fault.RecordFault.TheVariants as RecordFault
 use Rattle.records.specs.Payload.{write_bytes, IsStorable}
 use Rattle.records.specs.WriteOf.{write_of}

@@ -1,7 +1,7 @@
 use Rattle.std.proofs.Common.{◌≡◌, ◌∙◌, sym, subst}
 use Rattle.names.specs.Key.{Key}
 use Rattle.names.proofs.KeyOrder.{key_bytes-injective}
-use Rattle.requests.specs.Manifest.{HasForm}
+use Rattle.documents.specs.Form.{HasForm}
 use Rattle.records.proofs.stored_write.read_manifest.Goals as goal
 
 pub returns-clause-damaged : goal.returns-clause-damaged

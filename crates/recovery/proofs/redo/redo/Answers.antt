@@ -1,6 +1,6 @@
 use Rattle.std.proofs.Common.{map}
-use Rattle.requests.specs.Mapped.{mapped}
-use Rattle.recovery.specs.Shown.{plans_held}
+use Rattle.histories.specs.Mapped.{mapped}
+use Rattle.decoded.specs.Shown.{plans_held}
 use Rattle.records.specs.WriteOf.{write_of}
 use Rattle.recovery.proofs.Histories.{on_ok_to, group_taken, group_recorded}
 use Rattle.recovery.proofs.Knowing.{written_known}

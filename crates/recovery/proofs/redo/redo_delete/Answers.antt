@@ -1,10 +1,10 @@
 use Rattle.std.proofs.Common.{rules, refl}
 use Rattle.std.specs.Prelude.{IsErrOf}
 use Rattle.holdings.specs.declared.redo.RedoFault.TheVariants as RedoFault
-use Rattle.requests.specs.History.{delete}
-use Rattle.requests.specs.View.{after}
-use Rattle.requests.proofs.Mapping.{follows_mapped, follows_back, after_mapped}
-use Rattle.recovery.specs.Shown.{plans_held}
+use Rattle.histories.specs.History.{delete}
+use Rattle.histories.specs.View.{after}
+use Rattle.histories.proofs.Mapping.{follows_mapped, follows_back, after_mapped}
+use Rattle.decoded.specs.Shown.{plans_held}
 use Rattle.recovery.proofs.redo.redo_delete.Goals as goal
 
 pub returns-in_err-redo_delete-clause-damaged : goal.returns-in_err-redo_delete-clause-damaged

@@ -5,15 +5,15 @@ use Rattle.names.specs.Key.{Key}
 use Rattle.names.specs.declared.resource.Resource.{Resource}
 use Rattle.serde_json.specs.Data.{Data}
 use Rattle.holdings.specs.declared.redo.RedoFault.TheVariants as RedoFault
-use Rattle.requests.specs.History.{put}
-use Rattle.requests.specs.Mapped.{mapped}
-use Rattle.requests.specs.View.{after}
-use Rattle.requests.proofs.Mapping.{follows_mapped, follows_back, after_mapped}
+use Rattle.histories.specs.History.{put}
+use Rattle.histories.specs.Mapped.{mapped}
+use Rattle.histories.specs.View.{after}
+use Rattle.histories.proofs.Mapping.{follows_mapped, follows_back, after_mapped}
 use Rattle.expressions.specs.Specification.{Plans, plans_bytes, plans_seen, MayHavePlans}
-use Rattle.recovery.specs.Beside.{Beside, spelled}
-use Rattle.recovery.specs.Shown.{plans_held}
+use Rattle.decoded.specs.Decoded.{Decoded, spelled}
+use Rattle.decoded.specs.Shown.{plans_held}
 use Rattle.recovery.proofs.Histories.{put_of_recorded}
-use Rattle.planlist.specs.declared.reading.ReadPlansFault.TheVariants as ReadPlansFault
+use Rattle.plancode.specs.declared.list_reading.ReadPlansFault.TheVariants as ReadPlansFault
 use Rattle.recovery.proofs.OtherPlans.{other_of, never_told}
 use Rattle.recovery.proofs.redo.redo_put.Goals as goal
 
@@ -36,7 +36,7 @@ returns-clause-taken c = λ base held shows known.
     let taken = c.in_ok-redo_put.ensures.taken base held shows known in
     let again : c.json-2.result.now ≡ (document_in m.body).json = c.json-2.ensures ∙ sym (ap (λ b. (document_in b).json) c.document-2.ensures.body) in
     let alone : beside ≡ spelled (document_in m.body).json plans = c.in_ok-beside.ensures ∙ ap (λ (d : Data). spelled d plans) again in
-    let listed : beside.plans ≡ plans = ap (λ (b : Beside). b.plans) alone in
+    let listed : beside.plans ≡ plans = ap (λ (b : Decoded). b.plans) alone in
     let resource : c.resource.result ≡ m.key.resource = c.resource.ensures.value ∙ ap (λ (k : Key). k.resource) c.key.ensures in
     let json : c.json.result.now ≡ (document_in m.body).json = c.json.ensures ∙ sym (ap (λ b. (document_in b).json) c.document.ensures.body) in
     let Has : Resource → Data → Type 0 = λ r d. MayHavePlans r d plans in

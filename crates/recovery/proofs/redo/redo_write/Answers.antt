@@ -1,7 +1,7 @@
 use Rattle.std.proofs.Common.{subst, ◌∙◌, sym, ap}
-use Rattle.requests.specs.Mapped.{mapped}
-use Rattle.requests.specs.View.{MayFollow}
-use Rattle.recovery.specs.Shown.{plans_held}
+use Rattle.histories.specs.Mapped.{mapped}
+use Rattle.histories.specs.View.{MayFollow}
+use Rattle.decoded.specs.Shown.{plans_held}
 use Rattle.holdings.specs.Known.{IsKnown}
 use Rattle.records.specs.WriteOf.{write_of}
 use Rattle.records.specs.declared.stored_write.StoredWrite.{StoredWrite}

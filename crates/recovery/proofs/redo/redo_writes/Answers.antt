@@ -1,10 +1,10 @@
 use Rattle.std.proofs.Common.{rules, refl, ◌≡◌, ◌∙◌, ap, map, ◌∷◌, ◌++◌, ◌⊎◌, inl, inr, []}
 use Rattle.std.specs.Prelude.{IsErrOf}
 use Rattle.std.specs.Vec.Iter.{into_iter_items}
-use Rattle.requests.specs.Mapped.{mapped}
+use Rattle.histories.specs.Mapped.{mapped}
 use Rattle.records.specs.WriteOf.{write_of}
 use Rattle.recovery.specs.declared.fault.RecoveryFault.TheVariants as RecoveryFault
-use Rattle.recovery.specs.Shown.{plans_held}
+use Rattle.decoded.specs.Shown.{plans_held}
 use Rattle.recovery.specs.Known.{written_key}
 use Rattle.recovery.proofs.Histories.{taken_more, none_taken}
 use Rattle.recovery.proofs.Knowing.{next_known}

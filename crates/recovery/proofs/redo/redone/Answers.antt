@@ -2,8 +2,8 @@ use Rattle.std.proofs.Common.{rules, arith, refl, ◌≡◌, ◌∙◌, sym, ap,
 use Rattle.std.proofs.lemmas.List.{map_more, take_all}
 use Rattle.std.specs.Prelude.{IsErrOf}
 use Rattle.recovery.specs.declared.fault.RecoveryFault.TheVariants as RecoveryFault
-use Rattle.requests.specs.Mapped.{mapped}
-use Rattle.recovery.specs.Shown.{plans_held}
+use Rattle.histories.specs.Mapped.{mapped}
+use Rattle.decoded.specs.Shown.{plans_held}
 use Rattle.recovery.specs.Written.{IsWritten}
 use Rattle.recovery.proofs.Histories.{IsWritten-none, grown, stuck, map-at}
 use Rattle.recovery.proofs.Knowing.{known_at, contains_at}

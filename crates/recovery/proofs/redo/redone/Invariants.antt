@@ -1,13 +1,13 @@
 use Rattle.std.proofs.Common.{◌≡◌, List, map, take}
 use Rattle.names.specs.Key.{Key}
-use Rattle.requests.specs.Mapped.{mapped}
-use Rattle.requests.specs.declared.stored.Stored.{Stored}
-use Rattle.requests.specs.View.{View, after_all}
+use Rattle.histories.specs.Mapped.{mapped}
+use Rattle.histories.specs.declared.stored.Stored.{Stored}
+use Rattle.histories.specs.View.{View, after_all}
 use Rattle.holdings.specs.Holdings.{Shows}
 use Rattle.holdings.specs.Known.{KnowsSame}
-use Rattle.recovery.specs.Beside.{Beside}
+use Rattle.decoded.specs.Decoded.{Decoded}
 use Rattle.recovery.specs.Known.{AllKnown}
-use Rattle.recovery.specs.Shown.{plans_held}
+use Rattle.decoded.specs.Shown.{plans_held}
 use Rattle.recovery.specs.Written.{Write, IsWritten}
 use Rattle.recovery.proofs.redo.redone.Given as goal
 
@@ -15,8 +15,8 @@ abbrev pub invariant-loop-payload : goal.invariant-loop-payload
 invariant-loop-payload l = record {
   rules_stay : l.core.rules ≡ l.fn.core.rules;
   known : KnowsSame l.fn.core l.core;
-  found : (base : List (Key × Stored Beside)) (held : View Beside) → Shows l.fn.core base held → AllKnown l.fn.core base (map (λ p. p.items) l.payloads)
-      → (now : View Beside) × Shows l.core base now
+  found : (base : List (Key × Stored Decoded)) (held : View Decoded) → Shows l.fn.core base held → AllKnown l.fn.core base (map (λ p. p.items) l.payloads)
+      → (now : View Decoded) × Shows l.core base now
       × ((ws : List Write) × IsWritten l.fn.core.rules (mapped plans_held held) ws (map (λ p. p.items) (take l.payload-index l.payloads))
       × (mapped plans_held now ≡ after_all l.fn.core.rules (mapped plans_held held) ws));
 }

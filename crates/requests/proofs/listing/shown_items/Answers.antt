@@ -1,8 +1,8 @@
 use Rattle.std.proofs.Common.{arith, drop, ap, sym, ◌∙◌, List, ◌+◌, cond}
 use Rattle.std.proofs.Math.ListN.{drop_of_length-le}
-use Rattle.documents.specs.Json.{with_item}
+use Rattle.jsondoc.specs.Json.{with_item}
 use Rattle.names.specs.Key.{Key}
-use Rattle.requests.specs.declared.stored.Stored.{Stored}
+use Rattle.histories.specs.declared.stored.Stored.{Stored}
 use Rattle.documents.specs.Document.{shown}
 use Rattle.requests.specs.Selector.{selects, selector_seen}
 use Rattle.requests.proofs.Lists.{drop-next}

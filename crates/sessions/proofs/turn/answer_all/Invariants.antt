@@ -1,7 +1,7 @@
 use Rattle.std.proofs.Common.{◌≡◌, ◌<◌, ◌≤◌, All, length}
 use Rattle.names.specs.declared.format.Rules.{Rules}
 use Rattle.records.specs.Payload.{group_limit}
-use Rattle.recovery.specs.Standing.{View}
+use Rattle.decoded.specs.Standing.{View}
 use Rattle.durable.specs.Settled.{device_of, serves}
 use Rattle.api.specs.Answers.{ShowsAt}
 use Rattle.sessions.specs.Notes.{listed}

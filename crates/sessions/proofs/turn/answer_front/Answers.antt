@@ -5,7 +5,7 @@ use Rattle.requests.specs.Reply.{Reply}
 use Rattle.names.specs.declared.format.Format.{Format}
 use Rattle.names.specs.declared.format.Rules.{Rules}
 use Rattle.records.specs.Payload.{group_limit}
-use Rattle.recovery.specs.Standing.{View}
+use Rattle.decoded.specs.Standing.{View}
 use Rattle.durable.specs.Settled.{ServesAt, HasServed}
 use Rattle.httpmsg.specs.Stream.{Message}
 use Rattle.routes.specs.Allow.{allow_of}
@@ -45,9 +45,9 @@ can_answer g c rules v serving fits rs replies_are allows allows_are =
     let ms : List Message = take c.answered_count-count.result c.args.messages.now in
     let front = take (length c.route_front-front.result.requests.items) c.args.messages.now in
     let With : List Reply → Type 0 = λ xs. CanAnswerAll rules.format ms xs allows in
-    let Beside : List (Option (Bor (List ℕ))) → Type 0 = λ xs. CanAnswerAll rules.format ms c.in-Ok.replies.items xs in
+    let Decoded : List (Option (Bor (List ℕ))) → Type 0 = λ xs. CanAnswerAll rules.format ms c.in-Ok.replies.items xs in
     subst With (sym replies_are)
-    (subst Beside (sym allows_are)
+    (subst Decoded (sym allows_are)
     (front_can_answer rules c.args.store.now c.replies_to.new.store v c.args.messages.now (length c.route_front-front.result.requests.items) c.answered_count-count.result
     c.in-Ok.replies.items c.route_front-front.ensures.few (counted g c) serving (said_of g c rules v serving fits) c.route_front-front.result.allows.items
     (c.route_front-front.ensures.allows ∙ ap (λ (f : Format). map (allow_of f) front) fits)))

@@ -110,3 +110,31 @@ returns-clause-ran g c = c.read.ensures.ran
 
 pub returns-clause-cause : goal.returns-clause-cause
 returns-clause-cause g c told = absurd (no_fault told)
+
+pub returns-in_err-bytes-clause-steady : goal.returns-in_err-bytes-clause-steady
+returns-in_err-bytes-clause-steady g c = IfOk-from_err c.from_residual.result _ c.from_residual.ensures.0
+
+pub returns-in_err-read-clause-steady : goal.returns-in_err-read-clause-steady
+returns-in_err-read-clause-steady g c = IfOk-from_err c.from_residual-in_err-read.result _ c.from_residual-in_err-read.ensures.0
+
+pub returns-in_err-check-clause-steady : goal.returns-in_err-check-clause-steady
+returns-in_err-check-clause-steady g c = IfOk-from_err c.from_residual-in_err-check.result _ c.from_residual-in_err-check.ensures.0
+
+pub returns-clause-steady : goal.returns-clause-steady
+returns-clause-steady g c = c.in_ok-read.ensures.cause.well refl
+
+pub returns-in_err-bytes-clause-memory : goal.returns-in_err-bytes-clause-memory
+returns-in_err-bytes-clause-memory g c told = refl
+
+pub returns-in_err-read-clause-memory : goal.returns-in_err-read-clause-memory
+returns-in_err-read-clause-memory g c told =
+    let is : ShelfFault.Memory ≡ ShelfFault.Device =
+    err_is c.from_residual-in_err-read.result _ ShelfFault.Memory c.from_residual-in_err-read.ensures.1 told
+    in
+    absurd cc
+
+pub returns-in_err-check-clause-memory : goal.returns-in_err-check-clause-memory
+returns-in_err-check-clause-memory g c told = c.in_ok-read.ensures.cause.well refl
+
+pub returns-clause-memory : goal.returns-clause-memory
+returns-clause-memory g c told = c.in_ok-read.ensures.cause.well refl

@@ -7,14 +7,14 @@ use Rattle.names.specs.declared.resource.Scope.TheVariants.{Namespaced}
 use Rattle.names.specs.Key.{Key, is_key}
 use Rattle.names.specs.Name.{is_namespace}
 use Rattle.names.specs.Resource.{row}
-use Rattle.requests.specs.declared.stored.Stored.{Stored}
+use Rattle.histories.specs.declared.stored.Stored.{Stored}
 use Rattle.requests.specs.Namespaces.{names_among}
-use Rattle.recovery.specs.Beside.{Beside}
+use Rattle.decoded.specs.Decoded.{Decoded}
 use Rattle.snapshots.proofs.NamesInUse.{Name, bytes_cmp, inserted, put_all, sound_namespace, left_then, names_more, names_same}
 use Rattle.snapshots.proofs.added.names_of.Goals as goal
 
 abbrev Object : Type 0
-Object = Key × Stored Beside
+Object = Key × Stored Decoded
 
 abbrev AreSound : List Name → Type 0
 AreSound names = AllByRecursion (λ (n : List ℕ). IsTrue (is_namespace n)) (map (λ n. n.0) names)

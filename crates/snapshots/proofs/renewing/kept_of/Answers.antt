@@ -1,7 +1,7 @@
 use Rattle.std.proofs.Common.{arith, refl, not, ap, ◌∙◌, length}
 use Rattle.std.proofs.lemmas.List.Filters.{length-filter_both}
-use Rattle.requests.specs.View.{View}
-use Rattle.recovery.specs.Beside.{Beside}
+use Rattle.histories.specs.View.{View}
+use Rattle.decoded.specs.Decoded.{Decoded}
 use Rattle.snapshots.specs.Keeping.{held_entries}
 use Rattle.snapshots.proofs.renewing.kept_of.Goals as goal
 
@@ -12,9 +12,9 @@ overflow_sub-count_below g c =
       arith,
       c.len-count.ensures,
       c.len.ensures,
-      ap (λ (v : View Beside). length v.objects) c.view.view_is,
-      ap (λ (v : View Beside). length v.objects) c.kept.view_is,
-      ap (λ (v : View Beside). length v.objects) c.apart-kept.ensures,
+      ap (λ (v : View Decoded). length v.objects) c.view.view_is,
+      ap (λ (v : View Decoded). length v.objects) c.kept.view_is,
+      ap (λ (v : View Decoded). length v.objects) c.apart-kept.ensures,
       length-filter_both (λ o. lies o.0.resource) (λ o. not (lies o.0.resource)) (λ o. refl) c.args.view.objects,
     )
 
@@ -28,8 +28,8 @@ returns-clause-count g c =
       arith,
       c.len-count.ensures,
       c.len.ensures,
-      ap (λ (v : View Beside). length v.objects) c.view.view_is,
-      ap (λ (v : View Beside). length v.objects) c.kept.view_is,
-      ap (λ (v : View Beside). length v.objects) c.apart-kept.ensures,
+      ap (λ (v : View Decoded). length v.objects) c.view.view_is,
+      ap (λ (v : View Decoded). length v.objects) c.kept.view_is,
+      ap (λ (v : View Decoded). length v.objects) c.apart-kept.ensures,
       length-filter_both (λ o. lies o.0.resource) (λ o. not (lies o.0.resource)) (λ o. refl) c.args.view.objects,
     )

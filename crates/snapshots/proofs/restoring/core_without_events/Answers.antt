@@ -1,5 +1,5 @@
 use Rattle.std.proofs.Common.{arith, ◌≡◌, ◌-◌, ◌∙◌, ap, subst, ℕ, List, [], length}
-use Rattle.requests.specs.View.{View}
+use Rattle.histories.specs.View.{View}
 use Rattle.holdings.specs.Holdings.{Shows}
 use Rattle.snapshots.specs.Restoring.{without_events}
 use Rattle.snapshots.proofs.restoring.core_without_events.Goals as goal

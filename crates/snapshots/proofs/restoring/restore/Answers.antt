@@ -1,14 +1,14 @@
 use Rattle.std.proofs.Common.{◌≡◌, ◌∙◌, ap, subst}
 use Rattle.names.specs.Key.{Key}
-use Rattle.requests.specs.declared.stored.Stored.{Stored}
-use Rattle.recovery.specs.Beside.{Beside}
+use Rattle.histories.specs.declared.stored.Stored.{Stored}
+use Rattle.decoded.specs.Decoded.{Decoded}
 use Rattle.snapshots.specs.Restoring.{HasTaken}
 use Rattle.snapshots.proofs.Held.{Kept}
 use Rattle.snapshots.proofs.restoring.restore.Goals as goal
 
 pub returns-clause-held : goal.returns-clause-held
 returns-clause-held g c =
-    let s : Stored Beside = c.in_ok-stored.stored in
+    let s : Stored Decoded = c.in_ok-stored.stored in
     let key : c.key.result.now ≡ c.args.object.now.0 = c.key.ensures ∙ ap (λ (x : Kept). x.0) c.object.view_is in (
       s,
       c.in_ok-stored.ensures.stored,

@@ -4,11 +4,11 @@ use Rattle.std.specs.Prelude.{IsErrOf}
 use Rattle.names.specs.Key.{key_cmp}
 use Rattle.objects.specs.Changes.{Changes}
 use Rattle.objects.specs.Merged.{merged}
-use Rattle.requests.specs.declared.stored.Stored.{Stored}
+use Rattle.histories.specs.declared.stored.Stored.{Stored}
 use Rattle.holdings.specs.Holdings.{Shows}
 use Rattle.records.specs.declared.entry_fault.EntryFault.{EntryFault}
-use Rattle.snapshots.specs.Sieve.{chosen_of}
-use Rattle.recovery.specs.Beside.{Beside}
+use Rattle.snapshots.specs.KeptEntries.{chosen_of}
+use Rattle.decoded.specs.Decoded.{Decoded}
 use Rattle.snapshots.specs.declared.fault.SnapshotFault.TheVariants as SnapshotFault
 use Rattle.snapshots.specs.LyingBelow.{puts_of}
 use Rattle.snapshots.specs.Faults.{of_entry_fault}
@@ -49,7 +49,7 @@ keep_all-requires g c =
     (omega (arith, c.in_ok-view.ensures.revision)) (ap (λ (u : KeptView). u.events) c.view.view_is)
 
 pub restore_all-requires-clause-none : goal.restore_all-requires-clause-none
-restore_all-requires-clause-none g c = ap (λ (changes : Changes (Stored Beside)). changes.made) c.keep_all.ensures.changes ∙ c.in_ok-core.ensures.none
+restore_all-requires-clause-none g c = ap (λ (changes : Changes (Stored Decoded)). changes.made) c.keep_all.ensures.changes ∙ c.in_ok-core.ensures.none
 
 pub restore_all-requires-clause-ascend : goal.restore_all-requires-clause-ascend
 restore_all-requires-clause-ascend g c =

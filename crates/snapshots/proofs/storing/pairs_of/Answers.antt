@@ -1,20 +1,20 @@
 use Rattle.std.proofs.Common.{◌≡◌, ◌∙◌, ◌++◌, ap, map, append_assoc}
 use Rattle.checkpoint.specs.EntryList.{listed}
-use Rattle.requests.specs.View.{View}
+use Rattle.histories.specs.View.{View}
 use Rattle.records.specs.Entries.{stored_entry, plans_among, event_entry}
-use Rattle.recovery.specs.Beside.{Beside}
+use Rattle.decoded.specs.Decoded.{Decoded}
 use Rattle.snapshots.specs.Keeping.{held_plans}
 use Rattle.snapshots.proofs.storing.pairs_of.Goals as goal
 
 pub returns : goal.returns
 returns c =
-    let view : View Beside = c.args.view.now in
+    let view : View Decoded = c.args.view.now in
     let os = view.objects in
-    let lent : c.view.inside.objects.items ≡ os = ap (λ (v : View Beside). v.objects) c.view.view_is in
+    let lent : c.view.inside.objects.items ≡ os = ap (λ (v : View Decoded). v.objects) c.view.view_is in
     let first : c.deref.result.now ≡ os = c.deref.ensures.value ∙ lent in
     let second : c.deref-2.result.now ≡ os = c.deref-2.ensures.value ∙ lent in
     let third : map (λ event. event.now) c.deref-3.result.now ≡ view.events =
-    ap (map (λ event. event.now)) c.deref-3.ensures.value ∙ ap (λ (v : View Beside). v.events) c.view.view_is
+    ap (map (λ event. event.now)) c.deref-3.ensures.value ∙ ap (λ (v : View Decoded). v.events) c.view.view_is
     in
     let objects : listed c.add_objects.new.entries.items ≡ map stored_entry os =
     c.in_ok-add_objects.ensures ∙ (λ i. listed (c.new-pairs.ensures.items i) ++ map stored_entry (first i))

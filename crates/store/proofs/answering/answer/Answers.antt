@@ -1,5 +1,5 @@
 use Rattle.std.proofs.Common.{◌∙◌, sym, subst, true≢false}
-use Rattle.requests.specs.View.{view}
+use Rattle.histories.specs.View.{view}
 use Rattle.objects.specs.Failing.{HasGrown}
 use Rattle.durable.proofs.Answering.{settled_serves}
 use Rattle.api.specs.Answers.{ShowsAt}

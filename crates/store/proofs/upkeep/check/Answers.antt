@@ -1,6 +1,7 @@
 use Rattle.std.proofs.Common.{◌∙◌, sym, ap, Err, ⊎_elim}
-use Rattle.requests.specs.View.{view}
+use Rattle.histories.specs.View.{view}
 use Rattle.roots.specs.declared.root.Root.{Root}
+use Rattle.durable.specs.Settled.{root_of}
 use Rattle.durable.proofs.Answering.{settled_serves}
 use Rattle.durable.proofs.Numbers.{history_kept}
 use Rattle.store.proofs.Keeping.{kept_read, same_root, told_of_view}
@@ -28,6 +29,11 @@ returns-in-Ok-check-clause-told g c rules h holds =
     (sym told.generation ∙ (c.in-Ok-check.ensures.counted rules h settled).0 ∙ ap (λ (r : Root). r.generation) same)
     (sym told.format ∙ (c.in-Ok-check.ensures.counted rules h settled).1 ∙ ap (λ (r : Root). r.label.format) same)
 
+pub returns-in-Ok-check-clause-whole : goal.returns-in-Ok-check-clause-whole
+returns-in-Ok-check-clause-whole g c keeps =
+    let whole = c.in-Ok.ensures.whole keeps in
+    record { root = root_of c.in-Ok.store; counts = whole.counts; pages = whole.pages; objects = c.in-Ok-check.ensures.are _ whole.entries }
+
 pub returns-in-Err-check-clause-failed : goal.returns-in-Err-check-clause-failed
 returns-in-Err-check-clause-failed g c rules h holds =
     let settled = c.in-Ok.ensures.settled rules h holds.keeps holds.read in
@@ -39,3 +45,13 @@ returns-in-Err-check-clause-undamaged g c rules h holds damage is =
     let settled = c.in-Ok.ensures.settled rules h holds.keeps holds.read in
     c.check.ensures.damaged damage (c.in-Err-check.is ∙ ap Err is) rules (view rules h) (settled_serves rules c.in-Ok.store h settled)
     (history_kept rules settled.read.root.label h settled.read.checkpoint.numbers settled.read.history)
+
+pub returns-in-Ok-check-clause-steady : goal.returns-in-Ok-check-clause-steady
+returns-in-Ok-check-clause-steady g c = ap g.D.Device.disk.failures c.into_device.ensures ∙ c.in-Ok-check.ensures.steady ∙ c.in-Ok.ensures.steady
+
+pub returns-in-Err-check-clause-unfailed : goal.returns-in-Err-check-clause-unfailed
+returns-in-Err-check-clause-unfailed g c rules h holds is =
+    ap g.D.Device.disk.failures c.into_device-in-Err-check.ensures ∙ c.check.ensures.unfailed (c.in-Err-check.is ∙ ap Err is) ∙ c.in-Ok.ensures.steady
+
+pub returns-in-Err-clause-unfailed : goal.returns-in-Err-clause-unfailed
+returns-in-Err-clause-unfailed g c rules h holds is = c.in-Err.ensures.unfailed rules h holds.keeps holds.read is

@@ -1,4 +1,4 @@
-use Rattle.std.proofs.Common.{◌∙◌, ◌+◌, sym, subst, ap, Err, true≢false, ⊎_elim}
+use Rattle.std.proofs.Common.{◌∙◌, ◌+◌, sym, subst, ap, Err, true≢false, inl, inr, ⊎_elim}
 use Rattle.names.specs.declared.format.Rules.{Rules}
 use Rattle.roots.specs.declared.root.Root.{Root}
 use Rattle.durable.specs.Settled.{root_of, kept_rules}
@@ -45,3 +45,14 @@ pub returns-in-Err-compact-clause-undamaged : goal.returns-in-Err-compact-clause
 returns-in-Err-compact-clause-undamaged g c rules h holds damage is =
     let settled = c.in-Ok.ensures.settled rules h holds.keeps holds.read in
     c.compact.ensures.damaged damage (c.in-Err-compact.is ∙ ap Err is) rules h settled
+
+pub returns-in-Ok-compact-clause-steady : goal.returns-in-Ok-compact-clause-steady
+returns-in-Ok-compact-clause-steady g c = ap g.D.Device.disk.failures c.into_device.ensures ∙ c.in-Ok-compact.ensures.steady ∙ c.in-Ok.ensures.steady
+
+pub returns-in-Err-compact-clause-unfailed : goal.returns-in-Err-compact-clause-unfailed
+returns-in-Err-compact-clause-unfailed g c rules h holds told =
+    ap g.D.Device.disk.failures c.into_device-in-Err-compact.ensures
+    ∙ c.compact.ensures.unfailed (⊎_elim (λ is. inl (c.in-Err-compact.is ∙ ap Err is)) (λ is. inr (c.in-Err-compact.is ∙ ap Err is)) told) ∙ c.in-Ok.ensures.steady
+
+pub returns-in-Err-clause-unfailed : goal.returns-in-Err-clause-unfailed
+returns-in-Err-clause-unfailed g c rules h holds told = ⊎_elim (λ is. c.in-Err.ensures.unfailed rules h holds.keeps holds.read is) (λ is. absurd (c.in-Err.ensures.never_failed.1 is)) told

@@ -1,7 +1,8 @@
-use Rattle.std.proofs.Common.{◌≡◌, ◌∙◌, ◌+◌, sym, subst, ap, Some, Err, IsErrOf, true≢false}
+use Rattle.std.proofs.Common.{◌≡◌, ◌∙◌, ◌+◌, ◌⊎◌, sym, subst, ap, Some, Err, IsErrOf, true≢false}
 use Rattle.device.specs.Disk.{HasFailed}
 use Rattle.roots.specs.declared.root.Root.{Root}
-use Rattle.requests.specs.View.{view}
+use Rattle.histories.specs.View.{view}
+use Rattle.durable.specs.declared.upgraded.UpgradeFault.{UpgradeFault}
 use Rattle.durable.specs.declared.upgraded.UpgradeFault.TheVariants as upgrade
 use Rattle.durable.specs.Settled.{root_of}
 use Rattle.durable.specs.Upgraded.{IsRefusal, refusals, first_of}
@@ -10,7 +11,7 @@ use Rattle.durable.proofs.Older.{root_here}
 use Rattle.durable.proofs.Upgrading.{only_device_is, only_failed_is}
 use Rattle.store.specs.Upkeep.{IsToldUpgraded}
 use Rattle.store.proofs.Keeping.{kept_unopened, same_root}
-use Rattle.store.proofs.Upgrading.{failed_since, opening_whole, opening_unrefused, either_kept, upgraded_settled, unfailed_kept, failed_either}
+use Rattle.store.proofs.Upgrading.{failed_since, opening_whole, opening_unrefused, opening_unfailed, unchanged_by, either_kept, upgraded_settled, unfailed_kept, failed_either}
 use Rattle.store.proofs.upkeep.upgrade.Goals as goal
 
 pub returns-in-Err : goal.returns-in-Err
@@ -32,6 +33,10 @@ returns-in-Err g c =
           opening_whole c.in-Err.fault damage (c.in-Err.ensures.refusal rules h holds.keeps holds.read) (sym c.from.ensures ∙ is);
       never_failed = λ is. c.in-Err.ensures.never_failed.0 (only_failed_is c.in-Err.fault (sym c.from.ensures ∙ is));
       cause = λ is. c.in-Err.ensures.cause (only_device_is c.in-Err.fault (sym c.from.ensures ∙ is));
+      steady = tt;
+      unfailed = λ rules h holds told.
+          let Unchanged : UpgradeFault → Type 0 = λ x. (x ≡ upgrade.Memory) ⊎ IsRefusal x in
+          c.in-Err.ensures.unfailed rules h holds.keeps holds.read (opening_unfailed c.in-Err.fault c.in-Err.ensures.never_failed (subst Unchanged c.from.ensures told));
     }
 
 pub returns-in-Ok-upgrade : goal.returns-in-Ok-upgrade
@@ -63,6 +68,8 @@ returns-in-Ok-upgrade g c =
       undamaged = λ rules h holds. tt;
       never_failed = tt;
       cause = tt;
+      steady = ap disk.failures c.into_device.ensures ∙ c.in-Ok-upgrade.ensures.steady ∙ c.in-Ok.ensures.steady;
+      unfailed = λ rules h holds. tt;
     }
 
 pub returns-in-Err-upgrade : goal.returns-in-Err-upgrade
@@ -102,4 +109,6 @@ returns-in-Err-upgrade g c =
       cause = λ failed.
           let Failed : g.row.D.Denot → Type 0 = λ d. HasFailed disk c.args.device d in
           subst Failed (sym same) (failed_since disk c.args.device opened.device new.device c.in-Ok.ensures.count (c.upgrade.ensures.cause (is ∙ ap Err failed)));
+      steady = tt;
+      unfailed = λ rules h holds unchanged. ap disk.failures same ∙ c.upgrade.ensures.unfailed (unchanged_by c.upgrade.result told is unchanged) ∙ c.in-Ok.ensures.steady;
     }

@@ -1,6 +1,6 @@
 use Rattle.std.proofs.Common.{◌≡◌, ◌++◌, map, drop}
 use Rattle.std.specs.List.{filter_map}
-use Rattle.expressions.specs.LookupSeen.{listed_seen}
+use Rattle.verdict.specs.LookupSeen.{listed_seen}
 use Rattle.verdict.specs.Turns.{held_binding}
 use Rattle.verdict.proofs.admission.bindings_among.Given as goal
 

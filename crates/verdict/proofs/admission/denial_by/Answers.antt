@@ -4,12 +4,13 @@ use Rattle.std.proofs.lemmas.Result.{IfOk-weaker}
 use Rattle.names.specs.Key.{Key}
 use Rattle.objects.specs.Objects.{value_at}
 use Rattle.policy.specs.Rules.{attempt_seen}
-use Rattle.denials.specs.Seen.{denial_seen}
-use Rattle.expressions.specs.Objects.{Object, all_held, policy_key}
-use Rattle.expressions.specs.LookupSeen.{held_by}
+use Rattle.verdict.specs.DenialSeen.{denial_seen}
+use Rattle.expressions.specs.Bindings.{policy_key}
+use Rattle.verdict.specs.Objects.{Object, all_held}
+use Rattle.verdict.specs.LookupSeen.{held_by}
 use Rattle.verdict.specs.Admission.{denial_by}
 use Rattle.verdict.specs.Turns.{denial_by_policy}
-use Rattle.expressions.specs.Objects.{Held}
+use Rattle.verdict.specs.Objects.{Held}
 use Rattle.verdict.proofs.Standing.{found_policy, plans_held, no_policy}
 use Rattle.verdict.proofs.Spoiling.{found_asked}
 use Rattle.verdict.proofs.admission.denial_by.Goals as goal

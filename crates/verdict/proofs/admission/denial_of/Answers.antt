@@ -10,8 +10,8 @@ use Rattle.policy.specs.Spec.{Policy, Binding, policy_seen, binding_seen}
 use Rattle.expressions.specs.Plans.{plans_of}
 use Rattle.expressions.specs.Specification.{plans_in}
 use Rattle.verdict.specs.Ready.{AreReady, AreTypedInSome}
-use Rattle.denials.specs.Seen.{denial_seen}
-use Rattle.expressions.specs.Objects.{Held, shown_objects}
+use Rattle.verdict.specs.DenialSeen.{denial_seen}
+use Rattle.verdict.specs.Objects.{Held, shown_objects}
 use Rattle.verdict.specs.OneBinding.{denial}
 use Rattle.verdict.specs.Turns.{denial_by_policy}
 use Rattle.verdict.proofs.admission.denial_of.Goals as goal

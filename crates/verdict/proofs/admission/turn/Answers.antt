@@ -2,7 +2,7 @@ use Rattle.std.proofs.lemmas.Result.{IfOk-from_err}
 use Rattle.std.proofs.Common.{rules, ◌≡◌, sym, subst}
 use Rattle.policy.specs.Rules.{attempt_seen}
 use Rattle.policy.specs.Spec.{Binding, binding_seen}
-use Rattle.denials.specs.Seen.{denial_seen}
+use Rattle.verdict.specs.DenialSeen.{denial_seen}
 use Rattle.verdict.specs.Spoiled.{AsksSpoiled}
 use Rattle.verdict.proofs.Faults.{same_fault, no_fault}
 use Rattle.verdict.proofs.Spoiling.{passed_on, decided_denies}

@@ -1,12 +1,12 @@
-use Rattle.std.proofs.Common.{rules, ◌≡◌, ◌+◌, map, drop, string_bytes, Option, refl, sym, ap, ◌∙◌}
+use Rattle.std.proofs.Common.{rules, ◌≡◌, ◌+◌, map, drop, string_bytes, Option, sym, ap, ◌∙◌}
 use Rattle.std.specs.Option.{option_map_or}
 use Rattle.std.proofs.lemmas.Result.{IfOk-from_err}
 use Rattle.policy.specs.Rules.{attempt_seen}
 use Rattle.verdict.specs.Admission.{finding}
 use Rattle.verdict.specs.Deciding.{verdict_of}
 use Rattle.verdict.specs.Deciding.{after_warnings}
-use Rattle.denials.specs.Seen.{verdict_seen}
-use Rattle.denials.specs.declared.verdict.Verdict as code_verdict
+use Rattle.verdict.specs.DenialSeen.{verdict_seen}
+use Rattle.verdict.specs.declared.verdict.Verdict as code_verdict
 use Rattle.verdict.proofs.Faults.{same_fault, no_fault, as_many, no_fewer, grown_after}
 use Rattle.verdict.proofs.Turns.{turn, begun, ended}
 use Rattle.verdict.proofs.Spoiling.{none_begun, none_more, none_at_all}

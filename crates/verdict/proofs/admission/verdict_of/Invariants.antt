@@ -5,7 +5,7 @@ use Rattle.names.specs.Key.{Key}
 use Rattle.policy.specs.Rules.{attempt_seen}
 use Rattle.verdict.specs.Request.{request_of}
 use Rattle.verdict.specs.Admission.{finding}
-use Rattle.expressions.specs.Objects.{Held, Objects, HaveTrees}
+use Rattle.verdict.specs.Objects.{Held, Objects, HaveTrees}
 use Rattle.verdict.specs.Deciding.{verdict_of}
 use Rattle.verdict.specs.Deciding.{after_warnings}
 use Rattle.verdict.proofs.Spoiling.{NoneAsks}

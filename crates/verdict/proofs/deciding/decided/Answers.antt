@@ -2,8 +2,8 @@ use Rattle.std.proofs.Common.{◌≡◌, List, ◌∷◌, [], ◌++◌, map, str
 use Rattle.std.proofs.lemmas.List.{map_push}
 use Rattle.policy.specs.Forms.{Text}
 use Rattle.policy.specs.Spec.{binding_seen}
-use Rattle.denials.specs.Seen.{denial_seen, decision_seen}
-use Rattle.denials.specs.Verdict.{warned, decision}
+use Rattle.verdict.specs.DenialSeen.{denial_seen, decision_seen}
+use Rattle.verdict.specs.Verdict.{warned, decision}
 use Rattle.verdict.specs.Deciding.{after_warnings}
 use Rattle.verdict.specs.Texts.{warning}
 use Rattle.verdict.proofs.Warnings.{warning_is}

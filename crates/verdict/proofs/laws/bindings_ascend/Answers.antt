@@ -1,6 +1,6 @@
 use Rattle.policy.specs.Bindings.{binding_of}
 use Rattle.verdict.proofs.Ascending.{names_ascend}
-use Rattle.expressions.specs.Objects.{Object}
+use Rattle.verdict.specs.Objects.{Object}
 use Rattle.verdict.proofs.laws.bindings_ascend.Goals as goal
 
 pub returns : goal.returns

@@ -5,7 +5,7 @@ use Rattle.policy.specs.Rules.{attempt_seen}
 use Rattle.policy.specs.Spec.{policy_seen, binding_seen}
 use Rattle.expressions.specs.Specification.{these}
 use Rattle.verdict.specs.Ready.{AreReady}
-use Rattle.expressions.specs.Objects.{shown_objects}
+use Rattle.verdict.specs.Objects.{shown_objects}
 use Rattle.verdict.proofs.BindingTurns.{said}
 use Rattle.verdict.proofs.one_binding.denial.Goals as goal
 

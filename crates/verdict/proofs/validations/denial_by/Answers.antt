@@ -4,9 +4,9 @@ use Rattle.std.proofs.lemmas.Result.{IfOk-weaker}
 use Rattle.celmean.specs.Macros.{is_false}
 use Rattle.celmean.specs.Seen.{outcome_of}
 use Rattle.celmean.specs.Value.{Outcome}
-use Rattle.denials.specs.Denials.{told}
+use Rattle.verdict.specs.Told.{told}
 use Rattle.policy.specs.Forms.{Text}
-use Rattle.denials.specs.Validation.{validation_seen}
+use Rattle.policy.specs.Validation.{validation_seen}
 use Rattle.verdict.specs.Seen.{world_of}
 use Rattle.verdict.specs.ByPlans.{line_by}
 use Rattle.verdict.proofs.validations.denial_by.Goals as goal

@@ -1,5 +1,5 @@
 use Rattle.std.proofs.Common.{◌≡◌, map, length}
-use Rattle.denials.specs.Validation.{validation_seen}
+use Rattle.policy.specs.Validation.{validation_seen}
 use Rattle.verdict.specs.Seen.{world_of}
 use Rattle.verdict.specs.ByPlans.{tests_by}
 use Rattle.verdict.proofs.validations.tests_by.Given as goal

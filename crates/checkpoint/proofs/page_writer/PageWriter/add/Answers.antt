@@ -96,3 +96,12 @@ returns-then-is_ok-clause-ran g c =
     let writer = c.args.self.now in
     not_yet g.D.Device.disk c.args.device.now (Torn (512 * writer.at) (32768 * (writer.filled + writer.left)))
     (λ x. torn_idle (512 * writer.at) (32768 * (writer.filled + writer.left)) x) (λ keeps x since. g.met.D.Device.only_now c.args.device.now x keeps since)
+
+pub returns-in_err-end_page-clause-steady : goal.returns-in_err-end_page-clause-steady
+returns-in_err-end_page-clause-steady g c = IfOk-from_err c.from_residual.result _ c.from_residual.ensures.0
+
+pub returns-in-Ok-clause-steady : goal.returns-in-Ok-clause-steady
+returns-in-Ok-clause-steady g c = c.in_ok-end_page.ensures.steady
+
+pub returns-then-is_ok-clause-steady : goal.returns-then-is_ok-clause-steady
+returns-then-is_ok-clause-steady g c = refl

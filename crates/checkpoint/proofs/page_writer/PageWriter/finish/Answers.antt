@@ -1,4 +1,4 @@
-use Rattle.std.proofs.Common.{arith, ◌≡◌, ap, length, ◌+◌, ◌*◌, ◌++◌, ◌∷◌, [], List, ℕ, subst}
+use Rattle.std.proofs.Common.{arith, refl, ◌≡◌, ◌∙◌, ap, length, ◌+◌, ◌*◌, ◌++◌, ◌∷◌, [], List, ℕ, subst}
 use Rattle.pages.specs.Page.{Entry}
 use Rattle.checkpoint.specs.PageWriter.{IsFilled, IsLaid}
 use Rattle.std.proofs.lemmas.List.{length-append}
@@ -55,3 +55,6 @@ returns-in_err-flush-clause-damaged g c keeps first all laid told =
     let handed = c.from_residual-in_err-flush in
     let device : WriteFault.Damaged ≡ WriteFault.Device = err_is handed.result _ WriteFault.Damaged handed.ensures.1 told in
     cc
+
+pub returns-clause-steady : goal.returns-clause-steady
+returns-clause-steady g c = c.in_ok-flush.ensures.cause.well refl ∙ c.in_ok-end_page.ensures.steady

@@ -42,5 +42,6 @@ returns g c =
         refusal = met.refusal;
         cause = met.cause;
         count = met.count;
+        steady = met.steady;
       };
     }

@@ -2,7 +2,7 @@ use Rattle.std.proofs.Common.{arith, ◌≡◌, refl, sym, subst, ℕ, List, [],
 use Rattle.std.specs.Prelude.{MatchOption}
 use Rattle.gatelog.specs.declared.record.Body.{Body}
 use Rattle.gatelog.specs.Payload.{payload_of}
-use Rattle.requests.specs.History.{Write}
+use Rattle.histories.specs.History.{Write}
 use Rattle.records.specs.Gathered.{count_of}
 use Rattle.records.specs.Payload.{payload}
 use Rattle.durable.specs.Gathered.{in_record}

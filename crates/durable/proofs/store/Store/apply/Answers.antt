@@ -27,6 +27,8 @@ returns-then-not-self g c = record {
   memory_goes_on = λ is. refl;
   cause = λ is. failed_alone Faults.Device no_device is;
   count = omega arith;
+  steady = tt;
+  unfailed = λ is. failed_alone Faults.Memory no_memory is;
 }
 
 pub returns-in_err-group : goal.returns-in_err-group
@@ -34,7 +36,7 @@ returns-in_err-group g c =
     let store = c.args.self.now in
     let told = c.from_residual.result in
     let working = c.if-not-self.false in
-    let leaves = serves_refused store store told c.from_residual.ensures.1 refl working in
+    let leaves = serves_refused store store told c.from_residual.ensures.1 refl working refl in
     let only_now = g.met.D.Device.only_now store.device in
     record {
       ok = λ serves. IfOk-from_err told _ c.from_residual.ensures.0;
@@ -51,6 +53,8 @@ returns-in_err-group g c =
       memory_goes_on = λ is. refl;
       cause = leaves.cause;
       count = omega arith;
+      steady = IfOk-from_err told _ c.from_residual.ensures.0;
+      unfailed = leaves.unfailed;
     }
 
 pub returns-in_err-reply : goal.returns-in_err-reply
@@ -81,6 +85,8 @@ returns-in_err-reply g c =
       memory_goes_on = λ is. leaves.memory_goes_on is ∙ sym working;
       cause = leaves.cause;
       count = c.step.ensures.device.count;
+      steady = IfOk-from_err told _ passed.0;
+      unfailed = leaves.unfailed;
     }
 
 pub returns-in_err-append_group : goal.returns-in_err-append_group
@@ -112,6 +118,8 @@ returns-in_err-append_group g c =
       memory_goes_on = λ is. absurd (true≢false (sym (leaves.memory_goes_on is) ∙ stopped));
       cause = leaves.cause;
       count = omega (arith, c.step.ensures.device.count, c.append_group.ensures.cause.later);
+      steady = IfOk-from_err told _ passed.0;
+      unfailed = leaves.unfailed;
     }
 
 pub returns : goal.returns
@@ -135,4 +143,6 @@ returns g c =
       memory_goes_on = λ is. absurd (no_fault is);
       cause = λ is. absurd (no_fault is);
       count = omega (arith, c.step.ensures.device.count, c.append_group.ensures.cause.later);
+      steady = c.in_ok-append_group.ensures.cause.well refl ∙ c.in_ok-reply.ensures.leaves.steady;
+      unfailed = λ is. absurd (no_fault is);
     }

@@ -6,14 +6,14 @@ use Rattle.objects.specs.declared.fault.Part.TheVariants.{Plans}
 use Rattle.names.specs.declared.format.Rules.{Rules}
 use Rattle.holdings.specs.Holdings.{State, Shows}
 use Rattle.snapshots.specs.Keeping.{IsKeepable}
-use Rattle.recovery.specs.Beside.{Beside}
-use Rattle.recovery.specs.Shown.{ShowsOver}
+use Rattle.decoded.specs.Decoded.{Decoded}
+use Rattle.decoded.specs.Shown.{ShowsOver}
 use Rattle.paged.proofs.Owning.{below_own}
 use Rattle.durable.specs.declared.fault.Fault.TheVariants as Faults
-use Rattle.durable.specs.Settled.{root_of, format_of}
+use Rattle.durable.specs.Settled.{root_of}
 use Rattle.durable.proofs.Numbers.{kept_format}
 use Rattle.recovery.specs.Compiled.{HasOwnPlans}
-use Rattle.recovery.specs.Standing.{IsView}
+use Rattle.decoded.specs.Standing.{IsView}
 use Rattle.std.specs.List.{AllByRecursion}
 use Rattle.names.specs.declared.format.Format.{Format}
 use Rattle.durable.proofs.Called.{serves_passed, serves_refused, serves_spoiled, passed_on, failed_alone, no_device, no_memory, no_damage, ran_met}
@@ -28,6 +28,7 @@ returns-then-not-self g c = record {
   told = λ held holds. tt;
   counted = λ rules h settled. tt;
   plans = λ held holds. tt;
+  are = λ entries has. tt;
   serving = λ rules v serving. tt;
   memory = λ rules v serving is. failed_alone Faults.Memory no_memory is;
   settled = λ rules h settled. tt;
@@ -40,6 +41,8 @@ returns-then-not-self g c = record {
   damaged_stops = λ damage is. c.if-not-self.true;
   memory_goes_on = λ is. refl;
   cause = λ is. failed_alone Faults.Device no_device is;
+  steady = tt;
+  unfailed = λ is. failed_alone Faults.Memory no_memory is;
   failed = λ stopped. (refl, refl);
 }
 
@@ -54,6 +57,7 @@ returns-in_err-next g c =
       told = λ held holds. IfOk-from_err told _ passed.0;
       counted = λ rules h settled. IfOk-from_err told _ passed.0;
       plans = λ held holds. IfOk-from_err told _ passed.0;
+      are = λ entries has. IfOk-from_err told _ passed.0;
       serving = λ rules v serving. IfOk-from_err told _ passed.0;
       memory = λ rules v serving is. serves_between store mid mid c.next.ensures.device c.next.ensures.core c.next.ensures.lies (leaves.memory_goes_on is) rules v serving;
       settled = λ rules h settled. IfOk-from_err told _ passed.0;
@@ -68,6 +72,8 @@ returns-in_err-next g c =
       damaged_stops = leaves.damaged_stops;
       memory_goes_on = λ is. leaves.memory_goes_on is ∙ sym c.if-not-self.false;
       cause = leaves.cause;
+      steady = IfOk-from_err told _ passed.0;
+      unfailed = leaves.unfailed;
       failed = λ stopped. absurd (true≢false (sym c.if-not-self.false ∙ stopped));
     }
 
@@ -78,11 +84,12 @@ returns-in_err-has_own_plans g c =
     let told = c.from_residual-in_err-has_own_plans.result in
     let passed = c.from_residual-in_err-has_own_plans.ensures in
     let working = c.in_ok-next.ensures.leaves.goes_on in
-    let leaves = serves_refused store mid told passed.1 refl working in
+    let leaves = serves_refused store mid told passed.1 refl working c.in_ok-next.ensures.leaves.steady in
     record {
       told = λ held holds. IfOk-from_err told _ passed.0;
       counted = λ rules h settled. IfOk-from_err told _ passed.0;
       plans = λ held holds. IfOk-from_err told _ passed.0;
+      are = λ entries has. IfOk-from_err told _ passed.0;
       serving = λ rules v serving. IfOk-from_err told _ passed.0;
       memory = λ rules v serving is. serves_between store mid mid c.next.ensures.device c.next.ensures.core c.next.ensures.lies working rules v serving;
       settled = λ rules h settled. IfOk-from_err told _ passed.0;
@@ -95,6 +102,8 @@ returns-in_err-has_own_plans g c =
       damaged_stops = leaves.damaged_stops;
       memory_goes_on = λ is. leaves.memory_goes_on is ∙ sym c.if-not-self.false;
       cause = leaves.cause;
+      steady = IfOk-from_err told _ passed.0;
+      unfailed = leaves.unfailed;
       failed = λ stopped. absurd (true≢false (sym c.if-not-self.false ∙ stopped));
     }
 
@@ -108,6 +117,7 @@ returns-then-not-branch g c =
       told = λ held holds. tt;
       counted = λ rules h settled. tt;
       plans = λ held holds. tt;
+      are = λ entries has. tt;
       serving = λ rules v serving. tt;
       memory = λ rules v serving is. absurd (true≢false (sym (leaves.memory_goes_on is) ∙ c.stop_for.ensures.stops));
       settled = λ rules h settled. tt;
@@ -116,16 +126,18 @@ returns-then-not-branch g c =
       device = ran_met new mid.device mid.paged c.stop_for.ensures.device c.stop_for.ensures.paged store.device c.next.ensures.device;
       damaged = λ damage is rules v serving keepable.
           let shown = serving.shows in
-          let Over : State Beside → Type 0 = λ core. ShowsOver core shown.base v in
+          let Over : State Decoded → Type 0 = λ core. ShowsOver core shown.base v in
           let Seen : Rules → Type 0 = λ r. IsView r.format v in
           let same = c.core.ensures ∙ c.next.ensures.core in
           c.in_ok-has_own_plans.ensures.no shown.base v (subst Over (sym same) shown.shows)
-          (subst Seen (sym (ap (λ (core : State Beside). core.rules) same ∙ serving.rules_are)) serving.seen) c.if-not-branch.true;
+          (subst Seen (sym (ap (λ (core : State Decoded). core.rules) same ∙ serving.rules_are)) serving.seen) c.if-not-branch.true;
       refusal = λ serves. leaves.refusal;
       stops = leaves.stops;
       damaged_stops = leaves.damaged_stops;
       memory_goes_on = λ is. leaves.memory_goes_on is ∙ sym c.if-not-self.false;
       cause = leaves.cause;
+      steady = tt;
+      unfailed = leaves.unfailed;
       failed = λ stopped. absurd (true≢false (sym c.if-not-self.false ∙ stopped));
     }
 
@@ -142,12 +154,13 @@ returns g c =
           let same = root_is g.D.Device.disk store.device (root_of store) store.log (store.ready settled.working settled.keeps) settled.read.root settled.read.counts in
           (ap (λ (r : Root). r.generation) (root ∙ same), format ∙ ap (λ (r : Root). r.label.format) same);
       plans = λ held holds.
-          let Held : State Beside → Type 0 = λ core. Shows core holds.base held in
+          let Held : State Decoded → Type 0 = λ core. Shows core holds.base held in
           let Own : Format → Type 0 = λ format. AllByRecursion (HasOwnPlans format) held.objects in
           let same = c.core.ensures ∙ c.next.ensures.core in
-          subst Own (ap (λ (core : State Beside). core.rules.format) same ∙ kept_format store)
+          subst Own (ap (λ (core : State Decoded). core.rules.format) same ∙ kept_format store)
           (c.in_ok-has_own_plans.ensures.yes holds.base held (subst Held (sym same) holds.shows)
           (below_own c.core.result.now.rules.format g.D.Device.disk store.device store.paged holds.base holds.below) c.if-not-branch.false);
+      are = c.in_ok-next.ensures.are;
       serving = λ rules v serving. serves_between store mid mid c.next.ensures.device c.next.ensures.core c.next.ensures.lies working rules v serving;
       memory = λ rules v serving is. absurd (no_fault is);
       settled = λ rules h settled. settled_between store mid mid c.next.ensures.device c.next.ensures.core c.next.ensures.lies working rules h settled;
@@ -163,5 +176,7 @@ returns g c =
       damaged_stops = λ damage is. absurd (no_fault is);
       memory_goes_on = λ is. absurd (no_fault is);
       cause = λ is. absurd (no_fault is);
+      steady = c.in_ok-next.ensures.leaves.steady;
+      unfailed = λ is. absurd (no_fault is);
       failed = λ stopped. absurd (true≢false (sym c.if-not-self.false ∙ stopped));
     }

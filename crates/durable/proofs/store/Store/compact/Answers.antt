@@ -4,7 +4,7 @@ use Rattle.roots.specs.declared.root.Root.{Root}
 use Rattle.checkpoint.specs.EntryList.{entries_of as in_list}
 use Rattle.names.specs.declared.format.Rules.{Rules}
 use Rattle.snapshots.specs.Keeping.{entries_of, IsKeepable}
-use Rattle.requests.specs.View.{view}
+use Rattle.histories.specs.View.{view}
 use Rattle.recovery.proofs.Histories.{on_ok_to}
 use Rattle.durable.specs.declared.fault.Fault.TheVariants as Fault
 use Rattle.durable.specs.Settled.{root_of, kept_rules, IsSettledAt}
@@ -13,10 +13,10 @@ use Rattle.durable.proofs.Called.{serves_passed, passed_on, failed_alone, no_dev
 use Rattle.durable.proofs.Keeping.{root_is}
 use Rattle.device.specs.declared.device.Device.{Ghosts}
 use Rattle.holdings.specs.Holdings.{Shows}
-use Rattle.recovery.specs.Standing.{History, with_plans}
+use Rattle.decoded.specs.Standing.{History, with_plans}
 use Rattle.roots.specs.declared.root.Label.{Label}
 use Rattle.paged.specs.Lying.{base_of}
-use Rattle.paged.specs.declared.compacting.Next.{Next}
+use Rattle.paged.specs.declared.compacting.NextCheckpoint.{NextCheckpoint}
 use Rattle.durable.specs.Compacted.{Keeps, label_of}
 use Rattle.durable.specs.Rules.{rules_by}
 use Rattle.durable.specs.Stands.{StandsFor}
@@ -55,6 +55,8 @@ returns-then-not-self g c =
       damaged_stops = λ damage is. stopped;
       cause = λ is. failed_alone Fault.Device no_device is;
       count = omega arith;
+      steady = tt;
+      unfailed = λ is. ⊎_elim (failed_alone Fault.Memory no_memory) (failed_alone Fault.Exhausted no_exhausted) is;
     }
 
 pub returns-in_err-next : goal.returns-in_err-next
@@ -97,10 +99,12 @@ returns-in_err-next g c =
       damaged_stops = leaves.damaged_stops;
       cause = leaves.cause;
       count = run.count;
+      steady = IfOk-from_err told _ passed.0;
+      unfailed = λ is. ⊎_elim leaves.unfailed (λ other. absurd (exhausted other)) is;
     }
 
 -- the next generation keeps the history at which the store is settled
-keeps_here : {D : Type 0} {g : Ghosts D} (store : Store D g) (next : Next) (rules : Rules) (h : History) → IsSettledAt rules store h
+keeps_here : {D : Type 0} {g : Ghosts D} (store : Store D g) (next : NextCheckpoint) (rules : Rules) (h : History) → IsSettledAt rules store h
     → next.core.rules ≡ rules_by (label_of next.core) → next.core.rules ≡ kept_rules store → Shows next.core (base_of (with_plans (view rules h))) (with_plans (view rules h))
     → in_list next.entries ≡ entries_of (view rules h) → Keeps next rules h
 keeps_here store next rules h settled numbers same shows entries = record {
@@ -111,7 +115,7 @@ keeps_here store next rules h settled numbers same shows entries = record {
 }
 
 -- the rules of a store are those of the format that they name
-numbers_here : {D : Type 0} {g : Ghosts D} (store : Store D g) (next : Next) → next.core.rules ≡ kept_rules store → next.core.rules ≡ rules_by (label_of next.core)
+numbers_here : {D : Type 0} {g : Ghosts D} (store : Store D g) (next : NextCheckpoint) → next.core.rules ≡ kept_rules store → next.core.rules ≡ rules_by (label_of next.core)
 numbers_here store next same =
     let numbers : next.core.rules ≡ rules_by (root_of store).label = same ∙ store.numbers in
     by_own_format next.core.rules (root_of store).label numbers
@@ -197,6 +201,8 @@ returns g c =
       stops = c.write_next.ensures.stops;
       cause = λ is. failed_then g.D.Device.disk store.device mid.device new.device run (c.write_next.ensures.cause is);
       count = omega (arith, run.count, c.write_next.ensures.count);
+      steady = on_ok_to c.write_next.result _ _ (λ same. same ∙ c.in_ok-next.ensures.leaves.steady) c.write_next.ensures.steady;
+      unfailed = λ is. c.write_next.ensures.unfailed is ∙ c.in_ok-next.ensures.leaves.steady;
     }
 
 pub write_next-requires-clause-numbers : goal.write_next-requires-clause-numbers

@@ -21,6 +21,7 @@ loop-request-init g c = (
   idle g.D.Device.disk (device_of c.args.self.now) (g.met.D.Device.only_now (device_of c.args.self.now)),
   c.requires.serves,
   omega (arith, c.requires.none.count),
+  refl,
 )
 
 pub returns-in-Err : goal.returns-in-Err
@@ -50,7 +51,7 @@ returns-in-Err g c =
       all = tt;
       room = c.loop-request.invariant.2;
       device = run;
-      leaves = serves_after store mid new c.in-Err.fault c.loop-request.invariant.3 leaves;
+      leaves = serves_after store mid new c.in-Err.fault c.loop-request.invariant.3 c.loop-request.invariant.6 leaves;
     }
 
 pub loop-request-preserved : goal.loop-request-preserved
@@ -69,6 +70,7 @@ loop-request-preserved g c =
       read_then g.D.Device.disk (device_of c.args.self.now) (device_of c.loop-request.self) (device_of c.step.new.self) c.loop-request.invariant.3 c.step.ensures.device,
       c.in-Ok.ensures.leaves.goes_on,
       omega (arith, c.loop-request.invariant.5, c.step.ensures.count),
+      c.in-Ok.ensures.leaves.steady ∙ c.loop-request.invariant.6,
     )
 
 pub returns : goal.returns
@@ -82,5 +84,5 @@ returns g c =
       all = omega (arith, c.loop-request.invariant.1);
       room = c.loop-request.invariant.2;
       device = c.loop-request.invariant.3;
-      leaves = serves_value c.args.self.now c.loop-request.self _ c.loop-request.invariant.4;
+      leaves = serves_value c.args.self.now c.loop-request.self _ c.loop-request.invariant.4 c.loop-request.invariant.6;
     }

@@ -4,6 +4,7 @@ use Rattle.device.specs.Run.{Ran}
 use Rattle.device.specs.Step.{Same}
 use Rattle.requests.specs.RequestOf.{request_of}
 use Rattle.records.specs.Gathered.{count_of}
+use Rattle.durable.specs.Called.{IsSteady}
 use Rattle.durable.specs.Gathered.{HasGatheredMore}
 use Rattle.durable.specs.Settled.{device_of, serves}
 use Rattle.durable.proofs.store.Store.gather_all.Given as goal
@@ -17,3 +18,4 @@ invariant-loop-request g l =
     × Ran g.D.Device.disk (device_of l.fn.self) (device_of l.self) Same
     × (serves l.self ≡ true)
     × (count_of l.group ≤ l.request-index)
+    × IsSteady l.fn.self l.self

@@ -9,13 +9,13 @@ use Rattle.snapshots.specs.Keeping.{entries_of}
 use Rattle.snapshots.proofs.Alone.{kept_held}
 use Rattle.snapshots.proofs.Kept.{entries_ascend}
 use Rattle.snapshots.proofs.Showing.{held_as_it_is, entries_shown}
-use Rattle.recovery.specs.Beside.{Beside}
-use Rattle.recovery.specs.Standing.{with_plans}
+use Rattle.decoded.specs.Decoded.{Decoded}
+use Rattle.decoded.specs.Standing.{with_plans}
 use Rattle.paged.specs.declared.state.Paged.{Paged}
 use Rattle.paged.specs.Paged as paged
 use Rattle.durable.specs.Settled.{root_of, kept_rules}
 use Rattle.durable.proofs.Answering.{holds_shown}
-use Rattle.durable.proofs.Called.{err_same, serves_value, serves_met, serves_spoiled, look_damaged, lies_met, ran_met, failed_met}
+use Rattle.durable.proofs.Called.{err_same, serves_value, serves_met, serves_spoiled, look_damaged, lies_met, ran_met, failed_met, steady_met}
 use Rattle.durable.proofs.Compacting.{still_ready}
 use Rattle.durable.proofs.Keeping.{pages_inside}
 use Rattle.roots.specs.declared.root.Root.{Root}
@@ -31,7 +31,7 @@ pub invariant_of-self : goal.invariant_of-self
 invariant_of-self g c =
     let store = c.args.self.now in
     record {
-      numbers = ap (λ (core : State Beside). core.rules) c.next.ensures.core ∙ store.numbers ∙ sym (ap (λ (r : Root). rules_by r.label) c.next.ensures.root);
+      numbers = ap (λ (core : State Decoded). core.rules) c.next.ensures.core ∙ store.numbers ∙ sym (ap (λ (r : Root). rules_by r.label) c.next.ensures.root);
       in_data = store.in_data;
       works = store.works;
       ready = λ serves. still_ready g.D.Device.disk store.device c.next.new.device (root_of store) _ store.log c.next.ensures.root c.next.ensures.ran (store.ready serves);
@@ -47,6 +47,7 @@ returns-in-Err g c =
       ascending = tt;
       rules = tt;
       held = λ v shown keepable. tt;
+      are = λ entries has. tt;
       damaged = λ damage is v shown keepable.
           let found = look_damaged c.in-Err.fault damage (sym (err_same is) ∙ c.met.ensures.fault) in
           c.in-Err.ensures.damaged found.0 (ap Err found.1) (with_plans v) (holds_shown store v shown) (kept_held (kept_rules store) v keepable);
@@ -55,7 +56,8 @@ returns-in-Err g c =
       lies = λ base below. lies_met new device _ c.met.ensures.device c.met.ensures.paged base (c.next.ensures.below base below);
       device = ran_met new device _ c.met.ensures.device c.met.ensures.paged store.device c.next.ensures.ran;
       leaves = serves_met store new c.in-Err.fault c.met.ensures.fault c.met.ensures.serves
-          (λ is. failed_met new device _ c.met.ensures.device c.met.ensures.paged store.device (c.in-Err.ensures.device (ap Err is)));
+          (λ is. failed_met new device _ c.met.ensures.device c.met.ensures.paged store.device (c.in-Err.ensures.device (ap Err is)))
+          (λ is. steady_met new device _ c.met.ensures.device c.met.ensures.paged store.device (c.in-Err.ensures.memory (ap Err is)));
     }
 
 pub returns-then-ascends : goal.returns-then-ascends
@@ -66,12 +68,13 @@ returns-then-ascends g c =
       ascending = c.ascends.ensures.0 c.if-ascends.true;
       rules = c.in-Ok.ensures.rules;
       held = λ v shown keepable. c.in-Ok.ensures.held (with_plans v) (holds_shown store v shown) (kept_held (kept_rules store) v keepable);
+      are = c.in-Ok.ensures.are;
       damaged = λ damage is. absurd (no_fault is);
       core = c.next.ensures.core;
       root = c.next.ensures.root;
       lies = c.next.ensures.below;
       device = c.next.ensures.ran;
-      leaves = serves_value store _ c.in-Ok.next c.requires.serves;
+      leaves = serves_value store _ c.in-Ok.next c.requires.serves c.in-Ok.ensures.steady;
     }
 
 pub returns : goal.returns
@@ -84,6 +87,7 @@ returns g c =
       ascending = tt;
       rules = tt;
       held = λ v shown keepable. tt;
+      are = λ entries has. tt;
       damaged = λ damage is v shown keepable.
           let Sorted : List Entry → Type 0 = λ es. is_sorted bytes_cmp es ≡ true in
           let entries : in_list c.in-Ok.next.entries ≡ entries_of v =

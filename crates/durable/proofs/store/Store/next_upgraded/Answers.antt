@@ -1,4 +1,4 @@
-use Rattle.std.proofs.Common.{◌≡◌, ◌≤◌, ◌<◌, ◌∙◌, sym, ap, subst, List, Some, true, true≢false, Err}
+use Rattle.std.proofs.Common.{◌≡◌, ◌≤◌, ◌<◌, ◌∙◌, inl, inr, sym, ap, subst, List, Some, true, true≢false, Err}
 use Rattle.std.specs.FinMap.{is_sorted}
 use Rattle.checkpoint.proofs.Faults.{no_fault}
 use Rattle.checkpoint.specs.EntryList.{entries_of as in_list}
@@ -6,12 +6,12 @@ use Rattle.pages.specs.Page.{Entry, bytes_cmp}
 use Rattle.objects.specs.declared.fault.LookupFault.TheVariants as Looks
 use Rattle.objects.specs.declared.fault.Part.TheVariants as part
 use Rattle.holdings.specs.Holdings.{State}
-use Rattle.requests.specs.View.{view}
+use Rattle.histories.specs.View.{view}
 use Rattle.roots.specs.declared.root.Root.{Root}
 use Rattle.snapshots.proofs.Kept.{entries_ascend}
-use Rattle.recovery.specs.Beside.{Beside}
-use Rattle.recovery.specs.Standing.{with_plans}
-use Rattle.recovery.specs.Upgraded.{upgraded_rules, upgraded_history}
+use Rattle.decoded.specs.Decoded.{Decoded}
+use Rattle.decoded.specs.Standing.{with_plans}
+use Rattle.decoded.specs.Upgraded.{upgraded_rules, upgraded_history}
 use Rattle.paged.specs.declared.compacting.NextUpgraded.{NextUpgraded}
 use Rattle.paged.specs.declared.fault.NextFault.TheVariants as asked
 use Rattle.paged.specs.declared.state.Paged.{Paged}
@@ -24,11 +24,11 @@ use Rattle.durable.specs.Rules.{rules_by}
 use Rattle.durable.specs.Settled.{root_of}
 use Rattle.durable.specs.Upgraded.{of_fault, IsRefusal, IsUnchanged}
 use Rattle.durable.proofs.Answering.{holds_shown}
-use Rattle.durable.proofs.Called.{err_same, lies_met, ran_met, failed_met}
+use Rattle.durable.proofs.Called.{err_same, lies_met, ran_met, failed_met, steady_met}
 use Rattle.durable.proofs.Compacting.{still_ready}
 use Rattle.durable.proofs.Keeping.{pages_inside}
 use Rattle.durable.proofs.Older.{older, number_held, count_held, revision_held, room_held, kept_then, held_then, entries_then, shows_then, keeps_then, too_many_refuses, revision_refuses}
-use Rattle.durable.proofs.Upgrading.{by_look, look_unchanged, look_unrefused, look_failed, look_stopped, look_spoiled}
+use Rattle.durable.proofs.Upgrading.{by_look, look_unchanged, look_refused, never_unchanged, look_unrefused, look_failed, look_stopped, look_spoiled}
 use Rattle.durable.proofs.store.Store.next_upgraded.Goals as goal
 
 spoiled_apart : upgrade.Damaged damage.Entry ≡ upgrade.Device → ⊥
@@ -43,7 +43,7 @@ pub invariant_of-self : goal.invariant_of-self
 invariant_of-self g c =
     let store = c.args.self.now in
     record {
-      numbers = ap (λ (core : State Beside). core.rules) c.next_upgraded.ensures.core ∙ store.numbers
+      numbers = ap (λ (core : State Decoded). core.rules) c.next_upgraded.ensures.core ∙ store.numbers
           ∙ sym (ap (λ (r : Root). rules_by r.label) c.next_upgraded.ensures.root);
       in_data = store.in_data;
       works = store.works;
@@ -78,6 +78,8 @@ returns-in-Err-TooManyObjects g c =
       damaged_stops = λ damage is. cc;
       refusal = λ is. cc;
       cause = λ is. cc;
+      steady = tt;
+      unfailed = λ is. c.next_upgraded.ensures.refused (inl (c.in-Err-TooManyObjects.is ∙ ap (λ x. Err x) c.in-Err-TooManyObjects.field-0-is));
     }
 
 pub returns-in-Err-RevisionExhausted : goal.returns-in-Err-RevisionExhausted
@@ -107,6 +109,8 @@ returns-in-Err-RevisionExhausted g c =
       damaged_stops = λ damage is. cc;
       refusal = λ is. cc;
       cause = λ is. cc;
+      steady = tt;
+      unfailed = λ is. c.next_upgraded.ensures.refused (inr (c.in-Err-RevisionExhausted.is ∙ ap (λ x. Err x) c.in-Err-RevisionExhausted.field-0-is));
     }
 
 pub returns-in-Err-Lookup : goal.returns-in-Err-Lookup
@@ -141,6 +145,9 @@ returns-in-Err-Lookup g c =
       refusal = λ is. look_failed look (sym by ∙ err_same is);
       cause = λ is. failed_met new device _ c.met.ensures.device c.met.ensures.paged store.device
           (c.next_upgraded.ensures.device (is_look ∙ ap (λ x. Err (asked.Lookup x)) (look_stopped look (sym by ∙ err_same is))));
+      steady = tt;
+      unfailed = λ is. steady_met new device _ c.met.ensures.device c.met.ensures.paged store.device
+          (c.next_upgraded.ensures.memory (is_look ∙ ap (λ x. Err (asked.Lookup x)) (look_refused look (subst (λ x. IsUnchanged {T = NextUpgraded} (Err x)) by is))));
     }
 
 pub returns-then-ascends : goal.returns-then-ascends
@@ -180,6 +187,8 @@ returns-then-ascends g c =
       damaged_stops = λ damage is. absurd (no_fault is);
       refusal = λ is. no_fault is;
       cause = λ is. absurd (no_fault is);
+      steady = c.in-Ok.ensures.steady;
+      unfailed = λ is. never_unchanged _ is;
     }
 
 pub returns : goal.returns
@@ -217,4 +226,6 @@ returns g c =
       damaged_stops = λ damage is. c.stop_for.ensures.stops;
       refusal = λ is. look_failed (Looks.Damaged part.Entry) (sym by ∙ err_same is);
       cause = λ is. absurd (spoiled_apart (sym by ∙ err_same is));
+      steady = tt;
+      unfailed = λ is. absurd (true≢false (sym (look_unchanged (Looks.Damaged part.Entry) (subst (λ x. IsUnchanged {T = NextUpgraded} (Err x)) by is))));
     }

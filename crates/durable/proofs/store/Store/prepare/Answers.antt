@@ -8,7 +8,7 @@ use Rattle.holdings.specs.Holdings.{ShowsSame}
 use Rattle.paged.specs.declared.state.Paged.{Paged}
 use Rattle.durable.proofs.Numbers.{kept_format}
 use Rattle.durable.specs.Settled.{root_of}
-use Rattle.durable.proofs.Called.{err_same, serves_value, serves_met, look_device, look_damaged, lies_met, ran_met, failed_met}
+use Rattle.durable.proofs.Called.{err_same, serves_value, serves_met, look_device, look_damaged, lies_met, ran_met, failed_met, steady_met}
 use Rattle.durable.proofs.Compacting.{still_ready}
 use Rattle.durable.proofs.Keeping.{pages_inside}
 use Rattle.roots.specs.declared.root.Root.{Root}
@@ -42,7 +42,7 @@ returns-in-Ok g c = record {
   device = c.prepare.ensures.ran;
   read = λ is. absurd (no_fault is);
   damaged = λ damage is. absurd (no_fault is);
-  leaves = serves_value c.args.self.now _ c.in-Ok.prepared c.requires.serves;
+  leaves = serves_value c.args.self.now _ c.in-Ok.prepared c.requires.serves c.in-Ok.ensures.steady;
 }
 
 pub returns-in-Err : goal.returns-in-Err
@@ -68,5 +68,6 @@ returns-in-Err g c =
           let found = look_damaged c.in-Err.fault damage (sym (err_same is) ∙ c.met.ensures.fault) in
           c.in-Err.ensures.damaged found.0 (ap Err found.1) v shown is_view;
       leaves = serves_met store new c.in-Err.fault c.met.ensures.fault c.met.ensures.serves
-          (λ is. failed_met new device _ c.met.ensures.device c.met.ensures.paged store.device (c.in-Err.ensures.device (ap Err is)));
+          (λ is. failed_met new device _ c.met.ensures.device c.met.ensures.paged store.device (c.in-Err.ensures.device (ap Err is)))
+          (λ is. steady_met new device _ c.met.ensures.device c.met.ensures.paged store.device (c.in-Err.ensures.memory (ap Err is)));
     }

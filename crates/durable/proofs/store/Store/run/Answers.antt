@@ -43,6 +43,7 @@ returns-then-not-settled g c =
       damaged_stops = λ damage is. stopped;
       cause = λ is. told_other Faults.Failed Faults.Device no_device is;
       count = omega arith;
+      steady = λ told. refl;
     }
 
 pub returns-in-Err : goal.returns-in-Err
@@ -64,6 +65,7 @@ returns-in-Err g c =
       damaged_stops = λ damage is. told_other Faults.Memory (Faults.Damaged damage) (damage_memory damage) is;
       cause = λ is. told_other Faults.Memory Faults.Device device_memory is;
       count = omega arith;
+      steady = λ told. refl;
     }
 
 pub loop-rest-init : goal.loop-rest-init
@@ -81,6 +83,7 @@ loop-rest-init g c =
       working,
       omega arith,
       λ nothing. refl,
+      refl,
     )
 
 pub loop-rest-preserved : goal.loop-rest-preserved
@@ -111,6 +114,7 @@ loop-rest-preserved g c =
       λ nothing.
           let some = eqb-false (length c.loop-rest.rest.now) 0 (sym c.is_empty.ensures ∙ c.loop-rest-test.true) in
           absurd (omega (arith, ap length nothing, c.answer_group.ensures.met.all c.in-None.is, ap length c.split_at.ensures.front, length-take c.group_size.result c.loop-rest.rest.now, c.group_size.ensures, some)),
+      c.answer_group.ensures.met.steady (inl c.in-None.is) ∙ c.loop-rest.invariant.8,
     )
 
 pub returns-in-Some : goal.returns-in-Some
@@ -157,6 +161,9 @@ returns-in-Some g c =
           failed_later g.D.Device.disk (device_of c.args.self.now) (device_of c.loop-rest.self) (device_of c.answer_group.new.self) c.loop-rest.invariant.6
           (c.answer_group.ensures.met.cause (c.in-Some.is ∙ is));
       count = omega (arith, c.loop-rest.invariant.6, c.answer_group.ensures.met.count);
+      steady = λ told.
+          let Served : Option Fault → Type 0 = λ stop. (stop ≡ None) ⊎ (stop ≡ Some Faults.Memory) in
+          c.answer_group.ensures.met.steady (subst Served (sym c.in-Some.is) told) ∙ c.loop-rest.invariant.8;
       failed = λ was. absurd (true≢false (sym c.loop-rest.invariant.5 ∙ was));
     }
 
@@ -182,4 +189,5 @@ returns g c =
       damaged_stops = λ damage is. none_told (Faults.Damaged damage) is;
       cause = λ is. none_told Faults.Device is;
       count = c.loop-rest.invariant.6;
+      steady = λ told. c.loop-rest.invariant.8;
     }

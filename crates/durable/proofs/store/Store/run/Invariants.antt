@@ -1,6 +1,7 @@
 use Rattle.std.proofs.Common.{◌≡◌, ◌≤◌, ◌++◌, [], length, take, map, true}
 use Rattle.std.specs.Vec.{vec_capacity}
 use Rattle.requests.specs.RequestOf.{request_of}
+use Rattle.durable.specs.Called.{IsSteady}
 use Rattle.durable.specs.Settled.{device_of, serves, HasServed}
 use Rattle.durable.proofs.store.Store.run.Given as goal
 
@@ -15,6 +16,7 @@ invariant-loop-rest g l =
     × (serves l.fn.self ≡ true)
     × (g.D.Device.disk.failures (device_of l.fn.self) ≤ g.D.Device.disk.failures (device_of l.self))
     × (l.replies.items ≡ [] → l.self ≡ l.fn.self)
+    × IsSteady l.fn.self l.self
 
 -- and each group takes some of the rest
 abbrev pub decreases-loop-rest : goal.decreases-loop-rest

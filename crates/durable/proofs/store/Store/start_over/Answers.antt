@@ -3,7 +3,7 @@ use Rattle.std.proofs.Math.Logic.{∥∥₁_elim, ∥∥₁_prop}
 use Rattle.std.proofs.lemmas.Grind.{merely}
 use Rattle.roots.specs.declared.root.Root.{Root}
 use Rattle.holdings.specs.Holdings.{State}
-use Rattle.recovery.specs.Beside.{Beside}
+use Rattle.decoded.specs.Decoded.{Decoded}
 use Rattle.durable.specs.Ready.{IsReady}
 use Rattle.durable.specs.Rules.{rules_by}
 use Rattle.durable.proofs.Compacting.{ready_anew}
@@ -15,7 +15,7 @@ invariant_of-self g c =
     let at = c.log_start.ensures.place in
     let Ready : Root → Type 0 = λ root. ∥ IsReady g.D.Device.disk c.args.self.now.device root c.restart-self.result ∥₁ in
     record {
-      numbers = ap (λ (core : State Beside). core.rules) c.start_over.ensures.core ∙ c.requires.numbers ∙ sym (ap (λ (r : Root). rules_by r.label) c.start_over.ensures.root);
+      numbers = ap (λ (core : State Decoded). core.rules) c.start_over.ensures.core ∙ c.requires.numbers ∙ sym (ap (λ (r : Root). rules_by r.label) c.start_over.ensures.root);
       in_data = omega (arith, c.requires.in_data, place.0, at);
       works = λ _. c.restart-self.ensures.works;
       ready = λ _ keeps. subst Ready (sym c.start_over.ensures.root) (∥∥₁_elim (c.requires.in_use keeps) ∥∥₁_prop

@@ -32,7 +32,8 @@ returns-then-not-self g c =
       stopped = λ is. got.stopped (fault_is read Faults.Device (sym c.err.ensures.value ∙ is));
       front = got.front;
       met = met_reading c.args.self.now c.gather_all-gathered.new.self (length c.args.requests.now) c.args.replies.now c.gather_all-gathered.new.replies read c.err.result
-          c.err.ensures.value got.all got.room got.device got.leaves.refusal c.if-not-self.true got.leaves.goes_on got.leaves.memory_goes_on got.damaged got.leaves.cause;
+          c.err.ensures.value got.all got.room got.device got.leaves.refusal c.if-not-self.true got.leaves.goes_on got.leaves.memory_goes_on got.damaged got.leaves.cause
+          got.leaves.steady got.leaves.unfailed;
     }
 
 pub returns-in-Ok-append_group : goal.returns-in-Ok-append_group
@@ -55,7 +56,8 @@ returns-in-Ok-append_group g c =
       stopped = λ device. absurd (true≢false (sym c.if-not-self.false ∙ got.leaves.stops (fault_is read Faults.Device (sym is ∙ device))));
       front = got.front;
       met = met_appended store mid (length c.args.requests.now) c.args.replies.now c.gather_all-gathered.new.replies read c.err-in-Ok-append_group.result is got.all got.room
-          got.device got.leaves.refusal new c.if-not-self.false appended.serves got.leaves.stops got.leaves.damaged_stops c.append_group.ensures.cause.later;
+          got.device got.leaves.refusal new c.if-not-self.false appended.serves got.leaves.stops got.leaves.damaged_stops (appended.cause.well refl)
+          got.leaves.steady got.leaves.unfailed;
     }
 
 pub returns-in-Err-append_group : goal.returns-in-Err-append_group

@@ -4,9 +4,9 @@ use Rattle.std.specs.Result.{IsErrAnd}
 use Rattle.checkpoint.proofs.Faults.{err_is, was_err, no_fault}
 use Rattle.roots.specs.declared.root.Label.{Label}
 use Rattle.roots.specs.declared.root.Root.{Root}
-use Rattle.requests.specs.View.{view}
-use Rattle.recovery.specs.Standing.{History}
-use Rattle.recovery.specs.Upgraded.{is_newest, upgraded_rules, upgraded_history}
+use Rattle.histories.specs.View.{view}
+use Rattle.decoded.specs.Standing.{History}
+use Rattle.decoded.specs.Upgraded.{is_newest, upgraded_rules, upgraded_history}
 use Rattle.durable.specs.declared.fault.Fault.{Fault}
 use Rattle.durable.specs.declared.fault.Fault.TheVariants as fault
 use Rattle.durable.specs.declared.upgraded.UpgradeFault.{UpgradeFault}
@@ -69,6 +69,8 @@ returns-then-not-self g c =
       damaged_stops = λ damage is. stopped;
       cause = λ is. cc;
       count = omega arith;
+      steady = tt;
+      unfailed = λ is. failed_unchanged is;
     }
 
 pub returns-then-is_newest : goal.returns-then-is_newest
@@ -100,6 +102,8 @@ returns-then-is_newest g c =
       damaged_stops = λ damage is. cc;
       cause = λ is. cc;
       count = omega arith;
+      steady = tt;
+      unfailed = λ is. refl;
     }
 
 pub returns-in_err-next : goal.returns-in_err-next
@@ -138,6 +142,8 @@ returns-in_err-next g c =
       damaged_stops = λ damage is. c.next_upgraded.ensures.damaged_stops damage (handed_on told (upgrade.Damaged damage) passed.1 c.in_err-next.was is);
       cause = λ is. c.next_upgraded.ensures.cause (handed_on told upgrade.Device passed.1 c.in_err-next.was is);
       count = run.count;
+      steady = IfOk-from_err told _ passed.0;
+      unfailed = λ is. c.next_upgraded.ensures.unfailed (unchanged_on told passed.1 c.in_err-next.was is);
     }
 
 pub returns-in-Ok : goal.returns-in-Ok
@@ -194,6 +200,8 @@ returns-in-Ok g c =
       damaged_stops = λ damage is. absurd (no_fault is);
       cause = λ is. absurd (no_fault is);
       count = omega (arith, run.count, c.write_next.ensures.count);
+      steady = c.in-Ok.ensures.steady ∙ c.in_ok-next.ensures.steady;
+      unfailed = λ is. never_unchanged _ is;
     }
 
 pub returns-in-Err : goal.returns-in-Err
@@ -263,6 +271,8 @@ returns-in-Err g c =
           failed_then disk store.device mid.device new.device run
           (c.write_next.ensures.cause (c.in-Err.is ∙ ap (λ (x : Fault). Err x) (only_device_is met (sym of ∙ err_same told))));
       count = omega (arith, run.count, c.write_next.ensures.count);
+      steady = tt;
+      unfailed = λ is. c.write_next.ensures.unfailed (unwritten c.write_next.result met said c.in-Err.is of is) ∙ c.in_ok-next.ensures.steady;
     }
 
 pub next_upgraded-requires-clause-old : goal.next_upgraded-requires-clause-old

@@ -1,7 +1,7 @@
 use Rattle.std.proofs.Common.{ap, ◌∙◌, ◌+◌, ◌++◌, ◌∷◌, [], None}
 use Rattle.circular_buffer.specs.Buffer.{keep_last}
-use Rattle.objects.specs.Window.{event_at, events_above}
-use Rattle.objects.specs.declared.event.Change.TheVariants.{Deleted}
+use Rattle.window.specs.Window.{event_at, events_above}
+use Rattle.window.specs.declared.event.Change.TheVariants.{Deleted}
 use Rattle.holdings.specs.Holdings.{State}
 use Rattle.holdings.proofs.Redoing.{made_put}
 use Rattle.holdings.proofs.Showing.{shows_deletion}

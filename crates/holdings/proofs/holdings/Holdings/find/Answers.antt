@@ -1,7 +1,7 @@
 use Rattle.std.proofs.Common.{◌≡◌, ap, subst, ◌∙◌, IfOk}
 use Rattle.std.specs.Option.{option_map}
 use Rattle.std.specs.Prelude.{Option}
-use Rattle.requests.specs.declared.stored.Stored.{Stored}
+use Rattle.histories.specs.declared.stored.Stored.{Stored}
 use Rattle.holdings.specs.Sources.{found_in}
 use Rattle.holdings.proofs.Showing.{found_changed, found_below}
 use Rattle.holdings.proofs.holdings.Holdings.find.Goals as goal

@@ -1,6 +1,6 @@
 use Rattle.std.proofs.Common.{◌≡◌, refl, sym, ap, subst, IfOk}
 use Rattle.std.specs.Prelude.{Option, option_map}
-use Rattle.requests.specs.declared.stored.Stored.{Stored}
+use Rattle.histories.specs.declared.stored.Stored.{Stored}
 use Rattle.holdings.specs.Sources.{found_in}
 use Rattle.holdings.proofs.Showing.{found_changed, found_nowhere}
 use Rattle.holdings.proofs.holdings.Holdings.known.Goals as goal

@@ -1,6 +1,6 @@
 use Rattle.std.proofs.Common.{ap, ◌∙◌, ◌+◌, ◌++◌, ◌∷◌, []}
 use Rattle.circular_buffer.specs.Buffer.{keep_last}
-use Rattle.objects.specs.Window.{event_at, events_above}
+use Rattle.window.specs.Window.{event_at, events_above}
 use Rattle.holdings.specs.Holdings.{State}
 use Rattle.holdings.proofs.Redoing.{made_put}
 use Rattle.holdings.proofs.Showing.{shows_put}

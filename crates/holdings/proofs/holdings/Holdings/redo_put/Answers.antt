@@ -2,7 +2,7 @@ use Rattle.std.proofs.Common.{◌≡◌, true, false, sym, ap, subst, ◌∙◌}
 use Rattle.std.proofs.lemmas.Bool.{true≢false}
 use Rattle.names.specs.Key.{Key}
 use Rattle.requests.specs.Codes.{document_in}
-use Rattle.requests.specs.View.{exists}
+use Rattle.histories.specs.View.{exists}
 use Rattle.holdings.specs.Known.{IsKnown}
 use Rattle.holdings.proofs.Redoing.{shows_redone_put, knows_made, knows_same}
 use Rattle.holdings.proofs.holdings.Holdings.redo_put.Goals as goal

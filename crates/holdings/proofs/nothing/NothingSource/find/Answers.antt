@@ -2,7 +2,7 @@ use Rattle.std.proofs.Common.{List, sym, ap}
 use Rattle.std.specs.Prelude.{option_map}
 use Rattle.names.specs.Key.{Key}
 use Rattle.objects.specs.Objects.{value_at}
-use Rattle.requests.specs.declared.stored.Stored.{Stored}
+use Rattle.histories.specs.declared.stored.Stored.{Stored}
 use Rattle.holdings.specs.Sources.{found_in}
 use Rattle.holdings.proofs.nothing.NothingSource.find.Goals as goal
 

@@ -1,12 +1,13 @@
-use Rattle.std.proofs.Common.{◌∙◌, subst}
+use Rattle.std.proofs.Common.{◌∙◌, subst, ⊎_elim}
 use Rattle.std.proofs.lemmas.Result.{IfOk-from_err, IfOk-weaker}
 use Rattle.objects.specs.declared.fault.LookupFault.{LookupFault}
 use Rattle.objects.specs.declared.fault.LookupFault.TheVariants as lookup
-use Rattle.requests.specs.View as seen
-use Rattle.recovery.specs.Beside.{Beside}
+use Rattle.histories.specs.View as seen
+use Rattle.decoded.specs.Decoded.{Decoded}
 use Rattle.paged.specs.Paged.{Holds}
 use Rattle.paged.specs.Upgrading.{IsNextUpgraded, IsUpgradeOf}
 use Rattle.paged.proofs.Showing.{shows_still}
+use Rattle.snapshots.proofs.BaseFaults.{on_any}
 use Rattle.paged.proofs.Upgrading.{lookup_was, not_many, not_exhausted, only_memory}
 use Rattle.paged.proofs.state.Paged.next_upgraded.Goals as goal
 
@@ -32,7 +33,10 @@ returns-in_err-below g c =
       root = all.root;
       below = all.below;
       ran = all.ran;
+      steady = IfOk-from_err r _ handed.ensures.0;
       device = λ told. all.device (lookup_was r given handed.ensures.1 lookup.Device was told);
+      memory = λ told. all.memory (lookup_was r given handed.ensures.1 lookup.Memory was told);
+      refused = λ told. absurd (⊎_elim (not_many r given handed.ensures.1) (not_exhausted r given handed.ensures.1) told);
     }
 
 -- memory was refused once the pages had been read
@@ -56,7 +60,10 @@ returns-in_err-view g c =
       root = all.root;
       below = all.below;
       ran = all.ran;
+      steady = IfOk-from_err r _ handed.ensures.0;
       device = λ told. absurd (only_memory r handed.ensures.1 lookup.Device (λ is. cc) told);
+      memory = λ told. c.in_ok-below.ensures.steady;
+      refused = λ told. c.in_ok-below.ensures.steady;
     }
 
 pub returns : goal.returns
@@ -65,11 +72,11 @@ returns g c =
     let all = c.all_below.ensures in
     let old = c.args.self.now.core in
     let new = c.all_below.new.self.core in
-    let tells : (held : seen.View Beside) → Holds g.D.Device.disk c.args.device.now c.args.self.now held → IsUpgradeOf held r =
+    let tells : (held : seen.View Decoded) → Holds g.D.Device.disk c.args.device.now c.args.self.now held → IsUpgradeOf held r =
     λ held holds.
     let lent = c.in_ok-view.ensures held
     (shows_still old new holds.base c.deref.result.now held all.core (c.deref.ensures.value ∙ c.in_ok-below.ensures.all holds.base holds.below) holds.shows) in
-    subst (λ (v : seen.View Beside). IsUpgradeOf v r) lent c.upgraded.ensures
+    subst (λ (v : seen.View Decoded). IsUpgradeOf v r) lent c.upgraded.ensures
     in
     record {
       entries = λ held holds older. IfOk-weaker r (IsNextUpgraded held) _ (λ n is. is.entries older) (tells held holds).next;
@@ -86,5 +93,8 @@ returns g c =
       root = all.root;
       below = all.below;
       ran = all.ran;
+      steady = on_any r c.in_ok-below.ensures.steady;
       device = λ told. absurd (c.upgraded.ensures.device told);
+      memory = λ told. c.in_ok-below.ensures.steady;
+      refused = λ told. c.in_ok-below.ensures.steady;
     }

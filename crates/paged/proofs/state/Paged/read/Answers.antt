@@ -4,15 +4,16 @@ use Rattle.std.proofs.lemmas.Result.{IfOk-from_err}
 use Rattle.device.specs.Step.{Same}
 use Rattle.device.proofs.Runs.{not_yet}
 use Rattle.checkpoint.proofs.Faults.{no_fault}
-use Rattle.snapshots.specs.declared.sieve.Sieve.{Sieve}
-use Rattle.checkpoint.specs.Pages.{pages_of_root, HoldsEntries, IsIndex}
+use Rattle.snapshots.specs.declared.kept_entries.KeptEntries.{KeptEntries}
+use Rattle.pages.specs.Page.{Entry}
+use Rattle.checkpoint.specs.Pages.{joined, pages_of_root, HoldsEntries, IsIndex}
 use Rattle.checkpoint.specs.Index.{keys_of}
 use Rattle.snapshots.specs.Keeping.{held_entries}
 use Rattle.paged.specs.declared.chosen.Chosen.{Chosen}
 use Rattle.paged.specs.Chosen.{is_chosen}
 use Rattle.paged.proofs.Choosing.{chooses_rules}
 use Rattle.paged.proofs.Lying.{lying, none_lying}
-use Rattle.paged.proofs.Pages.{IsBad, sieved, pages_hold, count_keys, index_of_none, holds_none, scan_bad, snapshot_bad}
+use Rattle.paged.proofs.Pages.{IsBad, kept_of_them, pages_hold, count_keys, index_of_none, holds_none, scan_bad, scan_memory, snapshot_bad}
 use Rattle.paged.proofs.state.Paged.read.Goals as goal
 
 pub returns-in_err-first_keys-clause-damaged : goal.returns-in_err-first_keys-clause-damaged
@@ -27,9 +28,9 @@ pub returns-in_err-core-clause-damaged : goal.returns-in_err-core-clause-damaged
 returns-in_err-core-clause-damaged g c keeps told held is holds revision =
     let content = g.D.Device.disk.content c.args.device.now in
     let chosen : Chosen = c.in_ok-chosen.chosen in
-    let made = c.new-sieve.ensures in
+    let made = c.new-kept_entries.ensures in
     let read =
-    sieved c.args.rules held c.args.root.now content chosen c.new-sieve.result c.scan.new.reader made.choice made.kept made.objects c.requires.small holds
+    kept_of_them c.args.rules held c.args.root.now content chosen c.new-kept_entries.result c.scan.new.reader made.choice made.kept made.objects c.requires.small holds
     (c.in_ok-first_keys.ensures.told keeps)
     in
     let kept = c.kept.ensures ∙ read.0 in
@@ -40,11 +41,11 @@ returns-in_err-core-clause-damaged g c keeps told held is holds revision =
     (λ bad. c.core_of-core.ensures.damaged (inr (c.in_err-core.was ∙ ap Err bad)) held (is_chosen chosen) is all kept objects (sym revision))
     (snapshot_bad c.from_residual-in_err-core.result c.in_err-core.field-0.0 c.from_residual-in_err-core.ensures.1 told)
 
-pub returns-in_err-stock-clause-damaged : goal.returns-in_err-stock-clause-damaged
-returns-in_err-stock-clause-damaged g c keeps told held is holds revision =
+pub returns-in_err-cache-clause-damaged : goal.returns-in_err-cache-clause-damaged
+returns-in_err-cache-clause-damaged g c keeps told held is holds revision =
     let content = g.D.Device.disk.content c.args.device.now in
-    let bad : IsBad c.stock_of.result = ⊎_elim (λ x. inl (search rules)) (⊎_elim (λ x. inr (inl (search rules))) (λ x. inr (inr (search rules)))) told in
-    c.stock_of.ensures.damaged bad
+    let bad : IsBad c.cache_of.result = ⊎_elim (λ x. inl (search rules)) (⊎_elim (λ x. inr (inl (search rules))) (λ x. inr (inr (search rules)))) told in
+    c.cache_of.ensures.damaged bad
     (sym (length-map c.in_ok-first_keys.first_keys.items (λ key. key.items))
     ∙ count_keys (keys_of c.in_ok-first_keys.first_keys.items) c.args.root.now content (c.in_ok-first_keys.ensures.index keeps))
 
@@ -54,9 +55,9 @@ returns-clause-held g c keeps held is holds revision =
     let content = disk.content c.args.device.now in
     let root = c.args.root.now in
     let chosen : Chosen = c.in_ok-chosen.chosen in
-    let made = c.new-sieve.ensures in
+    let made = c.new-kept_entries.ensures in
     let read =
-    sieved c.args.rules held root content chosen c.new-sieve.result c.scan.new.reader made.choice made.kept made.objects c.requires.small holds
+    kept_of_them c.args.rules held root content chosen c.new-kept_entries.result c.scan.new.reader made.choice made.kept made.objects c.requires.small holds
     (c.in_ok-first_keys.ensures.told keeps)
     in
     let shown =
@@ -67,10 +68,10 @@ returns-clause-held g c keeps held is holds revision =
     let Index : List ℕ → Type 0 = λ x. IsIndex keys (pages_of_root root x) in
     let Holds : List ℕ → Type 0 = λ x. HoldsEntries x root (held_entries held) in
     let shelves =
-    c.in_ok-stock.ensures.shelves (held_entries held) (subst Index same (c.in_ok-first_keys.ensures.index keeps)) (λ some. c.scan.ensures.ran.kept keeps)
+    c.in_ok-cache.ensures.shelves (held_entries held) (subst Index same (c.in_ok-first_keys.ensures.index keeps)) (λ some. c.scan.ensures.ran.kept keeps)
     (subst Holds same holds)
     in (
-      lying disk c.scan.new.device c.in_ok-stock.stock c.args.rules held is c.in_ok-stock.ensures.found shelves,
+      lying disk c.scan.new.device c.in_ok-cache.cache c.args.rules held is c.in_ok-cache.ensures.found shelves,
       shown.0,
       λ k has. shown.1 k (c.in_ok-chosen.ensures k has),
     )
@@ -81,16 +82,16 @@ returns-clause-no_pages g c none =
     let content = disk.content c.scan.new.device in
     let root = c.args.root.now in
     let untold = c.scan.ensures.no_pages none in
-    let made = c.new-sieve.ensures in
+    let made = c.new-kept_entries.ensures in
     let keys = keys_of c.in_ok-first_keys.first_keys.items in
     let index =
     index_of_none keys root content none
-    (length-map c.in_ok-first_keys.first_keys.items (λ key. key.items) ∙ c.in_ok-stock.ensures.counted)
+    (length-map c.in_ok-first_keys.first_keys.items (λ key. key.items) ∙ c.in_ok-cache.ensures.counted)
     in
-    let shelves = c.in_ok-stock.ensures.shelves [] index (λ some. absurd (omega (arith, some, none))) (holds_none root content none) in (
-      none_lying disk c.scan.new.device c.in_ok-stock.stock c.in_ok-stock.ensures.found shelves,
-      c.in_ok-core.ensures.none (c.kept.ensures ∙ ap (λ (s : Sieve Chosen). s.kept.items) untold.2 ∙ made.kept)
-          (c.objects.ensures ∙ ap (λ (s : Sieve Chosen). s.objects) untold.2 ∙ made.objects),
+    let shelves = c.in_ok-cache.ensures.shelves [] index (λ some. absurd (omega (arith, some, none))) (holds_none root content none) in (
+      none_lying disk c.scan.new.device c.in_ok-cache.cache c.in_ok-cache.ensures.found shelves,
+      c.in_ok-core.ensures.none (c.kept.ensures ∙ ap (λ (s : KeptEntries Chosen). s.kept.items) untold.2 ∙ made.kept)
+          (c.objects.ensures ∙ ap (λ (s : KeptEntries Chosen). s.objects) untold.2 ∙ made.objects),
     )
 
 pub returns-in_err-chosen-clause-rules : goal.returns-in_err-chosen-clause-rules
@@ -138,26 +139,26 @@ returns-in_err-core-clause-no_pages g c none = IfOk-from_err c.from_residual-in_
 pub returns-in_err-core-clause-ran : goal.returns-in_err-core-clause-ran
 returns-in_err-core-clause-ran g c = c.scan.ensures.ran
 
-pub returns-in_err-stock-clause-rules : goal.returns-in_err-stock-clause-rules
-returns-in_err-stock-clause-rules g c = IfOk-from_err c.from_residual-in_err-stock.result _ c.from_residual-in_err-stock.ensures.0
+pub returns-in_err-cache-clause-rules : goal.returns-in_err-cache-clause-rules
+returns-in_err-cache-clause-rules g c = IfOk-from_err c.from_residual-in_err-cache.result _ c.from_residual-in_err-cache.ensures.0
 
-pub returns-in_err-stock-clause-root : goal.returns-in_err-stock-clause-root
-returns-in_err-stock-clause-root g c = IfOk-from_err c.from_residual-in_err-stock.result _ c.from_residual-in_err-stock.ensures.0
+pub returns-in_err-cache-clause-root : goal.returns-in_err-cache-clause-root
+returns-in_err-cache-clause-root g c = IfOk-from_err c.from_residual-in_err-cache.result _ c.from_residual-in_err-cache.ensures.0
 
-pub returns-in_err-stock-clause-held : goal.returns-in_err-stock-clause-held
-returns-in_err-stock-clause-held g c keeps held is holds revision = IfOk-from_err c.from_residual-in_err-stock.result _ c.from_residual-in_err-stock.ensures.0
+pub returns-in_err-cache-clause-held : goal.returns-in_err-cache-clause-held
+returns-in_err-cache-clause-held g c keeps held is holds revision = IfOk-from_err c.from_residual-in_err-cache.result _ c.from_residual-in_err-cache.ensures.0
 
-pub returns-in_err-stock-clause-no_pages : goal.returns-in_err-stock-clause-no_pages
-returns-in_err-stock-clause-no_pages g c none = IfOk-from_err c.from_residual-in_err-stock.result _ c.from_residual-in_err-stock.ensures.0
+pub returns-in_err-cache-clause-no_pages : goal.returns-in_err-cache-clause-no_pages
+returns-in_err-cache-clause-no_pages g c none = IfOk-from_err c.from_residual-in_err-cache.result _ c.from_residual-in_err-cache.ensures.0
 
-pub returns-in_err-stock-clause-ran : goal.returns-in_err-stock-clause-ran
-returns-in_err-stock-clause-ran g c = c.scan.ensures.ran
+pub returns-in_err-cache-clause-ran : goal.returns-in_err-cache-clause-ran
+returns-in_err-cache-clause-ran g c = c.scan.ensures.ran
 
 pub returns-clause-rules : goal.returns-clause-rules
 returns-clause-rules g c = c.in_ok-core.ensures.rules
 
 pub returns-clause-root : goal.returns-clause-root
-returns-clause-root g c = c.in_ok-stock.ensures.root
+returns-clause-root g c = c.in_ok-cache.ensures.root
 
 pub returns-clause-damaged : goal.returns-clause-damaged
 returns-clause-damaged g c keeps told held is holds revision = ⊎_elim no_fault (λ other. ⊎_elim no_fault no_fault other) told
@@ -167,3 +168,73 @@ returns-clause-ran g c = c.scan.ensures.ran
 
 pub returns-clause-cause : goal.returns-clause-cause
 returns-clause-cause g c told = absurd (no_fault told)
+
+pub returns-in_err-chosen-clause-steady : goal.returns-in_err-chosen-clause-steady
+returns-in_err-chosen-clause-steady g c = IfOk-from_err c.from_residual.result _ c.from_residual.ensures.0
+
+pub returns-in_err-first_keys-clause-steady : goal.returns-in_err-first_keys-clause-steady
+returns-in_err-first_keys-clause-steady g c = IfOk-from_err c.from_residual-in_err-first_keys.result _ c.from_residual-in_err-first_keys.ensures.0
+
+pub returns-in_err-core-clause-steady : goal.returns-in_err-core-clause-steady
+returns-in_err-core-clause-steady g c = IfOk-from_err c.from_residual-in_err-core.result _ c.from_residual-in_err-core.ensures.0
+
+pub returns-in_err-cache-clause-steady : goal.returns-in_err-cache-clause-steady
+returns-in_err-cache-clause-steady g c = IfOk-from_err c.from_residual-in_err-cache.result _ c.from_residual-in_err-cache.ensures.0
+
+pub returns-in_err-chosen-clause-memory : goal.returns-in_err-chosen-clause-memory
+returns-in_err-chosen-clause-memory g c told = refl
+
+pub returns-in_err-first_keys-clause-memory : goal.returns-in_err-first_keys-clause-memory
+returns-in_err-first_keys-clause-memory g c told =
+    c.scan.ensures.memory (c.in_err-first_keys.was ∙ ap Err
+    (scan_memory c.from_residual-in_err-first_keys.result c.in_err-first_keys.field-0.0 c.from_residual-in_err-first_keys.ensures.1 told))
+
+pub returns-in_err-core-clause-memory : goal.returns-in_err-core-clause-memory
+returns-in_err-core-clause-memory g c told = c.in_ok-first_keys.ensures.steady
+
+pub returns-in_err-cache-clause-memory : goal.returns-in_err-cache-clause-memory
+returns-in_err-cache-clause-memory g c told = c.in_ok-first_keys.ensures.steady
+
+pub returns-clause-steady : goal.returns-clause-steady
+returns-clause-steady g c = c.in_ok-first_keys.ensures.steady
+
+pub returns-clause-memory : goal.returns-clause-memory
+returns-clause-memory g c told = c.in_ok-first_keys.ensures.steady
+
+pub returns-in_err-chosen-clause-whole : goal.returns-in_err-chosen-clause-whole
+returns-in_err-chosen-clause-whole g c keeps = IfOk-from_err c.from_residual.result _ c.from_residual.ensures.0
+
+pub returns-in_err-chosen-clause-entries : goal.returns-in_err-chosen-clause-entries
+returns-in_err-chosen-clause-entries g c keeps = IfOk-from_err c.from_residual.result _ c.from_residual.ensures.0
+
+pub returns-in_err-first_keys-clause-whole : goal.returns-in_err-first_keys-clause-whole
+returns-in_err-first_keys-clause-whole g c keeps = IfOk-from_err c.from_residual-in_err-first_keys.result _ c.from_residual-in_err-first_keys.ensures.0
+
+pub returns-in_err-first_keys-clause-entries : goal.returns-in_err-first_keys-clause-entries
+returns-in_err-first_keys-clause-entries g c keeps = IfOk-from_err c.from_residual-in_err-first_keys.result _ c.from_residual-in_err-first_keys.ensures.0
+
+pub returns-in_err-core-clause-whole : goal.returns-in_err-core-clause-whole
+returns-in_err-core-clause-whole g c keeps = IfOk-from_err c.from_residual-in_err-core.result _ c.from_residual-in_err-core.ensures.0
+
+pub returns-in_err-core-clause-entries : goal.returns-in_err-core-clause-entries
+returns-in_err-core-clause-entries g c keeps = IfOk-from_err c.from_residual-in_err-core.result _ c.from_residual-in_err-core.ensures.0
+
+pub returns-in_err-cache-clause-whole : goal.returns-in_err-cache-clause-whole
+returns-in_err-cache-clause-whole g c keeps = IfOk-from_err c.from_residual-in_err-cache.result _ c.from_residual-in_err-cache.ensures.0
+
+pub returns-in_err-cache-clause-entries : goal.returns-in_err-cache-clause-entries
+returns-in_err-cache-clause-entries g c keeps = IfOk-from_err c.from_residual-in_err-cache.result _ c.from_residual-in_err-cache.ensures.0
+
+pub returns-clause-whole : goal.returns-clause-whole
+returns-clause-whole g c = c.in_ok-first_keys.ensures.whole
+
+pub returns-clause-entries : goal.returns-clause-entries
+returns-clause-entries g c keeps =
+    let content = g.D.Device.disk.content c.args.device.now in
+    let root = c.args.root.now in
+    let entries : List Entry = joined (pages_of_root root content) in
+    let same = sym (c.scan.ensures.ran.seen keeps) in
+    let Index : List ℕ → Type 0 = λ x. IsIndex (keys_of c.in_ok-first_keys.first_keys.items) (pages_of_root root x) in
+    let Holds : List ℕ → Type 0 = λ x. HoldsEntries x root entries in
+    c.in_ok-cache.ensures.shelves entries (subst Index same (c.in_ok-first_keys.ensures.index keeps)) (λ some. c.scan.ensures.ran.kept keeps)
+    (subst Holds same (record { sound = (c.in_ok-first_keys.ensures.whole keeps).sound; are = refl }))

@@ -1,6 +1,6 @@
 use Rattle.std.proofs.Common.{ap, ◌∙◌, List, ℕ, option_map, Bor, string_bytes}
 use Rattle.serde_json.specs.Data.{Data}
-use Rattle.documents.specs.Json.{text, IsDocument}
+use Rattle.jsondoc.specs.Json.{text, IsDocument}
 use Rattle.documents.specs.Document.{Document}
 use Rattle.requests.specs.Manifest.{Target, target}
 use Rattle.requests.proofs.Forms.{made, HasForm-made, is_key-key_at, IsDocument-text, depth-made}

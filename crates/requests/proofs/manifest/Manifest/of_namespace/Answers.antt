@@ -3,7 +3,7 @@ use Rattle.serde_json.specs.Data.{Data}
 use Rattle.names.specs.declared.resource.Resource.TheVariants.{Namespace}
 use Rattle.names.specs.Key.{is_key}
 use Rattle.documents.specs.Document.{Document}
-use Rattle.documents.specs.Json.{text, IsDocument}
+use Rattle.jsondoc.specs.Json.{text, IsDocument}
 use Rattle.requests.specs.Manifest.{key_at}
 use Rattle.requests.specs.Namespaces.{namespace_document}
 use Rattle.requests.proofs.Forms.{IsDocument-text}

@@ -156,3 +156,27 @@ returns-clause-ran g c = c.read_page.ensures.ran
 
 pub returns-clause-cause : goal.returns-clause-cause
 returns-clause-cause g c is = absurd (no_fault is)
+
+pub returns-then-promote-clause-steady : goal.returns-then-promote-clause-steady
+returns-then-promote-clause-steady g c = refl
+
+pub returns-then-promote-clause-memory : goal.returns-then-promote-clause-memory
+returns-then-promote-clause-memory g c is = refl
+
+pub returns-in_err-owned-clause-steady : goal.returns-in_err-owned-clause-steady
+returns-in_err-owned-clause-steady g c = IfOk-from_err c.from_residual.result _ c.from_residual.ensures.0
+
+pub returns-in_err-owned-clause-memory : goal.returns-in_err-owned-clause-memory
+returns-in_err-owned-clause-memory g c is = c.read_page.ensures.memory (was_err c.in_err-owned.was (err_is c.from_residual.result _ ShelfFault.Memory c.from_residual.ensures.1 is))
+
+pub returns-in_err-put-clause-steady : goal.returns-in_err-put-clause-steady
+returns-in_err-put-clause-steady g c = IfOk-from_err c.from_residual-in_err-put.result _ c.from_residual-in_err-put.ensures.0
+
+pub returns-in_err-put-clause-memory : goal.returns-in_err-put-clause-memory
+returns-in_err-put-clause-memory g c is = c.in_ok-owned.ensures.steady
+
+pub returns-clause-steady : goal.returns-clause-steady
+returns-clause-steady g c = c.in_ok-owned.ensures.steady
+
+pub returns-clause-memory : goal.returns-clause-memory
+returns-clause-memory g c is = c.in_ok-owned.ensures.steady

@@ -41,3 +41,9 @@ returns-clause-damaged g c entries shelves is =
     let place : root.first + 64 * c.args.page ≡ root.first + 64 * c.from.result = omega (arith, c.from.ensures) in
     c.read_page.ensures.damaged held.keeps is
     (subst (λ at. IsSound (part (512 * at) 32768 content)) place (sound_at root.first root.pages c.args.page content held.sound c.requires.number))
+
+pub returns-clause-steady : goal.returns-clause-steady
+returns-clause-steady g c = c.read_page.ensures.steady
+
+pub returns-clause-memory : goal.returns-clause-memory
+returns-clause-memory g c = c.read_page.ensures.memory

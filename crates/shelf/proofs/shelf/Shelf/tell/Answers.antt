@@ -54,6 +54,7 @@ loop-i-preserved g c =
     let count : c.saturating_sub-i-end.result ≡ c.count_with.result - c.saturating_sub-start.result = c.saturating_sub-i-end.ensures in
     record {
       ran = same_then _ _ _ _ inv.ran c.tell_one.ensures.ran;
+      steady = c.in_ok-tell_one.ensures.steady ∙ inv.steady;
       root = c.tell_one.ensures.root ∙ inv.root;
       kept = λ entries shelves. c.tell_one.ensures.kept entries (inv.kept entries shelves);
       pages = λ entries shelves. c.tell_one.ensures.pages entries (inv.kept entries shelves) ∙ inv.pages entries shelves;
@@ -102,3 +103,17 @@ returns-clause-ran g c = c.loop-i.invariant.ran
 
 pub returns-clause-cause : goal.returns-clause-cause
 returns-clause-cause g c is = absurd (no_fault is)
+
+pub returns-in_err-tell_one-clause-steady : goal.returns-in_err-tell_one-clause-steady
+returns-in_err-tell_one-clause-steady g c = IfOk-from_err c.from_residual.result _ c.from_residual.ensures.0
+
+pub returns-in_err-tell_one-clause-memory : goal.returns-in_err-tell_one-clause-memory
+returns-in_err-tell_one-clause-memory g c is =
+    c.tell_one.ensures.memory (was_err c.in_err-tell_one.was (err_is c.from_residual.result _ ShelfFault.Memory c.from_residual.ensures.1 is))
+    ∙ c.loop-i.invariant.steady
+
+pub returns-clause-steady : goal.returns-clause-steady
+returns-clause-steady g c = c.loop-i.invariant.steady
+
+pub returns-clause-memory : goal.returns-clause-memory
+returns-clause-memory g c is = c.loop-i.invariant.steady

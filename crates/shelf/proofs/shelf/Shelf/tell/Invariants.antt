@@ -13,6 +13,7 @@ invariant-loop-i g l =
     let disk = g.D.Device.disk in
     record {
       ran : Ran disk l.fn.device l.device Same;
+      steady : disk.failures l.device ≡ disk.failures l.fn.device;
       root : root_of l.self ≡ root_of l.fn.self;
       kept : (entries : List Entry) → Shelves disk l.fn.device l.fn.self entries → Shelves disk l.device l.self entries;
       pages : (entries : List Entry) → Shelves disk l.fn.device l.fn.self entries → pages_of disk l.device l.self ≡ pages_of disk l.fn.device l.fn.self;

@@ -1,5 +1,5 @@
 use Rattle.std.proofs.Common.{arith, refl, ◌≡◌, ◌<◌, ◌∙◌, ap, subst, List, ℕ, [], get_or, OnOk}
-use Rattle.std.proofs.lemmas.Result.{IfOk-from_err}
+use Rattle.std.proofs.lemmas.Result.{IfOk-from_err, on_ok_weaker}
 use Rattle.device.specs.Disk.{Disk}
 use Rattle.device.specs.Run.{Ran}
 use Rattle.device.specs.Step.{Same}
@@ -38,6 +38,8 @@ returns-in_err-fetch-in-Kept g c =
       damaged = λ entries shelves is. fetch.damaged entries shelves (was_err was (err_is handed.result _ ShelfFault.Page handed.ensures.1 is));
       ran = fetch.ran;
       cause = λ is. fetch.cause (was_err was (err_is handed.result _ ShelfFault.Device handed.ensures.1 is));
+      steady = IfOk-from_err handed.result _ handed.ensures.0;
+      memory = λ is. fetch.memory (was_err was (err_is handed.result _ ShelfFault.Memory handed.ensures.1 is));
     }
 
 pub returns-in_ok-fetch-in-Kept : goal.returns-in_ok-fetch-in-Kept
@@ -64,6 +66,8 @@ returns-in_ok-fetch-in-Kept g c =
       damaged = λ entries shelves is. never_page c.tell_page.result telling.refusal is;
       ran = fetch.ran;
       cause = λ is. absurd (never_device c.tell_page.result telling.refusal is);
+      steady = on_ok_weaker c.tell_page.result (λ told. c.in_ok-fetch-in-Kept.ensures.steady) telling.told;
+      memory = λ is. c.in_ok-fetch-in-Kept.ensures.steady;
     }
 
 pub returns-in-Passing : goal.returns-in-Passing
@@ -83,6 +87,8 @@ returns-in-Passing g c =
       damaged = λ entries shelves is. never_page told telling.refusal is;
       ran = not_yet disk device Same (λ c. refl) (λ keeps content since. g.met.D.Device.only_now device content keeps since);
       cause = λ is. absurd (never_device told telling.refusal is);
+      steady = on_ok_weaker told (λ told. refl) telling.told;
+      memory = λ is. refl;
     }
 
 pub returns-in_err-owned-in-Passing-2 : goal.returns-in_err-owned-in-Passing-2
@@ -100,6 +106,8 @@ returns-in_err-owned-in-Passing-2 g c =
       damaged = λ entries shelves is. read.damaged entries shelves (was_err was (err_is handed.result _ ShelfFault.Page handed.ensures.1 is));
       ran = read.ran;
       cause = λ is. read.cause (was_err was (err_is handed.result _ ShelfFault.Device handed.ensures.1 is));
+      steady = IfOk-from_err handed.result _ handed.ensures.0;
+      memory = λ is. read.memory (was_err was (err_is handed.result _ ShelfFault.Memory handed.ensures.1 is));
     }
 
 pub returns-in_ok-owned-in-Passing-2 : goal.returns-in_ok-owned-in-Passing-2
@@ -123,4 +131,6 @@ returns-in_ok-owned-in-Passing-2 g c =
       damaged = λ entries shelves is. never_page told telling.refusal is;
       ran = read.ran;
       cause = λ is. absurd (never_device told telling.refusal is);
+      steady = on_ok_weaker told (λ told. c.in_ok-owned-in-Passing-2.ensures.steady) telling.told;
+      memory = λ is. c.in_ok-owned-in-Passing-2.ensures.steady;
     }

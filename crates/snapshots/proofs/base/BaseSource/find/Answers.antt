@@ -1,3 +1,6 @@
+use Rattle.objects.specs.declared.fault.LookupFault.TheVariants as LookupFault
+use Rattle.snapshots.specs.BaseFaults.{of_cache_fault}
+use Rattle.snapshots.proofs.BaseFaults.{memory_below}
 use Rattle.std.specs.Prelude.{◌≡◌, true, false}
 use Rattle.std.proofs.Common.{rules, refl, sym, ap, ◌∙◌, Err, option_map}
 use Rattle.objects.specs.Objects.{value_at}
@@ -24,7 +27,7 @@ returns-in-Ok-clause-found g c objects holds =
     let shown : g.M.FromDocument.held making key.resource ≡ false =
     ap (g.M.FromDocument.held making) (sym c.resource.ensures.value) ∙ sym c.is_held.ensures ∙ c.if-is_held.false
     in
-    c.found.ensures ∙ ap (option_map found_of) (c.in-Ok.ensures.found holds.lies.all holds.lies.stocks)
+    c.found.ensures ∙ ap (option_map found_of) (c.in-Ok.ensures.found holds.lies.all holds.lies.caches)
     ∙ found_lying (g.M.FromDocument.made making) (g.M.FromDocument.held making) key holds.lies.all shown
     ∙ ap (λ os. option_map found_in (value_at key os)) (sym holds.lies.are)
 
@@ -38,7 +41,25 @@ returns-in-Ok-clause-goes g c =
 
 pub returns-in-Err-clause-kept : goal.returns-in-Err-clause-kept
 returns-in-Err-clause-kept g c objects holds =
-    let undamaged = c.told.ensures.whole (λ damaged. c.in-Err.ensures.damaged holds.lies.all holds.lies.stocks (λ i. Err (damaged i))) in search (rules, held_still)
+    let undamaged = c.told.ensures.whole (λ damaged. c.in-Err.ensures.damaged holds.lies.all holds.lies.caches (λ i. Err (damaged i))) in search (rules, held_still)
 
 pub returns-in-Err-clause-goes : goal.returns-in-Err-clause-goes
 returns-in-Err-clause-goes g c = search (rules, goes)
+
+pub returns-in-Err-clause-memory : goal.returns-in-Err-clause-memory
+returns-in-Err-clause-memory g c is =
+    let told : of_cache_fault c.in-Err.fault ≡ LookupFault.Memory = search rules in
+    let below = memory_below c.in-Err.fault told in
+    ap (λ (d : g.row.D.Denot). g.D.Device.disk.failures d) c.told.ensures.device ∙ c.in-Err.ensures.memory (λ i. Err (below i))
+
+pub returns-then-is_held-clause-steady : goal.returns-then-is_held-clause-steady
+returns-then-is_held-clause-steady g c = refl
+
+pub returns-then-is_held-clause-memory : goal.returns-then-is_held-clause-memory
+returns-then-is_held-clause-memory g c is = refl
+
+pub returns-in-Ok-clause-steady : goal.returns-in-Ok-clause-steady
+returns-in-Ok-clause-steady g c = c.in-Ok.ensures.steady
+
+pub returns-in-Ok-clause-memory : goal.returns-in-Ok-clause-memory
+returns-in-Ok-clause-memory g c is = c.in-Ok.ensures.steady

@@ -1,4 +1,0 @@
-pub mod Validation
-pub mod Denials
-pub mod Verdict
-pub mod Seen

@@ -1,0 +1,3 @@
+pub mod ViewLemmas
+pub mod Mapping
+pub mod Wider

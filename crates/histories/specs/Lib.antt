@@ -1,0 +1,5 @@
+pub mod History
+pub mod View
+pub mod Events
+pub mod Mapped
+pub mod Wider

@@ -1,0 +1,3 @@
+pub mod Json
+pub mod EscapeTable
+pub mod MemberViews

@@ -1,0 +1,3 @@
+pub mod DataCode
+pub mod Json
+pub mod Escapes

@@ -1,4 +1,0 @@
-pub mod Opened
-pub mod CreateFaults
-pub mod Laws
-pub mod Lives

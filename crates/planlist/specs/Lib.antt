@@ -1,3 +1,0 @@
-pub mod Plans
-pub mod Laws
-pub mod Faults

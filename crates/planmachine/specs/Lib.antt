@@ -1,2 +1,0 @@
-pub mod Connectives
-pub mod Machine

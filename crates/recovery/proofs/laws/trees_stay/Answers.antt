@@ -1,5 +1,0 @@
-use Rattle.recovery.proofs.Wider.{trees_stay}
-use Rattle.recovery.proofs.laws.trees_stay.Goals as goal
-
-pub returns : goal.returns
-returns c = trees_stay c.specifications_stay.ensures

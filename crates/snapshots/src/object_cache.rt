@@ -1,0 +1,267 @@
+//! Objects in pages, as they are looked up and listed.
+
+ghost use Rattle.std.specs.Prelude.{◌≡◌, ◌<◌, ◌≤◌, ◌*◌, ◌^◌, ◌∷◌, List, [], Some, length, option_map, IsTrue, IfOk, OnOk, IsErrOf};
+ghost use Rattle.std.specs.List.{filter};
+ghost use Rattle.device.specs.Disk.{HasFailed};
+ghost use Rattle.device.specs.Step.{Same};
+ghost use Rattle.device.specs.Run.{Ran};
+ghost use Rattle.names.specs.Key.{Key as KeyData, is_key, key_bytes};
+ghost use Rattle.objects.specs.Objects.{value_at, is_of};
+ghost use Rattle.pages.specs.Page.{Entry as EntryData};
+ghost use Rattle.roots.specs.Root.{log_start};
+ghost use Rattle.checkpoint.specs.Index.{keys_of};
+ghost use Rattle.checkpoint.specs.Pages.{HoldsEntries, IsIndex, pages_of_root};
+ghost use Rattle.shelf.specs.Prefix.{beginning};
+ghost use Rattle.shelf.specs.Shelf as shelves;
+ghost use Rattle.snapshots.specs.declared.object_cache_fault.ObjectCacheFault.TheVariants as ObjectCacheFault;
+ghost use Rattle.snapshots.specs.declared.cached_object.CachedObject.{CachedObject as CachedObjectData};
+ghost use Rattle.snapshots.specs.ObjectCache.{ObjectCaches, HasEntries, AreAmong, AreOf, root_of};
+
+use crate::cached_object::{CachedObject, read_entry};
+use crate::keys::{OBJECT, entry_key, prefix_of};
+use crate::listed::ListingReader;
+use crate::object_cache_fault::ObjectCacheFault;
+use device::Device;
+use names::{Key, Resource};
+use objects::{KeyValue, Objects};
+use pages::PAGE_BYTES;
+use roots::Root;
+use shelf::{PAGES_IN_MEMORY, Reading, Shelf};
+use std::alloc::{AllocError, Global};
+
+/// How many bytes the cells of the objects have together, at most, whose documents are kept: as many as the pages in memory.
+pub const BYTES_IN_MEMORY: usize = PAGES_IN_MEMORY * PAGE_BYTES;
+
+// The objects of the entries whose keys begin with a prefix. What lies in memory stays as it is.
+fn objects_with<D: Device>(
+    alloc: Global,
+    shelf: &mut Shelf,
+    device: &mut D,
+    prefix: &[u8],
+) -> Result<Vec<(Key, CachedObject)>, ObjectCacheFault>
+    requires inside { D.disk.keeps device.old → 512 * log_start (shelves.root_of shelf.old) ≤ length (D.disk.content device.old) }
+    ensures found { (entries : List EntryData) (objects : List (KeyData × CachedObjectData)) → shelves.Shelves D.disk device.old shelf.old entries
+        → AreOf (beginning prefix.now entries) objects → IfOk result (λ found. found.items ≡ objects) }
+    ensures are { (entries : List EntryData) → shelves.Shelves D.disk device.old shelf.old entries
+        → IfOk result (λ found. AreOf (beginning prefix.now entries) found.items) }
+    ensures entries { (entries : List EntryData) → shelves.Shelves D.disk device.old shelf.old entries → shelves.Shelves D.disk device.new shelf.new entries }
+    ensures root { shelves.root_of shelf.new ≡ shelves.root_of shelf.old }
+    ensures damaged { (entries : List EntryData) (objects : List (KeyData × CachedObjectData)) → shelves.Shelves D.disk device.old shelf.old entries
+        → AreOf (beginning prefix.now entries) objects → IsErrOf result ObjectCacheFault.Damaged → ⊥ }
+    ensures ran { Ran D.disk device.old device.new Same }
+    ensures cause { IsErrOf result ObjectCacheFault.Device → HasFailed D.disk device.old device.new }
+    ensures steady { OnOk result (D.disk.failures device.new ≡ D.disk.failures device.old) }
+    ensures memory { IsErrOf result ObjectCacheFault.Memory → D.disk.failures device.new ≡ D.disk.failures device.old }
+{
+    let mut listed = ListingReader {
+        objects: Vec::new(alloc),
+    };
+    shelf.tell(alloc, device, prefix, Reading::Passing, &mut listed)?;
+    Ok(listed.objects)
+}
+
+/// The objects in the pages of a shelf. The documents of those that were found are kept, up to [`BYTES_IN_MEMORY`]: of one that is found again the page is
+/// brought into memory as ever, and its text is not read. Where one more has no place among them, they are let go.
+#[derive(Drop)]
+pub struct ObjectCache {
+    shelf: Shelf,
+    found: Objects<CachedObject>,
+    // How many bytes their cells have together.
+    found_bytes: usize,
+}
+
+impl ObjectCache {
+    /// The objects of a shelf, of which none was found yet. Takes no memory.
+    pub fn new(alloc: Global, shelf: Shelf) -> ObjectCache
+        ensures shelf { result.shelf ≡ shelf }
+        ensures found { result.found.entries ≡ [] }
+    {
+        ObjectCache {
+            shelf,
+            found: Objects::new(alloc),
+            found_bytes: 0,
+        }
+    }
+
+    /// The objects in the pages of another root, with the first key of each page, in place of those that it has. None of them was found yet.
+    /// Allocates nothing. Only the contract uses `device`.
+    pub fn start_over<D: Device>(
+        &mut self,
+        alloc: Global,
+        device: &D,
+        root: Root,
+        first_keys: Vec<Vec<u8>>,
+    )
+        requires small { log_start root < 2 ^ 54 }
+        requires counted { length first_keys.items ≡ root.pages }
+        ensures root { root_of self.new ≡ root }
+        ensures shelves { (entries : List EntryData) → IsIndex (keys_of first_keys.items) (pages_of_root root (D.disk.content device.now))
+            → (0 < root.pages → D.disk.keeps device.now)
+            → HoldsEntries (D.disk.content device.now) root entries → shelves.Shelves D.disk device.now self.new.shelf entries }
+        ensures found { self.new.found.entries ≡ [] }
+    {
+        self.shelf.start_over(device, root, first_keys);
+        self.forget(alloc);
+    }
+
+    /// The root whose pages have the objects.
+    pub fn root(&self) -> &Root
+        ensures { result.now ≡ root_of self.now }
+    {
+        self.shelf.root()
+    }
+
+    // Lets go of the objects that were found.
+    fn forget(&mut self, alloc: Global)
+        ensures shelf { self.new.shelf ≡ self.old.shelf }
+        ensures found { self.new.found.entries ≡ [] }
+    {
+        self.found = Objects::new(alloc);
+        self.found_bytes = 0;
+    }
+
+    // Lets go of the objects that were found, where one more, whose cell has this many bytes, has no place among them.
+    fn make_place(&mut self, alloc: Global, cell_bytes: usize)
+        ensures shelf { self.new.shelf ≡ self.old.shelf }
+        ensures found { (objects : List (KeyData × CachedObjectData)) → AreAmong self.old.found.entries objects → AreAmong self.new.found.entries objects }
+    {
+        if cell_bytes <= BYTES_IN_MEMORY.saturating_sub(self.found_bytes) {
+            return;
+        }
+        self.forget(alloc);
+    }
+
+    // Keeps an object that was found, whose cell has this many bytes.
+    fn keep(
+        &mut self,
+        alloc: Global,
+        key: &Key,
+        cached: &CachedObject,
+        cell_bytes: usize,
+    ) -> Result<(), AllocError>
+        ensures shelf { self.new.shelf ≡ self.old.shelf }
+        ensures found { (objects : List (KeyData × CachedObjectData)) → value_at key.now objects ≡ Some cached.now
+            → AreAmong self.old.found.entries objects → AreAmong self.new.found.entries objects }
+    {
+        self.make_place(alloc, cell_bytes);
+        self.found.reserve(1)?;
+        let entry = KeyValue::new(alloc, key.clone()?, cached.clone()?)?;
+        let _none = self.found.put(entry);
+        self.found_bytes = self.found_bytes.saturating_add(cell_bytes);
+        Ok(())
+    }
+
+    /// What is stored under a key. At most one page is read, and none that lies in memory.
+    ///
+    /// # Errors
+    ///
+    /// `Device` only where the device failed in this call; `Damaged` only where the pages do not hold objects in front of other entries; `Memory`.
+    /// What the pages hold stays in each case.
+    pub fn find<D: Device>(
+        &mut self,
+        alloc: Global,
+        device: &mut D,
+        key: &Key,
+    ) -> Result<Option<CachedObject>, ObjectCacheFault>
+        requires inside { D.disk.keeps device.old → 512 * log_start (root_of self.old) ≤ length (D.disk.content device.old) }
+        ensures found { (objects : List (KeyData × CachedObjectData)) → ObjectCaches D.disk device.old self.old objects
+            → IfOk result (λ found. found ≡ value_at key.now objects) }
+        ensures kept { (objects : List (KeyData × CachedObjectData)) → ObjectCaches D.disk device.old self.old objects → ObjectCaches D.disk device.new self.new objects }
+        ensures root { root_of self.new ≡ root_of self.old }
+        ensures damaged { (objects : List (KeyData × CachedObjectData)) → ObjectCaches D.disk device.old self.old objects → IsErrOf result ObjectCacheFault.Damaged → ⊥ }
+        ensures ran { Ran D.disk device.old device.new Same }
+        ensures cause { IsErrOf result ObjectCacheFault.Device → HasFailed D.disk device.old device.new }
+        ensures steady { OnOk result (D.disk.failures device.new ≡ D.disk.failures device.old) }
+        ensures memory { IsErrOf result ObjectCacheFault.Memory → D.disk.failures device.new ≡ D.disk.failures device.old }
+    {
+        let bytes = entry_key(alloc, key)?;
+        let place = self.shelf.bring(alloc, device, &bytes)?;
+        self.read(alloc, device, place, &bytes, key)
+    }
+
+    // The same, of the page that was brought into memory: what was found before is not read again, and what is read is kept.
+    fn read<D: Device>(
+        &mut self,
+        alloc: Global,
+        device: &D,
+        place: Option<u32>,
+        bytes: &[u8],
+        key: &Key,
+    ) -> Result<Option<CachedObject>, ObjectCacheFault>
+        requires brought { shelves.IsBrought self.old.shelf bytes.now place }
+        requires bytes { bytes.now ≡ 1 ∷ key_bytes key.now }
+        requires key { IsTrue (is_key key.now) }
+        ensures found { (objects : List (KeyData × CachedObjectData)) → ObjectCaches D.disk device.now self.old objects
+            → IfOk result (λ found. found ≡ value_at key.now objects) }
+        ensures kept { (objects : List (KeyData × CachedObjectData)) → ObjectCaches D.disk device.now self.old objects → ObjectCaches D.disk device.now self.new objects }
+        ensures root { root_of self.new ≡ root_of self.old }
+        ensures damaged { (objects : List (KeyData × CachedObjectData)) → ObjectCaches D.disk device.now self.old objects → IsErrOf result ObjectCacheFault.Damaged → ⊥ }
+        ensures cause { IsErrOf result ObjectCacheFault.Device → ⊥ }
+    {
+        if let Some(cached) = self.found.get(key) {
+            return Ok(Some(cached.clone()?));
+        }
+        let (cached, cell_bytes) = match self.shelf.cell(device, place, bytes) {
+            Some(cell) => (read_entry(alloc, bytes, cell)?.1, cell.len()),
+            None => return Ok(None),
+        };
+        // Without memory it is not kept, and read again.
+        let _kept = self.keep(alloc, key, &cached, cell_bytes);
+        Ok(Some(cached))
+    }
+
+    /// The objects of a resource, in one namespace or in all, ascending by key. Of the pages only those are read that may have one, one after the
+    /// other, each once; what lies in memory stays as it is.
+    ///
+    /// # Errors
+    ///
+    /// Those of `find`.
+    pub fn list<D: Device>(
+        &mut self,
+        alloc: Global,
+        device: &mut D,
+        resource: Resource,
+        namespace: Option<&str>,
+    ) -> Result<Vec<(Key, CachedObject)>, ObjectCacheFault>
+        requires inside { D.disk.keeps device.old → 512 * log_start (root_of self.old) ≤ length (D.disk.content device.old) }
+        ensures found { let text = option_map (λ text. text.now) namespace.entry in
+            (objects : List (KeyData × CachedObjectData)) → ObjectCaches D.disk device.old self.old objects
+            → IfOk result (λ listed. listed.items ≡ filter (λ object. is_of resource text object.0) objects) }
+        ensures kept { (objects : List (KeyData × CachedObjectData)) → ObjectCaches D.disk device.old self.old objects → ObjectCaches D.disk device.new self.new objects }
+        ensures root { root_of self.new ≡ root_of self.old }
+        ensures damaged { (objects : List (KeyData × CachedObjectData)) → ObjectCaches D.disk device.old self.old objects → IsErrOf result ObjectCacheFault.Damaged → ⊥ }
+        ensures ran { Ran D.disk device.old device.new Same }
+        ensures cause { IsErrOf result ObjectCacheFault.Device → HasFailed D.disk device.old device.new }
+        ensures steady { OnOk result (D.disk.failures device.new ≡ D.disk.failures device.old) }
+        ensures memory { IsErrOf result ObjectCacheFault.Memory → D.disk.failures device.new ≡ D.disk.failures device.old }
+    {
+        let prefix = prefix_of(alloc, resource, namespace)?;
+        objects_with(alloc, &mut self.shelf, device, &prefix)
+    }
+
+    /// All objects, ascending by key. Each page is read once that may have one, one after the other, and what lies in memory stays as it is.
+    ///
+    /// # Errors
+    ///
+    /// Those of `find`.
+    pub fn list_all<D: Device>(
+        &mut self,
+        alloc: Global,
+        device: &mut D,
+    ) -> Result<Vec<(Key, CachedObject)>, ObjectCacheFault>
+        requires inside { D.disk.keeps device.old → 512 * log_start (root_of self.old) ≤ length (D.disk.content device.old) }
+        ensures found { (objects : List (KeyData × CachedObjectData)) → ObjectCaches D.disk device.old self.old objects
+            → IfOk result (λ listed. listed.items ≡ objects) }
+        ensures are { (entries : List EntryData) → HasEntries D.disk device.old self.old entries
+            → IfOk result (λ listed. AreOf (beginning (1 ∷ []) entries) listed.items) }
+        ensures kept { (objects : List (KeyData × CachedObjectData)) → ObjectCaches D.disk device.old self.old objects → ObjectCaches D.disk device.new self.new objects }
+        ensures root { root_of self.new ≡ root_of self.old }
+        ensures damaged { (objects : List (KeyData × CachedObjectData)) → ObjectCaches D.disk device.old self.old objects → IsErrOf result ObjectCacheFault.Damaged → ⊥ }
+        ensures ran { Ran D.disk device.old device.new Same }
+        ensures cause { IsErrOf result ObjectCacheFault.Device → HasFailed D.disk device.old device.new }
+        ensures steady { OnOk result (D.disk.failures device.new ≡ D.disk.failures device.old) }
+        ensures memory { IsErrOf result ObjectCacheFault.Memory → D.disk.failures device.new ≡ D.disk.failures device.old }
+    {
+        objects_with(alloc, &mut self.shelf, device, &[OBJECT])
+    }
+}
