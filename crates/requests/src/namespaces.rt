@@ -7,7 +7,7 @@ use crate::reply::put_text;
 use jsondoc::Doc;
 use std::alloc::{AllocError, Global};
 
-// The document of a Namespace of which only the name is told.
+/// The document of a Namespace of which only the name is told.
 pub(crate) fn namespace_document(alloc: Global, name: &str) -> Result<Doc, AllocError>
     ensures { IfOk result (λ d. d ≡ (namespace_document name.now).json) }
 {
