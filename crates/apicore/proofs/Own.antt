@@ -28,6 +28,8 @@ use Rattle.apicore.specs.Attempts.{attempt_of}
 use Rattle.apicore.specs.Namespaces.{shown_at, namespace_shown, is_in_use}
 use Rattle.apicore.specs.Conditions.{Refusal, Condition, known, with_bad_expression, first_of, form_conditions, own_conditions, place_conditions, create_conditions, replace_conditions, delete_conditions, create_limits, replace_limits, update_conflicts, update_conflicts_at, deletion_conflicts}
 use Rattle.apicore.specs.Prepared.{put_request}
+use Rattle.apicore.specs.declared.placed.Put as code_put
+use Rattle.apicore.specs.declared.placed.Put.TheVariants.{Creates, Replaces}
 use Rattle.apicore.proofs.First.{none_of_both, refused_alone, none_after, is_there, is_not}
 use Rattle.apicore.proofs.Found.{IsFound, replace_found, first_missing}
 use Rattle.apicore.proofs.Showing.{exists_shown, shown_at_shown, namespace_shown_shown, place_shown, replace_shown, delete_shown, create_limits_shown, replace_limits_shown}
@@ -47,10 +49,10 @@ module _ (rules : Rules) (held : seen.View Decoded) (m : Manifest) (v : View) (s
   place_at is = sym (ap first_of (place_shown rules held v m.key shows)) ∙ is
 
   -- for its place
-  pub misplaced : (replaces : Bool) (s : Specification Expr) (r : Refusal) → first_of (place_conditions rules held m.key) ≡ Some r
-      → first_of (own_conditions rules v (put_request replaces m) s) ≡ Some r
-  misplaced false s r is = refused_alone (place_conditions rules v m.key) (after_place rules v m s) r (place_at is)
-  misplaced true s r is = refused_alone (place_conditions rules v m.key) (replaced_after_place rules v m s) r (place_at is)
+  pub misplaced : (which : code_put.Put) (s : Specification Expr) (r : Refusal) → first_of (place_conditions rules held m.key) ≡ Some r
+      → first_of (own_conditions rules v (put_request which m) s) ≡ Some r
+  misplaced Creates s r is = refused_alone (place_conditions rules v m.key) (after_place rules v m s) r (place_at is)
+  misplaced Replaces s r is = refused_alone (place_conditions rules v m.key) (replaced_after_place rules v m s) r (place_at is)
 
   -- and after it
   module _ (placed : first_of (place_conditions rules held m.key) ≡ None) where

@@ -27,6 +27,7 @@ ghost use Rattle.decoded.specs.Standing.{View};
 ghost use Rattle.apicore.specs.Attempts.{objects_of};
 
 use crate::attempts::put_attempt;
+use crate::placed::PlacedManifest;
 use crate::prepared::Prepared;
 use crate::refusing::denied;
 use crate::store_lookup::StoreLookup;
@@ -105,30 +106,29 @@ fn admitted_put(
 /// The put of a document that nothing but the policies may refuse, with the object at its key and its Namespace, as they are shown, where they are there.
 pub(crate) fn judged_put<'x, S: Source<Decoded>>(
     core: &mut Core,
-    alloc: Global,
     source: &mut S,
-    manifest: &'x Manifest,
+    placed: &PlacedManifest<'x>,
     plans: Vec<Verified>,
     old_object: Option<&'x Value>,
-    namespace: Option<&'x Value>,
 ) -> Result<Prepared, LookupFault>
     requires { core.old.revision < core.old.rules.greatest_revision }
     ensures same { IsAsBefore core.old core.new }
     ensures ready { IfOk result (λ p. HasRoomFor core.new p.write) }
-    ensures judged { let old = option_map (λ d. view d.now) old_object.entry in let home = option_map (λ d. view d.now) namespace.entry in
-        (held : Held DecodedData) (v : View) (trees : List Expr) → IsOver (S.holds source.old) core.old held v → is_some old ≡ exists held manifest.now.key
-        → plans.items ≡ plans_in (document_in manifest.now.body).json trees
-        → IfOk result (IsJudged held (λ warnings. showing (if is_some old then 200 else 201) warnings (document_in manifest.now.body) (held.revision + 1))
-        (put manifest.now.key (document_in manifest.now.body) trees)
-        (verdict (objects_of v) (record { operation = if is_some old then Update else Create; key = manifest.now.key; object = Some (document_in manifest.now.body).json; old_object = old; namespace = home }))) }
+    ensures judged { let m = placed.now.manifest.now in let old = option_map (λ d. view d.now) old_object.entry in let home = placed.now.namespace.now in
+        (held : Held DecodedData) (v : View) (trees : List Expr) → IsOver (S.holds source.old) core.old held v → is_some old ≡ exists held m.key
+        → plans.items ≡ plans_in (document_in m.body).json trees
+        → IfOk result (IsJudged held (λ warnings. showing (if is_some old then 200 else 201) warnings (document_in m.body) (held.revision + 1))
+        (put m.key (document_in m.body) trees)
+        (verdict (objects_of v) (record { operation = if is_some old then Update else Create; key = m.key; object = Some (document_in m.body).json; old_object = old; namespace = home }))) }
     ensures looked { HasLooked S.holds S.goes_to S.failures S.unfailed core.old source.old source.new result }
 {
-    let attempt = put_attempt(manifest, old_object, namespace);
+    let alloc = placed.alloc;
+    let attempt = put_attempt(placed, old_object);
     match verdict_of(core, alloc, source, &attempt)? {
         Verdict::Admitted(warnings) => admitted_put(
             core,
             alloc,
-            manifest,
+            placed.manifest,
             plans,
             old_object.is_some(),
             warnings,

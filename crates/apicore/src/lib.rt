@@ -22,6 +22,7 @@ mod laws;
 mod limits;
 mod named;
 mod namespaces;
+mod placed;
 mod prepared;
 mod preparing;
 mod reading;

@@ -1,7 +1,6 @@
 // The step of a request, with all its memory.
 ghost use Rattle.std.specs.Prelude.{◌≡◌, ◌≤◌, ◌<◌, ◌⊎◌, List, Some, None, false, IsTrue, IfOk, OnOk, IsErrOf, option_map, string_bytes};
 ghost use Rattle.celtree.specs.Tree.{Expr};
-ghost use Rattle.serde_json.specs.View.{view};
 ghost use Rattle.names.specs.Key.{Key as KeyData, is_key};
 ghost use Rattle.objects.specs.Failing.{HasGrown};
 ghost use Rattle.objects.specs.declared.fault.Part.{Part};
@@ -25,10 +24,12 @@ ghost use Rattle.apicore.specs.Places.{IsIn};
 ghost use Rattle.decoded.specs.Standing.{View};
 ghost use Rattle.apicore.specs.Conditions.{first_of, replace_limits, update_conflicts_at, deletion_conflicts_at};
 
+use crate::attempts::value_of;
 use crate::conflicts::{deletion_conflicts, update_conflicts};
 use crate::judging::{judged_delete, judged_put};
 use crate::limits::{create_limit, replace_limit};
 use crate::namespaces::{NamespacePlace, is_in_use, namespace_of, place_of};
+use crate::placed::{AskedDeletion, PlacedManifest, Put, Replacement};
 use crate::prepared::Prepared;
 use crate::reading::{get, list, watch};
 use crate::refusing::{bad_expression, refused};
@@ -37,12 +38,10 @@ use decoded::{Core, Decoded};
 use documents::shown_document;
 use expressions::Specification;
 use holdings::{FoundDocument, Source};
-use jsondoc::Doc;
 use names::Key;
 use objects::LookupFault;
 use plancode::Verified;
 use requests::{Manifest, Refusal, Request};
-use serde_json::Value;
 use std::alloc::Global;
 
 /// Prepares the step of a request over the objects that a source holds: takes all its memory, and leaves what is seen as it was, also where there is
@@ -82,20 +81,16 @@ pub fn prepare<S: Source<Decoded>>(
         Request::Get(key) => get(core, alloc, source, key),
         Request::List(collection, selector) => list(core, alloc, source, collection, selector),
         Request::Watch(collection, revision) => watch(core, alloc, collection, *revision),
-        Request::Create(manifest) => prepare_manifest(core, alloc, source, manifest, false),
-        Request::Replace(manifest) => prepare_manifest(core, alloc, source, manifest, true),
+        Request::Create(manifest) => prepare_manifest(core, alloc, source, manifest, Put::Creates),
+        Request::Replace(manifest) => prepare_manifest(
+            core,
+            alloc,
+            source,
+            manifest,
+            Put::Replaces,
+        ),
         Request::Delete(key, version) => prepare_delete(core, alloc, source, key, version),
         Request::Refused(refusal) => refused(alloc, *refusal),
-    }
-}
-
-// The value of a document, if there is one.
-fn value_of(document: &Option<Doc>) -> Option<&Value>
-    ensures { option_map (λ d. view d.now) result ≡ document.now }
-{
-    match document {
-        Some(document) => Some(document.value()),
-        None => None,
     }
 }
 
@@ -105,14 +100,14 @@ fn prepare_manifest<S: Source<Decoded>>(
     alloc: Global,
     source: &mut S,
     manifest: &Manifest,
-    replaces: bool,
+    put: Put,
 ) -> Result<Prepared, LookupFault>
     ensures same { IsAsBefore core.old core.new }
-    ensures step { IfOk result (IsPrepared (S.holds source.old) core.old (put_request replaces manifest.now)) }
+    ensures step { IfOk result (IsPrepared (S.holds source.old) core.old (put_request put manifest.now)) }
     ensures ready { IfOk result (λ p. HasRoomFor core.new p.write) }
     ensures form { BodyHasForm manifest.now.key manifest.now.body }
     ensures looked { HasLooked S.holds S.goes_to S.failures S.unfailed core.old source.old source.new result }
-    ensures read { IsErrOf result LookupFault.Device ⊎ ((part : Part) × IsErrOf result (LookupFault.Damaged part)) → (s : SpecificationOf Expr) × IsReadOf core.old.rules.format (put_request replaces manifest.now) s }
+    ensures read { IsErrOf result LookupFault.Device ⊎ ((part : Part) × IsErrOf result (LookupFault.Damaged part)) → (s : SpecificationOf Expr) × IsReadOf core.old.rules.format (put_request put manifest.now) s }
 {
     // The document, of which the form speaks.
     let _document = manifest.document();
@@ -122,11 +117,14 @@ fn prepare_manifest<S: Source<Decoded>>(
     match place {
         NamespacePlace::Refused(refusal) => refused(alloc, refusal),
         NamespacePlace::In(namespace) => {
-            let namespace = value_of(&namespace);
-            if replaces {
-                replace_in(core, alloc, source, manifest, specification, namespace)
-            } else {
-                create_in(core, alloc, source, manifest, specification, namespace)
+            let placed = PlacedManifest {
+                alloc,
+                manifest,
+                namespace: &namespace,
+            };
+            match put {
+                Put::Creates => create_in(core, source, &placed, specification),
+                Put::Replaces => replace_in(core, source, &placed, specification),
             }
         }
     }
@@ -135,159 +133,139 @@ fn prepare_manifest<S: Source<Decoded>>(
 // The creation of an object, in whose document this stands, at a place that refuses none, with the Namespace that it stands in, as it is shown.
 fn create_in<S: Source<Decoded>>(
     core: &mut Core,
-    alloc: Global,
     source: &mut S,
-    manifest: &Manifest,
+    placed: &PlacedManifest<'_>,
     specification: Specification,
-    namespace: Option<&Value>,
 ) -> Result<Prepared, LookupFault>
     ensures same { IsAsBefore core.old core.new }
-    ensures step { (s : SpecificationOf Expr) → specification_seen specification ≡ compiled (document_in manifest.now.body).json s
-        → (held : Held DecodedData) (v : View) → IsOver (S.holds source.old) core.old held v → IsIn core.old.rules held manifest.now.key (option_map (λ d. view d.now) namespace.entry)
-        → IfOk result (IsStepOf core.old.rules held v (record { request = create manifest.now; specification = s })) }
+    ensures step { let m = placed.now.manifest.now in let home = placed.now.namespace.now in
+        (s : SpecificationOf Expr) → specification_seen specification ≡ compiled (document_in m.body).json s
+        → (held : Held DecodedData) (v : View) → IsOver (S.holds source.old) core.old held v → IsIn core.old.rules held m.key home
+        → IfOk result (IsStepOf core.old.rules held v (record { request = create m; specification = s })) }
     ensures ready { IfOk result (λ p. HasRoomFor core.new p.write) }
     ensures looked { HasLooked S.holds S.goes_to S.failures S.unfailed core.old source.old source.new result }
 {
-    match core.find(alloc, source, manifest.key())? {
-        Some(_) => refused(alloc, Refusal::AlreadyExists),
-        None => create_free(core, alloc, source, manifest, specification, namespace),
+    match core.find(placed.alloc, source, placed.manifest.key())? {
+        Some(_) => refused(placed.alloc, Refusal::AlreadyExists),
+        None => create_free(core, source, placed, specification),
     }
 }
 
 // The creation of an object, in whose document this stands, at a key that has none.
 fn create_free<S: Source<Decoded>>(
     core: &mut Core,
-    alloc: Global,
     source: &mut S,
-    manifest: &Manifest,
+    placed: &PlacedManifest<'_>,
     specification: Specification,
-    namespace: Option<&Value>,
 ) -> Result<Prepared, LookupFault>
     ensures same { IsAsBefore core.old core.new }
-    ensures step { (s : SpecificationOf Expr) → specification_seen specification ≡ compiled (document_in manifest.now.body).json s
-        → (held : Held DecodedData) (v : View) → IsOver (S.holds source.old) core.old held v → IsIn core.old.rules held manifest.now.key (option_map (λ d. view d.now) namespace.entry)
-        → stored_at held manifest.now.key ≡ None
-        → IfOk result (IsStepOf core.old.rules held v (record { request = create manifest.now; specification = s })) }
+    ensures step { let m = placed.now.manifest.now in let home = placed.now.namespace.now in
+        (s : SpecificationOf Expr) → specification_seen specification ≡ compiled (document_in m.body).json s
+        → (held : Held DecodedData) (v : View) → IsOver (S.holds source.old) core.old held v → IsIn core.old.rules held m.key home
+        → stored_at held m.key ≡ None
+        → IfOk result (IsStepOf core.old.rules held v (record { request = create m; specification = s })) }
     ensures ready { IfOk result (λ p. HasRoomFor core.new p.write) }
     ensures looked { HasLooked S.holds S.goes_to S.failures S.unfailed core.old source.old source.new result }
 {
     match specification {
-        Specification::Sound(plans) => create_sound(
-            core, alloc, source, manifest, plans, namespace,
-        ),
-        Specification::BadSpec => refused(alloc, Refusal::BadSpec),
-        Specification::BadExpression(text) => bad_expression(alloc, text.as_str()),
+        Specification::Sound(plans) => create_sound(core, source, placed, plans),
+        Specification::BadSpec => refused(placed.alloc, Refusal::BadSpec),
+        Specification::BadExpression(text) => bad_expression(placed.alloc, text.as_str()),
     }
 }
 
 // The creation of an object at a key that has none, with these plans.
 fn create_sound<S: Source<Decoded>>(
     core: &mut Core,
-    alloc: Global,
     source: &mut S,
-    manifest: &Manifest,
+    placed: &PlacedManifest<'_>,
     plans: Vec<Verified>,
-    namespace: Option<&Value>,
 ) -> Result<Prepared, LookupFault>
     ensures same { IsAsBefore core.old core.new }
-    ensures step { (trees : List Expr) → plans.items ≡ plans_in (document_in manifest.now.body).json trees
-        → (held : Held DecodedData) (v : View) → IsOver (S.holds source.old) core.old held v → IsIn core.old.rules held manifest.now.key (option_map (λ d. view d.now) namespace.entry)
-        → stored_at held manifest.now.key ≡ None
-        → IfOk result (IsStepOf core.old.rules held v (record { request = create manifest.now; specification = sound trees })) }
+    ensures step { let m = placed.now.manifest.now in let home = placed.now.namespace.now in
+        (trees : List Expr) → plans.items ≡ plans_in (document_in m.body).json trees
+        → (held : Held DecodedData) (v : View) → IsOver (S.holds source.old) core.old held v → IsIn core.old.rules held m.key home
+        → stored_at held m.key ≡ None
+        → IfOk result (IsStepOf core.old.rules held v (record { request = create m; specification = sound trees })) }
     ensures ready { IfOk result (λ p. HasRoomFor core.new p.write) }
     ensures looked { HasLooked S.holds S.goes_to S.failures S.unfailed core.old source.old source.new result }
 {
-    match create_limit(core, manifest) {
-        Some(refusal) => refused(alloc, refusal),
-        None => judged_put(core, alloc, source, manifest, plans, None, namespace),
+    match create_limit(core, placed.manifest) {
+        Some(refusal) => refused(placed.alloc, refusal),
+        None => judged_put(core, source, placed, plans, None),
     }
 }
 
 // The replacement of an object by a document in which this stands, at a place that refuses none, with the Namespace that it stands in, as it is shown.
 fn replace_in<S: Source<Decoded>>(
     core: &mut Core,
-    alloc: Global,
     source: &mut S,
-    manifest: &Manifest,
+    placed: &PlacedManifest<'_>,
     specification: Specification,
-    namespace: Option<&Value>,
 ) -> Result<Prepared, LookupFault>
     ensures same { IsAsBefore core.old core.new }
-    ensures step { (s : SpecificationOf Expr) → specification_seen specification ≡ compiled (document_in manifest.now.body).json s
-        → (held : Held DecodedData) (v : View) → IsOver (S.holds source.old) core.old held v → IsIn core.old.rules held manifest.now.key (option_map (λ d. view d.now) namespace.entry)
-        → IfOk result (IsStepOf core.old.rules held v (record { request = replace manifest.now; specification = s })) }
+    ensures step { let m = placed.now.manifest.now in let home = placed.now.namespace.now in
+        (s : SpecificationOf Expr) → specification_seen specification ≡ compiled (document_in m.body).json s
+        → (held : Held DecodedData) (v : View) → IsOver (S.holds source.old) core.old held v → IsIn core.old.rules held m.key home
+        → IfOk result (IsStepOf core.old.rules held v (record { request = replace m; specification = s })) }
     ensures ready { IfOk result (λ p. HasRoomFor core.new p.write) }
     ensures looked { HasLooked S.holds S.goes_to S.failures S.unfailed core.old source.old source.new result }
 {
-    match core.find(alloc, source, manifest.key())? {
-        Some(found) => replace_of(
-            core,
-            alloc,
-            source,
-            manifest,
-            specification,
-            &found,
-            namespace,
-        ),
-        None => refused(alloc, Refusal::NotFound),
+    match core.find(placed.alloc, source, placed.manifest.key())? {
+        Some(found) => {
+            let replacement = Replacement {
+                placed,
+                found: &found,
+            };
+            replace_of(core, source, &replacement, specification)
+        }
+        None => refused(placed.alloc, Refusal::NotFound),
     }
 }
 
 // The replacement of an object that was found, by a document in which this stands.
 fn replace_of<S: Source<Decoded>>(
     core: &mut Core,
-    alloc: Global,
     source: &mut S,
-    manifest: &Manifest,
+    replacement: &Replacement<'_>,
     specification: Specification,
-    found: &FoundDocument,
-    namespace: Option<&Value>,
 ) -> Result<Prepared, LookupFault>
     ensures same { IsAsBefore core.old core.new }
-    ensures step { (s : SpecificationOf Expr) → specification_seen specification ≡ compiled (document_in manifest.now.body).json s
-        → (held : Held DecodedData) (v : View) → IsOver (S.holds source.old) core.old held v → IsIn core.old.rules held manifest.now.key (option_map (λ d. view d.now) namespace.entry)
-        → option_map found_in (stored_at held manifest.now.key) ≡ Some found.now
-        → IfOk result (IsStepOf core.old.rules held v (record { request = replace manifest.now; specification = s })) }
+    ensures step { let m = replacement.now.placed.now.manifest.now in let home = replacement.now.placed.now.namespace.now in
+        (s : SpecificationOf Expr) → specification_seen specification ≡ compiled (document_in m.body).json s
+        → (held : Held DecodedData) (v : View) → IsOver (S.holds source.old) core.old held v → IsIn core.old.rules held m.key home
+        → option_map found_in (stored_at held m.key) ≡ Some replacement.now.found.now
+        → IfOk result (IsStepOf core.old.rules held v (record { request = replace m; specification = s })) }
     ensures ready { IfOk result (λ p. HasRoomFor core.new p.write) }
     ensures looked { HasLooked S.holds S.goes_to S.failures S.unfailed core.old source.old source.new result }
 {
-    if update_conflicts(alloc, manifest, found.revision)? {
-        return refused(alloc, Refusal::VersionNotCurrent);
+    let put = replacement.placed;
+    if update_conflicts(put.alloc, put.manifest, replacement.found.revision)? {
+        return refused(put.alloc, Refusal::VersionNotCurrent);
     }
-    replace_as(
-        core,
-        alloc,
-        source,
-        manifest,
-        specification,
-        found,
-        namespace,
-    )
+    replace_as(core, source, replacement, specification)
 }
 
 // The replacement of an object that was found as the manifest wants it.
 fn replace_as<S: Source<Decoded>>(
     core: &mut Core,
-    alloc: Global,
     source: &mut S,
-    manifest: &Manifest,
+    replacement: &Replacement<'_>,
     specification: Specification,
-    found: &FoundDocument,
-    namespace: Option<&Value>,
 ) -> Result<Prepared, LookupFault>
-    requires conflicts { update_conflicts_at found.now.revision manifest.now.version ≡ false }
+    requires conflicts { update_conflicts_at replacement.now.found.now.revision replacement.now.placed.now.manifest.now.version ≡ false }
     ensures same { IsAsBefore core.old core.new }
-    ensures step { (s : SpecificationOf Expr) → specification_seen specification ≡ compiled (document_in manifest.now.body).json s
-        → (held : Held DecodedData) (v : View) → IsOver (S.holds source.old) core.old held v → IsIn core.old.rules held manifest.now.key (option_map (λ d. view d.now) namespace.entry)
-        → option_map found_in (stored_at held manifest.now.key) ≡ Some found.now
-        → IfOk result (IsStepOf core.old.rules held v (record { request = replace manifest.now; specification = s })) }
+    ensures step { let m = replacement.now.placed.now.manifest.now in let home = replacement.now.placed.now.namespace.now in
+        (s : SpecificationOf Expr) → specification_seen specification ≡ compiled (document_in m.body).json s
+        → (held : Held DecodedData) (v : View) → IsOver (S.holds source.old) core.old held v → IsIn core.old.rules held m.key home
+        → option_map found_in (stored_at held m.key) ≡ Some replacement.now.found.now
+        → IfOk result (IsStepOf core.old.rules held v (record { request = replace m; specification = s })) }
     ensures ready { IfOk result (λ p. HasRoomFor core.new p.write) }
     ensures looked { HasLooked S.holds S.goes_to S.failures S.unfailed core.old source.old source.new result }
 {
+    let alloc = replacement.placed.alloc;
     match specification {
-        Specification::Sound(plans) => replace_sound(
-            core, alloc, source, manifest, plans, found, namespace,
-        ),
+        Specification::Sound(plans) => replace_sound(core, source, replacement, plans),
         Specification::BadSpec => refused(alloc, Refusal::BadSpec),
         Specification::BadExpression(text) => bad_expression(alloc, text.as_str()),
     }
@@ -296,51 +274,48 @@ fn replace_as<S: Source<Decoded>>(
 // The replacement of an object that was found as the manifest wants it, with these plans.
 fn replace_sound<S: Source<Decoded>>(
     core: &mut Core,
-    alloc: Global,
     source: &mut S,
-    manifest: &Manifest,
+    replacement: &Replacement<'_>,
     plans: Vec<Verified>,
-    found: &FoundDocument,
-    namespace: Option<&Value>,
 ) -> Result<Prepared, LookupFault>
-    requires conflicts { update_conflicts_at found.now.revision manifest.now.version ≡ false }
+    requires conflicts { update_conflicts_at replacement.now.found.now.revision replacement.now.placed.now.manifest.now.version ≡ false }
     ensures same { IsAsBefore core.old core.new }
-    ensures step { (trees : List Expr) → plans.items ≡ plans_in (document_in manifest.now.body).json trees
-        → (held : Held DecodedData) (v : View) → IsOver (S.holds source.old) core.old held v → IsIn core.old.rules held manifest.now.key (option_map (λ d. view d.now) namespace.entry)
-        → option_map found_in (stored_at held manifest.now.key) ≡ Some found.now
-        → IfOk result (IsStepOf core.old.rules held v (record { request = replace manifest.now; specification = sound trees })) }
+    ensures step { let m = replacement.now.placed.now.manifest.now in let home = replacement.now.placed.now.namespace.now in
+        (trees : List Expr) → plans.items ≡ plans_in (document_in m.body).json trees
+        → (held : Held DecodedData) (v : View) → IsOver (S.holds source.old) core.old held v → IsIn core.old.rules held m.key home
+        → option_map found_in (stored_at held m.key) ≡ Some replacement.now.found.now
+        → IfOk result (IsStepOf core.old.rules held v (record { request = replace m; specification = sound trees })) }
     ensures ready { IfOk result (λ p. HasRoomFor core.new p.write) }
     ensures looked { HasLooked S.holds S.goes_to S.failures S.unfailed core.old source.old source.new result }
 {
-    match replace_limit(core, manifest) {
-        Some(refusal) => refused(alloc, refusal),
-        None => replace_there(core, alloc, source, manifest, plans, found, namespace),
+    match replace_limit(core, replacement.placed.manifest) {
+        Some(refusal) => refused(replacement.placed.alloc, refusal),
+        None => replace_there(core, source, replacement, plans),
     }
 }
 
 // The replacement of an object that nothing but the policies may refuse.
 fn replace_there<S: Source<Decoded>>(
     core: &mut Core,
-    alloc: Global,
     source: &mut S,
-    manifest: &Manifest,
+    replacement: &Replacement<'_>,
     plans: Vec<Verified>,
-    found: &FoundDocument,
-    namespace: Option<&Value>,
 ) -> Result<Prepared, LookupFault>
-    requires conflicts { update_conflicts_at found.now.revision manifest.now.version ≡ false }
+    requires conflicts { update_conflicts_at replacement.now.found.now.revision replacement.now.placed.now.manifest.now.version ≡ false }
     requires room { core.old.revision < core.old.rules.greatest_revision }
     ensures same { IsAsBefore core.old core.new }
-    ensures step { (trees : List Expr) → plans.items ≡ plans_in (document_in manifest.now.body).json trees
-        → (held : Held DecodedData) (v : View) → IsOver (S.holds source.old) core.old held v → IsIn core.old.rules held manifest.now.key (option_map (λ d. view d.now) namespace.entry)
-        → option_map found_in (stored_at held manifest.now.key) ≡ Some found.now → first_of (replace_limits core.old.rules held (document_in manifest.now.body)) ≡ None
-        → IfOk result (IsStepOf core.old.rules held v (record { request = replace manifest.now; specification = sound trees })) }
+    ensures step { let m = replacement.now.placed.now.manifest.now in let home = replacement.now.placed.now.namespace.now in
+        (trees : List Expr) → plans.items ≡ plans_in (document_in m.body).json trees
+        → (held : Held DecodedData) (v : View) → IsOver (S.holds source.old) core.old held v → IsIn core.old.rules held m.key home
+        → option_map found_in (stored_at held m.key) ≡ Some replacement.now.found.now → first_of (replace_limits core.old.rules held (document_in m.body)) ≡ None
+        → IfOk result (IsStepOf core.old.rules held v (record { request = replace m; specification = sound trees })) }
     ensures ready { IfOk result (λ p. HasRoomFor core.new p.write) }
     ensures looked { HasLooked S.holds S.goes_to S.failures S.unfailed core.old source.old source.new result }
 {
+    let alloc = replacement.placed.alloc;
+    let found = replacement.found;
     let old = shown_document(alloc, &found.document, found.revision)?;
-    let old_object = Some(old.value());
-    judged_put(core, alloc, source, manifest, plans, old_object, namespace)
+    judged_put(core, source, replacement.placed, plans, Some(old.value()))
 }
 
 // The deletion of an object, which shows the object that it removes with the revision that it makes.
@@ -359,8 +334,13 @@ fn prepare_delete<S: Source<Decoded>>(
 {
     // A name of the key, which is well-formed.
     let _name = key.name();
+    let asked = AskedDeletion {
+        alloc,
+        key,
+        version,
+    };
     match core.find(alloc, source, key)? {
-        Some(found) => delete_found(core, alloc, source, key, version, found),
+        Some(found) => delete_found(core, source, &asked, found),
         None => refused(alloc, Refusal::NotFound),
     }
 }
@@ -368,56 +348,56 @@ fn prepare_delete<S: Source<Decoded>>(
 // The deletion of an object that was found.
 fn delete_found<S: Source<Decoded>>(
     core: &mut Core,
-    alloc: Global,
     source: &mut S,
-    key: &Key,
-    version: &Option<String>,
+    asked: &AskedDeletion<'_>,
     found: FoundDocument,
 ) -> Result<Prepared, LookupFault>
     ensures same { IsAsBefore core.old core.new }
-    ensures step { (held : Held DecodedData) (v : View) → IsOver (S.holds source.old) core.old held v → option_map found_in (stored_at held key.now) ≡ Some found
-        → (s : SpecificationOf Expr) → IfOk result (IsStepOf core.old.rules held v (record { request = delete key.now (option_map string_bytes version.now); specification = s })) }
+    ensures step { let k = asked.now.key.now in let version = option_map string_bytes asked.now.version.now in
+        (held : Held DecodedData) (v : View) → IsOver (S.holds source.old) core.old held v → option_map found_in (stored_at held k) ≡ Some found
+        → (s : SpecificationOf Expr) → IfOk result (IsStepOf core.old.rules held v (record { request = delete k version; specification = s })) }
     ensures ready { IfOk result (λ p. HasRoomFor core.new p.write) }
     ensures looked { HasLooked S.holds S.goes_to S.failures S.unfailed core.old source.old source.new result }
 {
-    if deletion_conflicts(alloc, version, found.revision)? {
+    let alloc = asked.alloc;
+    if deletion_conflicts(alloc, asked.version, found.revision)? {
         return refused(alloc, Refusal::VersionNotCurrent);
     }
-    let is_in_use = is_in_use(core, alloc, source, key)?;
+    let is_in_use = is_in_use(core, alloc, source, asked.key)?;
     if is_in_use {
         return refused(alloc, Refusal::NamespaceNotEmpty);
     }
     if core.is_exhausted() {
         return refused(alloc, Refusal::RevisionExhausted);
     }
-    delete_there(core, alloc, source, key, version, found)
+    delete_there(core, source, asked, found)
 }
 
 // The deletion of an object that was found, which nothing but the policies may refuse.
 fn delete_there<S: Source<Decoded>>(
     core: &mut Core,
-    alloc: Global,
     source: &mut S,
-    key: &Key,
-    version: &Option<String>,
+    asked: &AskedDeletion<'_>,
     found: FoundDocument,
 ) -> Result<Prepared, LookupFault>
-    requires conflicts { deletion_conflicts_at found.revision (option_map string_bytes version.now) ≡ false }
+    requires conflicts { deletion_conflicts_at found.revision (option_map string_bytes asked.now.version.now) ≡ false }
     requires room { core.old.revision < core.old.rules.greatest_revision }
     ensures same { IsAsBefore core.old core.new }
-    ensures step { (held : Held DecodedData) (v : View) → IsOver (S.holds source.old) core.old held v → option_map found_in (stored_at held key.now) ≡ Some found
-        → place.is_in_use held key.now ≡ false
-        → (s : SpecificationOf Expr) → IfOk result (IsStepOf core.old.rules held v (record { request = delete key.now (option_map string_bytes version.now); specification = s })) }
+    ensures step { let k = asked.now.key.now in let version = option_map string_bytes asked.now.version.now in
+        (held : Held DecodedData) (v : View) → IsOver (S.holds source.old) core.old held v → option_map found_in (stored_at held k) ≡ Some found
+        → place.is_in_use held k ≡ false
+        → (s : SpecificationOf Expr) → IfOk result (IsStepOf core.old.rules held v (record { request = delete k version; specification = s })) }
     ensures ready { IfOk result (λ p. HasRoomFor core.new p.write) }
     ensures looked { HasLooked S.holds S.goes_to S.failures S.unfailed core.old source.old source.new result }
 {
-    let namespace = namespace_of(core, alloc, source, key)?;
+    let alloc = asked.alloc;
+    let namespace = namespace_of(core, alloc, source, asked.key)?;
     let old = shown_document(alloc, &found.document, found.revision)?;
     judged_delete(
         core,
         alloc,
         source,
-        key,
+        asked.key,
         found,
         old.value(),
         value_of(&namespace),

@@ -58,7 +58,35 @@ fn put_leaf(out: &mut String, tree: &Tree) {
     }
 }
 
-// A tree in brackets, the operator between its operands.
+// An operation in brackets, the operator between its operands.
+#[cycle(put)]
+fn put_operation(out: &mut String, tree: &Tree) {
+    match tree {
+        Tree::Unary(prefix, of) => {
+            put_between(out, "(", prefix_sign(*prefix), "");
+            put_within(out, " ", of, ")");
+        }
+        Tree::Infix(operator, left, right) => {
+            put_within(out, "(", left, " ");
+            put(out, operator_sign(*operator));
+            put_within(out, " ", right, ")");
+        }
+        Tree::Conditional(test, first, second) => {
+            put_within(out, "(", test, " ? ");
+            put_tree(out, first);
+            put_within(out, " : ", second, ")");
+        }
+        Tree::Macro(kind, of, variable, body) => {
+            put_within(out, "(", of, " ");
+            put(out, macro_name(*kind));
+            put_between(out, " ", variable, " ");
+            put_within(out, "", body, ")");
+        }
+        _ => put_leaf(out, tree),
+    }
+}
+
+// A tree: what is selected, listed or called as it is written, an operation in brackets.
 #[cycle(put)]
 fn put_tree(out: &mut String, tree: &Tree) {
     match tree {
@@ -76,20 +104,6 @@ fn put_tree(out: &mut String, tree: &Tree) {
         }
         Tree::List(items) => put_trees(out, "[", items, " ]"),
         Tree::Map(entries) => put_entries(out, entries),
-        Tree::Unary(prefix, of) => {
-            put_between(out, "(", prefix_sign(*prefix), "");
-            put_within(out, " ", of, ")");
-        }
-        Tree::Infix(operator, left, right) => {
-            put_within(out, "(", left, " ");
-            put(out, operator_sign(*operator));
-            put_within(out, " ", right, ")");
-        }
-        Tree::Conditional(test, first, second) => {
-            put_within(out, "(", test, " ? ");
-            put_tree(out, first);
-            put_within(out, " : ", second, ")");
-        }
         Tree::Call(name, arguments) => {
             put(out, name);
             put_trees(out, "(", arguments, " )");
@@ -99,13 +113,7 @@ fn put_tree(out: &mut String, tree: &Tree) {
             put(out, name);
             put_trees(out, "(", arguments, " )");
         }
-        Tree::Macro(kind, of, variable, body) => {
-            put_within(out, "(", of, " ");
-            put(out, macro_name(*kind));
-            put_between(out, " ", variable, " ");
-            put_within(out, "", body, ")");
-        }
-        _ => put_leaf(out, tree),
+        _ => put_operation(out, tree),
     }
 }
 

@@ -9,7 +9,7 @@ use Rattle.roots.specs.Install.{HasAt}
 
 -- The writer is to fill the pages of this root, and has filled none.
 pub record IsFor (writer : PageWriter) (root : Root) : Type 0 where
-  pub at : writer.at ≡ root.first
+  pub at : writer.at ≡ root.first_sector
   pub left : writer.left ≡ root.pages
   pub filled : writer.filled ≡ 0
   pub page : writer.page ≡ []

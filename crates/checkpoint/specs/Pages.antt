@@ -22,16 +22,16 @@ joined (page ∷ pages) = page ++ joined pages
 
 -- The pages of a root.
 abbrev pub pages_of_root : Root → List ℕ → List (List Entry)
-pages_of_root root content = pages_at root.first root.pages content
+pages_of_root root content = pages_at root.first_sector root.pages content
 
 -- The pages of a root are sound, and their keys ascend from the first page to the last.
 pub record HoldsPages (content : List ℕ) (root : Root) : Type 0 where
-  pub sound : AreSound root.first root.pages content
+  pub sound : AreSound root.first_sector root.pages content
   pub ascending : IsTrue (is_sorted bytes_cmp (joined (pages_of_root root content)))
 
 -- The pages of a root are sound, and hold these entries.
 pub record HoldsEntries (content : List ℕ) (root : Root) (entries : List Entry) : Type 0 where
-  pub sound : AreSound root.first root.pages content
+  pub sound : AreSound root.first_sector root.pages content
   pub are : joined (pages_of_root root content) ≡ entries
 
 -- The first key of a page.

@@ -217,7 +217,7 @@ pub fn first_keys<D: Device, E: Entries>(
     ensures ran { Ran D.disk device.old device.new Same }
     ensures cause { IsErrOf result EntriesFault.Device → HasFailed D.disk device.old device.new }
     ensures steady { OnOk result (D.disk.failures device.new ≡ D.disk.failures device.old) }
-    ensures memory { IsErrOf result EntriesFault.Memory → D.disk.failures device.new ≡ D.disk.failures device.old }
+    ensures unfailed { IsErrOf result EntriesFault.Memory → D.disk.failures device.new ≡ D.disk.failures device.old }
 {
     let mut filling = Filling::new(alloc);
     entries.rewind();

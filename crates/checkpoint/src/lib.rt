@@ -6,8 +6,8 @@
 //! [`write`] writes entries as the next generation, while the root that counts stays as it is:
 //!
 //! ```text
-//! let written = write(alloc, &mut device, &root, log.last_gate(), label, &mut entries)?;
-//! let log = Log::restart(&device, written.root.log_start());
+//! let written = write(alloc, &mut device, &root, log.last_gate_sector(), label, &mut entries)?;
+//! let log = Log::restart(&device, written.root.log_sector());
 //! ```
 //!
 //! At every moment of it a crash leaves the old generation, or the new one with an empty log, and after it answered `Ok` the new one. Its
@@ -25,6 +25,6 @@ mod writing;
 pub use entry_list::EntryList;
 pub use filling::{Entries, EntriesFault, first_keys};
 pub use reader::{Reader, ReaderFault};
-pub use roots::{counted_root, place};
+pub use roots::{counted_root, next_first_sector};
 pub use scanning::{ScanFault, scan};
 pub use writing::{WriteFault, Written, write};

@@ -60,7 +60,7 @@ impl PageWriter {
         ensures { IfOk result (λ writer. IsFor writer root.now) }
     {
         Ok(PageWriter {
-            at: root.first,
+            at: root.first_sector,
             filled: 0,
             left: root.pages,
             buffer: run_buffer(alloc)?,

@@ -6,7 +6,7 @@ ghost use Rattle.device.specs.Disk.{HasFailed};
 ghost use Rattle.device.specs.Step.{Same};
 ghost use Rattle.device.specs.Run.{Ran};
 ghost use Rattle.pages.specs.Page.{Entry, bytes_cmp, entries_in, IsSound};
-ghost use Rattle.roots.specs.Root.{log_start};
+ghost use Rattle.roots.specs.Root.{log_sector};
 ghost use Rattle.checkpoint.specs.Pages.{joined, pages_of_root, HoldsPages, IsIndex};
 ghost use Rattle.checkpoint.specs.Reader.{IsRefused, Heard};
 ghost use Rattle.checkpoint.specs.Index.{keys_of, IsIndexed};
@@ -108,8 +108,8 @@ fn take_pages<D: Device, R: Reader>(
 ) -> Result<bool, ScanFault>
     requires size { length buffer.old ≡ 32768 }
     requires none { IsIndexed index.old [] }
-    requires small { log_start root.now < 2 ^ 54 }
-    requires inside { D.disk.keeps device.old → 512 * log_start root.now ≤ length (D.disk.content device.old) }
+    requires small { log_sector root.now < 2 ^ 54 }
+    requires inside { D.disk.keeps device.old → 512 * log_sector root.now ≤ length (D.disk.content device.old) }
     ensures whole { D.disk.keeps device.old → OnOk result (HoldsPages (D.disk.content device.old) root.now) }
     ensures indexed { D.disk.keeps device.old → OnOk result (IsIndexed index.new (pages_of_root root.now (D.disk.content device.old))) }
     ensures heard { D.disk.keeps device.old
@@ -119,11 +119,11 @@ fn take_pages<D: Device, R: Reader>(
     ensures ran { Ran D.disk device.old device.new Same }
     ensures cause { IsErrOf result ScanFault.Device → HasFailed D.disk device.old device.new }
     ensures steady { OnOk result (D.disk.failures device.new ≡ D.disk.failures device.old) }
-    ensures memory { IsErrOf result ScanFault.Memory → D.disk.failures device.new ≡ D.disk.failures device.old }
+    ensures unfailed { IsErrOf result ScanFault.Memory → D.disk.failures device.new ≡ D.disk.failures device.old }
 {
     let mut refused = false;
     for i in 0..root.pages {
-        device.read(root.first + PAGE_SECTORS * u64::from(i), buffer)?;
+        device.read(root.first_sector + PAGE_SECTORS * u64::from(i), buffer)?;
         refused = take_page(alloc, buffer, index, reader, refused)?;
     }
     Ok(refused)
@@ -145,8 +145,8 @@ pub fn scan<D: Device, R: Reader>(
     root: &Root,
     reader: &mut R,
 ) -> Result<Vec<Vec<u8>>, ScanFault>
-    requires small { log_start root.now < 2 ^ 54 }
-    requires inside { D.disk.keeps device.old → 512 * log_start root.now ≤ length (D.disk.content device.old) }
+    requires small { log_sector root.now < 2 ^ 54 }
+    requires inside { D.disk.keeps device.old → 512 * log_sector root.now ≤ length (D.disk.content device.old) }
     ensures told { D.disk.keeps device.old
         → OnOk result (R.told reader.old reader.new (joined (pages_of_root root.now (D.disk.content device.old)))) }
     ensures index { D.disk.keeps device.old
@@ -160,7 +160,7 @@ pub fn scan<D: Device, R: Reader>(
         → IsRefused R.told R.refuses reader.old (joined (pages_of_root root.now (D.disk.content device.old))) }
     ensures cause { IsErrOf result ScanFault.Device → HasFailed D.disk device.old device.new }
     ensures steady { OnOk result (D.disk.failures device.new ≡ D.disk.failures device.old) }
-    ensures memory { IsErrOf result ScanFault.Memory → D.disk.failures device.new ≡ D.disk.failures device.old }
+    ensures unfailed { IsErrOf result ScanFault.Memory → D.disk.failures device.new ≡ D.disk.failures device.old }
 
     ensures ran { Ran D.disk device.old device.new Same }
 

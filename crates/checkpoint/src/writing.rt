@@ -6,7 +6,7 @@ ghost use Rattle.device.specs.Disk.{HasFailed};
 ghost use Rattle.device.specs.Step.{Same, Torn};
 ghost use Rattle.device.specs.Run.{Ran, Stands};
 ghost use Rattle.pages.specs.Page.{Entry, bytes_cmp};
-ghost use Rattle.roots.specs.Root.{log_start};
+ghost use Rattle.roots.specs.Root.{log_sector};
 ghost use Rattle.checkpoint.specs.Pages.{first_key, pages_of_root, IsIndex};
 ghost use Rattle.checkpoint.specs.Filling.{AllFit, pages_of};
 ghost use Rattle.checkpoint.specs.Index.{keys_of};
@@ -131,22 +131,22 @@ fn write_pages<D: Device, E: Entries>(
 // The root of the next generation, of as many pages as there are first keys.
 fn next_of(
     current: &Root,
-    last_gate: u64,
+    last_gate_sector: u64,
     first_keys: &[Vec<u8>],
     label: Label,
 ) -> Result<Root, WriteFault>
-    requires in_data { 8 ≤ last_gate }
-    requires room { last_gate < 2 ^ 54 }
-    ensures next { IfOk result (IsNext current.now last_gate) }
-    ensures place { IfOk result (λ next. IsPlace current.now.first last_gate next.pages next.first) }
-    ensures room { IfOk result (λ next. log_start next < 2 ^ 64) }
+    requires in_data { 8 ≤ last_gate_sector }
+    requires room { last_gate_sector < 2 ^ 54 }
+    ensures next { IfOk result (IsNext current.now last_gate_sector) }
+    ensures place { IfOk result (λ next. IsPlace current.now.first_sector last_gate_sector next.pages next.first_sector) }
+    ensures room { IfOk result (λ next. log_sector next < 2 ^ 64) }
     ensures pages { IfOk result (λ next. next.pages ≡ length first_keys.now) }
     ensures label { IfOk result (λ next. next.label ≡ label) }
     ensures exhausted { IsErrOf result WriteFault.Exhausted → current.now.generation ≡ 2 ^ 64 - 1 }
     ensures refusal { OnErr result (IsErrOf result WriteFault.Exhausted ⊎ IsErrOf result WriteFault.Memory) }
 {
     match u32::try_from(first_keys.len()) {
-        Ok(pages) => Ok(next_root(current, last_gate, pages, label)?),
+        Ok(pages) => Ok(next_root(current, last_gate_sector, pages, label)?),
         Err(_) => Err(WriteFault::Memory),
     }
 }
@@ -160,9 +160,9 @@ fn write_generation<D: Device, E: Entries>(
     writer: &mut PageWriter,
 ) -> Result<(), WriteFault>
     requires ready { IsFor writer.old next.now }
-    requires in_data { 8 ≤ next.now.first }
-    requires room { log_start next.now < 2 ^ 64 }
-    requires inside { D.disk.keeps device.old → 512 * next.now.first ≤ length (D.disk.content device.old) }
+    requires in_data { 8 ≤ next.now.first_sector }
+    requires room { log_sector next.now < 2 ^ 64 }
+    requires inside { D.disk.keeps device.old → 512 * next.now.first_sector ≤ length (D.disk.content device.old) }
     ensures any_moment { D.disk.keeps device.old → (last : ℕ) (all : List Entry) → IsInUse D.disk device.old current.now last
         → IsSource E.gives E.reads current.now last (D.disk.content device.old) entries.old all
         → IsNext current.now last next.now → AllFit all → next.now.pages ≡ length (pages_of all)
@@ -173,19 +173,19 @@ fn write_generation<D: Device, E: Entries>(
         → IsNext current.now last next.now → AllFit all → next.now.pages ≡ length (pages_of all)
         → OnOk result (Stands D.disk device.old device.new (IsBeforeOrWritten current.now last (D.disk.content device.old) next.now.label all)
         (IsWritten next.now all)) }
-    ensures in_use { D.disk.keeps device.old → (last : ℕ) (all : List Entry) → IsInUse D.disk device.old current.now last
+    ensures ok { D.disk.keeps device.old → (last : ℕ) (all : List Entry) → IsInUse D.disk device.old current.now last
         → IsSource E.gives E.reads current.now last (D.disk.content device.old) entries.old all
         → IsNext current.now last next.now → AllFit all → next.now.pages ≡ length (pages_of all)
-        → OnOk result (IsInUse D.disk device.new next.now (log_start next.now)) }
+        → OnOk result (IsInUse D.disk device.new next.now (log_sector next.now)) }
     ensures damaged { D.disk.keeps device.old → (last : ℕ) (all : List Entry) → IsInUse D.disk device.old current.now last
         → IsSource E.gives E.reads current.now last (D.disk.content device.old) entries.old all
         → IsNext current.now last next.now → AllFit all → next.now.pages ≡ length (pages_of all)
         → IsErrOf result WriteFault.Damaged → ⊥ }
-    ensures front { D.disk.keeps device.old → next.now.first ≡ 8
-        → OnOk result (length (D.disk.content device.new) ≡ 512 * log_start next.now + 512) }
-    ensures behind { D.disk.keeps device.old → (next.now.first ≡ 8 → ⊥) → OnOk result
-        (length (D.disk.content device.new) ≡ max (length (D.disk.content device.old)) (512 * log_start next.now + 512)) }
-    ensures room { OnOk result (log_start next.now < 2 ^ 54) }
+    ensures front { D.disk.keeps device.old → next.now.first_sector ≡ 8
+        → OnOk result (length (D.disk.content device.new) ≡ 512 * log_sector next.now + 512) }
+    ensures behind { D.disk.keeps device.old → (next.now.first_sector ≡ 8 → ⊥) → OnOk result
+        (length (D.disk.content device.new) ≡ max (length (D.disk.content device.old)) (512 * log_sector next.now + 512)) }
+    ensures room { OnOk result (log_sector next.now < 2 ^ 54) }
     ensures gives { (content : List ℕ) (all : List Entry) → E.gives entries.old content all → E.gives entries.new content all }
     ensures refusal { OnErr result (IsErrOf result WriteFault.Device ⊎ IsErrOf result WriteFault.Damaged) }
     ensures kept { D.disk.keeps device.old → D.disk.keeps device.new }
@@ -200,7 +200,7 @@ fn write_generation<D: Device, E: Entries>(
 }
 
 /// Writes the entries as the next generation of a store, with this label, while `current` counts and its log ends with the gate in the
-/// sector `last_gate`. The entries are walked twice: to count pages and take their first keys, and to write. Their pages lie off the
+/// sector `last_gate_sector`. The entries are walked twice: to count pages and take their first keys, and to write. Their pages lie off the
 /// generation in use, and go to the device in runs of up to 16, each by one write. Then the new root is installed, as [`install`] does.
 /// All memory is taken before the first write: 17 pages and the keys.
 ///
@@ -217,40 +217,40 @@ pub fn write<D: Device, E: Entries>(
     alloc: Global,
     device: &mut D,
     current: &Root,
-    last_gate: u64,
+    last_gate_sector: u64,
     label: Label,
     entries: &mut E,
 ) -> Result<Written, WriteFault>
-    requires in_data { 8 ≤ last_gate }
-    requires room { last_gate < 2 ^ 54 }
-    requires inside { D.disk.keeps device.old → 512 * last_gate + 512 ≤ length (D.disk.content device.old) }
+    requires in_data { 8 ≤ last_gate_sector }
+    requires room { last_gate_sector < 2 ^ 54 }
+    requires inside { D.disk.keeps device.old → 512 * last_gate_sector + 512 ≤ length (D.disk.content device.old) }
 
     // From a device on which that generation is in use, over which the source gives entries.
-    ensures any_moment { D.disk.keeps device.old → (all : List Entry) → IsInUse D.disk device.old current.now last_gate
-        → IsSource E.gives E.reads current.now last_gate (D.disk.content device.old) entries.old all
-        → Stands D.disk device.old device.new (IsBeforeOrWritten current.now last_gate (D.disk.content device.old) label all)
-        (IsBeforeOrWritten current.now last_gate (D.disk.content device.old) label all) }
-    ensures written { D.disk.keeps device.old → (all : List Entry) → IsInUse D.disk device.old current.now last_gate
-        → IsSource E.gives E.reads current.now last_gate (D.disk.content device.old) entries.old all
+    ensures any_moment { D.disk.keeps device.old → (all : List Entry) → IsInUse D.disk device.old current.now last_gate_sector
+        → IsSource E.gives E.reads current.now last_gate_sector (D.disk.content device.old) entries.old all
+        → Stands D.disk device.old device.new (IsBeforeOrWritten current.now last_gate_sector (D.disk.content device.old) label all)
+        (IsBeforeOrWritten current.now last_gate_sector (D.disk.content device.old) label all) }
+    ensures written { D.disk.keeps device.old → (all : List Entry) → IsInUse D.disk device.old current.now last_gate_sector
+        → IsSource E.gives E.reads current.now last_gate_sector (D.disk.content device.old) entries.old all
         → IfOk result (λ written. Stands D.disk device.old device.new
-        (IsBeforeOrWritten current.now last_gate (D.disk.content device.old) label all) (IsWritten written.root all)) }
-    ensures in_use { D.disk.keeps device.old → (all : List Entry) → IsInUse D.disk device.old current.now last_gate
-        → IsSource E.gives E.reads current.now last_gate (D.disk.content device.old) entries.old all
-        → IfOk result (λ written. IsInUse D.disk device.new written.root (log_start written.root)) }
-    ensures index { D.disk.keeps device.old → (all : List Entry) → IsInUse D.disk device.old current.now last_gate
-        → IsSource E.gives E.reads current.now last_gate (D.disk.content device.old) entries.old all
+        (IsBeforeOrWritten current.now last_gate_sector (D.disk.content device.old) label all) (IsWritten written.root all)) }
+    ensures ok { D.disk.keeps device.old → (all : List Entry) → IsInUse D.disk device.old current.now last_gate_sector
+        → IsSource E.gives E.reads current.now last_gate_sector (D.disk.content device.old) entries.old all
+        → IfOk result (λ written. IsInUse D.disk device.new written.root (log_sector written.root)) }
+    ensures index { D.disk.keeps device.old → (all : List Entry) → IsInUse D.disk device.old current.now last_gate_sector
+        → IsSource E.gives E.reads current.now last_gate_sector (D.disk.content device.old) entries.old all
         → IfOk result (λ written. IsIndex (keys_of written.first_keys.items) (pages_of_root written.root (D.disk.content device.new))) }
 
     // The root, and where the device ends.
-    ensures next { IfOk result (λ written. IsNext current.now last_gate written.root) }
-    ensures place { IfOk result (λ written. IsPlace current.now.first last_gate written.root.pages written.root.first) }
+    ensures next { IfOk result (λ written. IsNext current.now last_gate_sector written.root) }
+    ensures place { IfOk result (λ written. IsPlace current.now.first_sector last_gate_sector written.root.pages written.root.first_sector) }
     ensures pages { IfOk result (λ written. written.root.pages ≡ length written.first_keys.items) }
     ensures label { IfOk result (λ written. written.root.label ≡ label) }
-    ensures room { IfOk result (λ written. log_start written.root < 2 ^ 54) }
-    ensures front { D.disk.keeps device.old → IfOk result (λ written. written.root.first ≡ 8
-        → length (D.disk.content device.new) ≡ 512 * log_start written.root + 512) }
-    ensures behind { D.disk.keeps device.old → IfOk result (λ written. (written.root.first ≡ 8 → ⊥)
-        → length (D.disk.content device.new) ≡ max (length (D.disk.content device.old)) (512 * log_start written.root + 512)) }
+    ensures room { IfOk result (λ written. log_sector written.root < 2 ^ 54) }
+    ensures front { D.disk.keeps device.old → IfOk result (λ written. written.root.first_sector ≡ 8
+        → length (D.disk.content device.new) ≡ 512 * log_sector written.root + 512) }
+    ensures behind { D.disk.keeps device.old → IfOk result (λ written. (written.root.first_sector ≡ 8 → ⊥)
+        → length (D.disk.content device.new) ≡ max (length (D.disk.content device.old)) (512 * log_sector written.root + 512)) }
 
     // Each fault where it belongs.
     ensures memory { IsErrOf result WriteFault.Memory → Ran D.disk device.old device.new Same }
@@ -259,8 +259,8 @@ pub fn write<D: Device, E: Entries>(
     ensures greatest { IsErrOf result WriteFault.Exhausted → current.now.generation ≡ 2 ^ 64 - 1 }
     ensures fits { D.disk.keeps device.old → (all : List Entry) → E.gives entries.old (D.disk.content device.old) all
         → IsErrOf result WriteFault.TooLong → AllFit all → ⊥ }
-    ensures damaged { D.disk.keeps device.old → (all : List Entry) → IsInUse D.disk device.old current.now last_gate
-        → IsSource E.gives E.reads current.now last_gate (D.disk.content device.old) entries.old all
+    ensures damaged { D.disk.keeps device.old → (all : List Entry) → IsInUse D.disk device.old current.now last_gate_sector
+        → IsSource E.gives E.reads current.now last_gate_sector (D.disk.content device.old) entries.old all
         → IsErrOf result WriteFault.Damaged → ⊥ }
     ensures cause { IsErrOf result WriteFault.Device → HasFailed D.disk device.old device.new }
     ensures steady { OnOk result (D.disk.failures device.new ≡ D.disk.failures device.old) }
@@ -272,7 +272,7 @@ pub fn write<D: Device, E: Entries>(
     ensures count { D.disk.failures device.old ≤ D.disk.failures device.new }
 {
     let first_keys = first_keys(alloc, device, entries)?;
-    let root = next_of(current, last_gate, &first_keys, label)?;
+    let root = next_of(current, last_gate_sector, &first_keys, label)?;
     let mut writer = PageWriter::new(alloc, &root)?;
     write_generation(device, current, &root, entries, &mut writer)?;
     Ok(Written { root, first_keys })

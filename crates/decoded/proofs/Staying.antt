@@ -60,7 +60,7 @@ served_one : (rules : Rules) (v : View) (w : Write) → All (Served rules.format
 served_one rules v (put k d trees) have may = all_with (Served rules.format) k _ v.objects may.0.served have
 served_one rules v (delete k) have may = all_without (Served rules.format) k v.objects have
 
-served_stay : (rules : Rules) (v : View) (ws : List Write) → All (Served rules.format) v.objects → AllMayFollow rules v ws → All (Served rules.format) (after_all rules v ws).objects
+pub served_stay : (rules : Rules) (v : View) (ws : List Write) → All (Served rules.format) v.objects → AllMayFollow rules v ws → All (Served rules.format) (after_all rules v ws).objects
 served_stay rules v [] have may = have
 served_stay rules v (w ∷ ws) have may = served_stay rules (after rules v w) ws (served_one rules v w have may.0) may.1
 

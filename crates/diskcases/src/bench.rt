@@ -6,7 +6,7 @@ use crate::line::Line;
 use crate::log_lines::{LogLines, filled};
 use crate::other_devices::{file_after_crash, remembered};
 use crate::page_lines::{page, page_find, page_room, page_with};
-use crate::root_lines::{log_start, new_store, root, write_sector};
+use crate::root_lines::{log_sector, new_store, root, write_sector};
 use crate::scan_lines::{lay, scan_pages};
 use crate::shelf_lines::shelf;
 use crate::store_device::on_store_device;
@@ -111,7 +111,7 @@ impl Disk {
             "lay" => lay(alloc, &mut self.device, &mut self.page, line),
             "place" => place_of(line),
             "filled" => filled(alloc, line),
-            "log-start" => log_start(line),
+            "log-start" => log_sector(line),
             "file-after-crash" => file_after_crash(alloc, line),
             "remembered" => remembered(alloc, line),
             _ => on_store_device(alloc, &mut self.device, word, line),

@@ -1,26 +1,26 @@
 //! Lines on the next generation of a store.
 
 ghost use Rattle.std.specs.Prelude.{◌<◌, ◌≤◌, ◌^◌, IfSome};
-ghost use Rattle.roots.specs.Root.{log_start};
+ghost use Rattle.roots.specs.Root.{log_sector};
 
 use crate::line::Line;
 use crate::root_lines::push_root;
 use device::{Device, MemDevice};
-use roots::{Label, Root, clear_slot, counted_root, install, next_root, place};
+use roots::{Label, Root, clear_slot, counted_root, install, next_first_sector, next_root};
 
 /// `place START LAST PAGES`: where this many pages go while a generation that begins at `START`, and whose log ends with the gate `LAST`, is in
 /// use.
 pub fn place_of(line: &mut Line<'_>) {
-    let (start, last_gate, pages) = (line.number(), line.number(), line.pages());
-    if last_gate < 1 << 54 {
-        line.show(&place(start, last_gate, pages));
+    let (start, last_gate_sector, pages) = (line.number(), line.number(), line.pages());
+    if last_gate_sector < 1 << 54 {
+        line.show(&next_first_sector(start, last_gate_sector, pages));
     } else {
         line.refuse("no such place");
     }
 }
 
 // The gate that ends a log.
-fn last_gate(line: &mut Line<'_>) -> Option<u64>
+fn last_gate_sector(line: &mut Line<'_>) -> Option<u64>
     ensures { IfSome result (λ gate. (8 ≤ gate) × (gate < 2 ^ 54)) }
 {
     let gate = line.number();
@@ -34,9 +34,9 @@ fn last_gate(line: &mut Line<'_>) -> Option<u64>
 // `LAST PAGES REVISION FORMAT`: the root that counts, and the next one behind a log that ends with the gate `LAST`. Without a format it keeps that of the
 // root that counts. `exhausted` where there is no next generation.
 fn next_of(device: &mut MemDevice, line: &mut Line<'_>) -> Option<(Root, Root)>
-    ensures { IfSome result (λ both. (8 ≤ both.1.first) × (log_start both.1 < 2 ^ 64)) }
+    ensures { IfSome result (λ both. (8 ≤ both.1.first_sector) × (log_sector both.1 < 2 ^ 64)) }
 {
-    let last_gate = last_gate(line)?;
+    let last_gate_sector = last_gate_sector(line)?;
     let (pages, revision) = (line.pages(), line.number());
     let Ok(current) = counted_root(device) else {
         line.refuse("no root counts");
@@ -44,7 +44,7 @@ fn next_of(device: &mut MemDevice, line: &mut Line<'_>) -> Option<(Root, Root)>
     };
     let format = line.format(current.label.format);
     let label = Label { format, revision };
-    match next_root(&current, last_gate, pages, label) {
+    match next_root(&current, last_gate_sector, pages, label) {
         Ok(next) => Some((current, next)),
         Err(_) => {
             line.answer.word("exhausted");
@@ -77,7 +77,7 @@ pub fn install_next(device: &mut MemDevice, line: &mut Line<'_>) {
         return line.answer.word("device failed");
     }
     line.answer.word(match device.len() {
-        Ok(len) if next.log_start() <= len && install(device, &next).is_ok() => "ok",
+        Ok(len) if next.log_sector() <= len && install(device, &next).is_ok() => "ok",
         _ => "device failed",
     });
 }

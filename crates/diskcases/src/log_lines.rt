@@ -36,7 +36,7 @@ impl LogLines {
         let Some(log) = &mut self.log else {
             return Err(LogFault::Damaged);
         };
-        if log.last_gate() >= device.len()? {
+        if log.last_gate_sector() >= device.len()? {
             return Err(LogFault::Damaged);
         }
         log.append(device, body)
@@ -94,7 +94,7 @@ impl LogLines {
     /// `gate`: the log's last gate.
     pub fn gate(&self, line: &mut Line<'_>) {
         match &self.log {
-            Some(log) => line.show(&log.last_gate()),
+            Some(log) => line.show(&log.last_gate_sector()),
             None => line.refuse("there is no log"),
         }
     }

@@ -14,7 +14,7 @@ pub fn push_root(line: &mut Line<'_>, root: &Root) {
     });
     for number in [
         root.generation,
-        root.first,
+        root.first_sector,
         u64::from(root.pages),
         root.label.revision,
     ] {
@@ -50,7 +50,7 @@ pub fn root(device: &mut MemDevice, line: &mut Line<'_>) {
 }
 
 /// `log-start FIRST PAGES`: where the log of such a root begins.
-pub fn log_start(line: &mut Line<'_>) {
+pub fn log_sector(line: &mut Line<'_>) {
     let (first, pages) = (line.number(), line.pages());
     if first >= 1 << 54 {
         return line.refuse("no such sector");
@@ -58,14 +58,14 @@ pub fn log_start(line: &mut Line<'_>) {
     let root = Root {
         slot: Slot::A,
         generation: 1,
-        first,
+        first_sector: first,
         pages,
         label: Label {
             format: Format::First,
             revision: 1,
         },
     };
-    line.show(&root.log_start());
+    line.show(&root.log_sector());
 }
 
 // Writes a sector to each of these places that is at most the length.

@@ -2,7 +2,7 @@
 
 ghost use Rattle.std.specs.Prelude.{◌≡◌, ◌<◌, ◌≤◌, ◌*◌, ◌^◌, length, IfOk, IfSome};
 ghost use Rattle.device.specs.Memory.{memory_content};
-ghost use Rattle.roots.specs.Root.{log_start};
+ghost use Rattle.roots.specs.Root.{log_sector};
 
 use crate::line::Line;
 use crate::page_lines::fill;
@@ -69,14 +69,14 @@ pub(crate) fn root_at(
     pages: u32,
     line: &mut Line<'_>,
 ) -> Option<Root>
-    ensures root { IfSome result (λ root. (log_start root < 2 ^ 54) × (root.pages ≡ pages)) }
-    ensures inside { IfSome result (λ root. 512 * log_start root ≤ length (memory_content device.new)) }
+    ensures root { IfSome result (λ root. (log_sector root < 2 ^ 54) × (root.pages ≡ pages)) }
+    ensures inside { IfSome result (λ root. 512 * log_sector root ≤ length (memory_content device.new)) }
 {
     match device.len() {
         Ok(sectors) if first <= sectors && 64 * u64::from(pages) <= sectors - first => Some(Root {
             slot: Slot::A,
             generation: 1,
-            first,
+            first_sector: first,
             pages,
             label: Label {
                 format: Format::First,
@@ -97,8 +97,8 @@ pub(crate) fn read_pages<R: Reader>(
     root: &Root,
     reader: &mut R,
 ) -> Result<Vec<Vec<u8>>, &'static str>
-    requires small { log_start root.now < 2 ^ 54 }
-    requires inside { 512 * log_start root.now ≤ length (memory_content device.old) }
+    requires small { log_sector root.now < 2 ^ 54 }
+    requires inside { 512 * log_sector root.now ≤ length (memory_content device.old) }
     ensures counted { IfOk result (λ keys. length keys.items ≡ root.now.pages) }
     ensures stays { memory_content device.new ≡ memory_content device.old }
 {

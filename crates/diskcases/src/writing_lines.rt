@@ -58,11 +58,11 @@ pub(crate) fn push_keys(line: &mut Line<'_>, first_keys: &[Vec<u8>]) {
 /// `write LAST REVISION KEY ; CELL | ..`: writes these entries as the next generation, of the same format: its root, and after `begin` the first key of each
 /// page, in hex where it is no word.
 pub fn write_entries(alloc: Global, device: &mut MemDevice, line: &mut Line<'_>) {
-    let (last_gate, revision) = (line.number(), line.number());
+    let (last_gate_sector, revision) = (line.number(), line.number());
     let (Ok(current), Ok(sectors)) = (counted_root(device), device.len()) else {
         return line.answer.word("no root counts");
     };
-    if last_gate < 8 || last_gate >= 1 << 54 || last_gate >= sectors {
+    if last_gate_sector < 8 || last_gate_sector >= 1 << 54 || last_gate_sector >= sectors {
         return line.answer.word("no gate of a log");
     }
     let mut entries = entries_of(alloc, line);
@@ -70,7 +70,14 @@ pub fn write_entries(alloc: Global, device: &mut MemDevice, line: &mut Line<'_>)
         format: current.label.format,
         revision,
     };
-    let written = write(alloc, device, &current, last_gate, label, &mut entries);
+    let written = write(
+        alloc,
+        device,
+        &current,
+        last_gate_sector,
+        label,
+        &mut entries,
+    );
     drop(entries);
     match written {
         Ok(written) => {

@@ -48,6 +48,12 @@ long_or_memory log_fault.Damaged is = cc
 long_or_memory log_fault.TooLong is = inl refl
 long_or_memory log_fault.Memory is = inr refl
 
+pub only_damaged : (f : LogFault) (damage : Damage) → of_log_fault f ≡ fault.Damaged damage → f ≡ log_fault.Damaged
+only_damaged log_fault.Device damage is = cc
+only_damaged log_fault.Damaged damage is = refl
+only_damaged log_fault.TooLong damage is = cc
+only_damaged log_fault.Memory damage is = cc
+
 -- a log that is not opened
 pub opened_log : {T : Type 0} (r : Result T LogFault) (f : LogFault) → r ≡ Err f → OnErr r (IsErrOf r log_fault.Device ⊎ IsErrOf r log_fault.Damaged) → of_log_fault f ≡ fault.Memory → ⊥
 opened_log (Ok x) f was refusal is = cc

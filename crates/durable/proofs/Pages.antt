@@ -4,7 +4,7 @@ use Rattle.gatelog.specs.Record.{part, Agree}
 use Rattle.gatelog.proofs.Parts.{part-agree}
 use Rattle.pages.specs.Page.{Entry, entries_in, IsSound}
 use Rattle.roots.specs.declared.root.Root.{Root}
-use Rattle.roots.specs.Root.{log_start}
+use Rattle.roots.specs.Root.{log_sector}
 use Rattle.checkpoint.specs.Pages.{pages_at, AreSound, joined, HoldsEntries}
 
 module _ (old new : List ℕ) where
@@ -29,9 +29,9 @@ module _ (old new : List ℕ) where
     same_sound (first + 64) count end (λ k low high. agree k (omega (arith, low)) high) (omega (arith, fits)) in_old in_new sound.1,
   )
 
-  pub HoldsEntries-stays : (root : Root) (entries : List Entry) → HoldsEntries old root entries → Agree (512 * root.first) (512 * log_start root) old new
-      → 512 * log_start root ≤ length old → 512 * log_start root ≤ length new → HoldsEntries new root entries
+  pub HoldsEntries-stays : (root : Root) (entries : List Entry) → HoldsEntries old root entries → Agree (512 * root.first_sector) (512 * log_sector root) old new
+      → 512 * log_sector root ≤ length old → 512 * log_sector root ≤ length new → HoldsEntries new root entries
   HoldsEntries-stays root entries holds agree in_old in_new = record {
-    sound = same_sound root.first root.pages (log_start root) agree (omega arith) in_old in_new holds.sound;
-    are = ap joined (same_pages root.first root.pages (log_start root) agree (omega arith) in_old in_new) ∙ holds.are;
+    sound = same_sound root.first_sector root.pages (log_sector root) agree (omega arith) in_old in_new holds.sound;
+    are = ap joined (same_pages root.first_sector root.pages (log_sector root) agree (omega arith) in_old in_new) ∙ holds.are;
   }

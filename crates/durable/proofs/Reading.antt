@@ -5,7 +5,7 @@ use Rattle.std.specs.List.{AllByRecursion}
 use Rattle.gatelog.specs.Log.{HoldsLog}
 use Rattle.gatelog.proofs.Walking.{at_most_one}
 use Rattle.roots.specs.declared.root.Root.{Root}
-use Rattle.roots.specs.Root.{log_start, HoldsRoot}
+use Rattle.roots.specs.Root.{log_sector, HoldsRoot}
 use Rattle.roots.proofs.Counting.{one_counts}
 use Rattle.names.specs.declared.format.Format.{Format}
 use Rattle.names.specs.declared.format.Rules.{Rules}
@@ -133,21 +133,21 @@ module _ (rules : Rules) (content : List ℕ) (h : History) (stands : StandsFor 
     base_here = let Of : Root → Type 0 = λ r. HoldsBase rules content r stands.base in subst Of root_here stands.checkpoint
 
     -- the log of the history stands behind the root that counts
-    pub log_here : HoldsLog (log_start root) (map payload stands.groups) stands.last content
+    pub log_here : HoldsLog (log_sector root) (map payload stands.groups) stands.last content
     log_here =
-        let From : Root → Type 0 = λ r. HoldsLog (log_start r) (map payload stands.groups) stands.last content in
+        let From : Root → Type 0 = λ r. HoldsLog (log_sector r) (map payload stands.groups) stands.last content in
         subst From root_here stands.log
 
     -- so it is none where none is there
-    pub no_log_here : ((payloads : List (List ℕ)) (last : ℕ) → HoldsLog (log_start root) payloads last content → ⊥) → ⊥
+    pub no_log_here : ((payloads : List (List ℕ)) (last : ℕ) → HoldsLog (log_sector root) payloads last content → ⊥) → ⊥
     no_log_here none = none (map payload stands.groups) stands.last log_here
 
     -- and its payloads are those that are read
-    pub written_here : (payloads : List (List ℕ)) (last : ℕ) → HoldsLog (log_start root) payloads last content
+    pub written_here : (payloads : List (List ℕ)) (last : ℕ) → HoldsLog (log_sector root) payloads last content
         → IsWritten rules (with_plans (view rules stands.base)) (map write_with_plans (writes_in stands.groups)) payloads
     written_here payloads last log = record {
       groups = all_with_plans stands.groups;
-      payloads_are = (at_most_one (log_start root) content payloads (map payload stands.groups) last stands.last log log_here).0 ∙ sym (payloads_same stands.groups);
+      payloads_are = (at_most_one (log_sector root) content payloads (map payload stands.groups) last stands.last log log_here).0 ∙ sym (payloads_same stands.groups);
       grouped = grouped_with rules (view rules stands.base) stands.groups stands.grouped later_follow;
       parts = parts_same stands.groups;
       follow = all_follow_mapped plans_beside rules (view rules stands.base) (writes_in stands.groups)
@@ -156,7 +156,7 @@ module _ (rules : Rules) (content : List ℕ) (h : History) (stands : StandsFor 
 
     -- what was read of them, over what the checkpoint keeps, shows the history
     shows_here : (payloads : List (List ℕ)) (last : ℕ) (base held : seen.View Decoded) → base ≡ with_plans (view rules stands.base)
-        → HoldsLog (log_start root) payloads last content
+        → HoldsLog (log_sector root) payloads last content
         → (ws : List written.Write) × IsWritten rules base ws payloads × (held ≡ after_all rules base ws) → held ≡ with_plans (view rules h)
     shows_here payloads last base held shown log found =
         let v : View = view rules stands.base in
@@ -168,7 +168,7 @@ module _ (rules : Rules) (content : List ℕ) (h : History) (stands : StandsFor 
         ∙ sym (all_mapped plans_beside rules v (writes_in stands.groups))
         ∙ ap with_plans seen_in_parts
 
-    module _ (payloads : List (List ℕ)) (last : ℕ) (held : seen.View Decoded) (shown : Shows held (view rules stands.base)) (log : HoldsLog (log_start root) payloads last content) where
+    module _ (payloads : List (List ℕ)) (last : ℕ) (held : seen.View Decoded) (shown : Shows held (view rules stands.base)) (log : HoldsLog (log_sector root) payloads last content) where
       -- over what is held of the checkpoint those payloads are of writes that may follow
       pub written_over : IsWritten rules (mapped plans_held held) (map write_with_plans (writes_in stands.groups)) payloads
       written_over =

@@ -18,7 +18,7 @@ use Rattle.durable.specs.declared.compacted.Checked.{Checked}
 pub record IsToldOf (root : Root) (c : Compacted) : Type 0 where
   pub generation : c.generation ≡ root.generation
   pub pages : c.pages ≡ root.pages
-  pub first : c.first ≡ root.first
+  pub first_sector : c.first_sector ≡ root.first_sector
 
 -- This is told of a store that holds a view, with or without what stands beside its objects, in the generation of a root.
 pub record IsCheckOf {B : Type 0} (root : Root) (held : View B) (c : Checked) : Type 0 where

@@ -22,16 +22,16 @@ use Rattle.durable.specs.Stands.{HoldsBase, StandsFor}
 use Rattle.gatelog.specs.Record.{part}
 use Rattle.gatelog.specs.declared.gate_log.Log.{Log}
 use Rattle.roots.specs.declared.root.Root.{Root}
-use Rattle.roots.specs.Root.{IsHeader, log_start, HoldsRoot}
+use Rattle.roots.specs.Root.{IsHeader, log_sector, HoldsRoot}
 use Rattle.gatelog.specs.Log.{HoldsLog}
 use Rattle.durable.specs.declared.content.Opened.{Opened}
 
 -- The root counts, and the log is the one behind its pages, with these payloads.
 pub record IsLogOf (content : List ℕ) (root : Root) (log : Log) : Type 0 where
   pub counts : HoldsRoot content root
-  pub start : log.start ≡ log_start root
+  pub start : log.first_gate_sector ≡ log_sector root
   pub payloads : List (List ℕ)
-  pub holds : HoldsLog log.start payloads log.last content
+  pub holds : HoldsLog log.first_gate_sector payloads log.last_gate_sector content
 
 -- The pages of a root hold what is seen of no history.
 abbrev pub HoldsNoBase : List ℕ → Root → Type 0
@@ -66,7 +66,7 @@ pub record IsRedone (rules : Rules) (held : seen.View Decoded) : Type 0 where
 pub record HasRead {D : Type 0} (disk : Disk D) (old new : D) (result : Result Opened Fault) : Type 0 where
   pub rules : IfOk result (λ opened. opened.paged.core.rules ≡ rules_at (root_of opened.paged))
   pub works : IfOk result (λ opened. opened.log.failed ≡ false)
-  pub in_data : IfOk result (λ opened. 8 ≤ opened.log.start)
+  pub in_data : IfOk result (λ opened. 8 ≤ opened.log.first_gate_sector)
   pub found : disk.keeps old → (rules : Rules) (h : History) → StandsFor rules (disk.content old) h
       → IfOk result (λ opened. (opened.paged.core.rules ≡ rules) × IsShown disk new opened.paged (view rules h))
   pub redone : IfOk result (λ opened. (root_of opened.paged).pages ≡ 0

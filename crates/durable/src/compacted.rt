@@ -9,7 +9,7 @@ pub struct Compacted {
     /// How many pages it has, of 64 sectors each.
     pub pages: u32,
     /// Its first sector.
-    pub first: u64,
+    pub first_sector: u64,
 }
 
 /// What was found of a store that is whole.

@@ -5,7 +5,7 @@ ghost use Rattle.device.specs.Disk.{Only, HasFailed};
 ghost use Rattle.device.specs.Step.{Same};
 ghost use Rattle.device.specs.Run.{Ran};
 ghost use Rattle.gatelog.specs.Log.{HoldsLog};
-ghost use Rattle.roots.specs.Root.{log_start};
+ghost use Rattle.roots.specs.Root.{log_sector};
 ghost use Rattle.checkpoint.specs.Pages.{HoldsPages};
 ghost use Rattle.names.specs.declared.format.Rules.{Rules};
 ghost use Rattle.names.specs.Key.{Key as KeyData};
@@ -71,8 +71,8 @@ fn read_objects<D: Device>(
     root: &Root,
     payloads: &[Vec<u8>],
 ) -> Result<Paged, Fault>
-    requires small { log_start root.now < 2 ^ 54 }
-    requires inside { D.disk.keeps device.old → 512 * log_start root.now ≤ length (D.disk.content device.old) }
+    requires small { log_sector root.now < 2 ^ 54 }
+    requires inside { D.disk.keeps device.old → 512 * log_sector root.now ≤ length (D.disk.content device.old) }
     ensures rules { IfOk result (λ p. p.core.rules ≡ rules_at root.now) }
     ensures root { IfOk result (λ p. root_of p ≡ root.now) }
     ensures found { D.disk.keeps device.old → (rules : Rules) (base : History) (ws : List Write) → IsHistory rules base
@@ -101,8 +101,8 @@ fn read_objects<D: Device>(
 
 // The log at a gate, and its payloads.
 fn read_log<D: Device>(alloc: Global, device: &mut D, at: u64) -> Result<(Log, Vec<Vec<u8>>), Fault>
-    ensures place { IfOk result (λ found. (found.0.start ≡ at) × (found.0.failed ≡ false)) }
-    ensures found { D.disk.keeps device.old → IfOk result (λ found. HoldsLog at (map (λ p. p.items) found.1.items) found.0.last (D.disk.content device.old)) }
+    ensures place { IfOk result (λ found. (found.0.first_gate_sector ≡ at) × (found.0.failed ≡ false)) }
+    ensures found { D.disk.keeps device.old → IfOk result (λ found. HoldsLog at (map (λ p. p.items) found.1.items) found.0.last_gate_sector (D.disk.content device.old)) }
     ensures damaged { D.disk.keeps device.old → (damage : DamageData) → IsErrOf result (Fault.Damaged damage)
         → (payloads : List (List ℕ)) (last : ℕ) → HoldsLog at payloads last (D.disk.content device.old) → ⊥ }
     ensures log { (damage : DamageData) → IsErrOf result (Fault.Damaged damage) → damage ≡ Damages.Log }
@@ -111,6 +111,7 @@ fn read_log<D: Device>(alloc: Global, device: &mut D, at: u64) -> Result<(Log, V
     ensures cause { IsErrOf result Fault.Device → HasFailed D.disk device.old device.new }
     ensures steady { OnOk result (D.disk.failures device.new ≡ D.disk.failures device.old) }
     ensures unfailed { IsErrOf result Fault.Memory → D.disk.failures device.new ≡ D.disk.failures device.old }
+    ensures unfailed_damaged { (damage : DamageData) → IsErrOf result (Fault.Damaged damage) → D.disk.failures device.new ≡ D.disk.failures device.old }
 {
     let mut log = Log::open(device, at)?;
     let payloads = log.records(alloc, device)?;
@@ -119,13 +120,14 @@ fn read_log<D: Device>(alloc: Global, device: &mut D, at: u64) -> Result<(Log, V
 
 // Where the log of a root is damaged: what of it, unless the pages are, which is told first.
 fn read_pages_alone<D: Device>(alloc: Global, device: &mut D, root: &Root, damage: Damage) -> Fault
-    requires small { log_start root.now < 2 ^ 54 }
-    requires inside { D.disk.keeps device.old → 512 * log_start root.now ≤ length (D.disk.content device.old) }
+    requires small { log_sector root.now < 2 ^ 54 }
+    requires inside { D.disk.keeps device.old → 512 * log_sector root.now ≤ length (D.disk.content device.old) }
     ensures behind { D.disk.keeps device.old → IsDamageBehind (D.disk.content device.old) root.now damage
         → (told : DamageData) → result ≡ Fault.Damaged told → IsDamageBehind (D.disk.content device.old) root.now told }
     ensures ran { Ran D.disk device.old device.new Same }
     ensures refusal { (result ≢ Fault.Failed) × (result ≢ Fault.Exhausted) }
     ensures cause { result ≡ Fault.Device → HasFailed D.disk device.old device.new }
+    ensures unfailed { result ≡ Fault.Memory → D.disk.failures device.new ≡ D.disk.failures device.old }
 {
     match Paged::read(alloc, device, rules(root), root, &[]) {
         Ok(_) => Fault::Damaged(damage),
@@ -139,11 +141,10 @@ pub(crate) fn synced_store<D: Device>(alloc: Global, device: &mut D) -> Result<O
     ensures whole { D.disk.keeps device.old → IfOk result (λ opened. IsReadWhole (D.disk.content device.old) D.disk device.new opened.paged) }
     ensures durable { D.disk.keeps device.old → OnOk result (Only (D.disk.content device.new) (D.disk.left device.new)) }
     ensures steady { OnOk result (D.disk.failures device.new ≡ D.disk.failures device.old) }
-    ensures unfailed { (rules : Rules) (h : History) → D.disk.keeps device.old → StandsFor rules (D.disk.content device.old) h → IsErrOf result Fault.Memory
-        → D.disk.failures device.new ≡ D.disk.failures device.old }
+    ensures unfailed { IsErrOf result Fault.Memory → D.disk.failures device.new ≡ D.disk.failures device.old }
 {
     let root = synced_root(device)?;
-    match read_log(alloc, device, root.log_start()) {
+    match read_log(alloc, device, root.log_sector()) {
         Ok((log, payloads)) => {
             let paged = read_objects(alloc, device, &root, &payloads)?;
             Ok(Opened { paged, log })

@@ -17,7 +17,7 @@ use Rattle.gated.specs.Problem.{text_of}
 
 -- of a generation that was written
 abbrev pub compacted_text : Compacted → List ℕ
-compacted_text c = codes "generation " ++ decimal c.generation ++ codes ", " ++ decimal c.pages ++ codes " pages at sector " ++ decimal c.first
+compacted_text c = codes "generation " ++ decimal c.generation ++ codes ", " ++ decimal c.pages ++ codes " pages at sector " ++ decimal c.first_sector
 
 -- of a store that was upgraded
 abbrev pub upgraded_text : Upgraded → List ℕ

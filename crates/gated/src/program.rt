@@ -227,9 +227,9 @@ fn print_compacted<O: Output>(
     let Compacted {
         generation,
         pages,
-        first,
+        first_sector,
     } = *compacted;
-    match format!(in alloc; "generation {generation}, {pages} pages at sector {first}") {
+    match format!(in alloc; "generation {generation}, {pages} pages at sector {first_sector}") {
         Ok(line) => print(output, line.as_str()),
         Err(_) => Err(Problem::OutOfMemory),
     }

@@ -6,16 +6,16 @@ use crate::{Body, LogFault};
 use device::{Device, SECTOR};
 use std::alloc::Global;
 
-/// A log on a device: it begins at a gate, and its last gate is closed. Places are numbers of sectors.
+/// A log on a device: it begins at a gate, and its last gate is closed.
 ///
 /// After an answer `Device` the log answers `Device` and touches the device no more; it has to be opened again.
 #[derive(Drop)]
 pub struct Log {
-    start: u64,
-    last: u64,
+    first_gate_sector: u64,
+    last_gate_sector: u64,
     failed: bool,
-    ghost in_order: { start ≤ last },
-    ghost last_fits: { last < 2 ^ 54 },
+    ghost in_order: { first_gate_sector ≤ last_gate_sector },
+    ghost last_fits: { last_gate_sector < 2 ^ 54 },
 }
 
 impl Log {
@@ -29,74 +29,77 @@ impl Log {
     ghost use Rattle.gatelog.specs.Settled.{IsSettled};
 
     /// Writes a closed gate, the empty log there. It is not synced.
-    pub fn start<D: Device>(device: &mut D, at: u64) -> Result<Log, LogFault>
-        requires { D.disk.keeps device.old → 512 * at ≤ length (D.disk.content device.old) }
-        ensures log { IfOk result (λ log. (log.start ≡ at) × (log.last ≡ at) × (log.failed ≡ false)) }
-        ensures stands { D.disk.keeps device.old → OnOk result (HoldsLog at [] at (D.disk.content device.new)) }
+    pub fn start<D: Device>(device: &mut D, first_gate_sector: u64) -> Result<Log, LogFault>
+        requires { D.disk.keeps device.old → 512 * first_gate_sector ≤ length (D.disk.content device.old) }
+        ensures log { IfOk result
+            (λ log. (log.first_gate_sector ≡ first_gate_sector) × (log.last_gate_sector ≡ first_gate_sector) × (log.failed ≡ false)) }
+        ensures stands { D.disk.keeps device.old → OnOk result (HoldsLog first_gate_sector [] first_gate_sector (D.disk.content device.new)) }
         ensures written { D.disk.keeps device.old
-            → OnOk result (Holds (D.disk.content device.old) (512 * at) (replicate 512 0) (D.disk.content device.new)) }
-        ensures ran { Ran D.disk device.old device.new (Torn (512 * at) 512) }
+            → OnOk result (Holds (D.disk.content device.old) (512 * first_gate_sector) (replicate 512 0) (D.disk.content device.new)) }
+        ensures ran { Ran D.disk device.old device.new (Torn (512 * first_gate_sector) 512) }
         ensures refusal { OnErr result (result ≡ Err LogFault.Device) }
         ensures cause { HasCause D.disk device.old device.new result }
     {
-        device.write(at, &[0; SECTOR])?;
+        device.write(first_gate_sector, &[0; SECTOR])?;
         Ok(Log {
-            start: at,
-            last: at,
+            first_gate_sector,
+            last_gate_sector: first_gate_sector,
             failed: false,
         })
     }
 
     /// Finds the log that begins at a gate, up to its first closed gate, and writes nothing. `Damaged` is answered exactly where no
     /// list of payloads stands there. It takes no memory.
-    pub fn open<D: Device>(device: &mut D, at: u64) -> Result<Log, LogFault>
-        ensures log { IfOk result (λ log. (log.start ≡ at) × (log.failed ≡ false)) }
+    pub fn open<D: Device>(device: &mut D, first_gate_sector: u64) -> Result<Log, LogFault>
+        ensures log { IfOk result (λ log. (log.first_gate_sector ≡ first_gate_sector) × (log.failed ≡ false)) }
         ensures found { D.disk.keeps device.old
-            → IfOk result (λ log. (payloads : List (List ℕ)) × HoldsLog at payloads log.last (D.disk.content device.old)) }
+            → IfOk result (λ log. (payloads : List (List ℕ)) × HoldsLog first_gate_sector payloads log.last_gate_sector (D.disk.content device.old)) }
         ensures damaged { D.disk.keeps device.old → IsErrOf result LogFault.Damaged
-            → (payloads : List (List ℕ)) (last : ℕ) → HoldsLog at payloads last (D.disk.content device.old) → ⊥ }
+            → (payloads : List (List ℕ)) (last : ℕ) → HoldsLog first_gate_sector payloads last (D.disk.content device.old) → ⊥ }
         ensures refusal { OnErr result (IsErrOf result LogFault.Device ⊎ IsErrOf result LogFault.Damaged) }
         ensures ran { Ran D.disk device.old device.new Same }
         ensures cause { IsErrOf result LogFault.Device → HasFailed D.disk device.old device.new }
         ensures steady { OnOk result (D.disk.failures device.new ≡ D.disk.failures device.old) }
+        ensures unfailed { IsErrOf result LogFault.Damaged → D.disk.failures device.new ≡ D.disk.failures device.old }
     {
         Ok(Log {
-            start: at,
-            last: last_gate_of(device, at)?,
+            first_gate_sector,
+            last_gate_sector: last_gate_of(device, first_gate_sector)?,
             failed: false,
         })
     }
 
     /// The empty log at a closed gate that is there, with no device call.
-    pub fn restart<D: Device>(device: &D, at: u64) -> Log
-        requires { at < 2 ^ 54 }
-        ensures place { (result.start ≡ at) × (result.last ≡ at) }
+    pub fn restart<D: Device>(device: &D, first_gate_sector: u64) -> Log
+        requires { first_gate_sector < 2 ^ 54 }
+        ensures place { (result.first_gate_sector ≡ first_gate_sector) × (result.last_gate_sector ≡ first_gate_sector) }
         ensures works { result.failed ≡ false }
-        ensures settled { IsClosed at (D.disk.content device.now)
-            → ((c : List ℕ) → D.disk.left device.now c → take (512 * at + 512) c ≡ take (512 * at + 512) (D.disk.content device.now))
+        ensures settled { IsClosed first_gate_sector (D.disk.content device.now)
+            → ((c : List ℕ) → D.disk.left device.now c → take (512 * first_gate_sector + 512) c
+            ≡ take (512 * first_gate_sector + 512) (D.disk.content device.now))
             → IsSettled D.disk device.now result [] }
     {
         let _ = device;
         Log {
-            start: at,
-            last: at,
+            first_gate_sector,
+            last_gate_sector: first_gate_sector,
             failed: false,
         }
     }
 
-    /// The gate at the log's start. At most one list of payloads stands at a gate.
-    pub fn first_gate(&self) -> u64
-        ensures gate { result ≡ self.now.start }
+    /// The sector of the gate at the log's start. At most one list of payloads stands at a gate.
+    pub fn first_gate_sector(&self) -> u64
+        ensures gate { result ≡ self.now.first_gate_sector }
         ensures one_log { AtMostOneLog }
     {
-        self.start
+        self.first_gate_sector
     }
 
-    /// The closed gate at the log's end.
-    pub fn last_gate(&self) -> u64
-        ensures { result ≡ self.now.last }
+    /// The sector of the closed gate at the log's end.
+    pub fn last_gate_sector(&self) -> u64
+        ensures { result ≡ self.now.last_gate_sector }
     {
-        self.last
+        self.last_gate_sector
     }
 
     // Answers `Device` after a failure.
@@ -117,22 +120,22 @@ impl Log {
         device: &mut D,
     ) -> Result<Vec<Vec<u8>>, LogFault>
         ensures found { D.disk.keeps device.old → (payloads : List (List ℕ))
-            → HoldsLog self.old.start payloads self.old.last (D.disk.content device.old)
+            → HoldsLog self.old.first_gate_sector payloads self.old.last_gate_sector (D.disk.content device.old)
             → IfOk result (λ found. map (λ payload. payload.items) found.items ≡ payloads) }
         ensures damaged { D.disk.keeps device.old → IsErrOf result LogFault.Damaged
-            → (payloads : List (List ℕ)) → HoldsLog self.old.start payloads self.old.last (D.disk.content device.old) → ⊥ }
+            → (payloads : List (List ℕ)) → HoldsLog self.old.first_gate_sector payloads self.old.last_gate_sector (D.disk.content device.old) → ⊥ }
         ensures refusal { IsErrOf result LogFault.TooLong → ⊥ }
-        ensures place { (self.new.start ≡ self.old.start) × (self.new.last ≡ self.old.last) }
+        ensures place { (self.new.first_gate_sector ≡ self.old.first_gate_sector) × (self.new.last_gate_sector ≡ self.old.last_gate_sector) }
         ensures failed { IsTrue self.new.failed ↔ IsErrOf result LogFault.Device }
         ensures stays_failed { IsTrue self.old.failed → IsErrOf result LogFault.Device }
         ensures untouched { IsTrue self.old.failed → device.new ≡ device.old }
         ensures ran { Ran D.disk device.old device.new Same }
         ensures cause { self.old.failed ≡ false → IsErrOf result LogFault.Device → HasFailed D.disk device.old device.new }
         ensures steady { OnOk result (D.disk.failures device.new ≡ D.disk.failures device.old) }
-        ensures memory { IsErrOf result LogFault.Memory → D.disk.failures device.new ≡ D.disk.failures device.old }
+        ensures unfailed { IsErrOf result LogFault.Memory ⊎ IsErrOf result LogFault.Damaged → D.disk.failures device.new ≡ D.disk.failures device.old }
     {
         self.check_works()?;
-        let answer = payloads_of(alloc, device, self.start, self.last);
+        let answer = payloads_of(alloc, device, self.first_gate_sector, self.last_gate_sector);
         self.failed = matches!(&answer, Err(LogFault::Device));
         answer
     }
@@ -140,19 +143,19 @@ impl Log {
     /// Appends a payload: its record and the closed gate behind it in one write, a sync, then the record's gate, a sync. It takes
     /// no memory. At every moment a crash leaves the old list or the list with one more.
     pub fn append<D: Device>(&mut self, device: &mut D, body: Body) -> Result<(), LogFault>
-        requires { D.disk.keeps device.old → self.old.failed ≡ false → 512 * self.old.last + 512 ≤ length (D.disk.content device.old) }
+        requires { D.disk.keeps device.old → self.old.failed ≡ false → 512 * self.old.last_gate_sector + 512 ≤ length (D.disk.content device.old) }
 
         ensures ok { D.disk.keeps device.old → (payloads : List (List ℕ)) → IsSettled D.disk device.old self.old payloads
             → OnOk result (IsSettled D.disk device.new self.new (payloads ++ payload_of body ∷ [])) }
         ensures any_moment { D.disk.keeps device.old → (payloads : List (List ℕ)) → IsSettled D.disk device.old self.old payloads
             → LeavesOnly D.disk device.old device.new
-            (IsBeforeOrAfter self.old.start payloads self.old.last (payload_of body) (D.disk.content device.old)) }
+            (IsBeforeOrAfter self.old.first_gate_sector payloads self.old.last_gate_sector (payload_of body) (D.disk.content device.old)) }
         ensures found { D.disk.keeps device.old → (payloads : List (List ℕ)) → IsSettled D.disk device.old self.old payloads
-            → IsBeforeOrAfter self.old.start payloads self.old.last (payload_of body) (D.disk.content device.old)
+            → IsBeforeOrAfter self.old.first_gate_sector payloads self.old.last_gate_sector (payload_of body) (D.disk.content device.old)
             (D.disk.content device.new) }
         ensures left { D.disk.keeps device.old → (payloads : List (List ℕ)) → IsSettled D.disk device.old self.old payloads
             → (c : List ℕ) → D.disk.left device.new c
-            → IsBeforeOrAfter self.old.start payloads self.old.last (payload_of body) (D.disk.content device.old) c }
+            → IsBeforeOrAfter self.old.first_gate_sector payloads self.old.last_gate_sector (payload_of body) (D.disk.content device.old) c }
 
         // After a failure the log answers `Device` without a call.
         ensures failed { self.new.failed ≡ not (is_ok result) }
@@ -160,15 +163,15 @@ impl Log {
         ensures refusal { OnErr result (result ≡ Err LogFault.Device) }
         ensures cause { self.old.failed ≡ false → HasCause D.disk device.old device.new result }
 
-        ensures start { self.new.start ≡ self.old.start }
-        ensures last { OnOk result (self.new.last ≡ self.old.last + 1 + sectors (payload_of body)) }
+        ensures start { self.new.first_gate_sector ≡ self.old.first_gate_sector }
+        ensures last { OnOk result (self.new.last_gate_sector ≡ self.old.last_gate_sector + 1 + sectors (payload_of body)) }
         ensures kept { D.disk.keeps device.old → D.disk.keeps device.new }
         ensures had_kept { D.disk.keeps device.new → D.disk.keeps device.old }
     {
         self.check_works()?;
         self.failed = true;
-        write_record(device, self.last, &body)?;
-        self.last += 1 + body.sectors();
+        write_record(device, self.last_gate_sector, &body)?;
+        self.last_gate_sector += 1 + body.sectors();
         self.failed = false;
         Ok(())
     }

@@ -9,7 +9,7 @@ ghost use Rattle.gatelog.specs.Log.{HoldsLog};
 ghost use Rattle.gatelog.specs.Walk.{HoldsRecord};
 
 use crate::LogFault;
-use crate::record::{LENGTH_BYTES, MOST_PAYLOAD, sectors_of};
+use crate::record::{LENGTH_BYTES, MOST_PAYLOAD_BYTES, sectors_of};
 use crate::write_record::OPEN;
 use byteorder::{BigEndian, ByteOrder};
 use device::{Device, DeviceFault, SECTOR, is_zero};
@@ -39,13 +39,14 @@ fn check_body<D: Device>(device: &mut D, at: u64, end: u64) -> Result<u64, LogFa
     ensures ran { Ran D.disk device.old device.new Same }
     ensures cause { IsErrOf result LogFault.Device → HasFailed D.disk device.old device.new }
     ensures steady { OnOk result (D.disk.failures device.new ≡ D.disk.failures device.old) }
+    ensures unfailed { IsErrOf result LogFault.Damaged → D.disk.failures device.new ≡ D.disk.failures device.old }
 {
     if at >= end {
         return Err(LogFault::Damaged);
     }
     let first = read_sector(device, at)?;
     let payload_length = BigEndian::read_u32(&first) as usize;
-    if payload_length > MOST_PAYLOAD {
+    if payload_length > MOST_PAYLOAD_BYTES {
         return Err(LogFault::Damaged);
     }
     let count = sectors_of(payload_length);
@@ -71,6 +72,7 @@ pub(crate) fn last_gate_of<D: Device>(device: &mut D, at: u64) -> Result<u64, Lo
     ensures ran { Ran D.disk device.old device.new Same }
     ensures cause { IsErrOf result LogFault.Device → HasFailed D.disk device.old device.new }
     ensures steady { OnOk result (D.disk.failures device.new ≡ D.disk.failures device.old) }
+    ensures unfailed { IsErrOf result LogFault.Damaged → D.disk.failures device.new ≡ D.disk.failures device.old }
 {
     let end = device.len()?;
     let mut gate = at;
@@ -110,13 +112,13 @@ fn read_payload<D: Device>(
     ensures ran { Ran D.disk device.old device.new Same }
     ensures cause { IsErrOf result LogFault.Device → HasFailed D.disk device.old device.new }
     ensures steady { OnOk result (D.disk.failures device.new ≡ D.disk.failures device.old) }
-    ensures memory { IsErrOf result LogFault.Memory → D.disk.failures device.new ≡ D.disk.failures device.old }
+    ensures unfailed { IsErrOf result LogFault.Memory ⊎ IsErrOf result LogFault.Damaged → D.disk.failures device.new ≡ D.disk.failures device.old }
 {
     let count = check_body(device, at, end)?;
     let mut body = vec![in alloc; 0; count as usize * SECTOR]?;
     device.read(at, &mut body)?;
     let payload_length = BigEndian::read_u32(&body) as usize;
-    if payload_length > MOST_PAYLOAD || sectors_of(payload_length) as u64 != count {
+    if payload_length > MOST_PAYLOAD_BYTES || sectors_of(payload_length) as u64 != count {
         return Err(LogFault::Damaged);
     }
     Ok(copy_of(alloc, &body, LENGTH_BYTES, payload_length)?)
@@ -137,7 +139,7 @@ pub(crate) fn payloads_of<D: Device>(
     ensures ran { Ran D.disk device.old device.new Same }
     ensures cause { IsErrOf result LogFault.Device → HasFailed D.disk device.old device.new }
     ensures steady { OnOk result (D.disk.failures device.new ≡ D.disk.failures device.old) }
-    ensures memory { IsErrOf result LogFault.Memory → D.disk.failures device.new ≡ D.disk.failures device.old }
+    ensures unfailed { IsErrOf result LogFault.Memory ⊎ IsErrOf result LogFault.Damaged → D.disk.failures device.new ≡ D.disk.failures device.old }
 {
     let end = device.len()?;
     let mut found = Vec::new(alloc);

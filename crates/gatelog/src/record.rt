@@ -10,7 +10,7 @@ use std::alloc::{AllocError, Global};
 // The bytes of a payload's length, in front of it.
 pub(crate) const LENGTH_BYTES: usize = 4;
 
-pub(crate) const MOST_PAYLOAD: usize = 67108864;
+pub(crate) const MOST_PAYLOAD_BYTES: usize = 67108864;
 
 /// The number of sectors of the body of a payload of this many bytes.
 pub(crate) fn sectors_of(payload_length: usize) -> usize
@@ -88,9 +88,9 @@ impl Body {
         ensures same { OnErr result (payload_of self.new ≡ payload_of self.old) }
         ensures fits { OnOk result (length (payload_of self.old) + length more.now ≤ 67108864) }
         ensures refusal { OnErr result (IsErrOf result LogFault.TooLong ⊎ IsErrOf result LogFault.Memory) }
-        ensures long { IsErrOf result LogFault.TooLong → 67108864 < length (payload_of self.old) + length more.now }
+        ensures too_long { IsErrOf result LogFault.TooLong → 67108864 < length (payload_of self.old) + length more.now }
     {
-        if more.len() > MOST_PAYLOAD - self.payload_length {
+        if more.len() > MOST_PAYLOAD_BYTES - self.payload_length {
             return Err(LogFault::TooLong);
         }
         let length = self.payload_length + more.len();
@@ -102,11 +102,11 @@ impl Body {
     }
 
     /// Overwrites bytes inside the payload.
-    pub fn set(&mut self, at: usize, with: &[u8])
-        requires { at + length with.now ≤ length (payload_of self.old) }
-        ensures { payload_of self.new ≡ take at (payload_of self.old) ++ with.now ++ drop (at + length with.now) (payload_of self.old) }
+    pub fn set(&mut self, byte_offset: usize, with: &[u8])
+        requires { byte_offset + length with.now ≤ length (payload_of self.old) }
+        ensures { payload_of self.new ≡ take byte_offset (payload_of self.old) ++ with.now ++ drop (byte_offset + length with.now) (payload_of self.old) }
     {
-        put(&mut self.bytes, LENGTH_BYTES + at, with);
+        put(&mut self.bytes, LENGTH_BYTES + byte_offset, with);
     }
 
     /// The record's body, and the closed gate behind it.

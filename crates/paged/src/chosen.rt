@@ -6,13 +6,10 @@ ghost use Rattle.paged.specs.Chosen.{is_rule_number, is_rule_key, rules_among, i
 
 use names::{Key, ResourceTable};
 use policy::is_guarded;
-use records::Entry;
+use records::{Entry, OBJECT_MARK, object_key};
 use snapshots::Choice;
 use std::alloc::{AllocError, Global};
 use std::collections::BTreeSet;
-
-// The first byte of the key of an object's entry.
-const OBJECT: u8 = 1;
 
 // Whether the number is that of policies or of bindings.
 fn is_rule_number(number: u8) -> bool
@@ -32,7 +29,7 @@ fn is_rule_key(key: &[u8]) -> bool
         return false;
     };
     match rest.first() {
-        Some(number) => *mark == OBJECT && is_rule_number(*number),
+        Some(number) => *mark == OBJECT_MARK && is_rule_number(*number),
         None => false,
     }
 }
@@ -50,16 +47,6 @@ pub(crate) fn rules_among(entries: &[Entry]) -> usize
     count
 }
 
-// The key of an object's entry.
-fn entry_key(alloc: Global, key: &Key) -> Result<Vec<u8>, AllocError>
-    ensures { IfOk result (λ bytes. bytes.items ≡ 1 ∷ key_bytes key.now) }
-{
-    let mut bytes = Vec::new(alloc);
-    bytes.push(OBJECT)?;
-    bytes.extend_from_slice(&key.bytes(alloc)?)?;
-    Ok(bytes)
-}
-
 /// The policies and the bindings are held, and the objects under some keys, each of which is looked up in the order of their bytes.
 #[derive(Drop)]
 pub(crate) struct Chosen {
@@ -73,7 +60,7 @@ impl Chosen {
     {
         let mut of_entries = BTreeSet::new(alloc);
         for key in keys {
-            of_entries.insert(entry_key(alloc, key)?)?;
+            of_entries.insert(object_key(alloc, key)?)?;
         }
         Ok(Chosen { keys: of_entries })
     }

@@ -15,7 +15,7 @@ ghost use Rattle.histories.specs.View as seen;
 ghost use Rattle.histories.specs.View.{after_all};
 ghost use Rattle.holdings.specs.Holdings.{Shows, ShowsSame};
 ghost use Rattle.holdings.specs.Prepared.{AreNext, HasRoomFor, writes_of};
-ghost use Rattle.roots.specs.Root.{log_start};
+ghost use Rattle.roots.specs.Root.{log_sector};
 ghost use Rattle.expressions.specs.Specification.{Specification};
 ghost use Rattle.decoded.specs.Decoded.{Decoded as DecodedData};
 ghost use Rattle.apicore.specs.Prepared.{IsPrepared, IsReadOf};
@@ -47,7 +47,7 @@ impl Paged {
         device: &mut D,
         request: &Request,
     ) -> Result<Prepared, LookupFault>
-        requires inside { D.disk.keeps device.old → 512 * log_start (root_of self.old) ≤ length (D.disk.content device.old) }
+        requires inside { D.disk.keeps device.old → 512 * log_sector (root_of self.old) ≤ length (D.disk.content device.old) }
         ensures rules { self.new.core.rules ≡ self.old.core.rules }
         ensures revision { self.new.core.revision ≡ self.old.core.revision }
         ensures root { root_of self.new ≡ root_of self.old }

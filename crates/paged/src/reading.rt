@@ -6,7 +6,7 @@ ghost use Rattle.device.specs.Step.{Same};
 ghost use Rattle.device.specs.Run.{Ran};
 ghost use Rattle.names.specs.Key.{Key as KeyData, key_bytes};
 ghost use Rattle.pages.specs.Page.{Entry as EntryData};
-ghost use Rattle.roots.specs.Root.{log_start};
+ghost use Rattle.roots.specs.Root.{log_sector};
 ghost use Rattle.checkpoint.specs.Index.{keys_of};
 ghost use Rattle.checkpoint.specs.Pages.{joined, pages_of_root, HoldsPages, HoldsEntries, IsIndex};
 ghost use Rattle.shelf.specs.Shelf.{Shelves};
@@ -79,7 +79,7 @@ fn cache_of<D: Device>(
     root: &Root,
     first_keys: Vec<Vec<u8>>,
 ) -> Result<ObjectCache, PagedFault>
-    requires { log_start root.now < 2 ^ 54 }
+    requires { log_sector root.now < 2 ^ 54 }
     ensures root { IfOk result (λ cache. caches.root_of cache ≡ root.now) }
     ensures counted { OnOk result (length first_keys.items ≡ root.now.pages) }
     ensures shelves { (entries : List EntryData) → IsIndex (keys_of first_keys.items) (pages_of_root root.now (D.disk.content device.now))
@@ -112,8 +112,8 @@ impl Paged {
         root: &Root,
         keys: &[Key],
     ) -> Result<Paged, PagedFault>
-        requires small { log_start root.now < 2 ^ 54 }
-        requires inside { D.disk.keeps device.old → 512 * log_start root.now ≤ length (D.disk.content device.old) }
+        requires small { log_sector root.now < 2 ^ 54 }
+        requires inside { D.disk.keeps device.old → 512 * log_sector root.now ≤ length (D.disk.content device.old) }
         ensures rules { IfOk result (λ p. p.core.rules ≡ rules) }
         ensures root { IfOk result (λ p. root_of p ≡ root.now) }
 

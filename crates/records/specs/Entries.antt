@@ -1,5 +1,5 @@
 -- What a checkpoint keeps of a view, as entries: each a key with what stands under it. Numbers are unsigned, the highest byte first.
-use Rattle.std.specs.Prelude.{ℕ, ◌*◌, List, ◌∷◌, ◌++◌, length, map, take, drop}
+use Rattle.std.specs.Prelude.{ℕ, ◌*◌, ◌==◌, Bool, false, List, [], ◌∷◌, ◌++◌, length, map, take, drop}
 use Rattle.std.specs.Int.{div_ceil}
 use Rattle.std.specs.List.{flat_map, range_with_len}
 use Rattle.byteorder.specs.Endian.{big_bytes}
@@ -17,6 +17,11 @@ use Rattle.pages.specs.Page.{Entry}
 -- An object: 1 and its key's bytes. Under them stand the revision of its last write, in eight bytes, and its document's text.
 abbrev pub object_entry : Key → Document → (revision : ℕ) → Entry
 object_entry k d revision = (1 ∷ key_bytes k, big_bytes 8 revision ++ text d.json)
+
+-- the key is that of an object's entry
+abbrev pub is_object_key : List ℕ → Bool
+is_object_key [] = false
+is_object_key (mark ∷ rest) = mark == 1
 
 -- The plans of a policy, in pieces of 16384 bytes, of which the last may have fewer. A piece: 2, the policy's name, a zero byte, and which
 -- piece it is, from 0, in two bytes. Under them stand its bytes.

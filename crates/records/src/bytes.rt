@@ -6,12 +6,14 @@ ghost use Rattle.byteorder.specs.Endian.{big_bytes};
 use byteorder::{BigEndian, ByteOrder};
 use std::alloc::{AllocError, Global};
 
-// The first byte of the key of an object's entry, of a piece of plans, and of an event's.
-pub(crate) const OBJECT: u8 = 1;
+/// The first byte of the key of an object's entry.
+pub const OBJECT_MARK: u8 = 1;
 
-pub(crate) const PLANS: u8 = 2;
+/// The first byte of the key of a piece of plans.
+pub(crate) const PLANS_MARK: u8 = 2;
 
-pub(crate) const EVENT: u8 = 3;
+/// The first byte of the key of an event's entry.
+pub(crate) const EVENT_MARK: u8 = 3;
 
 // Bytes in the number of a revision.
 const NUMBER_BYTES: usize = 8;

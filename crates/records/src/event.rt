@@ -13,7 +13,7 @@ ghost use Rattle.records.specs.declared.entry_fault.EntryFault.TheVariants as En
 ghost use Rattle.records.specs.Entries.{change_number, event_entry};
 ghost use Rattle.records.specs.Holding.{IsStorableEvent};
 
-use crate::bytes::{EVENT, behind_mark, marked, number_bytes, split_number};
+use crate::bytes::{EVENT_MARK, behind_mark, marked, number_bytes, split_number};
 use crate::entry::Entry;
 use crate::entry_fault::EntryFault;
 use crate::stored_write::read_manifest;
@@ -64,7 +64,7 @@ pub fn event_entry(alloc: Global, event: &Event<Document>) -> Result<Entry, Allo
     ensures { IfOk result (λ entry. entry ≡ event_entry event.now) }
 {
     let cell = event_cell(alloc, event)?;
-    let key = marked(alloc, EVENT, &number_bytes(event.revision))?;
+    let key = marked(alloc, EVENT_MARK, &number_bytes(event.revision))?;
     Ok(Entry { key, cell })
 }
 
@@ -73,7 +73,7 @@ fn read_revision(key: &[u8]) -> Option<u64>
     ensures found { IfSome result (λ revision. 3 ∷ big_bytes 8 revision ≡ key.now) }
     ensures none { result ≡ None → (revision : ℕ) → 3 ∷ big_bytes 8 revision ≢ key.now }
 {
-    let (revision, rest) = split_number(behind_mark(EVENT, key)?)?;
+    let (revision, rest) = split_number(behind_mark(EVENT_MARK, key)?)?;
     if !rest.is_empty() {
         return None;
     }

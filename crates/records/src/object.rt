@@ -1,16 +1,16 @@
 //! The entry of an object.
 
-ghost use Rattle.std.specs.Prelude.{◌≡◌, ◌≢◌, ◌++◌, ℕ, IfOk, IsErrOf};
+ghost use Rattle.std.specs.Prelude.{◌≡◌, ◌≢◌, ◌++◌, ◌∷◌, false, ℕ, List, IsTrue, IfOk, IsErrOf};
 ghost use Rattle.byteorder.specs.Endian.{big_bytes};
 ghost use Rattle.jsondoc.specs.Json.{text};
-ghost use Rattle.names.specs.Key.{Key as KeyData};
+ghost use Rattle.names.specs.Key.{Key as KeyData, key_bytes};
 ghost use Rattle.documents.specs.Document.{Document as DocumentData};
 ghost use Rattle.requests.specs.Codes.{document_in};
 ghost use Rattle.records.specs.declared.entry_fault.EntryFault.TheVariants as EntryFault;
-ghost use Rattle.records.specs.Entries.{object_entry};
+ghost use Rattle.records.specs.Entries.{is_object_key, object_entry};
 ghost use Rattle.records.specs.Holding.{IsStorableObject};
 
-use crate::bytes::{OBJECT, behind_mark, marked, number_bytes, split_number};
+use crate::bytes::{OBJECT_MARK, behind_mark, marked, number_bytes, split_number};
 use crate::entry::Entry;
 use crate::entry_fault::EntryFault;
 use crate::stored_write::read_manifest;
@@ -39,6 +39,25 @@ fn object_cell(alloc: Global, document: &Document, revision: u64) -> Result<Vec<
     Ok(cell)
 }
 
+/// Whether the key is that of an object's entry.
+pub fn is_object_key(key: &[u8]) -> bool
+    ensures value { result ≡ is_object_key key.now }
+    ensures yes { IsTrue result → (rest : List ℕ) × (key.now ≡ 1 ∷ rest) }
+    ensures no { result ≡ false → (rest : List ℕ) → key.now ≢ 1 ∷ rest }
+{
+    match key.first() {
+        Some(mark) => *mark == OBJECT_MARK,
+        None => false,
+    }
+}
+
+/// The key of an object's entry.
+pub fn object_key(alloc: Global, key: &Key) -> Result<Vec<u8>, AllocError>
+    ensures { IfOk result (λ bytes. bytes.items ≡ 1 ∷ key_bytes key.now) }
+{
+    marked(alloc, OBJECT_MARK, &key.bytes(alloc)?)
+}
+
 /// The entry of an object whose last write has this revision.
 pub fn object_entry(
     alloc: Global,
@@ -49,7 +68,7 @@ pub fn object_entry(
     ensures { IfOk result (λ entry. entry ≡ object_entry key.now document.now revision) }
 {
     let cell = object_cell(alloc, document, revision)?;
-    let key = marked(alloc, OBJECT, &key.bytes(alloc)?)?;
+    let key = object_key(alloc, key)?;
     Ok(Entry { key, cell })
 }
 
@@ -64,7 +83,7 @@ pub fn read_object(alloc: Global, key: &[u8], cell: &[u8]) -> Result<StoredObjec
     ensures damaged { IsErrOf result EntryFault.Damaged
         → (k : KeyData) (d : DocumentData) (revision : ℕ) → IsStorableObject k d revision → object_entry k d revision ≢ (key.now, cell.now) }
 {
-    let Some(key) = behind_mark(OBJECT, key) else {
+    let Some(key) = behind_mark(OBJECT_MARK, key) else {
         return Err(EntryFault::Damaged);
     };
     let Some((revision, text)) = split_number(cell) else {

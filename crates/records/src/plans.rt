@@ -6,7 +6,7 @@ ghost use Rattle.pages.specs.Page.{Entry as EntryData};
 ghost use Rattle.records.specs.declared.entry_fault.EntryFault.TheVariants as EntryFault;
 ghost use Rattle.records.specs.Entries.{plan_entry, plan_entries};
 
-use crate::bytes::PLANS;
+use crate::bytes::PLANS_MARK;
 use crate::entry::Entry;
 use crate::entry_fault::EntryFault;
 use byteorder::{BigEndian, ByteOrder};
@@ -32,7 +32,7 @@ pub(crate) fn piece_key(alloc: Global, key: &Key, number: u16) -> Result<Vec<u8>
     let mut two = [0; 2];
     BigEndian::write_u16(&mut two, number);
     let mut bytes = Vec::new(alloc);
-    bytes.push(PLANS)?;
+    bytes.push(PLANS_MARK)?;
     bytes.extend_from_slice(key.name().as_bytes())?;
     bytes.push(0)?;
     bytes.extend_from_slice(&two)?;

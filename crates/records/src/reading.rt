@@ -18,28 +18,16 @@ ghost use Rattle.records.specs.EntryLaws.{bytes_beside};
 ghost use Rattle.records.specs.Reading.{entry_read, IsReadObject, IsStorableStored, BeginsOtherwise, BeginsWithout, AreAbove, ArePlans, AreFollowed, IsReadView};
 ghost use Rattle.names.specs.declared.resource.Resource.TheVariants.{ValidatingAdmissionPolicy};
 
-use crate::bytes::OBJECT;
 use crate::entry::Entry;
 use crate::entry_fault::EntryFault;
 use crate::event::read_event;
 use crate::kept::{KeptObject, KeptView};
-use crate::object::{StoredObject, read_object};
+use crate::object::{StoredObject, is_object_key, read_object};
 use crate::plans::{piece_key, read_piece};
 use documents::Document;
 use names::{Key, Resource};
 use std::alloc::{AllocError, Global};
 use window::Event;
-
-// Whether the entry is an object's, as far as its key says.
-fn is_object(entry: &Entry) -> bool
-    ensures yes { IsTrue result → (rest : List ℕ) × (entry.now.0 ≡ 1 ∷ rest) }
-    ensures no { result ≡ false → (rest : List ℕ) → entry.now.0 ≢ 1 ∷ rest }
-{
-    match entry.key().first() {
-        Some(mark) => *mark == OBJECT,
-        None => false,
-    }
-}
 
 // The objects that the first entries are of.
 fn read_objects(alloc: Global, entries: &[Entry]) -> Result<Vec<StoredObject>, EntryFault>
@@ -51,10 +39,11 @@ fn read_objects(alloc: Global, entries: &[Entry]) -> Result<Vec<StoredObject>, E
 {
     let mut objects = Vec::new(alloc);
     for entry in entries {
-        if !is_object(entry) {
+        let own_key = entry.key();
+        if !is_object_key(own_key) {
             return Ok(objects);
         }
-        objects.push(read_object(alloc, entry.key(), entry.cell())?)?;
+        objects.push(read_object(alloc, own_key, entry.cell())?)?;
     }
     Ok(objects)
 }

@@ -11,7 +11,7 @@ use Rattle.gatelog.specs.Log.{IsOpen}
 use Rattle.gatelog.specs.Record.{part}
 use Rattle.roots.specs.declared.root.Slot.{Slot}
 use Rattle.roots.specs.declared.root.Root.{Root}
-use Rattle.roots.specs.Root.{root_sector, gate_sector, other, IsRoot, log_start}
+use Rattle.roots.specs.Root.{root_sector, gate_sector, other, IsRoot, log_sector}
 use Rattle.roots.specs.Install.{HasAt, IsStaged, IsNext, IsInUse, IsBefore, IsClear, IsAfter, IsBeforeOrAfter, Spares}
 use Rattle.roots.proofs.Steps.{Closing, Opening, before-kept, closing-before, closing-gate, closing-clear, start-closing, start-clear, clear-spares, opening-gate, opening-after, opening-either, after-cut}
 use Rattle.roots.proofs.Staging.{spares-torn}
@@ -107,7 +107,7 @@ module _ {D : Type 0} (disk : Disk D) (start : D) (current next : Root) (last : 
   Cleared c = IsClear current last old c
 
   abbrev Writes : List ℕ → List ℕ → Type 0
-  Writes = Spares (other current.slot) (512 * next.first) (32768 * next.pages + 512)
+  Writes = Spares (other current.slot) (512 * next.first_sector) (32768 * next.pages + 512)
 
   -- some of the pages, the gate behind them and the root are written
   pub staged_more : (mid new : D) → Stands disk start mid Old Cleared → Ran disk mid new Writes → Stands disk start new Old Cleared
@@ -116,16 +116,16 @@ module _ {D : Type 0} (disk : Disk D) (start : D) (current next : Root) (last : 
       (λ a b clear spares. clear-spares current last old next is a b clear spares) (λ c clear. clear.before)
 
   -- some of the pages are written
-  pub pages_more : (mid new : D) (n : ℕ) → n ≤ 32768 * next.pages + 512 → Stands disk start mid Old Cleared → Ran disk mid new (Torn (512 * next.first) n)
+  pub pages_more : (mid new : D) (n : ℕ) → n ≤ 32768 * next.pages + 512 → Stands disk start mid Old Cleared → Ran disk mid new (Torn (512 * next.first_sector) n)
       → Stands disk start new Old Cleared
   pages_more mid new n inside was run =
       staged_more mid new was
-      (ran_wider disk mid new (Torn (512 * next.first) n) Writes run
-      (λ a b torn. spares-torn (other current.slot) (512 * next.first) (32768 * next.pages + 512) (512 * next.first) n a b (omega arith) (omega (arith, inside)) torn))
+      (ran_wider disk mid new (Torn (512 * next.first_sector) n) Writes run
+      (λ a b torn. spares-torn (other current.slot) (512 * next.first_sector) (32768 * next.pages + 512) (512 * next.first_sector) n a b (omega arith) (omega (arith, inside)) torn))
 
   -- all of them are
   pub pages_staged : (mid new : D) (pages : List ℕ) → length pages ≡ 32768 * next.pages → Stands disk start mid Old Cleared
-      → Ran disk mid new (Torn (512 * next.first) (length pages)) → HasAt (512 * next.first) pages (disk.content new) → IsStaged disk start new current last old next pages
+      → Ran disk mid new (Torn (512 * next.first_sector) (length pages)) → HasAt (512 * next.first_sector) pages (disk.content new) → IsStaged disk start new current last old next pages
   pages_staged mid new pages size was run there = record {
     follows = is;
     stands = pages_more mid new (length pages) (omega (arith, size)) was run;
@@ -160,7 +160,7 @@ module _ {D : Type 0} (disk : Disk D) (start : D) (current next : Root) (last : 
 
     -- all of them are on the disk
     pub staged : (mid new : D) → Stands disk start mid Old Cleared → Ran disk mid new Writes → Only (disk.content new) (disk.left new)
-        → IsRoot next (part (512 * root_sector (other current.slot)) 512 (disk.content new)) → HasAt (512 * next.first) body (disk.content new)
+        → IsRoot next (part (512 * root_sector (other current.slot)) 512 (disk.content new)) → HasAt (512 * next.first_sector) body (disk.content new)
         → Stands disk start new Either IsOpening
     staged mid new was run synced spelled pages =
         let clear = staged_more mid new was run in
@@ -185,9 +185,9 @@ module _ {D : Type 0} (disk : Disk D) (start : D) (current next : Root) (last : 
         let opening = opening_run mid new was run in
         stands_synced disk start new Either IsOpening Installed opening synced (opening-after current last old next is body (disk.content new) size opening.seen is_open)
 
-    pub cut_away : (mid new : D) → Stands disk start mid Either Installed → Ran disk mid new (Cut (512 * log_start next + 512)) → Stands disk start new Either Installed
+    pub cut_away : (mid new : D) → Stands disk start mid Either Installed → Ran disk mid new (Cut (512 * log_sector next + 512)) → Stands disk start new Either Installed
     cut_away mid new was run =
-        stands_then disk start mid new Either Installed Installed (Cut (512 * log_start next + 512)) was run
+        stands_then disk start mid new Either Installed Installed (Cut (512 * log_sector next + 512)) was run
         (λ a b after cut. after-cut next body a b size after cut) (λ c after. inr after)
 
     pub installed_either : (new : D) → Stands disk start new Either Installed → Stands disk start new Either Either
@@ -195,13 +195,13 @@ module _ {D : Type 0} (disk : Disk D) (start : D) (current next : Root) (last : 
 
 -- after the cut the new generation is in use
 pub in_use_next : {D : Type 0} (disk : Disk D) (mid new : D) (next : Root) (body : List ℕ) → length body ≡ 32768 * next.pages + 512 → disk.keeps mid
-    → Only (disk.content mid) (disk.left mid) → Ran disk mid new (Cut (512 * log_start next + 512)) → IsAfter next body (disk.content new)
-    → IsInUse disk new next (log_start next)
+    → Only (disk.content mid) (disk.left mid) → Ran disk mid new (Cut (512 * log_sector next + 512)) → IsAfter next body (disk.content new)
+    → IsInUse disk new next (log_sector next)
 in_use_next disk mid new next body size keeps synced run after = record {
   holds = after.holds;
   behind = omega arith;
   inside = after.holds.inside;
   durable = λ c left.
       let found = run.crash keeps c left in
-      found.2.front ∙ ap (take (512 * log_start next + 512)) (synced found.0 found.1) ∙ sym (run.seen keeps).front;
+      found.2.front ∙ ap (take (512 * log_sector next + 512)) (synced found.0 found.1) ∙ sym (run.seen keeps).front;
 }

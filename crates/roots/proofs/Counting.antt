@@ -142,11 +142,11 @@ one_mark Second Second same = refl
 same_fields : (sector : List ℕ) (a b : Root) → a.slot ≡ b.slot → IsRoot a sector → IsRoot b sector → a ≡ b
 same_fields sector a b slots x y =
     let generations : a.generation ≡ b.generation = sym x.generation ∙ y.generation in
-    let firsts : a.first ≡ b.first = sym x.first ∙ y.first in
+    let firsts : a.first_sector ≡ b.first_sector = sym x.first_sector ∙ y.first_sector in
     let counts : a.pages ≡ b.pages = sym x.pages ∙ y.pages in
     let formats : a.label.format ≡ b.label.format = one_mark a.label.format b.label.format (sym x.mark ∙ y.mark) in
     let revisions : a.label.revision ≡ b.label.revision = sym x.revision ∙ y.revision in
-    λ i. record { slot = slots i; generation = generations i; first = firsts i; pages = counts i; label = record { format = formats i; revision = revisions i } }
+    λ i. record { slot = slots i; generation = generations i; first_sector = firsts i; pages = counts i; label = record { format = formats i; revision = revisions i } }
 
 -- at most one root counts
 pub one_counts : AtMostOneRoot

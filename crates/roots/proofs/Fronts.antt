@@ -6,7 +6,7 @@ use Rattle.gatelog.specs.Record.{part}
 use Rattle.roots.specs.declared.root.Slot.{Slot}
 use Rattle.roots.specs.declared.root.Slot.TheVariants.{A, B}
 use Rattle.roots.specs.declared.root.Root.{Root}
-use Rattle.roots.specs.Root.{root_sector, gate_sector, other, IsHeader, IsRoot, IsOpenRoot, Counts, log_start, HoldsRoot}
+use Rattle.roots.specs.Root.{root_sector, gate_sector, other, IsHeader, IsRoot, IsOpenRoot, Counts, log_sector, HoldsRoot}
 use Rattle.roots.proofs.Counting.{one_counts}
 
 unfoldable pub front_of : List ℕ → List ℕ
@@ -75,7 +75,7 @@ first_shown content now buffer sector read same first = first ∙ ap (part 0 512
 
 -- what the front and the length show of the root that the content holds
 pub holds_from_front : (content : List ℕ) (root : Root) (sectors : ℕ) → length content ≡ 512 * sectors → IsHeader (part 0 512 (front_of content))
-    → Counts (front_of content) root → log_start root + 1 ≤ sectors → HoldsRoot content root
+    → Counts (front_of content) root → log_sector root + 1 ≤ sectors → HoldsRoot content root
 holds_from_front content root sectors size head counts inside =
     let Head : List ℕ → Type 0 = λ x. IsHeader x in
     record { header = subst Head (header_of_front content) head; counts = counts_from_front content root counts; inside = omega (arith, size, inside) }
@@ -89,10 +89,10 @@ too_short content root sectors size few holds = omega (arith, size, few, holds.i
 
 -- the root that counts lies past the end, so no other one counts and lies inside
 pub past_the_end : (content : List ℕ) (root : Root) (sectors : ℕ) → length content ≡ 512 * sectors → Counts (front_of content) root
-    → (log_start root + 1 ≤ sectors → ⊥) → (held : Root) → HoldsRoot content held → ⊥
+    → (log_sector root + 1 ≤ sectors → ⊥) → (held : Root) → HoldsRoot content held → ⊥
 past_the_end content root sectors size counts outside held holds =
     let same : held ≡ root = one_counts content held root holds.counts (counts_from_front content root counts) in
-    let start : log_start held ≡ log_start root = ap log_start same in
+    let start : log_sector held ≡ log_sector root = ap log_sector same in
     outside (omega (arith, size, start, holds.inside))
 
 -- no root counts in the front

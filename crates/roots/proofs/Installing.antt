@@ -9,7 +9,7 @@ use Rattle.gatelog.specs.Log.{IsOpen}
 use Rattle.gatelog.specs.Record.{part}
 use Rattle.roots.specs.declared.root.Slot.{Slot}
 use Rattle.roots.specs.declared.root.Root.{Root}
-use Rattle.roots.specs.Root.{root_sector, gate_sector, other, IsRoot, log_start}
+use Rattle.roots.specs.Root.{root_sector, gate_sector, other, IsRoot, log_sector}
 use Rattle.roots.specs.Install.{HasAt, IsInUse, IsAfter, IsBeforeOrAfter, generation, IsStaged, Spares}
 use Rattle.roots.proofs.Chain.{staging_either, staged, opening_fails, opened, cut_away, installed_either, in_use_next}
 
@@ -26,7 +26,7 @@ generation_size root pages size = omega (arith, length-append pages (replicate 5
 pub record AfterCut {D : Type 0} (disk : Disk D) (start : D) (current : Root) (last : ℕ) (old : List ℕ) (next : Root) (pages : List ℕ) (now : D) : Type 0 where
   pub either : Stands disk start now (IsBeforeOrAfter current last next (generation pages) old) (IsBeforeOrAfter current last next (generation pages) old)
   pub installed : Stands disk start now (IsBeforeOrAfter current last next (generation pages) old) (IsAfter next (generation pages))
-  pub in_use : IsInUse disk now next (log_start next)
+  pub in_use : IsInUse disk now next (log_sector next)
 
 module _ {D : Type 0} (disk : Disk D) (start first : D) (current : Root) (last : ℕ) (old : List ℕ) (next : Root) (pages : List ℕ)
     (is : IsStaged disk start first current last old next pages) where
@@ -39,10 +39,10 @@ module _ {D : Type 0} (disk : Disk D) (start first : D) (current : Root) (last :
   body_size : length body ≡ 32768 * next.pages + 512
   body_size = generation_size next pages is.size
 
-  module _ (second : D) (root_run : Ran disk first second (Spares next.slot (512 * next.first) (32768 * next.pages + 512))) where
-    root_run_there : Ran disk first second (Spares (other current.slot) (512 * next.first) (32768 * next.pages + 512))
+  module _ (second : D) (root_run : Ran disk first second (Spares next.slot (512 * next.first_sector) (32768 * next.pages + 512))) where
+    root_run_there : Ran disk first second (Spares (other current.slot) (512 * next.first_sector) (32768 * next.pages + 512))
     root_run_there =
-        let At : Slot → Type 0 = λ s. Ran disk first second (Spares s (512 * next.first) (32768 * next.pages + 512)) in
+        let At : Slot → Type 0 = λ s. Ran disk first second (Spares s (512 * next.first_sector) (32768 * next.pages + 512)) in
         subst At is.follows.slot root_run
 
     -- the root was not written, or not all of it
@@ -50,7 +50,7 @@ module _ {D : Type 0} (disk : Disk D) (start first : D) (current : Root) (last :
     root_fails = staging_either disk start current next last old is.follows body body_size first second is.stands root_run_there
 
     module _ (synced : Only (disk.content second) (disk.left second))
-        (spelled : IsRoot next (part (512 * root_sector next.slot) 512 (disk.content second))) (there : HasAt (512 * next.first) body (disk.content second))
+        (spelled : IsRoot next (part (512 * root_sector next.slot) 512 (disk.content second))) (there : HasAt (512 * next.first_sector) body (disk.content second))
         (third : D) (gate_run : Ran disk second third (Torn (512 * gate_sector next.slot) 512)) where
       gate_run_there : Ran disk second third (Torn (512 * gate_sector (other current.slot)) 512)
       gate_run_there =
@@ -66,7 +66,7 @@ module _ {D : Type 0} (disk : Disk D) (start first : D) (current : Root) (last :
           gate_run_there
 
       module _ (opened_synced : Only (disk.content third) (disk.left third)) (is_open : IsOpen (gate_sector next.slot) (disk.content third))
-          (fourth : D) (cut_run : Ran disk third fourth (Cut (512 * log_start next + 512))) where
+          (fourth : D) (cut_run : Ran disk third fourth (Cut (512 * log_sector next + 512))) where
         -- the new root counts, whether the cut went through or not
         root_installed : Stands disk start fourth Either (IsAfter next body)
         root_installed =
@@ -81,7 +81,7 @@ module _ {D : Type 0} (disk : Disk D) (start first : D) (current : Root) (last :
         cut_either : Stands disk start fourth Either Either
         cut_either = installed_either disk start current next last old is.follows body body_size fourth root_installed
 
-        root_in_use : IsInUse disk fourth next (log_start next)
+        root_in_use : IsInUse disk fourth next (log_sector next)
         root_in_use = in_use_next disk third fourth next body body_size (cut_run.had_kept root_installed.kept) opened_synced cut_run root_installed.seen
 
         pub after_cut : AfterCut disk start current last old next pages fourth

@@ -83,18 +83,18 @@ module _ (generation first pages revision : ℕ) (sector : List ℕ) (generation
 
 -- the row of a root's fields
 abbrev pub row_of : Root → List ℕ
-row_of root = root_row root.label.format root.generation root.first root.pages root.label.revision
+row_of root = root_row root.label.format root.generation root.first_sector root.pages root.label.revision
 
 -- the fields of a root, front to back
-pub fields-root : (root : Root) (sector : List ℕ) → root.generation < 2 ^ 64 → root.first < 2 ^ 64 → root.pages < 2 ^ 32 → root.label.revision < 2 ^ 64
-    → 8 ≤ root.first → Laid (row_of root) sector → IsRoot root sector
+pub fields-root : (root : Root) (sector : List ℕ) → root.generation < 2 ^ 64 → root.first_sector < 2 ^ 64 → root.pages < 2 ^ 32 → root.label.revision < 2 ^ 64
+    → 8 ≤ root.first_sector → Laid (row_of root) sector → IsRoot root sector
 fields-root root sector generation_fits first_fits pages_fits revision_fits in_data laid =
-    let told = tells root.generation root.first root.pages root.label.revision sector generation_fits first_fits pages_fits revision_fits root.label.format laid in
+    let told = tells root.generation root.first_sector root.pages root.label.revision sector generation_fits first_fits pages_fits revision_fits root.label.format laid in
     record {
       whole = laid-length (row_of root) sector laid;
       mark = told.mark;
       generation = told.generation_is;
-      first = told.first_is;
+      first_sector = told.first_is;
       pages = told.pages_are;
       revision = told.revision_is;
       in_data = in_data;
@@ -140,17 +140,17 @@ put-mark format marked first =
 
 -- a root's sector that was written field by field
 pub laid-root : (root : Root) (marked numbered placed paged sector : List ℕ) → marked ≡ put_at 0 (mark_of root.label.format) (replicate 512 0)
-    → numbered ≡ put_at 8 (big_bytes 8 root.generation) marked → placed ≡ put_at 16 (big_bytes 8 root.first) numbered
+    → numbered ≡ put_at 8 (big_bytes 8 root.generation) marked → placed ≡ put_at 16 (big_bytes 8 root.first_sector) numbered
     → paged ≡ put_at 24 (big_bytes 4 root.pages) placed → sector ≡ put_at 28 (big_bytes 8 root.label.revision) paged → Laid (row_of root) sector
 laid-root root marked numbered placed paged sector first second third fourth fifth =
     let size = length-mark root.label.format in
     let mark = put-mark root.label.format marked first in
     let generation = laid-next 8 8 (mark_of root.label.format) (big_bytes 8 root.generation) marked numbered mark size refl (omega arith) second in
     let at_first = length-append (mark_of root.label.format) (big_bytes 8 root.generation) in
-    let place = laid-next 16 8 _ (big_bytes 8 root.first) numbered placed generation (omega (arith, size, at_first)) refl (omega arith) third in
-    let at_pages = length-append (mark_of root.label.format ++ big_bytes 8 root.generation) (big_bytes 8 root.first) in
+    let place = laid-next 16 8 _ (big_bytes 8 root.first_sector) numbered placed generation (omega (arith, size, at_first)) refl (omega arith) third in
+    let at_pages = length-append (mark_of root.label.format ++ big_bytes 8 root.generation) (big_bytes 8 root.first_sector) in
     let pages = laid-next 24 4 _ (big_bytes 4 root.pages) placed paged place (omega (arith, size, at_first, at_pages)) refl (omega arith) fourth in
-    let at_revision = length-append ((mark_of root.label.format ++ big_bytes 8 root.generation) ++ big_bytes 8 root.first) (big_bytes 4 root.pages) in
+    let at_revision = length-append ((mark_of root.label.format ++ big_bytes 8 root.generation) ++ big_bytes 8 root.first_sector) (big_bytes 4 root.pages) in
     laid-next 28 8 _ (big_bytes 8 root.label.revision) paged sector pages (omega (arith, size, at_first, at_pages, at_revision)) refl (omega arith) fifth
 
 -- nine sectors that were written from their start on
@@ -178,5 +178,5 @@ row-by : (format : Format) (generation first pages revision : ℕ) (sector : Lis
 row-by First generation first pages revision sector laid = laid.is
 row-by Second generation first pages revision sector laid = laid.is
 
-pub row-root : (root : Root) (sector : List ℕ) → Laid (row_of root) sector → sector ≡ root_fields root.generation root.first root.pages root.label
-row-root root sector laid = row-by root.label.format root.generation root.first root.pages root.label.revision sector laid
+pub row-root : (root : Root) (sector : List ℕ) → Laid (row_of root) sector → sector ≡ root_fields root.generation root.first_sector root.pages root.label
+row-root root sector laid = row-by root.label.format root.generation root.first_sector root.pages root.label.revision sector laid

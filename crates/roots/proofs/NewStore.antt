@@ -21,7 +21,7 @@ use Rattle.roots.proofs.Counting.{counts_alone}
 use Rattle.roots.proofs.Laying.{Laid, root_row, fields-header, fields-root}
 
 -- a header, a root, an open gate and zeros
-new_holds : (header spelled bytes : List ℕ) (root : Root) → IsHeader header → IsRoot root spelled → root.slot ≡ A → root.first ≡ 8 → root.pages ≡ 0
+new_holds : (header spelled bytes : List ℕ) (root : Root) → IsHeader header → IsRoot root spelled → root.slot ≡ A → root.first_sector ≡ 8 → root.pages ≡ 0
     → bytes ≡ header ++ spelled ++ 165 ∷ replicate 3583 0 → HoldsRoot bytes root
 new_holds header spelled bytes root is_header is_root in_a first pages is =
     let Head : List ℕ → Type 0 = λ x. IsHeader x in
@@ -59,19 +59,19 @@ row_laid : (format : Format) (generation first pages revision : ℕ)
 row_laid First generation first pages revision = record { inside = omega arith; is = refl }
 row_laid Second generation first pages revision = record { inside = omega arith; is = refl }
 
-is_new_root : (format : Format) (root : Root) → root.generation ≡ 1 → root.first ≡ 8 → root.pages ≡ 0 → root.label ≡ first_label format → IsRoot root (root_fields 1 8 0 (first_label format))
+is_new_root : (format : Format) (root : Root) → root.generation ≡ 1 → root.first_sector ≡ 8 → root.pages ≡ 0 → root.label ≡ first_label format → IsRoot root (root_fields 1 8 0 (first_label format))
 is_new_root format root generation first pages label =
     let Spells : List ℕ → Type 0 = λ x. IsRoot root x in
-    let same : root_fields root.generation root.first root.pages root.label ≡ root_fields 1 8 0 (first_label format) =
+    let same : root_fields root.generation root.first_sector root.pages root.label ≡ root_fields 1 8 0 (first_label format) =
     λ i. root_fields (generation i) (first i) (pages i) (label i) in
     let Fits : Label → Type 0 = λ l. l.revision < 2 ^ 64 in
     let fits : root.label.revision < 2 ^ 64 = subst Fits (sym label) (omega arith) in
     subst Spells same
-    (fields-root root (root_fields root.generation root.first root.pages root.label) (omega (arith, generation)) (omega (arith, first)) (omega (arith, pages))
-    fits (omega (arith, first)) (row_laid root.label.format root.generation root.first root.pages root.label.revision))
+    (fields-root root (root_fields root.generation root.first_sector root.pages root.label) (omega (arith, generation)) (omega (arith, first)) (omega (arith, pages))
+    fits (omega (arith, first)) (row_laid root.label.format root.generation root.first_sector root.pages root.label.revision))
 
 -- the first root of a store counts in its nine sectors
-pub new_content-root : (format : Format) (root : Root) → root.slot ≡ A → root.generation ≡ 1 → root.first ≡ 8 → root.pages ≡ 0 → root.label ≡ first_label format
+pub new_content-root : (format : Format) (root : Root) → root.slot ≡ A → root.generation ≡ 1 → root.first_sector ≡ 8 → root.pages ≡ 0 → root.label ≡ first_label format
     → HoldsRoot (new_content format) root
 unfolding new_content
 new_content-root format root in_a generation first pages label =

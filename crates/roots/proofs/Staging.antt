@@ -11,7 +11,7 @@ use Rattle.gatelog.specs.Record.{part}
 use Rattle.gatelog.proofs.Parts.{length-part, get-part}
 use Rattle.roots.specs.declared.root.Slot.{Slot}
 use Rattle.roots.specs.declared.root.Root.{Root}
-use Rattle.roots.specs.Root.{root_sector, IsRoot, log_start}
+use Rattle.roots.specs.Root.{root_sector, IsRoot, log_sector}
 use Rattle.roots.specs.Install.{HasAt, generation, Spares}
 use Rattle.roots.proofs.Steps.{in_front, HasAt-agree}
 
@@ -92,44 +92,44 @@ spares-spares slot first size a b c one two = record {
 
 module _ (root : Root) where
   abbrev Writes : List ℕ → List ℕ → Type 0
-  Writes = Spares root.slot (512 * root.first) (32768 * root.pages + 512)
+  Writes = Spares root.slot (512 * root.first_sector) (32768 * root.pages + 512)
 
-  gate-spares : (a b : List ℕ) → Torn (512 * log_start root) 512 a b → Writes a b
-  gate-spares a b torn = spares-torn root.slot (512 * root.first) (32768 * root.pages + 512) (512 * log_start root) 512 a b (omega arith) (omega arith) torn
+  gate-spares : (a b : List ℕ) → Torn (512 * log_sector root) 512 a b → Writes a b
+  gate-spares a b torn = spares-torn root.slot (512 * root.first_sector) (32768 * root.pages + 512) (512 * log_sector root) 512 a b (omega arith) (omega arith) torn
 
   -- the gate behind the pages is written, or torn
-  pub gate_run : {D : Type 0} (disk : Disk D) (old new : D) → Ran disk old new (Torn (512 * log_start root) 512) → Ran disk old new Writes
-  gate_run disk old new run = ran_wider disk old new (Torn (512 * log_start root) 512) Writes run gate-spares
+  pub gate_run : {D : Type 0} (disk : Disk D) (old new : D) → Ran disk old new (Torn (512 * log_sector root) 512) → Ran disk old new Writes
+  gate_run disk old new run = ran_wider disk old new (Torn (512 * log_sector root) 512) Writes run gate-spares
 
   -- and then the root
-  pub gate_and_root_run : {D : Type 0} (disk : Disk D) (old mid new : D) → Ran disk old mid (Torn (512 * log_start root) 512)
+  pub gate_and_root_run : {D : Type 0} (disk : Disk D) (old mid new : D) → Ran disk old mid (Torn (512 * log_sector root) 512)
       → Ran disk mid new (Torn (512 * root_sector root.slot) 512) → Ran disk old new Writes
   gate_and_root_run disk old mid new gate last =
-      ran_then disk old mid new (Torn (512 * log_start root) 512) (Torn (512 * root_sector root.slot) 512) Writes gate last gate-spares
-      (λ a b c one two. spares-spares root.slot (512 * root.first) (32768 * root.pages + 512) a b c (gate-spares a b one)
-      (spares-root root.slot (512 * root.first) (32768 * root.pages + 512) b c two))
+      ran_then disk old mid new (Torn (512 * log_sector root) 512) (Torn (512 * root_sector root.slot) 512) Writes gate last gate-spares
+      (λ a b c one two. spares-spares root.slot (512 * root.first_sector) (32768 * root.pages + 512) a b c (gate-spares a b one)
+      (spares-root root.slot (512 * root.first_sector) (32768 * root.pages + 512) b c two))
 
   -- the pages stay, and the gate stands behind them
-  pub pages_and_gate : (pages a b c : List ℕ) → 8 ≤ root.first → length pages ≡ 32768 * root.pages → HasAt (512 * root.first) pages a
-      → 512 * log_start root ≤ length a → Holds a (512 * log_start root) (replicate 512 0) b → Torn (512 * log_start root) 512 a b
-      → Torn (512 * root_sector root.slot) 512 b c → HasAt (512 * root.first) (generation pages) c
+  pub pages_and_gate : (pages a b c : List ℕ) → 8 ≤ root.first_sector → length pages ≡ 32768 * root.pages → HasAt (512 * root.first_sector) pages a
+      → 512 * log_sector root ≤ length a → Holds a (512 * log_sector root) (replicate 512 0) b → Torn (512 * log_sector root) 512 a b
+      → Torn (512 * root_sector root.slot) 512 b c → HasAt (512 * root.first_sector) (generation pages) c
   pages_and_gate pages a b c in_data size has room holds gate last =
       let places = in_front root.slot in
-      let behind : 512 * root.first + length pages ≡ 512 * log_start root = omega (arith, size) in
+      let behind : 512 * root.first_sector + length pages ≡ 512 * log_sector root = omega (arith, size) in
       let At : ℕ → Type 0 = λ at. HasAt at (replicate 512 0) b in
-      let pages_there : HasAt (512 * root.first) pages b = HasAt-agree (512 * root.first) pages a b has
-      (λ k low high. torn-bytes (512 * log_start root) 512 a b gate k (inl (omega (arith, high, behind)))) gate.no_shorter
+      let pages_there : HasAt (512 * root.first_sector) pages b = HasAt-agree (512 * root.first_sector) pages a b has
+      (λ k low high. torn-bytes (512 * log_sector root) 512 a b gate k (inl (omega (arith, high, behind)))) gate.no_shorter
       in
-      let gate_there : HasAt (512 * root.first + length pages) (replicate 512 0) b = subst At (sym behind) (HasAt-holds (512 * log_start root) (replicate 512 0) a b room holds) in
-      HasAt-agree (512 * root.first) (generation pages) b c (HasAt-append (512 * root.first) pages (replicate 512 0) b pages_there gate_there)
+      let gate_there : HasAt (512 * root.first_sector + length pages) (replicate 512 0) b = subst At (sym behind) (HasAt-holds (512 * log_sector root) (replicate 512 0) a b room holds) in
+      HasAt-agree (512 * root.first_sector) (generation pages) b c (HasAt-append (512 * root.first_sector) pages (replicate 512 0) b pages_there gate_there)
       (λ k low high. torn-bytes (512 * root_sector root.slot) 512 b c last k (inr (omega (arith, low, places.root, in_data)))) last.no_shorter
 
   -- how long the content then is
-  pub length-gate : (a b c : List ℕ) → 8 ≤ root.first → 512 * log_start root ≤ length a → Holds a (512 * log_start root) (replicate 512 0) b
-      → Torn (512 * root_sector root.slot) 512 b c → length c ≡ max (length a) (512 * log_start root + 512)
+  pub length-gate : (a b c : List ℕ) → 8 ≤ root.first_sector → 512 * log_sector root ≤ length a → Holds a (512 * log_sector root) (replicate 512 0) b
+      → Torn (512 * root_sector root.slot) 512 b c → length c ≡ max (length a) (512 * log_sector root + 512)
   length-gate a b c in_data room holds last =
       let places = in_front root.slot in
-      let with_gate : length b ≡ max (length a) (512 * log_start root + length (replicate {A = ℕ} 512 0)) = length-holds (512 * log_start root) (replicate 512 0) a b room holds in
+      let with_gate : length b ≡ max (length a) (512 * log_sector root + length (replicate {A = ℕ} 512 0)) = length-holds (512 * log_sector root) (replicate 512 0) a b room holds in
       omega (arith, with_gate, in_data, places.root, last.no_shorter, last.no_longer, length-replicate {A = ℕ} 512 0)
 
 -- a root that was written is spelled

@@ -9,7 +9,7 @@ use Rattle.gatelog.proofs.Parts.{part-agree, agree-take, reaches-take}
 use Rattle.roots.specs.declared.root.Slot.{Slot}
 use Rattle.roots.specs.declared.root.Slot.TheVariants.{A, B}
 use Rattle.roots.specs.declared.root.Root.{Root}
-use Rattle.roots.specs.Root.{root_sector, gate_sector, other, IsHeader, IsRoot, IsOpenRoot, log_start, HoldsRoot}
+use Rattle.roots.specs.Root.{root_sector, gate_sector, other, IsHeader, IsRoot, IsOpenRoot, log_sector, HoldsRoot}
 use Rattle.roots.specs.Install.{HasAt, IsNext, IsBefore, IsClear, IsAfter, IsBeforeOrAfter, Spares}
 
 -- where the roots and their gates lie
@@ -81,8 +81,8 @@ module _ (current : Root) (last : ℕ) (old : List ℕ) where
   pub record Kept (c : List ℕ) : Type 0 where
     pub header : IsHeader (part 0 512 c)
     pub stands : IsOpenRoot c current
-    pub inside : 512 * log_start current + 512 ≤ length c
-    pub in_use : Agree (512 * current.first) (512 * last + 512) old c
+    pub inside : 512 * log_sector current + 512 ≤ length c
+    pub in_use : Agree (512 * current.first_sector) (512 * last + 512) old c
     pub reaches : 512 * last + 512 ≤ length c
 
   -- and a lesser root stands in the other slot, whose gate is being closed
@@ -96,14 +96,14 @@ module _ (current : Root) (last : ℕ) (old : List ℕ) where
   pub record Opening (next : Root) (body c : List ℕ) : Type 0 where
     pub kept : Kept c
     pub spelled : IsRoot next (part (512 * root_sector (other current.slot)) 512 c)
-    pub pages : HasAt (512 * next.first) body c
+    pub pages : HasAt (512 * next.first_sector) body c
 
   long : (c : List ℕ) → Kept c → 4608 ≤ length c
   long c kept = omega (arith, kept.stands.spelled.in_data, kept.inside)
 
   kept-agree : (a b : List ℕ) → Kept a → Agree 0 512 a b → Agree (512 * root_sector current.slot) (512 * root_sector current.slot + 512) a b
       → Agree (512 * gate_sector current.slot) (512 * gate_sector current.slot + 512) a b
-      → Agree (512 * current.first) (512 * last + 512) a b → 512 * log_start current + 512 ≤ length b → 512 * last + 512 ≤ length b → Kept b
+      → Agree (512 * current.first_sector) (512 * last + 512) a b → 512 * log_sector current + 512 ≤ length b → 512 * last + 512 ≤ length b → Kept b
   kept-agree a b kept header root gate in_use inside reaches =
       let places = in_front current.slot in
       let in_a = long a kept in
@@ -155,7 +155,7 @@ module _ (current : Root) (last : ℕ) (old : List ℕ) where
   -- the start
 
   -- a content that agrees with what reads give up to the last gate
-  kept_start : (a b : List ℕ) → Kept a → log_start current ≤ last → take (512 * last + 512) b ≡ take (512 * last + 512) a → Kept b
+  kept_start : (a b : List ℕ) → Kept a → log_sector current ≤ last → take (512 * last + 512) b ≡ take (512 * last + 512) a → Kept b
   kept_start a b kept behind same =
       let places = in_front current.slot in
       let agree = agree-take (512 * last + 512) a b same in
@@ -168,7 +168,7 @@ module _ (current : Root) (last : ℕ) (old : List ℕ) where
       (λ k low high. agree k (omega arith) high)
       (omega (arith, behind, reaches)) reaches
 
-  pub start-closing : (lesser : Root) (a b : List ℕ) → Closing lesser a → log_start current ≤ last → take (512 * last + 512) b ≡ take (512 * last + 512) a
+  pub start-closing : (lesser : Root) (a b : List ℕ) → Closing lesser a → log_sector current ≤ last → take (512 * last + 512) b ≡ take (512 * last + 512) a
       → Closing lesser b
   start-closing lesser a b closing behind same =
       let places = in_front (other current.slot) in
@@ -183,7 +183,7 @@ module _ (current : Root) (last : ℕ) (old : List ℕ) where
         less = closing.less;
       }
 
-  pub start-clear : (a b : List ℕ) → IsClear current last old a → log_start current ≤ last → take (512 * last + 512) b ≡ take (512 * last + 512) a → IsClear current last old b
+  pub start-clear : (a b : List ℕ) → IsClear current last old a → log_sector current ≤ last → take (512 * last + 512) b ≡ take (512 * last + 512) a → IsClear current last old b
   start-clear a b clear behind same =
       let places = in_front (other current.slot) in
       let kept = before-kept a clear.before in
@@ -201,7 +201,7 @@ module _ (current : Root) (last : ℕ) (old : List ℕ) where
       (agree-torn 0 512 (512 * gate_sector (other current.slot)) 512 a b torn (inl (omega (arith, places.behind_header, places.in_order))))
       (agree-torn (512 * root_sector current.slot) (512 * root_sector current.slot + 512) (512 * gate_sector (other current.slot)) 512 a b torn off.root_gate)
       (agree-torn (512 * gate_sector current.slot) (512 * gate_sector current.slot + 512) (512 * gate_sector (other current.slot)) 512 a b torn off.gate_gate)
-      (agree-torn (512 * current.first) (512 * last + 512) (512 * gate_sector (other current.slot)) 512 a b torn
+      (agree-torn (512 * current.first_sector) (512 * last + 512) (512 * gate_sector (other current.slot)) 512 a b torn
       (inr (omega (arith, places.gate, kept.stands.spelled.in_data))))
       (omega (arith, kept.inside, torn.no_shorter)) (omega (arith, kept.reaches, torn.no_shorter))
 
@@ -223,7 +223,7 @@ module _ (current : Root) (last : ℕ) (old : List ℕ) where
 
   module _ (next : Root) (is : IsNext current last next) where
     -- the next root, its pages and the gate behind them are written
-    pub clear-spares : (a b : List ℕ) → IsClear current last old a → Spares (other current.slot) (512 * next.first) (32768 * next.pages + 512) a b → IsClear current last old b
+    pub clear-spares : (a b : List ℕ) → IsClear current last old a → Spares (other current.slot) (512 * next.first_sector) (32768 * next.pages + 512) a b → IsClear current last old b
     clear-spares a b clear spares =
         let places = in_front (other current.slot) in
         let own = in_front current.slot in
@@ -232,12 +232,12 @@ module _ (current : Root) (last : ℕ) (old : List ℕ) where
         let size = 32768 * next.pages + 512 in
         kept-clear b
         (kept-agree a b kept
-        (agree-spares 0 512 (other current.slot) (512 * next.first) size a b spares (inl (omega (arith, places.behind_header))) (inl (omega (arith, is.in_data))))
-        (agree-spares (512 * root_sector current.slot) (512 * root_sector current.slot + 512) (other current.slot) (512 * next.first) size a b spares
+        (agree-spares 0 512 (other current.slot) (512 * next.first_sector) size a b spares (inl (omega (arith, places.behind_header))) (inl (omega (arith, is.in_data))))
+        (agree-spares (512 * root_sector current.slot) (512 * root_sector current.slot + 512) (other current.slot) (512 * next.first_sector) size a b spares
         off.root_root (inl (omega (arith, own.root, is.in_data))))
-        (agree-spares (512 * gate_sector current.slot) (512 * gate_sector current.slot + 512) (other current.slot) (512 * next.first) size a b spares
+        (agree-spares (512 * gate_sector current.slot) (512 * gate_sector current.slot + 512) (other current.slot) (512 * next.first_sector) size a b spares
         off.gate_root (inl (omega (arith, own.gate, is.in_data))))
-        (agree-spares (512 * current.first) (512 * last + 512) (other current.slot) (512 * next.first) size a b spares
+        (agree-spares (512 * current.first_sector) (512 * last + 512) (other current.slot) (512 * next.first_sector) size a b spares
         (inr (omega (arith, places.root, kept.stands.spelled.in_data)))
         (⊎_elim (λ front. inr (omega (arith, front))) (λ behind. inl (omega (arith, behind))) is.off))
         (omega (arith, kept.inside, spares.no_shorter)) (omega (arith, kept.reaches, spares.no_shorter)))
@@ -254,8 +254,8 @@ module _ (current : Root) (last : ℕ) (old : List ℕ) where
             spelled = root-agree next (512 * root_sector (other current.slot)) a b (omega (arith, long a opening.kept, places.root)) (omega (arith, long b kept, places.root))
                 (agree-torn (512 * root_sector (other current.slot)) (512 * root_sector (other current.slot) + 512) (512 * gate_sector (other current.slot)) 512 a b torn (inl places.in_order))
                 opening.spelled;
-            pages = HasAt-agree (512 * next.first) body a b opening.pages
-                (agree-torn (512 * next.first) (512 * next.first + length body) (512 * gate_sector (other current.slot)) 512 a b torn (inr (omega (arith, places.gate, is.in_data))))
+            pages = HasAt-agree (512 * next.first_sector) body a b opening.pages
+                (agree-torn (512 * next.first_sector) (512 * next.first_sector + length body) (512 * gate_sector (other current.slot)) 512 a b torn (inr (omega (arith, places.gate, is.in_data))))
                 torn.no_shorter;
           }
 
@@ -286,7 +286,7 @@ module _ (current : Root) (last : ℕ) (old : List ℕ) where
 -- the sectors behind the new log's first gate are cut away
 
 -- a root that counts does so in a content that agrees in front
-pub holds-agree : (root : Root) (n : ℕ) (a b : List ℕ) → HoldsRoot a root → Agree 0 n a b → 512 * log_start root + 512 ≤ n → n ≤ length a → n ≤ length b → HoldsRoot b root
+pub holds-agree : (root : Root) (n : ℕ) (a b : List ℕ) → HoldsRoot a root → Agree 0 n a b → 512 * log_sector root + 512 ≤ n → n ≤ length a → n ≤ length b → HoldsRoot b root
 holds-agree root n a b holds agree far in_a in_b =
     let whole : 4608 ≤ n = omega (arith, holds.counts.stands.spelled.in_data, far) in
     let open_root : (r : Root) → IsOpenRoot a r → IsOpenRoot b r = λ r stands.
@@ -308,15 +308,15 @@ holds-agree root n a b holds agree far in_a in_b =
       inside = omega (arith, far, in_b);
     }
 
-pub after-cut : (next : Root) (body a b : List ℕ) → length body ≡ 32768 * next.pages + 512 → IsAfter next body a → Cut (512 * log_start next + 512) a b → IsAfter next body b
+pub after-cut : (next : Root) (body a b : List ℕ) → length body ≡ 32768 * next.pages + 512 → IsAfter next body a → Cut (512 * log_sector next + 512) a b → IsAfter next body b
 after-cut next body a b size after cut =
-    let agree = agree-take (512 * log_start next + 512) a b cut.front in
-    let whole : 512 * log_start next + 512 ≤ length a = omega (arith, after.pages.inside, size) in
-    let reaches = reaches-take (512 * log_start next + 512) a b cut.front whole in
+    let agree = agree-take (512 * log_sector next + 512) a b cut.front in
+    let whole : 512 * log_sector next + 512 ≤ length a = omega (arith, after.pages.inside, size) in
+    let reaches = reaches-take (512 * log_sector next + 512) a b cut.front whole in
     record {
-      holds = holds-agree next (512 * log_start next + 512) a b after.holds agree (omega arith) whole reaches;
+      holds = holds-agree next (512 * log_sector next + 512) a b after.holds agree (omega arith) whole reaches;
       pages = record {
         inside = omega (arith, reaches, size);
-        each = λ k lt. agree (512 * next.first + k) (omega arith) (omega (arith, lt, size)) ∙ after.pages.each k lt;
+        each = λ k lt. agree (512 * next.first_sector + k) (omega arith) (omega (arith, lt, size)) ∙ after.pages.each k lt;
       };
     }

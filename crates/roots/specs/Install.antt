@@ -6,7 +6,7 @@ use Rattle.gatelog.specs.Log.{IsOpen}
 use Rattle.gatelog.specs.Record.{Agree}
 use Rattle.roots.specs.declared.root.Slot.{Slot}
 use Rattle.roots.specs.declared.root.Root.{Root}
-use Rattle.roots.specs.Root.{root_sector, gate_sector, other, log_start, HoldsRoot}
+use Rattle.roots.specs.Root.{root_sector, gate_sector, other, log_sector, HoldsRoot}
 
 -- These bytes stand at an offset.
 pub record HasAt (at : ℕ) (bytes content : List ℕ) : Type 0 where
@@ -23,21 +23,21 @@ pub record IsPlace (start last pages place : ℕ) : Type 0 where
 pub record IsNext (current : Root) (last : ℕ) (next : Root) : Type 0 where
   pub slot : next.slot ≡ other current.slot
   pub generation : next.generation ≡ current.generation + 1
-  pub in_data : 8 ≤ next.first
-  pub off : (log_start next + 1 ≤ current.first) ⊎ (last + 1 ≤ next.first)
+  pub in_data : 8 ≤ next.first_sector
+  pub off : (log_sector next + 1 ≤ current.first_sector) ⊎ (last + 1 ≤ next.first_sector)
 
 -- The generation of this root is in use on a device, up to the gate `last`: the root counts, and that gate lies behind its pages, and
 -- inside. Each content that a crash may leave is what reads give, up to the end of that gate.
 pub record IsInUse {D : Type 0} (disk : Disk D) (device : D) (root : Root) (last : ℕ) : Type 0 where
   pub holds : HoldsRoot (disk.content device) root
-  pub behind : log_start root ≤ last
+  pub behind : log_sector root ≤ last
   pub inside : 512 * last + 512 ≤ length (disk.content device)
   pub durable : (c : List ℕ) → disk.left device c → take (512 * last + 512) c ≡ take (512 * last + 512) (disk.content device)
 
 -- The old root counts, and its generation is as it was, from its first page to the end of the gate `last`.
 pub record IsBefore (current : Root) (last : ℕ) (old c : List ℕ) : Type 0 where
   pub holds : HoldsRoot c current
-  pub in_use : Agree (512 * current.first) (512 * last + 512) old c
+  pub in_use : Agree (512 * current.first_sector) (512 * last + 512) old c
   pub reaches : 512 * last + 512 ≤ length c
 
 -- That, and the gate of the other slot is closed.
@@ -48,7 +48,7 @@ pub record IsClear (current : Root) (last : ℕ) (old c : List ℕ) : Type 0 whe
 -- The new root counts, and this is its generation.
 pub record IsAfter (next : Root) (body c : List ℕ) : Type 0 where
   pub holds : HoldsRoot c next
-  pub pages : HasAt (512 * next.first) body c
+  pub pages : HasAt (512 * next.first_sector) body c
 
 -- The old generation counts, or the new one.
 abbrev pub IsBeforeOrAfter : Root → ℕ → Root → List ℕ → List ℕ → List ℕ → Type 0
@@ -64,7 +64,7 @@ pub record IsStaged {D : Type 0} (disk : Disk D) (start device : D) (current : R
   pub follows : IsNext current last next
   pub stands : Stands disk start device (IsBefore current last old) (IsClear current last old)
   pub size : length pages ≡ 32768 * next.pages
-  pub there : HasAt (512 * next.first) pages (disk.content device)
+  pub there : HasAt (512 * next.first_sector) pages (disk.content device)
 
 -- What the writing of a root and of its generation leaves: all but the root's sector, and this many bytes from an offset on.
 pub record Spares (slot : Slot) (first size : ℕ) (old new : List ℕ) : Type 0 where

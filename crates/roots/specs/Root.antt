@@ -27,10 +27,10 @@ pub record IsRoot (root : Root) (sector : List ℕ) : Type 0 where
   pub whole : length sector ≡ 512
   pub mark : take 8 sector ≡ mark_of root.label.format
   pub generation : big_number 8 (drop 8 sector) ≡ root.generation
-  pub first : big_number 8 (drop 16 sector) ≡ root.first
+  pub first_sector : big_number 8 (drop 16 sector) ≡ root.first_sector
   pub pages : big_number 4 (drop 24 sector) ≡ root.pages
   pub revision : big_number 8 (drop 28 sector) ≡ root.label.revision
-  pub in_data : 8 ≤ root.first
+  pub in_data : 8 ≤ root.first_sector
   pub zeros : (k : ℕ) → 36 ≤ k → slice_index sector k ≡ 0
 
 -- The sector of a slot's root; its gate is in the next one.
@@ -58,14 +58,14 @@ pub record Counts (content : List ℕ) (root : Root) : Type 0 where
       → (lesser : Root) × (lesser.slot ≡ other root.slot) × IsOpenRoot content lesser × (lesser.generation < root.generation)
 
 -- The first gate of the log behind a root's pages, each of which has 64 sectors.
-abbrev pub log_start : Root → ℕ
-log_start root = root.first + 64 * root.pages
+abbrev pub log_sector : Root → ℕ
+log_sector root = root.first_sector + 64 * root.pages
 
 -- The content is a store's file whose root that counts is this one; its pages and the first gate of its log lie inside.
 pub record HoldsRoot (content : List ℕ) (root : Root) : Type 0 where
   pub header : IsHeader (part 0 512 content)
   pub counts : Counts content root
-  pub inside : 512 * log_start root + 512 ≤ length content
+  pub inside : 512 * log_sector root + 512 ≤ length content
 
 -- At most one root counts.
 abbrev pub AtMostOneRoot : Type 0

@@ -6,7 +6,7 @@ ghost use Rattle.device.specs.Step.{Holds, Same, Torn, Cut};
 ghost use Rattle.device.specs.Run.{Ran, Stands};
 ghost use Rattle.gatelog.specs.Record.{part};
 ghost use Rattle.gatelog.specs.Log.{IsOpen};
-ghost use Rattle.roots.specs.Root.{root_sector, gate_sector, other, IsRoot, log_start};
+ghost use Rattle.roots.specs.Root.{root_sector, gate_sector, other, IsRoot, log_sector};
 ghost use Rattle.roots.specs.Install.{HasAt, IsInUse, IsBefore, IsClear, IsAfter, IsBeforeOrAfter, generation, IsStaged, Spares};
 
 use crate::root::{Root, Slot};
@@ -79,20 +79,20 @@ fn open_root<D: Device>(device: &mut D, slot: Slot) -> Result<(), DeviceFault>
 
 // Writes a closed gate behind the pages of a root: its empty log.
 fn write_first_gate<D: Device>(device: &mut D, root: &Root) -> Result<(), DeviceFault>
-    requires room { log_start root.now < 2 ^ 64 }
-    requires inside { D.disk.keeps device.old → 512 * log_start root.now ≤ length (D.disk.content device.old) }
+    requires room { log_sector root.now < 2 ^ 64 }
+    requires inside { D.disk.keeps device.old → 512 * log_sector root.now ≤ length (D.disk.content device.old) }
     ensures written { D.disk.keeps device.old → OnOk result
-        (Holds (D.disk.content device.old) (512 * log_start root.now) (replicate 512 0) (D.disk.content device.new)) }
-    ensures room { OnOk result (log_start root.now < 2 ^ 54) }
-    ensures ran { Ran D.disk device.old device.new (Torn (512 * log_start root.now) 512) }
+        (Holds (D.disk.content device.old) (512 * log_sector root.now) (replicate 512 0) (D.disk.content device.new)) }
+    ensures room { OnOk result (log_sector root.now < 2 ^ 54) }
+    ensures ran { Ran D.disk device.old device.new (Torn (512 * log_sector root.now) 512) }
     ensures cause { HasCause D.disk device.old device.new result }
 {
-    device.write(root.log_start(), &[0; SECTOR])
+    device.write(root.log_sector(), &[0; SECTOR])
 }
 
 // Writes a root in its slot, and syncs.
 fn spell_root<D: Device>(device: &mut D, root: &Root) -> Result<(), DeviceFault>
-    requires in_data { 8 ≤ root.now.first }
+    requires in_data { 8 ≤ root.now.first_sector }
     requires inside { D.disk.keeps device.old → 8 * 512 ≤ length (D.disk.content device.old) }
     ensures spelled { D.disk.keeps device.old
         → OnOk result (IsRoot root.now (part (512 * root_sector root.now.slot) 512 (D.disk.content device.new))) }
@@ -105,19 +105,19 @@ fn spell_root<D: Device>(device: &mut D, root: &Root) -> Result<(), DeviceFault>
 
 // Writes a closed gate behind the pages of a root, and the root in its slot, and syncs.
 fn write_root<D: Device>(device: &mut D, root: &Root) -> Result<(), DeviceFault>
-    requires in_data { 8 ≤ root.now.first }
-    requires room { log_start root.now < 2 ^ 64 }
-    requires inside { D.disk.keeps device.old → 512 * log_start root.now ≤ length (D.disk.content device.old) }
+    requires in_data { 8 ≤ root.now.first_sector }
+    requires room { log_sector root.now < 2 ^ 64 }
+    requires inside { D.disk.keeps device.old → 512 * log_sector root.now ≤ length (D.disk.content device.old) }
     ensures spelled { D.disk.keeps device.old
         → OnOk result (IsRoot root.now (part (512 * root_sector root.now.slot) 512 (D.disk.content device.new))) }
     ensures pages { D.disk.keeps device.old → (pages : List ℕ) → length pages ≡ 32768 * root.now.pages
-        → HasAt (512 * root.now.first) pages (D.disk.content device.old)
-        → OnOk result (HasAt (512 * root.now.first) (generation pages) (D.disk.content device.new)) }
+        → HasAt (512 * root.now.first_sector) pages (D.disk.content device.old)
+        → OnOk result (HasAt (512 * root.now.first_sector) (generation pages) (D.disk.content device.new)) }
     ensures length { D.disk.keeps device.old → OnOk result
-        (length (D.disk.content device.new) ≡ max (length (D.disk.content device.old)) (512 * log_start root.now + 512)) }
-    ensures room { OnOk result (log_start root.now < 2 ^ 54) }
+        (length (D.disk.content device.new) ≡ max (length (D.disk.content device.old)) (512 * log_sector root.now + 512)) }
+    ensures room { OnOk result (log_sector root.now < 2 ^ 54) }
     ensures durable { D.disk.keeps device.old → OnOk result (Only (D.disk.content device.new) (D.disk.left device.new)) }
-    ensures ran { Ran D.disk device.old device.new (Spares root.now.slot (512 * root.now.first) (32768 * root.now.pages + 512)) }
+    ensures ran { Ran D.disk device.old device.new (Spares root.now.slot (512 * root.now.first_sector) (32768 * root.now.pages + 512)) }
     ensures cause { HasCause D.disk device.old device.new result }
 {
     write_first_gate(device, root)?;
@@ -126,18 +126,18 @@ fn write_root<D: Device>(device: &mut D, root: &Root) -> Result<(), DeviceFault>
 
 // Cuts away what lies behind the first gate of a root's log, where its generation lies in front. Nothing is synced.
 fn cut_behind<D: Device>(device: &mut D, root: &Root) -> Result<(), DeviceFault>
-    requires room { log_start root.now < 2 ^ 54 }
-    requires inside { D.disk.keeps device.old → 512 * log_start root.now + 512 ≤ length (D.disk.content device.old) }
-    ensures front { D.disk.keeps device.old → root.now.first ≡ 8
-        → OnOk result (length (D.disk.content device.new) ≡ 512 * log_start root.now + 512) }
-    ensures behind { (root.now.first ≡ 8 → ⊥) → device.new ≡ device.old }
-    ensures ran { Ran D.disk device.old device.new (Cut (512 * log_start root.now + 512)) }
+    requires room { log_sector root.now < 2 ^ 54 }
+    requires inside { D.disk.keeps device.old → 512 * log_sector root.now + 512 ≤ length (D.disk.content device.old) }
+    ensures front { D.disk.keeps device.old → root.now.first_sector ≡ 8
+        → OnOk result (length (D.disk.content device.new) ≡ 512 * log_sector root.now + 512) }
+    ensures behind { (root.now.first_sector ≡ 8 → ⊥) → device.new ≡ device.old }
+    ensures ran { Ran D.disk device.old device.new (Cut (512 * log_sector root.now + 512)) }
     ensures cause { HasCause D.disk device.old device.new result }
 {
-    if root.first != 8 {
+    if root.first_sector != 8 {
         return Ok(());
     }
-    device.cut(root.log_start() + 1)
+    device.cut(root.log_sector() + 1)
 }
 
 /// Makes the slot free in which the next root is to stand, while `current` counts: closes its gate where it reads open, and syncs. At
@@ -173,14 +173,14 @@ pub fn clear_slot<D: Device>(device: &mut D, current: &Root) -> Result<(), Devic
 /// Where the device failed. A read then finds the one or the other generation, as a crash may leave it: so the device has to be opened
 /// again.
 pub fn install<D: Device>(device: &mut D, next: &Root) -> Result<(), DeviceFault>
-    requires in_data { 8 ≤ next.now.first }
-    requires room { log_start next.now < 2 ^ 64 }
-    requires inside { D.disk.keeps device.old → 512 * log_start next.now ≤ length (D.disk.content device.old) }
+    requires in_data { 8 ≤ next.now.first_sector }
+    requires room { log_sector next.now < 2 ^ 64 }
+    requires inside { D.disk.keeps device.old → 512 * log_sector next.now ≤ length (D.disk.content device.old) }
 
     // From a device on which the pages are written while the slot was free, since an earlier moment.
     ensures ok { (start : D) (current : Root) (last : ℕ) (old pages : List ℕ)
         → IsStaged D.disk start device.old current last old next.now pages
-        → OnOk result (IsInUse D.disk device.new next.now (log_start next.now)) }
+        → OnOk result (IsInUse D.disk device.new next.now (log_sector next.now)) }
     ensures installed { (start : D) (current : Root) (last : ℕ) (old pages : List ℕ)
         → IsStaged D.disk start device.old current last old next.now pages
         → OnOk result (Stands D.disk start device.new (IsBeforeOrAfter current last next.now (generation pages) old)
@@ -190,11 +190,11 @@ pub fn install<D: Device>(device: &mut D, next: &Root) -> Result<(), DeviceFault
         → Stands D.disk start device.new (IsBeforeOrAfter current last next.now (generation pages) old)
         (IsBeforeOrAfter current last next.now (generation pages) old) }
 
-    ensures front { D.disk.keeps device.old → next.now.first ≡ 8
-        → OnOk result (length (D.disk.content device.new) ≡ 512 * log_start next.now + 512) }
-    ensures behind { D.disk.keeps device.old → (next.now.first ≡ 8 → ⊥) → OnOk result
-        (length (D.disk.content device.new) ≡ max (length (D.disk.content device.old)) (512 * log_start next.now + 512)) }
-    ensures room { OnOk result (log_start next.now < 2 ^ 54) }
+    ensures front { D.disk.keeps device.old → next.now.first_sector ≡ 8
+        → OnOk result (length (D.disk.content device.new) ≡ 512 * log_sector next.now + 512) }
+    ensures behind { D.disk.keeps device.old → (next.now.first_sector ≡ 8 → ⊥) → OnOk result
+        (length (D.disk.content device.new) ≡ max (length (D.disk.content device.old)) (512 * log_sector next.now + 512)) }
+    ensures room { OnOk result (log_sector next.now < 2 ^ 54) }
     ensures kept { D.disk.keeps device.old → D.disk.keeps device.new }
     ensures had_kept { D.disk.keeps device.new → D.disk.keeps device.old }
     ensures cause { HasCause D.disk device.old device.new result }

@@ -6,7 +6,7 @@
 //! ```text
 //! let first = start(&mut device, Format::First)?;
 //! let root = synced_root(&mut device)?;
-//! let log = Log::open(&mut device, root.log_start())?;
+//! let log = Log::open(&mut device, root.log_sector())?;
 //! ```
 //!
 //! The next generation is put in place while the root that counts stays as it is: [`next_root`] says where it lies, [`clear_slot`] closes the gate of the
@@ -26,6 +26,6 @@ mod slots;
 
 pub use generation::{clear_slot, install};
 pub use new_store::{StartFault, start};
-pub use next::{Exhausted, next_root, place};
+pub use next::{Exhausted, next_first_sector, next_root};
 pub use open::{RootFault, counted_root, synced_root};
 pub use root::{Label, Root, Slot};

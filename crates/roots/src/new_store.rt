@@ -49,14 +49,14 @@ fn nine_sectors(format: Format) -> [u8; 4608]
 fn first_root(format: Format) -> Root
     ensures slot { result.slot ≡ Slot.A }
     ensures generation { result.generation ≡ 1 }
-    ensures first { result.first ≡ 8 }
+    ensures first { result.first_sector ≡ 8 }
     ensures pages { result.pages ≡ 0 }
     ensures label { result.label ≡ first_label format }
 {
     Root {
         slot: Slot::A,
         generation: 1,
-        first: 8,
+        first_sector: 8,
         pages: 0,
         label: Label {
             format,
@@ -102,7 +102,7 @@ pub fn start<D: Device>(device: &mut D, format: Format) -> Result<Root, StartFau
     ensures empty { D.disk.keeps device.old → OnOk result (D.disk.content device.old ≡ []) }
     ensures slot { IfOk result (λ root. root.slot ≡ Slot.A) }
     ensures generation { IfOk result (λ root. root.generation ≡ 1) }
-    ensures first { IfOk result (λ root. root.first ≡ 8) }
+    ensures first { IfOk result (λ root. root.first_sector ≡ 8) }
     ensures pages { IfOk result (λ root. root.pages ≡ 0) }
     ensures label { IfOk result (λ root. root.label ≡ first_label format) }
 

@@ -5,7 +5,7 @@ ghost use Rattle.device.specs.Disk.{HasFailed, Only};
 ghost use Rattle.device.specs.Step.{Same};
 ghost use Rattle.device.specs.Run.{Ran};
 ghost use Rattle.gatelog.specs.Record.{part};
-ghost use Rattle.roots.specs.Root.{IsHeader, log_start, HoldsRoot};
+ghost use Rattle.roots.specs.Root.{IsHeader, log_sector, HoldsRoot};
 
 use crate::root::{Root, is_header};
 use crate::slots::{counted, sector_at};
@@ -36,10 +36,10 @@ impl From<DeviceFault> for RootFault {
 // Whether a root's pages and its log's first gate lie inside.
 fn lies_inside(root: &Root, sectors: u64) -> bool
     requires { sectors ≤ 2 ^ 54 }
-    ensures { IsTrue result ↔ (log_start root.now + 1 ≤ sectors) }
+    ensures { IsTrue result ↔ (log_sector root.now + 1 ≤ sectors) }
 {
     let behind = 64 * u64::from(root.pages) + 1;
-    behind <= sectors && root.first <= sectors - behind
+    behind <= sectors && root.first_sector <= sectors - behind
 }
 
 /// The root that counts. Nothing is written, and no memory is taken.
@@ -56,8 +56,8 @@ pub fn counted_root<D: Device>(device: &mut D) -> Result<Root, RootFault>
         → IsHeader (part 0 512 (D.disk.content device.old)) → length (D.disk.content device.old) < 9 * 512 }
     ensures root { D.disk.keeps device.old → IsErrOf result RootFault.Root
         → IsHeader (part 0 512 (D.disk.content device.old)) × (9 * 512 ≤ length (D.disk.content device.old)) }
-    ensures small { IfOk result (λ root. log_start root < 2 ^ 54) }
-    ensures in_data { IfOk result (λ root. 8 ≤ root.first) }
+    ensures small { IfOk result (λ root. log_sector root < 2 ^ 54) }
+    ensures in_data { IfOk result (λ root. 8 ≤ root.first_sector) }
     ensures ran { Ran D.disk device.old device.new Same }
     ensures cause { IsErrOf result RootFault.Device → HasFailed D.disk device.old device.new }
     ensures steady { OnOk result (D.disk.failures device.new ≡ D.disk.failures device.old) }
@@ -90,8 +90,8 @@ pub fn synced_root<D: Device>(device: &mut D) -> Result<Root, RootFault>
         → IsHeader (part 0 512 (D.disk.content device.old)) → length (D.disk.content device.old) < 9 * 512 }
     ensures root { D.disk.keeps device.old → IsErrOf result RootFault.Root
         → IsHeader (part 0 512 (D.disk.content device.old)) × (9 * 512 ≤ length (D.disk.content device.old)) }
-    ensures small { IfOk result (λ root. log_start root < 2 ^ 54) }
-    ensures in_data { IfOk result (λ root. 8 ≤ root.first) }
+    ensures small { IfOk result (λ root. log_sector root < 2 ^ 54) }
+    ensures in_data { IfOk result (λ root. 8 ≤ root.first_sector) }
     ensures durable { D.disk.keeps device.old → OnOk result (Only (D.disk.content device.new) (D.disk.left device.new)) }
     ensures ran { Ran D.disk device.old device.new Same }
     ensures cause { IsErrOf result RootFault.Device → HasFailed D.disk device.old device.new }

@@ -27,7 +27,7 @@ pub struct Root {
     /// Which generation it is; each is one more than the one before.
     pub generation: u64,
     /// The generation's first sector, at least 8.
-    pub first: u64,
+    pub first_sector: u64,
     /// How many pages it has, of 64 sectors each.
     pub pages: u32,
     /// What it tells of the store whose view its pages keep.
@@ -119,16 +119,16 @@ fn has_header_mark(sector: &[u8]) -> bool
 
 impl Root {
     ghost use Rattle.std.specs.Prelude.{◌<◌, ◌^◌};
-    ghost use Rattle.roots.specs.Root.{IsRoot, log_start, AtMostOneRoot};
+    ghost use Rattle.roots.specs.Root.{IsRoot, log_sector, AtMostOneRoot};
 
-    /// The first gate of the log, behind the pages, in sectors from the file's start. Of two roots in one file only one
+    /// The sector of the log's first gate, behind the pages. Of two roots in one file only one
     /// counts (`one_root`), so a file has one log.
-    pub fn log_start(&self) -> u64
-        requires { log_start self.now < 2 ^ 64 }
-        ensures place { result ≡ log_start self.now }
+    pub fn log_sector(&self) -> u64
+        requires { log_sector self.now < 2 ^ 64 }
+        ensures place { result ≡ log_sector self.now }
         ensures one_root { AtMostOneRoot }
     {
-        self.first + 64 * u64::from(self.pages)
+        self.first_sector + 64 * u64::from(self.pages)
     }
 
     /// The root that a sector spells, if it spells one.
@@ -141,14 +141,14 @@ impl Root {
         if !is_zero(&sector[36..]) {
             return None;
         }
-        let first = BigEndian::read_u64(&sector[16..]);
-        if first < 8 {
+        let first_sector = BigEndian::read_u64(&sector[16..]);
+        if first_sector < 8 {
             return None;
         }
         Some(Root {
             slot,
             generation: BigEndian::read_u64(&sector[8..]),
-            first,
+            first_sector,
             pages: BigEndian::read_u32(&sector[24..]),
             label: Label {
                 format,

@@ -56,14 +56,14 @@ pub(crate) fn header_bytes() -> [u8; 512]
 
 /// The sector that spells a root.
 pub(crate) fn root_bytes(root: &Root) -> [u8; 512]
-    requires { 8 ≤ root.now.first }
+    requires { 8 ≤ root.now.first_sector }
     ensures root { IsRoot root.now result }
-    ensures bytes { result ≡ root_fields root.now.generation root.now.first root.now.pages root.now.label }
+    ensures bytes { result ≡ root_fields root.now.generation root.now.first_sector root.now.pages root.now.label }
 {
     let mut sector = [0; SECTOR];
     put(&mut sector, 0, mark(root.label.format));
     put_u64(&mut sector, 8, root.generation);
-    put_u64(&mut sector, 16, root.first);
+    put_u64(&mut sector, 16, root.first_sector);
     put_u32(&mut sector, 24, root.pages);
     put_u64(&mut sector, 28, root.label.revision);
     sector

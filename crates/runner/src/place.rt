@@ -58,7 +58,7 @@ fn compacted_text(alloc: Global, told: Compacted) -> Result<String, Wrong> {
     line.push(", ");
     line.show(&told.pages);
     line.push(" pages at sector ");
-    line.show(&told.first);
+    line.show(&told.first_sector);
     line.end()
 }
 

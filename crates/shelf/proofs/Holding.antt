@@ -7,7 +7,7 @@ use Rattle.gatelog.specs.Record.{part}
 use Rattle.pages.specs.Page.{Entry, entries_in}
 use Rattle.roots.specs.declared.root.Root.{Root}
 use Rattle.checkpoint.specs.Pages.{pages_at, pages_of_root, joined, AreSound, HoldsEntries, IsIndex}
-use Rattle.roots.specs.Root.{log_start}
+use Rattle.roots.specs.Root.{log_sector}
 use Rattle.checkpoint.proofs.Joining.{page_at}
 use Rattle.shelf.specs.declared.shelf.Shelf.{Shelf}
 use Rattle.shelf.specs.Shelf.{root_of, firsts_of, pages_of, IsHeld, Shelves}
@@ -32,7 +32,7 @@ same_at first zero a b same = refl
 same_at first (suc n) a b same = ap (pages_at first (suc n)) (same (omega arith))
 
 -- a page lies inside
-pub page_inside : (root : Root) (page size : ℕ) → page < root.pages → 512 * log_start root ≤ size → 512 * (root.first + 64 * page) + 32768 ≤ size
+pub page_inside : (root : Root) (page size : ℕ) → page < root.pages → 512 * log_sector root ≤ size → 512 * (root.first_sector + 64 * page) + 32768 ≤ size
 page_inside root page size inside all = omega (arith, inside, all)
 
 -- ---- shelves
@@ -41,13 +41,13 @@ module _ {D : Type 0} (disk : Disk D) (before after : D) (old new : Shelf) where
   same_pages : root_of new ≡ root_of old → (0 < (root_of old).pages → disk.content after ≡ disk.content before) → pages_of disk after new ≡ pages_of disk before old
   same_pages root same =
       ap (λ (r : Root). pages_of_root r (disk.content after)) root
-      ∙ same_at (root_of old).first (root_of old).pages (disk.content before) (disk.content after) same
+      ∙ same_at (root_of old).first_sector (root_of old).pages (disk.content before) (disk.content after) same
 
   held_still : root_of new ≡ root_of old → pages_of disk after new ≡ pages_of disk before old → IsHeld disk before old → disk.keeps after
       → disk.content after ≡ disk.content before → AreCached (pages_of disk before old) new.cache → IsHeld disk after new
   held_still root pages held keeps same cached =
-      let Sound : List ℕ → Type 0 = λ content. AreSound (root_of old).first (root_of old).pages content in
-      let Whole : Root → Type 0 = λ r. AreSound r.first r.pages (disk.content after) in
+      let Sound : List ℕ → Type 0 = λ content. AreSound (root_of old).first_sector (root_of old).pages content in
+      let Whole : Root → Type 0 = λ r. AreSound r.first_sector r.pages (disk.content after) in
       let Cached : List (List Entry) → Type 0 = λ ps. AreCached ps new.cache in
       record {
         keeps = keeps;
@@ -93,11 +93,11 @@ shelves_unread disk device shelf entries none index keeps holds = record {
 
 -- where a device keeps the disk model after reads, it did before, and the pages of the same root lie inside still
 pub inside_still : {D : Type 0} (disk : Disk D) (before after : D) (old new : Root) → new ≡ old → Ran disk before after Same
-    → (disk.keeps before → 512 * log_start old ≤ length (disk.content before)) → disk.keeps after → 512 * log_start new ≤ length (disk.content after)
+    → (disk.keeps before → 512 * log_sector old ≤ length (disk.content before)) → disk.keeps after → 512 * log_sector new ≤ length (disk.content after)
 inside_still disk before after old new root ran inside keeps =
     let kept = ran.had_kept keeps in
-    let Of : Root → Type 0 = λ r. 512 * log_start r ≤ length (disk.content after) in
-    let Inside : List ℕ → Type 0 = λ content. 512 * log_start old ≤ length content in
+    let Of : Root → Type 0 = λ r. 512 * log_sector r ≤ length (disk.content after) in
+    let Inside : List ℕ → Type 0 = λ content. 512 * log_sector old ≤ length content in
     subst Of (sym root) (subst Inside (sym (ran.seen kept)) (inside kept))
 
 -- a read leaves what a device holds
@@ -105,4 +105,4 @@ pub ran_same : {D : Type 0} (disk : Disk D) (old new : D) → Ran disk old new S
 ran_same disk old new ran keeps = (ran.kept keeps, ran.seen keeps)
 
 pub length-pages_of : {D : Type 0} (disk : Disk D) (device : D) (shelf : Shelf) → length (pages_of disk device shelf) ≡ (root_of shelf).pages
-length-pages_of disk device shelf = length-pages_at (root_of shelf).first (root_of shelf).pages (disk.content device)
+length-pages_of disk device shelf = length-pages_at (root_of shelf).first_sector (root_of shelf).pages (disk.content device)

@@ -7,7 +7,7 @@ use Rattle.device.specs.Step.{Same}
 use Rattle.gatelog.specs.Record.{part, Agree}
 use Rattle.gatelog.proofs.Parts.{part-agree, agree-take}
 use Rattle.pages.specs.Page.{Entry, entries_in, IsSound}
-use Rattle.roots.specs.Root.{log_start}
+use Rattle.roots.specs.Root.{log_sector}
 use Rattle.checkpoint.specs.Pages.{pages_at, joined, AreSound, IsIndex}
 use Rattle.shelf.specs.declared.shelf.Shelf.{Shelf}
 use Rattle.shelf.specs.Shelf.{root_of, firsts_of, pages_of, IsHeld, Shelves}
@@ -44,28 +44,28 @@ module _ (old new : List ℕ) where
 abbrev pub HoldsAsBefore : {D : Type 0} → Disk D → Shelf → D → D → Type 0
 HoldsAsBefore disk shelf old new =
     disk.keeps new
-    × (512 * log_start (root_of shelf) ≤ length (disk.content new))
-    × (take (512 * log_start (root_of shelf)) (disk.content new) ≡ take (512 * log_start (root_of shelf)) (disk.content old))
+    × (512 * log_sector (root_of shelf) ≤ length (disk.content new))
+    × (take (512 * log_sector (root_of shelf)) (disk.content new) ≡ take (512 * log_sector (root_of shelf)) (disk.content old))
 
 module _ {D : Type 0} (disk : Disk D) (shelf : Shelf) (old new : D) where
   -- this many pages, from a sector on
-  pages_stay : (count : ℕ) → (root_of shelf).first + 64 * count ≤ log_start (root_of shelf) → (0 < count → HoldsAsBefore disk shelf old new)
-      → pages_at (root_of shelf).first count (disk.content new) ≡ pages_at (root_of shelf).first count (disk.content old)
+  pages_stay : (count : ℕ) → (root_of shelf).first_sector + 64 * count ≤ log_sector (root_of shelf) → (0 < count → HoldsAsBefore disk shelf old new)
+      → pages_at (root_of shelf).first_sector count (disk.content new) ≡ pages_at (root_of shelf).first_sector count (disk.content old)
   pages_stay zero fits holds = refl
   pages_stay (suc count) fits holds =
       let as_before = holds (omega arith) in
-      let end : ℕ = 512 * log_start (root_of shelf) in
-      same_pages (disk.content old) (disk.content new) (root_of shelf).first (suc count) (log_start (root_of shelf)) (agree-take end (disk.content old) (disk.content new) as_before.2) fits
+      let end : ℕ = 512 * log_sector (root_of shelf) in
+      same_pages (disk.content old) (disk.content new) (root_of shelf).first_sector (suc count) (log_sector (root_of shelf)) (agree-take end (disk.content old) (disk.content new) as_before.2) fits
       (in_both (disk.content old) (disk.content new) end as_before.1 as_before.2) as_before.1
 
   held_stays : HoldsAsBefore disk shelf old new → pages_of disk new shelf ≡ pages_of disk old shelf → IsHeld disk old shelf → IsHeld disk new shelf
   held_stays as_before pages held =
       let root = root_of shelf in
-      let end : ℕ = 512 * log_start root in
+      let end : ℕ = 512 * log_sector root in
       let Cached : List (List Entry) → Type 0 = λ ps. AreCached ps shelf.cache in
       record {
         keeps = as_before.0;
-        sound = same_sound (disk.content old) (disk.content new) root.first root.pages (log_start root) (agree-take end (disk.content old) (disk.content new) as_before.2) (omega arith)
+        sound = same_sound (disk.content old) (disk.content new) root.first_sector root.pages (log_sector root) (agree-take end (disk.content old) (disk.content new) as_before.2) (omega arith)
             (in_both (disk.content old) (disk.content new) end as_before.1 as_before.2) as_before.1 held.sound;
         cached = subst Cached (sym pages) held.cached;
       }

@@ -29,7 +29,7 @@ pages_of disk device shelf = pages_of_root (root_of shelf) (disk.content device)
 -- The device keeps the disk model, the pages on it are sound, and those in memory are as they stand there.
 pub record IsHeld {D : Type 0} (disk : Disk D) (device : D) (shelf : Shelf) : Type 0 where
   pub keeps : disk.keeps device
-  pub sound : AreSound (root_of shelf).first (root_of shelf).pages (disk.content device)
+  pub sound : AreSound (root_of shelf).first_sector (root_of shelf).pages (disk.content device)
   pub cached : (number : ℕ) (page : List Entry) → Contains shelf.cache.entries (number, page) → page ≡ get_or (pages_of disk device shelf) number []
 
 -- The pages of the shelf hold these entries on the device. Where it has no pages, nothing is asked of the device.

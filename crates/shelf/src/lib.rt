@@ -3,8 +3,8 @@
 //! ```text
 //! let first_keys = scan(alloc, &mut device, &root, &mut reader)?;
 //! let mut shelf = Shelf::new(alloc, &device, root, first_keys)?;
-//! let place = shelf.bring(alloc, &mut device, key)?;                          // reads one page, or none
-//! let cell = shelf.cell(&device, place, key);
+//! let page = shelf.bring(alloc, &mut device, key)?;                           // reads one page, or none
+//! let cell = shelf.cell(&device, page, key);
 //! shelf.tell(alloc, &mut device, prefix, Reading::Passing, &mut reader)?;     // the entries whose keys begin so
 //! shelf.start_over(&device, next, first_keys);                                // the pages of the next root, once it counts
 //! ```

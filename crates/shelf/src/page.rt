@@ -28,19 +28,19 @@ fn page_buffer(alloc: Global) -> Result<Vec<u8>, AllocError>
 pub(crate) fn read_page<D: Device>(
     alloc: Global,
     device: &mut D,
-    at: u64,
+    first_sector: u64,
 ) -> Result<OwnedPage, ShelfFault>
-    requires inside { D.disk.keeps device.old → 512 * at + 32768 ≤ length (D.disk.content device.old) }
-    ensures page { D.disk.keeps device.old → IfOk result (λ page. page ≡ entries_in (part (512 * at) 32768 (D.disk.content device.old))) }
-    ensures damaged { D.disk.keeps device.old → IsErrOf result ShelfFault.Page → IsSound (part (512 * at) 32768 (D.disk.content device.old)) → ⊥ }
+    requires inside { D.disk.keeps device.old → 512 * first_sector + 32768 ≤ length (D.disk.content device.old) }
+    ensures page { D.disk.keeps device.old → IfOk result (λ page. page ≡ entries_in (part (512 * first_sector) 32768 (D.disk.content device.old))) }
+    ensures damaged { D.disk.keeps device.old → IsErrOf result ShelfFault.Page → IsSound (part (512 * first_sector) 32768 (D.disk.content device.old)) → ⊥ }
     ensures refusal { IsErrOf result ShelfFault.Entry → ⊥ }
     ensures ran { Ran D.disk device.old device.new Same }
     ensures cause { IsErrOf result ShelfFault.Device → HasFailed D.disk device.old device.new }
     ensures steady { OnOk result (D.disk.failures device.new ≡ D.disk.failures device.old) }
-    ensures memory { IsErrOf result ShelfFault.Memory → D.disk.failures device.new ≡ D.disk.failures device.old }
+    ensures unfailed { IsErrOf result ShelfFault.Memory → D.disk.failures device.new ≡ D.disk.failures device.old }
 {
     let mut bytes = page_buffer(alloc)?;
-    device.read(at, &mut bytes)?;
+    device.read(first_sector, &mut bytes)?;
     Ok(OwnedPage::check(bytes)?)
 }
 

@@ -6,7 +6,7 @@ ghost use Rattle.device.specs.Disk.{HasFailed};
 ghost use Rattle.device.specs.Step.{Same};
 ghost use Rattle.device.specs.Run.{Ran};
 ghost use Rattle.pages.specs.Page.{Entry, bytes_cmp};
-ghost use Rattle.roots.specs.Root.{log_start};
+ghost use Rattle.roots.specs.Root.{log_sector};
 ghost use Rattle.checkpoint.specs.Reader.{IsRefused};
 ghost use Rattle.shelf.specs.Places.{is_at_or_below, may_begin};
 ghost use Rattle.shelf.specs.Prefix.{beginning};
@@ -55,7 +55,7 @@ pub struct Shelf {
     root: Root,
     first_keys: Vec<Vec<u8>>,
     cache: LruCache<u32, OwnedPage>,
-    ghost small: { log_start root < 2 ^ 54 },
+    ghost small: { log_sector root < 2 ^ 54 },
     ghost counted: { length first_keys.items ≡ root.pages },
 }
 
@@ -76,7 +76,7 @@ impl Shelf {
         root: Root,
         first_keys: Vec<Vec<u8>>,
     ) -> Result<Shelf, AllocError>
-        requires small { log_start root < 2 ^ 54 }
+        requires small { log_sector root < 2 ^ 54 }
         requires counted { length first_keys.items ≡ root.pages }
         ensures root { IfOk result (λ shelf. root_of shelf ≡ root) }
         ensures firsts { IfOk result (λ shelf. firsts_of shelf ≡ keys_of first_keys.items) }
@@ -98,7 +98,7 @@ impl Shelf {
     /// The pages of another root, with the first key of each, in place of those that it has. None of them is in memory yet. This allocates nothing.
     /// Only the contract uses `device`.
     pub fn start_over<D: Device>(&mut self, device: &D, root: Root, first_keys: Vec<Vec<u8>>)
-        requires small { log_start root < 2 ^ 54 }
+        requires small { log_sector root < 2 ^ 54 }
         requires counted { length first_keys.items ≡ root.pages }
         ensures root { root_of self.new ≡ root }
         ensures firsts { firsts_of self.new ≡ keys_of first_keys.items }
@@ -149,7 +149,7 @@ impl Shelf {
         page: u32,
     ) -> Result<(), ShelfFault>
         requires number { page < (root_of self.old).pages }
-        requires inside { D.disk.keeps device.old → 512 * log_start (root_of self.old) ≤ length (D.disk.content device.old) }
+        requires inside { D.disk.keeps device.old → 512 * log_sector (root_of self.old) ≤ length (D.disk.content device.old) }
         ensures there { OnOk result (Has self.new page) }
         ensures kept { (entries : List Entry) → Shelves D.disk device.old self.old entries → Shelves D.disk device.new self.new entries }
         ensures root { root_of self.new ≡ root_of self.old }
@@ -159,12 +159,12 @@ impl Shelf {
         ensures ran { Ran D.disk device.old device.new Same }
         ensures cause { IsErrOf result ShelfFault.Device → HasFailed D.disk device.old device.new }
         ensures steady { OnOk result (D.disk.failures device.new ≡ D.disk.failures device.old) }
-        ensures memory { IsErrOf result ShelfFault.Memory → D.disk.failures device.new ≡ D.disk.failures device.old }
+        ensures unfailed { IsErrOf result ShelfFault.Memory → D.disk.failures device.new ≡ D.disk.failures device.old }
     {
         if self.cache.promote(&page) {
             return Ok(());
         }
-        let at = self.root.first + PAGE_SECTORS * u64::from(page);
+        let at = self.root.first_sector + PAGE_SECTORS * u64::from(page);
         let owned = read_page(alloc, device, at)?;
         self.cache.put(page, owned)?;
         Ok(())
@@ -195,7 +195,7 @@ impl Shelf {
         device: &mut D,
         key: &[u8],
     ) -> Result<Option<u32>, ShelfFault>
-        requires inside { D.disk.keeps device.old → 512 * log_start (root_of self.old) ≤ length (D.disk.content device.old) }
+        requires inside { D.disk.keeps device.old → 512 * log_sector (root_of self.old) ≤ length (D.disk.content device.old) }
         ensures brought { IfOk result (IsBrought self.new key.now) }
         ensures kept { (entries : List Entry) → Shelves D.disk device.old self.old entries → Shelves D.disk device.new self.new entries }
         ensures root { root_of self.new ≡ root_of self.old }
@@ -204,7 +204,7 @@ impl Shelf {
         ensures ran { Ran D.disk device.old device.new Same }
         ensures cause { IsErrOf result ShelfFault.Device → HasFailed D.disk device.old device.new }
         ensures steady { OnOk result (D.disk.failures device.new ≡ D.disk.failures device.old) }
-        ensures memory { IsErrOf result ShelfFault.Memory → D.disk.failures device.new ≡ D.disk.failures device.old }
+        ensures unfailed { IsErrOf result ShelfFault.Memory → D.disk.failures device.new ≡ D.disk.failures device.old }
     {
         let count = self.count_up_to(key);
         if count == 0 {
@@ -215,12 +215,12 @@ impl Shelf {
     }
 
     /// What stands under a key whose page was brought into memory. Allocates nothing. Only the contract uses `device`.
-    pub fn cell<D: Device>(&self, device: &D, place: Option<u32>, key: &[u8]) -> Option<&[u8]>
-        requires { IsBrought self.now key.now place }
+    pub fn cell<D: Device>(&self, device: &D, page: Option<u32>, key: &[u8]) -> Option<&[u8]>
+        requires { IsBrought self.now key.now page }
         ensures { (entries : List Entry) → Shelves D.disk device.now self.now entries
             → option_map (λ cell. cell.now) result ≡ find bytes_cmp key.now entries }
     {
-        match place {
+        match page {
             Some(page) => self.page(device, page).find(key),
             None => None,
         }
@@ -234,7 +234,7 @@ impl Shelf {
         page: u32,
     ) -> Result<OwnedPage, ShelfFault>
         requires number { page < (root_of self.now).pages }
-        requires inside { D.disk.keeps device.old → 512 * log_start (root_of self.now) ≤ length (D.disk.content device.old) }
+        requires inside { D.disk.keeps device.old → 512 * log_sector (root_of self.now) ≤ length (D.disk.content device.old) }
         ensures page { (entries : List Entry) → Shelves D.disk device.old self.now entries
             → IfOk result (λ read. read ≡ get_or (pages_of D.disk device.old self.now) page []) }
         ensures kept { (entries : List Entry) → Shelves D.disk device.old self.now entries → Shelves D.disk device.new self.now entries }
@@ -243,9 +243,9 @@ impl Shelf {
         ensures ran { Ran D.disk device.old device.new Same }
         ensures cause { IsErrOf result ShelfFault.Device → HasFailed D.disk device.old device.new }
         ensures steady { OnOk result (D.disk.failures device.new ≡ D.disk.failures device.old) }
-        ensures memory { IsErrOf result ShelfFault.Memory → D.disk.failures device.new ≡ D.disk.failures device.old }
+        ensures unfailed { IsErrOf result ShelfFault.Memory → D.disk.failures device.new ≡ D.disk.failures device.old }
     {
-        let at = self.root.first + PAGE_SECTORS * u64::from(page);
+        let at = self.root.first_sector + PAGE_SECTORS * u64::from(page);
         read_page(alloc, device, at)
     }
 
@@ -260,7 +260,7 @@ impl Shelf {
         reader: &mut R,
     ) -> Result<(), ShelfFault>
         requires number { page < (root_of self.old).pages }
-        requires inside { D.disk.keeps device.old → 512 * log_start (root_of self.old) ≤ length (D.disk.content device.old) }
+        requires inside { D.disk.keeps device.old → 512 * log_sector (root_of self.old) ≤ length (D.disk.content device.old) }
         ensures told { (entries : List Entry) → Shelves D.disk device.old self.old entries
             → OnOk result (R.told reader.old reader.new (beginning prefix.now (get_or (pages_of D.disk device.old self.old) page []))) }
         ensures refused { (entries : List Entry) → Shelves D.disk device.old self.old entries → IsErrOf result ShelfFault.Entry
@@ -273,7 +273,7 @@ impl Shelf {
         ensures ran { Ran D.disk device.old device.new Same }
         ensures cause { IsErrOf result ShelfFault.Device → HasFailed D.disk device.old device.new }
         ensures steady { OnOk result (D.disk.failures device.new ≡ D.disk.failures device.old) }
-        ensures memory { IsErrOf result ShelfFault.Memory → D.disk.failures device.new ≡ D.disk.failures device.old }
+        ensures unfailed { IsErrOf result ShelfFault.Memory → D.disk.failures device.new ≡ D.disk.failures device.old }
     {
         match reading {
             Reading::Kept => {
@@ -304,7 +304,7 @@ impl Shelf {
         reading: Reading,
         reader: &mut R,
     ) -> Result<(), ShelfFault>
-        requires inside { D.disk.keeps device.old → 512 * log_start (root_of self.old) ≤ length (D.disk.content device.old) }
+        requires inside { D.disk.keeps device.old → 512 * log_sector (root_of self.old) ≤ length (D.disk.content device.old) }
         ensures told { (entries : List Entry) → Shelves D.disk device.old self.old entries
             → OnOk result (R.told reader.old reader.new (beginning prefix.now entries)) }
         ensures refused { (entries : List Entry) → Shelves D.disk device.old self.old entries → IsErrOf result ShelfFault.Entry
@@ -315,7 +315,7 @@ impl Shelf {
         ensures ran { Ran D.disk device.old device.new Same }
         ensures cause { IsErrOf result ShelfFault.Device → HasFailed D.disk device.old device.new }
         ensures steady { OnOk result (D.disk.failures device.new ≡ D.disk.failures device.old) }
-        ensures memory { IsErrOf result ShelfFault.Memory → D.disk.failures device.new ≡ D.disk.failures device.old }
+        ensures unfailed { IsErrOf result ShelfFault.Memory → D.disk.failures device.new ≡ D.disk.failures device.old }
     {
         let start = self.count_up_to(prefix).saturating_sub(1);
         for i in 0..self.count_with(prefix).saturating_sub(start) {

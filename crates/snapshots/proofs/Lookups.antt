@@ -11,7 +11,7 @@ use Rattle.names.specs.Key.{Key}
 use Rattle.documents.specs.Document.{Document}
 use Rattle.histories.specs.declared.stored.Stored.{Stored}
 use Rattle.roots.specs.declared.root.Root.{Root}
-use Rattle.roots.specs.Root.{log_start}
+use Rattle.roots.specs.Root.{log_sector}
 use Rattle.snapshots.specs.declared.cached_object.CachedObject.{CachedObject}
 use Rattle.snapshots.specs.declared.object_cache.ObjectCache.{ObjectCache}
 use Rattle.snapshots.specs.ObjectCache.{root_of, ObjectCaches}
@@ -21,11 +21,11 @@ use Rattle.snapshots.specs.Base.{not_held, HoldsBase, GoesTo}
 
 -- the pages lie inside still
 pub inside_still : {D : Type 0} (disk : Disk D) (before after : D) (old new : Root) → new ≡ old → Ran disk before after Same
-    → (disk.keeps before → 512 * log_start old ≤ length (disk.content before)) → disk.keeps after → 512 * log_start new ≤ length (disk.content after)
+    → (disk.keeps before → 512 * log_sector old ≤ length (disk.content before)) → disk.keeps after → 512 * log_sector new ≤ length (disk.content after)
 inside_still disk before after old new root ran inside keeps =
     let kept = ran.had_kept keeps in
-    let Of : Root → Type 0 = λ r. 512 * log_start r ≤ length (disk.content after) in
-    let Inside : List ℕ → Type 0 = λ content. 512 * log_start old ≤ length content in
+    let Of : Root → Type 0 = λ r. 512 * log_sector r ≤ length (disk.content after) in
+    let Inside : List ℕ → Type 0 = λ content. 512 * log_sector old ≤ length content in
     subst Of (sym root) (subst Inside (sym (ran.seen kept)) (inside kept))
 
 module _ {D M : Type 0} {g : Ghosts D} where

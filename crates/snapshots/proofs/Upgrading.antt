@@ -1,10 +1,9 @@
 -- What an upgrade leaves of a view.
-use Rattle.std.proofs.Common.{◌≡◌, ◌∙◌, refl, sym, ap, subst, ℕ, ◌+◌, ◌≤◌, Bool, true, false, ◌&&◌, List, [], ◌∷◌, ◌++◌, map, Option, Some, None, arith}
+use Rattle.std.proofs.Common.{◌≡◌, ◌∙◌, refl, sym, ap, subst, ℕ, ◌+◌, ◌≤◌, Bool, true, false, ◌&&◌, List, [], ◌∷◌, ◌++◌, map, arith}
 use Rattle.std.specs.Cmp.Lexicographic.{slice_cmp, nat_list_cmp_total}
 use Rattle.std.specs.FinMap.{is_sorted}
 use Rattle.std.specs.FinMap.Entries.{below_all}
 use Rattle.std.specs.List.{AllByRecursion}
-use Rattle.std.specs.Option.{option_map_or}
 use Rattle.std.specs.Ordering.{nat_cmp, is_lt, ordering_then, ordering_reverse}
 use Rattle.std.specs.Prelude.{T}
 use Rattle.std.specs.declared.cmp.Ordering.{Ordering}
@@ -22,9 +21,8 @@ use Rattle.histories.specs.History.{Write}
 use Rattle.requests.specs.Manifest.{Manifest, BodyHasForm}
 use Rattle.requests.specs.Namespaces.{namespace_puts, names_among, namespaces_in_use}
 use Rattle.histories.specs.View.{View, after_all}
-use Rattle.expressions.specs.Expressions.{Source, sources}
-use Rattle.expressions.specs.Plans.{each_plan}
-use Rattle.expressions.specs.Specification.{these, plans_in}
+use Rattle.expressions.specs.Specification.{these}
+use Rattle.expressions.proofs.Standing.{no_plans}
 use Rattle.decoded.specs.Decoded.{Decoded, decoded_of, spelled}
 use Rattle.decoded.specs.Upgraded.{newest, upgraded_rules, upgraded_view, HaveForm, IsOfOlderFormat}
 use Rattle.snapshots.specs.Added.{NewObject, stored_from, with_added, new_of, namespace_manifest}
@@ -105,19 +103,8 @@ stand_behind os revision (n ∷ ns) ascend behind =
 
 -- ---- no plans
 
-no_plans : (ss : List Source) → each_plan [] ss [] ≡ []
-no_plans [] = refl
-no_plans (s ∷ ss) = refl
-
-none_of : {A B : Type 0} (f : A → List B) → ((a : A) → f a ≡ []) → (o : Option A) → option_map_or f o [] ≡ []
-none_of f none None = refl
-none_of f none (Some a) = none a
-
-no_plans_in : (d : Document) → plans_in d.json [] ≡ []
-no_plans_in d = none_of _ (λ p. no_plans (sources p)) _
-
 spelled_bare : (d : Document) → spelled d.json (these []) ≡ decoded_of d.json []
-spelled_bare d = ap (λ ps. spelled d.json (these ps)) (sym (no_plans_in d))
+spelled_bare d = ap (λ ps. spelled d.json (these ps)) (sym (no_plans d.json))
 
 same_puts : (names : List (List ℕ)) → map put_of (news_of names) ≡ namespace_puts (λ d. decoded_of d.json []) names
 same_puts [] = refl

@@ -1,28 +1,24 @@
 -- What of a checkpoint's entries is held in memory from an opening on.
-use Rattle.std.specs.Prelude.{◌≡◌, ℕ, ◌+◌, ◌<◌, ◌^◌, Bool, true, false, not, ◌||◌, ◌==◌, List, [], ◌∷◌, ◌++◌, length}
+use Rattle.std.specs.Prelude.{◌≡◌, ℕ, ◌+◌, ◌<◌, ◌^◌, Bool, true, false, not, ◌||◌, List, [], ◌∷◌, ◌++◌, length}
 use Rattle.std.proofs.Common.{cond, refl, sym, ap, ◌∙◌, append_assoc, length-append, arith}
 use Rattle.std.proofs.lemmas.List.{append-nil}
 use Rattle.std.specs.List.{filter}
 use Rattle.names.specs.Key.{key_bytes}
 use Rattle.histories.specs.View.{View}
 use Rattle.pages.specs.Page.{Entry}
+use Rattle.records.specs.Entries.{is_object_key}
 use Rattle.snapshots.specs.declared.kept_entries.KeptEntries.{KeptEntries}
-
--- the key of an object's entry
-abbrev pub is_object : List ℕ → Bool
-is_object [] = false
-is_object (mark ∷ rest) = mark == 1
 
 -- An entry is kept if it is no object's, or that of one that is chosen.
 abbrev pub is_kept : (chosen : List ℕ → Bool) → List ℕ → Bool
-is_kept chosen key = not (is_object key) || chosen key
+is_kept chosen key = not (is_object_key key) || chosen key
 
 abbrev pub kept_of : (chosen : List ℕ → Bool) → List Entry → List Entry
 kept_of chosen entries = filter (λ e. is_kept chosen e.0) entries
 
 -- how many of the entries are objects'
 abbrev pub objects_among : List Entry → ℕ
-objects_among entries = length (filter (λ e. is_object e.0) entries)
+objects_among entries = length (filter (λ e. is_object_key e.0) entries)
 
 -- the objects that are chosen, by the keys of their entries
 abbrev pub chosen_of : {P : Type 0} → (chosen : List ℕ → Bool) → View P → View P
@@ -46,7 +42,7 @@ pub kept-append : (chosen : List ℕ → Bool) (xs ys : List Entry) → kept_of 
 kept-append chosen xs ys = filter-append (λ (e : Entry). is_kept chosen e.0) xs ys
 
 pub objects-append : (xs ys : List Entry) → objects_among (xs ++ ys) ≡ objects_among xs + objects_among ys
-objects-append xs ys = ap length (filter-append (λ (e : Entry). is_object e.0) xs ys) ∙ length-append (filter (λ e. is_object e.0) xs) (filter (λ e. is_object e.0) ys)
+objects-append xs ys = ap length (filter-append (λ (e : Entry). is_object_key e.0) xs ys) ∙ length-append (filter (λ e. is_object_key e.0) xs) (filter (λ e. is_object_key e.0) ys)
 
 module _ {C : Type 0} (chosen : C → List ℕ → Bool) where
   pub told_none : (kept_entries : KeptEntries C) → HasKept chosen kept_entries kept_entries []

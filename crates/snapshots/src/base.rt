@@ -8,7 +8,7 @@ ghost use Rattle.objects.specs.declared.fault.Part.{Part};
 ghost use Rattle.objects.specs.declared.fault.LookupFault.TheVariants as LookupFault;
 ghost use Rattle.histories.specs.declared.stored.Stored.{Stored as StoredData};
 ghost use Rattle.pages.specs.Page.{Entry as EntryData};
-ghost use Rattle.roots.specs.Root.{log_start};
+ghost use Rattle.roots.specs.Root.{log_sector};
 ghost use Rattle.snapshots.specs.ObjectCache.{root_of, HasEntries, AreObjects};
 ghost use Rattle.snapshots.specs.BaseFaults.{of_cache_fault};
 ghost use Rattle.snapshots.specs.Whole.{found_of, whole};
@@ -32,7 +32,7 @@ pub struct Base<'a, D: Device, M> {
     cache: &'a mut ObjectCache,
     making: M,
     is_damaged: bool,
-    ghost inside: { D.disk.keeps device.now → 512 * log_start (root_of cache.now) ≤ length (D.disk.content device.now) },
+    ghost inside: { D.disk.keeps device.now → 512 * log_sector (root_of cache.now) ≤ length (D.disk.content device.now) },
 }
 
 impl<'a, D: Device, M: Drop> Base<'a, D, M> {
@@ -40,7 +40,7 @@ impl<'a, D: Device, M: Drop> Base<'a, D, M> {
 
     /// The objects of this cache, whose pages stand on this device.
     pub fn new(device: &'a mut D, cache: &'a mut ObjectCache, making: M) -> Base<'a, D, M>
-        requires inside { D.disk.keeps device.old → 512 * log_start (root_of cache.old) ≤ length (D.disk.content device.old) }
+        requires inside { D.disk.keeps device.old → 512 * log_sector (root_of cache.old) ≤ length (D.disk.content device.old) }
         ensures same_device { result.device.ghost_name ≡ device.entry.ghost_name }
         ensures device { result.device.now ≡ device.old }
         ensures same_cache { result.cache.ghost_name ≡ cache.entry.ghost_name }

@@ -1,11 +1,10 @@
 //! Which checkpoint entries an opening keeps in memory.
 
 ghost use Rattle.std.specs.Prelude.{◌≡◌, ℕ, ◌+◌, ◌<◌, ◌^◌, ◌++◌, ◌∷◌, Bool, List, [], OnOk};
-ghost use Rattle.snapshots.specs.KeptEntries.{is_object, is_kept, kept_of, objects_among};
+ghost use Rattle.snapshots.specs.KeptEntries.{is_kept, kept_of, objects_among};
 
-use crate::keys::OBJECT;
 use checkpoint::{Reader, ReaderFault};
-use records::Entry;
+use records::{Entry, is_object_key};
 use std::alloc::{AllocError, Global};
 
 /// Tells which objects are held in memory.
@@ -18,21 +17,11 @@ pub trait Choice {
         ensures { result ≡ chosen self.now key.now };
 }
 
-// Whether the key is that of an object's entry.
-fn is_object(key: &[u8]) -> bool
-    ensures { result ≡ is_object key.now }
-{
-    match key.first() {
-        Some(mark) => *mark == OBJECT,
-        None => false,
-    }
-}
-
 // Whether the entry with this key is kept.
 fn is_kept<C: Choice>(choice: &C, key: &[u8]) -> bool
     ensures { result ≡ is_kept (C.chosen choice.now) key.now }
 {
-    !is_object(key) || choice.holds(key)
+    !is_object_key(key) || choice.holds(key)
 }
 
 /// Is told the entries of a checkpoint: it keeps those of the objects that are chosen and those that are no object's, and counts all objects. It refuses none.
@@ -84,7 +73,7 @@ impl<'a, C: Choice> KeptEntries<'a, C> {
         ensures counted { (cell : List ℕ) → self.old.objects + objects_among ((key.now, cell) ∷ []) < 2 ^ 64
             → self.new.objects ≡ self.old.objects + objects_among ((key.now, cell) ∷ []) }
     {
-        if is_object(key) {
+        if is_object_key(key) {
             self.objects = self.objects.saturating_add(1);
         }
     }

@@ -6,7 +6,7 @@
 //! let added = Added::of(alloc, view.revision(), manifests)?;
 //! let view = view.with(alloc, &added, rules.window_events)?;
 //! let mut entries = entries_of(alloc, &view)?;                  // to be written
-//! let written = write(alloc, &mut device, &root, last_gate, label, &mut entries)?;
+//! let written = write(alloc, &mut device, &root, last_gate_sector, label, &mut entries)?;
 //!
 //! let mut kept_entries = KeptEntries::new(alloc, &chosen);                   // to be read again
 //! scan(alloc, &mut device, &root, &mut kept_entries)?;
@@ -22,20 +22,23 @@
 //! ```
 //!
 //! A checkpoint keeps the objects, the plans of their expressions as bytes, and the last events of a view. `shown` lends what the core shows over the
-//! objects that lie below, `entries_of` gives the entries of a view that is lent, and `restored` the core that shows what a checkpoint keeps over those of its objects that lie below, of which [`Below`] tells
-//! the resources. It reads all entries, or those of a chosen part: then each object that does not lie below is chosen. It answers damage only where no view that can be kept has these
-//! entries. `renewed` gives the same core without reading anything, of the view that was written. At most one view has them ([`entries_have_one_view`]); what a history shows can be kept ([`histories_are_kept`]).
+//! objects that lie below, `entries_of` gives the entries of a view that is lent, and `restored` the core that shows what a checkpoint keeps over those
+//! of its objects that lie below, of which [`Below`] tells the resources. It reads all entries, or those of a chosen part: then each object that does
+//! not lie below is chosen. It answers damage only where no view that can be kept has these entries. `renewed` gives the same core without reading
+//! anything, of the view that was written. At most one view has them ([`entries_have_one_view`]); what a history shows can be kept
+//! ([`histories_are_kept`]).
 //!
 //! # The objects in the pages
 //!
-//! A shelf holds objects where their entries stand in front in its pages, as `records` makes them, and no entry after them has an object's key. `find` of a [`ObjectCache`]
-//! answers what is stored under a key, `list` the objects of a resource, in one namespace or in all, and `list_all` all objects, as a map in memory
-//! would. What the shelf holds stays, and damage is answered only where it does not hold objects so. The documents of objects that were found are kept, up
-//! to [`BYTES_IN_MEMORY`], so that a text is not read at each look. The entries of a view hold its objects ([`views_hold_objects`]).
+//! A shelf holds objects where their entries stand in front in its pages, as `records` makes them, and no entry after them has an object's key. `find`
+//! of a [`ObjectCache`] answers what is stored under a key, `list` the objects of a resource, in one namespace or in all, and `list_all` all objects,
+//! as a map in memory would. What the shelf holds stays, and damage is answered only where it does not hold objects so. The documents of objects that
+//! were found are kept, up to [`BYTES_IN_MEMORY`], so that a text is not read at each look. The entries of a view hold its objects
+//! ([`views_hold_objects`]).
 //!
 //! A page has documents. What stands beside a document in memory is made of it when it is listed: a [`FromDocument`] says how. It says too of which
-//! resources all objects are held in memory: of these none lies below, also where the pages have some, and no page is read for one. So a [`Base`] is what lies below
-//! [`holdings::Holdings`].
+//! resources all objects are held in memory: of these none lies below, also where the pages have some, and no page is read for one. So a [`Base`] is
+//! what lies below [`holdings::Holdings`].
 #![tactic(auto)]
 
 mod added;

@@ -8,7 +8,7 @@ ghost use Rattle.device.specs.Run.{Ran};
 ghost use Rattle.names.specs.Key.{Key as KeyData, is_key, key_bytes};
 ghost use Rattle.objects.specs.Objects.{value_at, is_of};
 ghost use Rattle.pages.specs.Page.{Entry as EntryData};
-ghost use Rattle.roots.specs.Root.{log_start};
+ghost use Rattle.roots.specs.Root.{log_sector};
 ghost use Rattle.checkpoint.specs.Index.{keys_of};
 ghost use Rattle.checkpoint.specs.Pages.{HoldsEntries, IsIndex, pages_of_root};
 ghost use Rattle.shelf.specs.Prefix.{beginning};
@@ -18,13 +18,14 @@ ghost use Rattle.snapshots.specs.declared.cached_object.CachedObject.{CachedObje
 ghost use Rattle.snapshots.specs.ObjectCache.{ObjectCaches, HasEntries, AreAmong, AreOf, root_of};
 
 use crate::cached_object::{CachedObject, read_entry};
-use crate::keys::{OBJECT, entry_key, prefix_of};
+use crate::keys::prefix_of;
 use crate::listed::ListingReader;
 use crate::object_cache_fault::ObjectCacheFault;
 use device::Device;
 use names::{Key, Resource};
 use objects::{KeyValue, Objects};
 use pages::PAGE_BYTES;
+use records::{OBJECT_MARK, object_key};
 use roots::Root;
 use shelf::{PAGES_IN_MEMORY, Reading, Shelf};
 use std::alloc::{AllocError, Global};
@@ -39,7 +40,7 @@ fn objects_with<D: Device>(
     device: &mut D,
     prefix: &[u8],
 ) -> Result<Vec<(Key, CachedObject)>, ObjectCacheFault>
-    requires inside { D.disk.keeps device.old → 512 * log_start (shelves.root_of shelf.old) ≤ length (D.disk.content device.old) }
+    requires inside { D.disk.keeps device.old → 512 * log_sector (shelves.root_of shelf.old) ≤ length (D.disk.content device.old) }
     ensures found { (entries : List EntryData) (objects : List (KeyData × CachedObjectData)) → shelves.Shelves D.disk device.old shelf.old entries
         → AreOf (beginning prefix.now entries) objects → IfOk result (λ found. found.items ≡ objects) }
     ensures are { (entries : List EntryData) → shelves.Shelves D.disk device.old shelf.old entries
@@ -92,7 +93,7 @@ impl ObjectCache {
         root: Root,
         first_keys: Vec<Vec<u8>>,
     )
-        requires small { log_start root < 2 ^ 54 }
+        requires small { log_sector root < 2 ^ 54 }
         requires counted { length first_keys.items ≡ root.pages }
         ensures root { root_of self.new ≡ root }
         ensures shelves { (entries : List EntryData) → IsIndex (keys_of first_keys.items) (pages_of_root root (D.disk.content device.now))
@@ -163,7 +164,7 @@ impl ObjectCache {
         device: &mut D,
         key: &Key,
     ) -> Result<Option<CachedObject>, ObjectCacheFault>
-        requires inside { D.disk.keeps device.old → 512 * log_start (root_of self.old) ≤ length (D.disk.content device.old) }
+        requires inside { D.disk.keeps device.old → 512 * log_sector (root_of self.old) ≤ length (D.disk.content device.old) }
         ensures found { (objects : List (KeyData × CachedObjectData)) → ObjectCaches D.disk device.old self.old objects
             → IfOk result (λ found. found ≡ value_at key.now objects) }
         ensures kept { (objects : List (KeyData × CachedObjectData)) → ObjectCaches D.disk device.old self.old objects → ObjectCaches D.disk device.new self.new objects }
@@ -174,7 +175,8 @@ impl ObjectCache {
         ensures steady { OnOk result (D.disk.failures device.new ≡ D.disk.failures device.old) }
         ensures memory { IsErrOf result ObjectCacheFault.Memory → D.disk.failures device.new ≡ D.disk.failures device.old }
     {
-        let bytes = entry_key(alloc, key)?;
+        let _resource = key.resource();
+        let bytes = object_key(alloc, key)?;
         let place = self.shelf.bring(alloc, device, &bytes)?;
         self.read(alloc, device, place, &bytes, key)
     }
@@ -223,7 +225,7 @@ impl ObjectCache {
         resource: Resource,
         namespace: Option<&str>,
     ) -> Result<Vec<(Key, CachedObject)>, ObjectCacheFault>
-        requires inside { D.disk.keeps device.old → 512 * log_start (root_of self.old) ≤ length (D.disk.content device.old) }
+        requires inside { D.disk.keeps device.old → 512 * log_sector (root_of self.old) ≤ length (D.disk.content device.old) }
         ensures found { let text = option_map (λ text. text.now) namespace.entry in
             (objects : List (KeyData × CachedObjectData)) → ObjectCaches D.disk device.old self.old objects
             → IfOk result (λ listed. listed.items ≡ filter (λ object. is_of resource text object.0) objects) }
@@ -249,7 +251,7 @@ impl ObjectCache {
         alloc: Global,
         device: &mut D,
     ) -> Result<Vec<(Key, CachedObject)>, ObjectCacheFault>
-        requires inside { D.disk.keeps device.old → 512 * log_start (root_of self.old) ≤ length (D.disk.content device.old) }
+        requires inside { D.disk.keeps device.old → 512 * log_sector (root_of self.old) ≤ length (D.disk.content device.old) }
         ensures found { (objects : List (KeyData × CachedObjectData)) → ObjectCaches D.disk device.old self.old objects
             → IfOk result (λ listed. listed.items ≡ objects) }
         ensures are { (entries : List EntryData) → HasEntries D.disk device.old self.old entries
@@ -262,6 +264,6 @@ impl ObjectCache {
         ensures steady { OnOk result (D.disk.failures device.new ≡ D.disk.failures device.old) }
         ensures memory { IsErrOf result ObjectCacheFault.Memory → D.disk.failures device.new ≡ D.disk.failures device.old }
     {
-        objects_with(alloc, &mut self.shelf, device, &[OBJECT])
+        objects_with(alloc, &mut self.shelf, device, &[OBJECT_MARK])
     }
 }

@@ -33,8 +33,7 @@ pub fn compact<D: Device>(alloc: Global, device: D) -> Result<(Compacted, D), (F
     ensures never_failed { IfErr result (λ e. e.0 ≢ FaultData.Failed) }
     ensures cause { IfErr result (λ e. e.0 ≡ FaultData.Device → HasFailed D.disk device e.1) }
     ensures steady { IfOk result (λ done. D.disk.failures done.1 ≡ D.disk.failures device) }
-    ensures unfailed { (rules : Rules) (h : History) → HoldsHistory rules D.disk device h
-        → IfErr result (λ e. (e.0 ≡ FaultData.Memory) ⊎ (e.0 ≡ FaultData.Exhausted) → D.disk.failures e.1 ≡ D.disk.failures device) }
+    ensures unfailed { IfErr result (λ e. (e.0 ≡ FaultData.Memory) ⊎ (e.0 ≡ FaultData.Exhausted) → D.disk.failures e.1 ≡ D.disk.failures device) }
 {
     let mut store = match Store::open(alloc, device) {
         Ok(store) => store,
@@ -67,8 +66,7 @@ pub fn upgrade<D: Device>(alloc: Global, device: D) -> Result<(Upgraded, D), (Up
     ensures never_failed { IfErr result (λ e. e.0 ≢ UpgradeFaultData.Failed) }
     ensures cause { IfErr result (λ e. e.0 ≡ UpgradeFaultData.Device → HasFailed D.disk device e.1) }
     ensures steady { IfOk result (λ done. D.disk.failures done.1 ≡ D.disk.failures device) }
-    ensures unfailed { (rules : Rules) (h : History) → HoldsHistory rules D.disk device h
-        → IfErr result (λ e. (e.0 ≡ UpgradeFaultData.Memory) ⊎ IsRefusal e.0 → D.disk.failures e.1 ≡ D.disk.failures device) }
+    ensures unfailed { IfErr result (λ e. (e.0 ≡ UpgradeFaultData.Memory) ⊎ IsRefusal e.0 → D.disk.failures e.1 ≡ D.disk.failures device) }
 {
     let mut store = match Store::open(alloc, device) {
         Ok(store) => store,
@@ -97,8 +95,7 @@ pub fn check<D: Device>(alloc: Global, device: D) -> Result<(Checked, D), (Fault
     ensures never_failed { IfErr result (λ e. e.0 ≢ FaultData.Failed) }
     ensures cause { IfErr result (λ e. e.0 ≡ FaultData.Device → HasFailed D.disk device e.1) }
     ensures steady { IfOk result (λ done. D.disk.failures done.1 ≡ D.disk.failures device) }
-    ensures unfailed { (rules : Rules) (h : History) → HoldsHistory rules D.disk device h
-        → IfErr result (λ e. e.0 ≡ FaultData.Memory → D.disk.failures e.1 ≡ D.disk.failures device) }
+    ensures unfailed { IfErr result (λ e. e.0 ≡ FaultData.Memory → D.disk.failures e.1 ≡ D.disk.failures device) }
 {
     let mut store = match Store::open(alloc, device) {
         Ok(store) => store,

@@ -14,7 +14,7 @@ use Rattle.apicore.proofs.judging.judged_put.Goals as goal
 
 pub returns-in-Admitted-clause-judged : goal.returns-in-Admitted-clause-judged
 returns-in-Admitted-clause-judged g c = λ held v trees over stands same.
-    let m = c.args.manifest.now in
+    let m = c.args.placed.now.manifest.now in
     let d = document_in m.body in
     let made = c.admitted_put.result in
     let stood = is_some (option_map (λ d. view d.now) c.args.old_object) in
@@ -28,7 +28,7 @@ returns-in-Admitted-clause-judged g c = λ held v trees over stands same.
 
 pub returns-in-Denied-clause-judged : goal.returns-in-Denied-clause-judged
 returns-in-Denied-clause-judged g c = λ held v trees over stands same.
-    let m = c.args.manifest.now in
+    let m = c.args.placed.now.manifest.now in
     let d = document_in m.body in
     let stood = is_some (option_map (λ d. view d.now) c.args.old_object) in
     let is = sym (rw c.put_attempt-attempt.ensures at (c.in_ok-warnings.ensures.verdict held v over)) ∙ ap verdict_seen c.in-Denied.is in

@@ -12,8 +12,8 @@ use Rattle.apicore.proofs.preparing.create_in.Goals as goal
 pub returns-in-Some-clause-step : goal.returns-in-Some-clause-step
 returns-in-Some-clause-step g c = λ s is held v over inside.
     let found = sym (rw c.key.ensures at c.in_ok-find.ensures.found over.base held over.below over.shows) ∙ c.in-Some.is in
-    refused_own c.args.core.now.rules held v (create c.args.manifest.now) s c.refused.result _
-    (create_there c.args.core.now.rules held c.args.manifest.now v over.plans inside.placed s (there_found _ _ found)) c.refused.ensures.step
+    refused_own c.args.core.now.rules held v (create c.args.placed.now.manifest.now) s c.refused.result _
+    (create_there c.args.core.now.rules held c.args.placed.now.manifest.now v over.plans inside.placed s (there_found _ _ found)) c.refused.ensures.step
 
 pub returns-in-None-clause-step : goal.returns-in-None-clause-step
 returns-in-None-clause-step g c = λ s is held v over inside.

@@ -29,8 +29,8 @@ pub returns-then-branch : goal.returns-then-branch
 returns-then-branch g c =
     let core = c.args.core.now in
     let source = c.args.source.now in
-    let key = c.args.key.now in
-    let asked = option_map string_bytes c.args.version.now in
+    let key = c.args.asked.now.key.now in
+    let asked = option_map string_bytes c.args.asked.now.version.now in
     record {
       same = as_it_was core;
       step = λ held v over found s.
@@ -58,8 +58,8 @@ returns-in_err-is_in_use g c =
 pub returns-then-is_in_use : goal.returns-then-is_in_use
 returns-then-is_in_use g c =
     let core = c.args.core.now in
-    let key = c.args.key.now in
-    let asked = option_map string_bytes c.args.version.now in
+    let key = c.args.asked.now.key.now in
+    let asked = option_map string_bytes c.args.asked.now.version.now in
     let refused = c.refused-then-is_in_use in
     let looked = c.in_ok-is_in_use.ensures.looked in
     record {
@@ -77,8 +77,8 @@ returns-then-is_in_use g c =
 pub returns-then-is_exhausted : goal.returns-then-is_exhausted
 returns-then-is_exhausted g c =
     let core = c.args.core.now in
-    let key = c.args.key.now in
-    let asked = option_map string_bytes c.args.version.now in
+    let key = c.args.asked.now.key.now in
+    let asked = option_map string_bytes c.args.asked.now.version.now in
     let refused = c.refused-then-is_exhausted in
     let looked = c.in_ok-is_in_use.ensures.looked in
     record {

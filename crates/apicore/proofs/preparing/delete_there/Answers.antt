@@ -12,8 +12,8 @@ use Rattle.apicore.proofs.preparing.delete_there.Goals as goal
 pub returns-clause-step : goal.returns-clause-step
 returns-clause-step g c = λ held v over found unused s.
     let core = c.args.core.now in
-    let key = c.args.key.now in
-    let asked = option_map string_bytes c.args.version.now in
+    let key = c.args.asked.now.key.now in
+    let asked = option_map string_bytes c.args.asked.now.version.now in
     let after = over_kept _ _ core held v c.in_ok-namespace.ensures.looked.kept over in
     if_ok c.judged_delete.result _ _
     (λ p judged. delete_judged core.rules held key asked v over.plans p s (view c.value.result.now) _ c.args.found.document

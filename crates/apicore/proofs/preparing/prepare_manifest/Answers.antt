@@ -1,9 +1,10 @@
-use Rattle.std.proofs.Common.{rules, true, false, subst, sym, inl, inr, IfOk}
+use Rattle.std.proofs.Common.{rules, subst, sym, inl, inr, IfOk}
 use Rattle.std.proofs.lemmas.Result.{IfOk-from_err}
 use Rattle.requests.specs.Manifest.{BodyHasForm}
 use Rattle.apicore.specs.Conditions.{known}
-use Rattle.apicore.specs.Places.{IsIn, IsPlaceOf}
+use Rattle.apicore.specs.Places.{IsPlaceOf}
 use Rattle.apicore.specs.Prepared.{put_request, IsPrepared}
+use Rattle.apicore.specs.declared.placed.Put.TheVariants.{Creates, Replaces}
 use Rattle.apicore.proofs.Looking.{looked_not, looked_after, looked_as, looked_on}
 use Rattle.decoded.proofs.Over.{over_kept}
 use Rattle.apicore.proofs.Own.{misplaced}
@@ -15,36 +16,34 @@ pub returns-in-Refused-clause-step : goal.returns-in-Refused-clause-step
 returns-in-Refused-clause-step g c =
     let core = c.args.core.now in
     let m = c.args.manifest.now in
-    let b = c.args.replaces in
+    let put = c.args.put in
     let read = rw c.rules-format.ensures at c.in_ok-specification.ensures in
-    prepared_of _ core (put_request b m) read.0 (read_put core.rules.format b m read.0 read.1) c.refused.result
+    prepared_of _ core (put_request put m) read.0 (read_put core.rules.format put m read.0 read.1) c.refused.result
     (λ held v over.
     let place = subst (λ p. IsPlaceOf core.rules held m.key p) c.in-Refused.is (rw c.key.ensures at c.in_ok-place.ensures.place held v over) in
-    refused_own core.rules held v (put_request b m) read.0 c.refused.result _ (misplaced core.rules held m v over.plans b read.0 (known c.in-Refused.refusal) place) c.refused.ensures.step)
-
-pub returns-then-replaces-clause-step : goal.returns-then-replaces-clause-step
-returns-then-replaces-clause-step g c =
-    let core = c.args.core.now in
-    let m = c.args.manifest.now in
-    let read = rw c.rules-format.ensures at c.in_ok-specification.ensures in
-    subst (λ b. IfOk c.replace_in.result (IsPrepared (g.S.Source.holds c.args.source.now) core (put_request b m))) (sym c.if-replaces.true)
-    (prepared_of _ core (put_request true m) read.0 read.1 c.replace_in.result
-    (λ held v over.
-    let place = subst (λ p. IsPlaceOf core.rules held m.key p) c.in-In.is (rw c.key.ensures at c.in_ok-place.ensures.place held v over) in
-    c.replace_in.ensures.step read.0 read.2 held v (over_kept _ _ core held v c.in_ok-place.ensures.looked.kept over)
-    (subst (λ d. IsIn core.rules held m.key d) (sym c.value_of-namespace.ensures) place)))
+    refused_own core.rules held v (put_request put m) read.0 c.refused.result _ (misplaced core.rules held m v over.plans put read.0 (known c.in-Refused.refusal) place) c.refused.ensures.step)
 
 pub returns-clause-step : goal.returns-clause-step
 returns-clause-step g c =
     let core = c.args.core.now in
     let m = c.args.manifest.now in
     let read = rw c.rules-format.ensures at c.in_ok-specification.ensures in
-    subst (λ b. IfOk c.create_in.result (IsPrepared (g.S.Source.holds c.args.source.now) core (put_request b m))) (sym c.if-replaces.false)
-    (prepared_of _ core (put_request false m) read.0 read.1 c.create_in.result
+    subst (λ b. IfOk c.replace_in.result (IsPrepared (g.S.Source.holds c.args.source.now) core (put_request b m))) (sym c.in-Replaces.is)
+    (prepared_of _ core (put_request Replaces m) read.0 read.1 c.replace_in.result
     (λ held v over.
     let place = subst (λ p. IsPlaceOf core.rules held m.key p) c.in-In.is (rw c.key.ensures at c.in_ok-place.ensures.place held v over) in
-    c.create_in.ensures.step read.0 read.2 held v (over_kept _ _ core held v c.in_ok-place.ensures.looked.kept over)
-    (subst (λ d. IsIn core.rules held m.key d) (sym c.value_of-namespace.ensures) place)))
+    c.replace_in.ensures.step read.0 read.2 held v (over_kept _ _ core held v c.in_ok-place.ensures.looked.kept over) place))
+
+pub returns-in-Creates-clause-step : goal.returns-in-Creates-clause-step
+returns-in-Creates-clause-step g c =
+    let core = c.args.core.now in
+    let m = c.args.manifest.now in
+    let read = rw c.rules-format.ensures at c.in_ok-specification.ensures in
+    subst (λ b. IfOk c.create_in.result (IsPrepared (g.S.Source.holds c.args.source.now) core (put_request b m))) (sym c.in-Creates.is)
+    (prepared_of _ core (put_request Creates m) read.0 read.1 c.create_in.result
+    (λ held v over.
+    let place = subst (λ p. IsPlaceOf core.rules held m.key p) c.in-In.is (rw c.key.ensures at c.in_ok-place.ensures.place held v over) in
+    c.create_in.ensures.step read.0 read.2 held v (over_kept _ _ core held v c.in_ok-place.ensures.looked.kept over) place))
 
 pub returns-in_err-specification-clause-read : goal.returns-in_err-specification-clause-read
 returns-in_err-specification-clause-read g c = λ told.
@@ -52,16 +51,16 @@ returns-in_err-specification-clause-read g c = λ told.
     absurd never
 
 pub returns-in_err-place-clause-read : goal.returns-in_err-place-clause-read
-returns-in_err-place-clause-read g c = λ _. let read = rw c.rules-format.ensures at c.in_ok-specification.ensures in (read.0, read_put c.args.core.now.rules.format c.args.replaces c.args.manifest.now read.0 read.1)
+returns-in_err-place-clause-read g c = λ _. let read = rw c.rules-format.ensures at c.in_ok-specification.ensures in (read.0, read_put c.args.core.now.rules.format c.args.put c.args.manifest.now read.0 read.1)
 
 pub returns-in-Refused-clause-read : goal.returns-in-Refused-clause-read
-returns-in-Refused-clause-read g c = λ _. let read = rw c.rules-format.ensures at c.in_ok-specification.ensures in (read.0, read_put c.args.core.now.rules.format c.args.replaces c.args.manifest.now read.0 read.1)
-
-pub returns-then-replaces-clause-read : goal.returns-then-replaces-clause-read
-returns-then-replaces-clause-read g c = λ _. let read = rw c.rules-format.ensures at c.in_ok-specification.ensures in (read.0, read_put c.args.core.now.rules.format c.args.replaces c.args.manifest.now read.0 read.1)
+returns-in-Refused-clause-read g c = λ _. let read = rw c.rules-format.ensures at c.in_ok-specification.ensures in (read.0, read_put c.args.core.now.rules.format c.args.put c.args.manifest.now read.0 read.1)
 
 pub returns-clause-read : goal.returns-clause-read
-returns-clause-read g c = λ _. let read = rw c.rules-format.ensures at c.in_ok-specification.ensures in (read.0, read_put c.args.core.now.rules.format c.args.replaces c.args.manifest.now read.0 read.1)
+returns-clause-read g c = λ _. let read = rw c.rules-format.ensures at c.in_ok-specification.ensures in (read.0, read_put c.args.core.now.rules.format c.args.put c.args.manifest.now read.0 read.1)
+
+pub returns-in-Creates-clause-read : goal.returns-in-Creates-clause-read
+returns-in-Creates-clause-read g c = λ _. let read = rw c.rules-format.ensures at c.in_ok-specification.ensures in (read.0, read_put c.args.core.now.rules.format c.args.put c.args.manifest.now read.0 read.1)
 
 pub returns-in-Refused-clause-looked : goal.returns-in-Refused-clause-looked
 returns-in-Refused-clause-looked g c =
@@ -69,16 +68,16 @@ returns-in-Refused-clause-looked g c =
     looked_after g.S.Source.holds g.S.Source.goes_to g.S.Source.failures g.S.Source.unfailed c.args.core.now c.args.source.now c.place_of.new.source c.refused.result
     looked.kept looked.goes looked.counts looked.steady c.refused.ensures.memory
 
-pub returns-then-replaces-clause-looked : goal.returns-then-replaces-clause-looked
-returns-then-replaces-clause-looked g c =
+pub returns-clause-looked : goal.returns-clause-looked
+returns-clause-looked g c =
     let looked = c.in_ok-place.ensures.looked in
     looked_on g.S.Source.holds g.S.Source.goes_to g.S.Source.failures g.S.Source.unfailed c.args.core.now c.args.source.now c.place_of.new.source c.replace_in.new.source c.replace_in.result
     looked.kept looked.counts
     (g.met.S.Source.unfailed_on c.args.source.now c.place_of.new.source c.replace_in.new.source looked.steady)
     (g.met.S.Source.goes_on c.args.source.now c.place_of.new.source c.replace_in.new.source looked.goes c.replace_in.ensures.looked.goes) c.replace_in.ensures.looked
 
-pub returns-clause-looked : goal.returns-clause-looked
-returns-clause-looked g c =
+pub returns-in-Creates-clause-looked : goal.returns-in-Creates-clause-looked
+returns-in-Creates-clause-looked g c =
     let looked = c.in_ok-place.ensures.looked in
     looked_on g.S.Source.holds g.S.Source.goes_to g.S.Source.failures g.S.Source.unfailed c.args.core.now c.args.source.now c.place_of.new.source c.create_in.new.source c.create_in.result
     looked.kept looked.counts
@@ -108,17 +107,17 @@ returns-in_err-place-clause-step g c = IfOk-from_err c.from_residual-in_err-plac
 pub returns-in_err-place-clause-ready : goal.returns-in_err-place-clause-ready
 returns-in_err-place-clause-ready g c = IfOk-from_err c.from_residual-in_err-place.result _ c.from_residual-in_err-place.ensures.0
 
-pub returns-then-replaces-clause-same : goal.returns-then-replaces-clause-same
-returns-then-replaces-clause-same g c = c.replace_in.ensures.same
-
 pub returns-clause-same : goal.returns-clause-same
-returns-clause-same g c = c.create_in.ensures.same
+returns-clause-same g c = c.replace_in.ensures.same
 
-pub returns-then-replaces-clause-ready : goal.returns-then-replaces-clause-ready
-returns-then-replaces-clause-ready g c = c.replace_in.ensures.ready
+pub returns-in-Creates-clause-same : goal.returns-in-Creates-clause-same
+returns-in-Creates-clause-same g c = c.create_in.ensures.same
 
 pub returns-clause-ready : goal.returns-clause-ready
-returns-clause-ready g c = c.create_in.ensures.ready
+returns-clause-ready g c = c.replace_in.ensures.ready
+
+pub returns-in-Creates-clause-ready : goal.returns-in-Creates-clause-ready
+returns-in-Creates-clause-ready g c = c.create_in.ensures.ready
 
 pub returns-in_err-specification-clause-form : goal.returns-in_err-specification-clause-form
 returns-in_err-specification-clause-form g c =
@@ -132,10 +131,10 @@ pub returns-in-Refused-clause-form : goal.returns-in-Refused-clause-form
 returns-in-Refused-clause-form g c =
     subst (λ b. BodyHasForm c.args.manifest.now.key b) (sym c.document-document.ensures.body) c.document-document.ensures.form
 
-pub returns-then-replaces-clause-form : goal.returns-then-replaces-clause-form
-returns-then-replaces-clause-form g c =
-    subst (λ b. BodyHasForm c.args.manifest.now.key b) (sym c.document-document.ensures.body) c.document-document.ensures.form
-
 pub returns-clause-form : goal.returns-clause-form
 returns-clause-form g c =
+    subst (λ b. BodyHasForm c.args.manifest.now.key b) (sym c.document-document.ensures.body) c.document-document.ensures.form
+
+pub returns-in-Creates-clause-form : goal.returns-in-Creates-clause-form
+returns-in-Creates-clause-form g c =
     subst (λ b. BodyHasForm c.args.manifest.now.key b) (sym c.document-document.ensures.body) c.document-document.ensures.form

@@ -12,23 +12,23 @@ use Rattle.apicore.proofs.preparing.replace_as.Goals as goal
 
 pub returns-in-Sound-clause-step : goal.returns-in-Sound-clause-step
 returns-in-Sound-clause-step g c = λ s is held v over inside found.
-    sound_found (λ x. IfOk c.replace_sound.result (IsStepOf c.args.core.now.rules held v (record { request = replace c.args.manifest.now; specification = x }))) (document_in c.args.manifest.now.body) c.in-Sound.plans.items s (sym (ap specification_seen c.in-Sound.is) ∙ is)
+    sound_found (λ x. IfOk c.replace_sound.result (IsStepOf c.args.core.now.rules held v (record { request = replace c.args.replacement.now.placed.now.manifest.now; specification = x }))) (document_in c.args.replacement.now.placed.now.manifest.now.body) c.in-Sound.plans.items s (sym (ap specification_seen c.in-Sound.is) ∙ is)
     (λ trees same. c.replace_sound.ensures.step trees same held v over inside found)
 
 pub returns-in-BadSpec-clause-step : goal.returns-in-BadSpec-clause-step
 returns-in-BadSpec-clause-step g c = λ s is held v over inside found.
-    let m = c.args.manifest.now in
+    let m = c.args.replacement.now.placed.now.manifest.now in
     bad_spec_found (λ x. IfOk c.refused.result (IsStepOf c.args.core.now.rules held v (record { request = replace m; specification = x }))) (document_in m.body) s (sym (ap specification_seen c.in-BadSpec.is) ∙ is)
     (refused_own c.args.core.now.rules held v (replace m) bad_spec c.refused.result _
-    (replace_bad_spec c.args.core.now.rules held m v over.plans inside.placed (replace_found held m.key c.args.found.now found m.version false c.requires.conflicts)) c.refused.ensures.step)
+    (replace_bad_spec c.args.core.now.rules held m v over.plans inside.placed (replace_found held m.key c.args.replacement.now.found.now found m.version false c.requires.conflicts)) c.refused.ensures.step)
 
 pub returns-in-BadExpression-clause-step : goal.returns-in-BadExpression-clause-step
 returns-in-BadExpression-clause-step g c = λ s is held v over inside found.
-    let m = c.args.manifest.now in
+    let m = c.args.replacement.now.placed.now.manifest.now in
     let text = string_bytes c.in-BadExpression.text in
     bad_expression_found (λ x. IfOk c.bad_expression.result (IsStepOf c.args.core.now.rules held v (record { request = replace m; specification = x }))) (document_in m.body) text s (sym (ap specification_seen c.in-BadExpression.is) ∙ is)
     (refused_own c.args.core.now.rules held v (replace m) (bad_expression text) c.bad_expression.result _
-    (replace_bad_expression c.args.core.now.rules held m v over.plans inside.placed text (replace_found held m.key c.args.found.now found m.version false c.requires.conflicts))
+    (replace_bad_expression c.args.core.now.rules held m v over.plans inside.placed text (replace_found held m.key c.args.replacement.now.found.now found m.version false c.requires.conflicts))
     (rw c.as_str.ensures.value at c.bad_expression.ensures.step))
 
 pub returns-in-BadSpec-clause-looked : goal.returns-in-BadSpec-clause-looked

@@ -16,8 +16,8 @@ returns-in-Some-clause-step g c = λ s is held v over inside.
 pub returns-in-None-clause-step : goal.returns-in-None-clause-step
 returns-in-None-clause-step g c = λ s is held v over inside.
     let none = sym (rw c.key.ensures at c.in_ok-found.ensures.found over.base held over.below over.shows) ∙ c.in-None.is in
-    refused_own c.args.core.now.rules held v (replace c.args.manifest.now) s c.refused.result _
-    (replace_missing c.args.core.now.rules held c.args.manifest.now v over.plans inside.placed s none) c.refused.ensures.step
+    refused_own c.args.core.now.rules held v (replace c.args.placed.now.manifest.now) s c.refused.result _
+    (replace_missing c.args.core.now.rules held c.args.placed.now.manifest.now v over.plans inside.placed s none) c.refused.ensures.step
 
 pub returns-in_err-found-clause-step : goal.returns-in_err-found-clause-step
 returns-in_err-found-clause-step g c = λ s is held v over inside. IfOk-from_err c.from_residual.result _ c.from_residual.ensures.0

@@ -28,8 +28,8 @@ returns-then-branch g c =
     record {
       same = as_it_was core;
       step = λ s is held v over inside found.
-          refused_own core.rules held v (replace c.args.manifest.now) s c.refused.result _
-          (replace_conflicting core.rules held c.args.manifest.now v over.plans inside.placed c.args.found.now found s (sym c.in_ok-update_conflicts.ensures ∙ c.if-branch.true)) c.refused.ensures.step;
+          refused_own core.rules held v (replace c.args.replacement.now.placed.now.manifest.now) s c.refused.result _
+          (replace_conflicting core.rules held c.args.replacement.now.placed.now.manifest.now v over.plans inside.placed c.args.replacement.now.found.now found s (sym c.in_ok-update_conflicts.ensures ∙ c.if-branch.true)) c.refused.ensures.step;
       ready = refused_ready core (known refusal.VersionNotCurrent) c.refused.result c.refused.ensures.step;
       looked = looked_not g.S.Source.holds g.S.Source.goes_to g.S.Source.failures g.S.Source.unfailed core source c.refused.result (g.met.S.Source.stays source) (g.met.S.Source.unfailed_itself source) c.refused.ensures.memory;
     }

@@ -10,9 +10,9 @@ use Rattle.apicore.proofs.preparing.replace_sound.Goals as goal
 
 pub returns-in-Some-clause-step : goal.returns-in-Some-clause-step
 returns-in-Some-clause-step g c = λ trees same held v over inside found.
-    let m = c.args.manifest.now in
+    let m = c.args.replacement.now.placed.now.manifest.now in
     refused_own c.args.core.now.rules held v (replace m) (sound trees) c.refused.result _
-    (replace_limited c.args.core.now.rules held m v over.plans inside.placed trees c.in-Some.refusal (replace_found held m.key c.args.found.now found m.version false c.requires.conflicts)
+    (replace_limited c.args.core.now.rules held m v over.plans inside.placed trees c.in-Some.refusal (replace_found held m.key c.args.replacement.now.found.now found m.version false c.requires.conflicts)
     (sym (ap (option_map known) c.in-Some.is) ∙ c.replace_limit.ensures.shown over.base held over.shows)) c.refused.ensures.step
 
 pub returns-in-None-clause-step : goal.returns-in-None-clause-step

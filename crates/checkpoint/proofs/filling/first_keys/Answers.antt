@@ -190,14 +190,14 @@ returns-in_err-add-clause-steady g c = IfOk-from_err c.from_residual-in_err-add.
 pub returns-then-not-branch-clause-steady : goal.returns-then-not-branch-clause-steady
 returns-then-not-branch-clause-steady g c = c.in_ok-advance.ensures.steady ∙ c.walk.invariant.steady
 
-pub returns-in_err-advance-clause-memory : goal.returns-in_err-advance-clause-memory
-returns-in_err-advance-clause-memory g c told =
+pub returns-in_err-advance-clause-unfailed : goal.returns-in_err-advance-clause-unfailed
+returns-in_err-advance-clause-unfailed g c told =
     absurd (⊎_elim (λ is. cc) (λ is. cc)
     (one_of_two c.from_residual.result c.advance.result EntriesFault.Device EntriesFault.Damaged EntriesFault.Memory
     c.from_residual.ensures.1 c.in_err-advance.was c.advance.ensures.refusal told))
 
-pub returns-in_err-add-clause-memory : goal.returns-in_err-add-clause-memory
-returns-in_err-add-clause-memory g c told = c.in_ok-advance.ensures.steady ∙ c.walk.invariant.steady
+pub returns-in_err-add-clause-unfailed : goal.returns-in_err-add-clause-unfailed
+returns-in_err-add-clause-unfailed g c told = c.in_ok-advance.ensures.steady ∙ c.walk.invariant.steady
 
-pub returns-then-not-branch-clause-memory : goal.returns-then-not-branch-clause-memory
-returns-then-not-branch-clause-memory g c told = c.in_ok-advance.ensures.steady ∙ c.walk.invariant.steady
+pub returns-then-not-branch-clause-unfailed : goal.returns-then-not-branch-clause-unfailed
+returns-then-not-branch-clause-unfailed g c told = c.in_ok-advance.ensures.steady ∙ c.walk.invariant.steady

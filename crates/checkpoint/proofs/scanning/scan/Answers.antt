@@ -132,19 +132,19 @@ returns-in_err-take_pages-clause-steady g c = IfOk-from_err c.from_residual-in_e
 pub returns-clause-steady : goal.returns-clause-steady
 returns-clause-steady g c = c.in_ok-take_pages.ensures.steady
 
-pub returns-then-root-eq0-clause-memory : goal.returns-then-root-eq0-clause-memory
-returns-then-root-eq0-clause-memory g c told = refl
+pub returns-then-root-eq0-clause-unfailed : goal.returns-then-root-eq0-clause-unfailed
+returns-then-root-eq0-clause-unfailed g c told = refl
 
-pub returns-in_err-buffer-clause-memory : goal.returns-in_err-buffer-clause-memory
-returns-in_err-buffer-clause-memory g c told = refl
+pub returns-in_err-buffer-clause-unfailed : goal.returns-in_err-buffer-clause-unfailed
+returns-in_err-buffer-clause-unfailed g c told = refl
 
-pub returns-in_err-take_pages-clause-memory : goal.returns-in_err-take_pages-clause-memory
-returns-in_err-take_pages-clause-memory g c told =
-    c.take_pages.ensures.memory (was_err c.in_err-take_pages.was
+pub returns-in_err-take_pages-clause-unfailed : goal.returns-in_err-take_pages-clause-unfailed
+returns-in_err-take_pages-clause-unfailed g c told =
+    c.take_pages.ensures.unfailed (was_err c.in_err-take_pages.was
     (err_is c.from_residual-in_err-take_pages.result _ ScanFault.Memory c.from_residual-in_err-take_pages.ensures.1 told))
 
-pub returns-then-branch-clause-memory : goal.returns-then-branch-clause-memory
-returns-then-branch-clause-memory g c told = c.in_ok-take_pages.ensures.steady
+pub returns-then-branch-clause-unfailed : goal.returns-then-branch-clause-unfailed
+returns-then-branch-clause-unfailed g c told = c.in_ok-take_pages.ensures.steady
 
-pub returns-clause-memory : goal.returns-clause-memory
-returns-clause-memory g c told = c.in_ok-take_pages.ensures.steady
+pub returns-clause-unfailed : goal.returns-clause-unfailed
+returns-clause-unfailed g c told = c.in_ok-take_pages.ensures.steady

@@ -10,8 +10,8 @@ abbrev pub invariant-loop-i : goal.invariant-loop-i
 invariant-loop-i g l = record {
   ran : Ran g.D.Device.disk l.fn.device l.device Same;
   steady : g.D.Device.disk.failures l.device ≡ g.D.Device.disk.failures l.fn.device;
-  sound : g.D.Device.disk.keeps l.fn.device → AreSound l.root.first l.i (g.D.Device.disk.content l.fn.device);
-  indexed : g.D.Device.disk.keeps l.fn.device → IsIndexed l.index (pages_at l.root.first l.i (g.D.Device.disk.content l.fn.device));
+  sound : g.D.Device.disk.keeps l.fn.device → AreSound l.root.first_sector l.i (g.D.Device.disk.content l.fn.device);
+  indexed : g.D.Device.disk.keeps l.fn.device → IsIndexed l.index (pages_at l.root.first_sector l.i (g.D.Device.disk.content l.fn.device));
   heard : g.D.Device.disk.keeps l.fn.device
-      → Heard g.R.Reader.told g.R.Reader.refuses l.fn.reader l.reader (joined (pages_at l.root.first l.i (g.D.Device.disk.content l.fn.device))) l.refused;
+      → Heard g.R.Reader.told g.R.Reader.refuses l.fn.reader l.reader (joined (pages_at l.root.first_sector l.i (g.D.Device.disk.content l.fn.device))) l.refused;
 }

@@ -3,7 +3,7 @@ use Rattle.device.specs.Run.{Ran}
 use Rattle.device.specs.Step.{Same}
 use Rattle.names.specs.declared.format.Rules.{Rules}
 use Rattle.gatelog.specs.Log.{HoldsLog}
-use Rattle.roots.specs.Root.{log_start, HoldsRoot}
+use Rattle.roots.specs.Root.{log_sector, HoldsRoot}
 use Rattle.histories.specs.View as seen
 use Rattle.histories.specs.View.{view}
 use Rattle.records.specs.Payload.{writes_in}
@@ -67,14 +67,14 @@ returns-in_err-paged-in-Ok-clause-read g c =
     let payloads : List (List ℕ) = map (λ p. p.items) c.in-Ok.payloads.items in
     let held : seen.View Decoded = with_plans (view rules stands.base) in
     let later : List Write = map write_with_plans (writes_in stands.groups) in
-    let In : List ℕ → Type 0 = λ x. HoldsLog (log_start root) payloads log.last x in
-    let At : ℕ → Type 0 = λ at. HoldsLog at payloads log.last (disk.content c.synced_root.new.device) in
-    let there : HoldsLog (log_start root) payloads log.last content = subst In root_same (subst At c.log_start.ensures.place (c.in-Ok.ensures.found kept)) in
+    let In : List ℕ → Type 0 = λ x. HoldsLog (log_sector root) payloads log.last_gate_sector x in
+    let At : ℕ → Type 0 = λ at. HoldsLog at payloads log.last_gate_sector (disk.content c.synced_root.new.device) in
+    let there : HoldsLog (log_sector root) payloads log.last_gate_sector content = subst In root_same (subst At c.log_sector.ensures.place (c.in-Ok.ensures.found kept)) in
     let Keeps : List ℕ → Type 0 = λ x. HoldsBase rules x root stands.base in
     let By : List (List ℕ) → Type 0 = λ ps. IsWritten rules held later ps in
     c.read_objects.ensures.damaged (first.kept keeps) damage (c.in_err-paged-in-Ok.was ∙ ap Err is) rules stands.base later
     (base_is rules content h stands) (subst Keeps (sym (first.seen keeps)) (base_here rules content h stands root counts))
-    (subst By (ap (map (λ p. p.items)) (sym c.deref.ensures.value)) (written_here rules content h stands root counts payloads log.last there)))
+    (subst By (ap (map (λ p. p.items)) (sym c.deref.ensures.value)) (written_here rules content h stands root counts payloads log.last_gate_sector there)))
     (λ keeps damage is.
     let Behind : List ℕ → Type 0 = λ x. IsDamageBehind x root damage in
     behind_counts content root (c.in_ok-root.ensures.found keeps) damage
@@ -89,12 +89,12 @@ returns-in_ok-paged-in-Ok-clause-read g c =
     let paged = c.in_ok-paged-in-Ok.paged in
     let read = c.in_ok-paged-in-Ok.ensures in
     let payloads : List (List ℕ) = map (λ p. p.items) c.in-Ok.payloads.items in
-    let In : List ℕ → Type 0 = λ x. HoldsLog (log_start root) payloads log.last x in
-    let At : ℕ → Type 0 = λ at. HoldsLog at payloads log.last (disk.content c.synced_root.new.device) in
+    let In : List ℕ → Type 0 = λ x. HoldsLog (log_sector root) payloads log.last_gate_sector x in
+    let At : ℕ → Type 0 = λ at. HoldsLog at payloads log.last_gate_sector (disk.content c.synced_root.new.device) in
     record {
       rules = read.rules ∙ ap (λ (r : Root). rules_by r.label) (sym read.root);
       works = c.in-Ok.ensures.place.1;
-      in_data = omega (arith, c.in-Ok.ensures.place.0, c.log_start.ensures.place, c.in_ok-root.ensures.in_data);
+      in_data = omega (arith, c.in-Ok.ensures.place.0, c.log_sector.ensures.place, c.in_ok-root.ensures.in_data);
       found = λ keeps rules h stands.
           let counts = c.in_ok-root.ensures.found keeps in
           let kept = c.synced_root.ensures.ran.kept keeps in
@@ -102,18 +102,18 @@ returns-in_ok-paged-in-Ok-clause-read g c =
           let same : disk.content c.read_log.new.device ≡ content = c.read_log.ensures.ran.seen kept ∙ root_same in
           let held : seen.View Decoded = with_plans (view rules stands.base) in
           let later : List Write = map write_with_plans (writes_in stands.groups) in
-          let there : HoldsLog (log_start root) payloads log.last content = subst In root_same (subst At c.log_start.ensures.place (c.in-Ok.ensures.found kept)) in
+          let there : HoldsLog (log_sector root) payloads log.last_gate_sector content = subst In root_same (subst At c.log_sector.ensures.place (c.in-Ok.ensures.found kept)) in
           let Keeps : List ℕ → Type 0 = λ x. HoldsBase rules x root stands.base in
           let By : List (List ℕ) → Type 0 = λ ps. IsWritten rules held later ps in
           let Redone : List (List ℕ) → Type 0 = λ ps. HasRedone rules (base_of held) held paged.core ps in
           let found = read.found (c.read_log.ensures.ran.kept kept) rules stands.base later (base_is rules content h stands)
           (subst Keeps (sym same) (base_here rules content h stands root counts))
-          (subst By (ap (map (λ p. p.items)) (sym c.deref.ensures.value)) (written_here rules content h stands root counts payloads log.last there)) in (
+          (subst By (ap (map (λ p. p.items)) (sym c.deref.ensures.value)) (written_here rules content h stands root counts payloads log.last_gate_sector there)) in (
             read.rules ∙ sym (base_here rules content h stands root counts).numbers,
             record {
               base = base_of held;
               below = found.0;
-              shows = opened_shows rules content h stands root counts payloads log.last held (held_as_it_is held) there (base_of held)
+              shows = opened_shows rules content h stands root counts payloads log.last_gate_sector held (held_as_it_is held) there (base_of held)
                   (below_free disk paged (base_of held) c.read_objects.new.device found.0) paged.core (subst Redone (ap (map (λ p. p.items)) c.deref.ensures.value) found.1);
             },
           );
@@ -123,12 +123,12 @@ returns-in_ok-paged-in-Ok-clause-read g c =
           (found.1.0, record { base = []; below = found.0; shows = found.1.1 }, subst Redone (sym read.rules) found.1.2);
       log = λ keeps.
           let Counts : Root → Type 0 = λ r. HoldsRoot content r in
-          let Of : ℕ → Type 0 = λ start. HoldsLog start payloads log.last content in
-          let there : HoldsLog c.log_start.result payloads log.last (disk.content c.synced_root.new.device) = c.in-Ok.ensures.found (c.synced_root.ensures.ran.kept keeps) in
-          let Log : List ℕ → Type 0 = λ x. HoldsLog c.log_start.result payloads log.last x in
+          let Of : ℕ → Type 0 = λ start. HoldsLog start payloads log.last_gate_sector content in
+          let there : HoldsLog c.log_sector.result payloads log.last_gate_sector (disk.content c.synced_root.new.device) = c.in-Ok.ensures.found (c.synced_root.ensures.ran.kept keeps) in
+          let Log : List ℕ → Type 0 = λ x. HoldsLog c.log_sector.result payloads log.last_gate_sector x in
           record {
             counts = subst Counts (sym read.root) (c.in_ok-root.ensures.found keeps);
-            start = c.in-Ok.ensures.place.0 ∙ c.log_start.ensures.place ∙ ap log_start (sym read.root);
+            start = c.in-Ok.ensures.place.0 ∙ c.log_sector.ensures.place ∙ ap log_sector (sym read.root);
             payloads = payloads;
             holds = subst Of (sym c.in-Ok.ensures.place.0) (subst Log (c.synced_root.ensures.ran.seen keeps) there);
           };
@@ -158,8 +158,8 @@ returns-in-Err-Damaged-clause-read g c =
     let At : ℕ → Type 0 = λ at. None at (disk.content c.synced_root.new.device) in
     let found : IsErrOf c.read_log.result (Fault.Damaged c.in-Err-Damaged.damage) = search common in
     no_log_here rules content h stands root (c.in_ok-root.ensures.found keeps)
-    (subst (None (log_start root)) root_same
-    (subst At c.log_start.ensures.place (c.read_log.ensures.damaged (c.synced_root.ensures.ran.kept keeps) c.in-Err-Damaged.damage found))))
+    (subst (None (log_sector root)) root_same
+    (subst At c.log_sector.ensures.place (c.read_log.ensures.damaged (c.synced_root.ensures.ran.kept keeps) c.in-Err-Damaged.damage found))))
     (λ keeps damage is.
     let Behind : List ℕ → Type 0 = λ x. IsDamageBehind x root damage in
     let here = disk.content c.read_log.new.device in
@@ -206,11 +206,11 @@ returns-in_ok-paged-in-Ok-clause-durable g c = λ keeps.
     only_after disk c.synced_root.new.device c.read_objects.new.device rest kept (c.in_ok-root.ensures.durable keeps)
 
 pub returns-in_err-root-clause-unfailed : goal.returns-in_err-root-clause-unfailed
-returns-in_err-root-clause-unfailed g c rules h keeps stands told =
+returns-in_err-root-clause-unfailed g c told =
     absurd (no_root_memory c.in_err-root.field-0.0 (sym (err_is c.from_residual.result _ Fault.Memory c.from_residual.ensures.1 told)))
 
 pub returns-in_err-paged-in-Ok-clause-unfailed : goal.returns-in_err-paged-in-Ok-clause-unfailed
-returns-in_err-paged-in-Ok-clause-unfailed g c rules h keeps stands told =
+returns-in_err-paged-in-Ok-clause-unfailed g c told =
     c.read_objects.ensures.unfailed (c.in_err-paged-in-Ok.was
     ∙ ap Err (sym (err_is c.from_residual-in_err-paged-in-Ok.result _ Fault.Memory c.from_residual-in_err-paged-in-Ok.ensures.1 told)))
     ∙ c.in-Ok.ensures.steady ∙ c.in_ok-root.ensures.steady
@@ -219,17 +219,9 @@ pub returns-in_ok-paged-in-Ok-clause-steady : goal.returns-in_ok-paged-in-Ok-cla
 returns-in_ok-paged-in-Ok-clause-steady g c = c.in_ok-paged-in-Ok.ensures.steady ∙ c.in-Ok.ensures.steady ∙ c.in_ok-root.ensures.steady
 
 pub returns-in-Err-Damaged-clause-unfailed : goal.returns-in-Err-Damaged-clause-unfailed
-returns-in-Err-Damaged-clause-unfailed g c rules h keeps stands told =
-    let disk = g.D.Device.disk in
-    let content = disk.content c.args.device.now in
-    let root = c.in_ok-root.root in
-    let root_same : disk.content c.synced_root.new.device ≡ content = c.synced_root.ensures.ran.seen keeps in
-    let None : ℕ → List ℕ → Type 0 = λ at x. (payloads : List (List ℕ)) (last : ℕ) → HoldsLog at payloads last x → ⊥ in
-    let At : ℕ → Type 0 = λ at. None at (disk.content c.synced_root.new.device) in
+returns-in-Err-Damaged-clause-unfailed g c told =
     let found : IsErrOf c.read_log.result (Fault.Damaged c.in-Err-Damaged.damage) = search common in
-    absurd (no_log_here rules content h stands root (c.in_ok-root.ensures.found keeps)
-    (subst (None (log_start root)) root_same
-    (subst At c.log_start.ensures.place (c.read_log.ensures.damaged (c.synced_root.ensures.ran.kept keeps) c.in-Err-Damaged.damage found))))
+    c.read_pages_alone.ensures.unfailed (err_same told) ∙ c.read_log.ensures.unfailed_damaged c.in-Err-Damaged.damage found ∙ c.in_ok-root.ensures.steady
 
 pub returns-in-Err-clause-unfailed : goal.returns-in-Err-clause-unfailed
-returns-in-Err-clause-unfailed g c rules h keeps stands told = c.in-Err.ensures.unfailed (ap Err (err_same told)) ∙ c.in_ok-root.ensures.steady
+returns-in-Err-clause-unfailed g c told = c.in-Err.ensures.unfailed (ap Err (err_same told)) ∙ c.in_ok-root.ensures.steady

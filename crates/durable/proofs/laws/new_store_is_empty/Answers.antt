@@ -8,5 +8,5 @@ use Rattle.durable.proofs.laws.new_store_is_empty.Goals as goal
 
 pub returns : goal.returns
 returns c format =
-    let root : Root = record { slot = A; generation = 1; first = 8; pages = 0; label = first_label format } in
+    let root : Root = record { slot = A; generation = 1; first_sector = 8; pages = 0; label = first_label format } in
     stands_new (new_content format) root (new_content-root format root refl refl refl refl refl) refl refl refl (new_content-log format)

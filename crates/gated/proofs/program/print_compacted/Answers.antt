@@ -10,6 +10,6 @@ returns-in-Ok-clause-line g c =
     let Told : List ℕ → Type 0 = λ text. g.O.Output.took c.args.output.now c.print.new.output (text ++ codes "\n") in
     let text : c.as_str.result.now ≡ compacted_text c.args.compacted.now = c.as_str.ensures.value ∙ c.in-Ok.ensures.ok
     ∙ six_joined (codes "generation ") (decimal c.args.compacted.now.generation) (codes ", ") (decimal c.args.compacted.now.pages)
-    (codes " pages at sector ") (decimal c.args.compacted.now.first)
+    (codes " pages at sector ") (decimal c.args.compacted.now.first_sector)
     in
     on_ok_weaker c.print.result (subst Told text) c.print.ensures.line

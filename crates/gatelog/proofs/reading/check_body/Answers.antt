@@ -62,7 +62,7 @@ returns-clause-found g c keeps =
     let same_count : c.sectors_of-count.result ≡ body_sectors size = c.sectors_of-count.ensures in
     let zeros = all-zeros (drop (4 + size - 512 * (body_sectors size - 1)) last) ((tested g here keeps).0 c.if-not-is_zero.false) in
     let found = body-found c.args.at size c.args.end c.in_ok-first.first last (g.D.Device.disk.content c.args.device.now) (c.requires.end keeps)
-    c.if-payload_length-gt-MOST_PAYLOAD.false (omega (arith, c.if-count-end.false, c.if-at-end.false, same_count))
+    c.if-payload_length-gt-MOST_PAYLOAD_BYTES.false (omega (arith, c.if-count-end.false, c.if-at-end.false, same_count))
     (c.in_ok-first.ensures.bytes keeps) c.read_u32-payload_length.ensures (is_last g here keeps) zeros
     in
     (found.0, same_count ∙ found.1, found.2)
@@ -88,12 +88,12 @@ too_many : (at end size count : ℕ) (payload c : List ℕ) → length c ≡ 512
     → end - at < count → ⊥
 too_many at end size count payload c whole is_size is_count holds many = omega (arith, body-inside at end payload c whole holds)
 
-pub returns-then-payload_length-gt-MOST_PAYLOAD-clause-damaged : goal.returns-then-payload_length-gt-MOST_PAYLOAD-clause-damaged
-returns-then-payload_length-gt-MOST_PAYLOAD-clause-damaged g c keeps is_damaged payload holds =
+pub returns-then-payload_length-gt-MOST_PAYLOAD_BYTES-clause-damaged : goal.returns-then-payload_length-gt-MOST_PAYLOAD_BYTES-clause-damaged
+returns-then-payload_length-gt-MOST_PAYLOAD_BYTES-clause-damaged g c keeps is_damaged payload holds =
     let is_size = body-size c.args.at c.read_u32-payload_length.result c.in_ok-first.first payload (g.D.Device.disk.content c.args.device.now)
     (c.in_ok-first.ensures.bytes keeps) c.read_u32-payload_length.ensures holds
     in
-    too_long c.read_u32-payload_length.result (length payload) is_size holds.limit c.if-payload_length-gt-MOST_PAYLOAD.true
+    too_long c.read_u32-payload_length.result (length payload) is_size holds.limit c.if-payload_length-gt-MOST_PAYLOAD_BYTES.true
 
 pub returns-then-count-end-clause-damaged : goal.returns-then-count-end-clause-damaged
 returns-then-count-end-clause-damaged g c keeps is_damaged payload holds =
@@ -127,11 +127,11 @@ returns-in_err-first-clause-ran g c = c.read_sector.ensures.ran
 pub returns-in_err-first-clause-cause : goal.returns-in_err-first-clause-cause
 returns-in_err-first-clause-cause g c = λ told. has_failed c.read_sector.ensures.cause c.in_err-first.was
 
-pub returns-then-payload_length-gt-MOST_PAYLOAD-clause-ran : goal.returns-then-payload_length-gt-MOST_PAYLOAD-clause-ran
-returns-then-payload_length-gt-MOST_PAYLOAD-clause-ran g c = c.read_sector.ensures.ran
+pub returns-then-payload_length-gt-MOST_PAYLOAD_BYTES-clause-ran : goal.returns-then-payload_length-gt-MOST_PAYLOAD_BYTES-clause-ran
+returns-then-payload_length-gt-MOST_PAYLOAD_BYTES-clause-ran g c = c.read_sector.ensures.ran
 
-pub returns-then-payload_length-gt-MOST_PAYLOAD-clause-cause : goal.returns-then-payload_length-gt-MOST_PAYLOAD-clause-cause
-returns-then-payload_length-gt-MOST_PAYLOAD-clause-cause g c = λ told. absurd (damaged_alone told)
+pub returns-then-payload_length-gt-MOST_PAYLOAD_BYTES-clause-cause : goal.returns-then-payload_length-gt-MOST_PAYLOAD_BYTES-clause-cause
+returns-then-payload_length-gt-MOST_PAYLOAD_BYTES-clause-cause g c = λ told. absurd (damaged_alone told)
 
 pub returns-then-count-end-clause-ran : goal.returns-then-count-end-clause-ran
 returns-then-count-end-clause-ran g c = c.read_sector.ensures.ran

@@ -1,4 +1,4 @@
-use Rattle.std.proofs.Common.{rules, arith, ◌∙◌, sym, ap, subst, ◌+◌, ℕ, map, Vec, Global}
+use Rattle.std.proofs.Common.{rules, arith, ◌∙◌, sym, ap, subst, ◌+◌, ℕ, map, Vec, Global, inl, inr, ⊎_elim}
 use Rattle.std.proofs.lemmas.Result.{IfOk-from_err}
 use Rattle.std.proofs.lemmas.List.{map_push}
 use Rattle.gatelog.specs.Walk.{HoldsRecord}
@@ -92,15 +92,18 @@ returns-in_err-push-clause-cause g c = λ told. absurd (memory_alone c.from_resi
 pub returns-clause-steady : goal.returns-clause-steady
 returns-clause-steady g c = c.loop-gate.invariant.steady
 
-pub returns-in_err-end-clause-memory : goal.returns-in_err-end-clause-memory
-returns-in_err-end-clause-memory g c = λ told. absurd (device_alone c.from_residual.ensures.1 told)
+pub returns-in_err-end-clause-unfailed : goal.returns-in_err-end-clause-unfailed
+returns-in_err-end-clause-unfailed g c = λ told.
+    ⊎_elim (λ is. absurd (device_alone c.from_residual.ensures.1 is)) (λ is. absurd (device_alone c.from_residual.ensures.1 is)) told
 
-pub returns-then-gate-end-clause-memory : goal.returns-then-gate-end-clause-memory
-returns-then-gate-end-clause-memory g c = λ told. absurd (damaged_alone told)
+pub returns-then-gate-end-clause-unfailed : goal.returns-then-gate-end-clause-unfailed
+returns-then-gate-end-clause-unfailed g c = λ told. c.loop-gate.invariant.steady
 
-pub returns-in_err-payload-clause-memory : goal.returns-in_err-payload-clause-memory
-returns-in_err-payload-clause-memory g c = λ told.
-    c.read_payload.ensures.memory (same_fault c.from_residual-in_err-payload.ensures.1 c.in_err-payload.was told) ∙ c.loop-gate.invariant.steady
+pub returns-in_err-payload-clause-unfailed : goal.returns-in_err-payload-clause-unfailed
+returns-in_err-payload-clause-unfailed g c = λ told.
+    let cause = c.from_residual-in_err-payload.ensures.1 in
+    c.read_payload.ensures.unfailed (⊎_elim (λ is. inl (same_fault cause c.in_err-payload.was is)) (λ is. inr (same_fault cause c.in_err-payload.was is)) told)
+    ∙ c.loop-gate.invariant.steady
 
-pub returns-in_err-push-clause-memory : goal.returns-in_err-push-clause-memory
-returns-in_err-push-clause-memory g c = λ told. c.in_ok-payload.ensures.steady ∙ c.loop-gate.invariant.steady
+pub returns-in_err-push-clause-unfailed : goal.returns-in_err-push-clause-unfailed
+returns-in_err-push-clause-unfailed g c = λ told. c.in_ok-payload.ensures.steady ∙ c.loop-gate.invariant.steady

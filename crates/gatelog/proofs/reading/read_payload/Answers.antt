@@ -6,7 +6,7 @@ use Rattle.gatelog.specs.Record.{part, sectors, body_sectors}
 use Rattle.gatelog.proofs.Exits.{same_fault, memory_alone, device_alone, damaged_alone, no_fault, never_too_long, has_failed, failed_after}
 use Rattle.gatelog.proofs.Walking.{same_then, one_record, payload-read, length-read}
 use Rattle.gatelog.proofs.reading.read_payload.Given.{Over}
-use Rattle.gatelog.proofs.reading.read_payload.Goals.{After-read_u32-payload_length, then-payload_length-gt-MOST_PAYLOAD-via-then-payload_length-gt-MOST_PAYLOAD, then-payload_length-gt-MOST_PAYLOAD-via-else-payload_length-gt-MOST_PAYLOAD+then-sectors_of-count}
+use Rattle.gatelog.proofs.reading.read_payload.Goals.{After-read_u32-payload_length, then-payload_length-gt-MOST_PAYLOAD_BYTES-via-then-payload_length-gt-MOST_PAYLOAD_BYTES, then-payload_length-gt-MOST_PAYLOAD_BYTES-via-else-payload_length-gt-MOST_PAYLOAD_BYTES+then-sectors_of-count}
 use Rattle.gatelog.proofs.reading.read_payload.Goals as goal
 
 -- what was read is the body, and in front of it stands the length that was told
@@ -25,8 +25,8 @@ was_read g c keeps =
     as_read : (n len count : ℕ) → n ≡ len → len ≡ count * 512 → n ≡ 512 * count
     as_read n len count is_len is_count = omega arith
 
-pub returns-then-payload_length-gt-MOST_PAYLOAD-clause-ran : goal.returns-then-payload_length-gt-MOST_PAYLOAD-clause-ran
-returns-then-payload_length-gt-MOST_PAYLOAD-clause-ran g c =
+pub returns-then-payload_length-gt-MOST_PAYLOAD_BYTES-clause-ran : goal.returns-then-payload_length-gt-MOST_PAYLOAD_BYTES-clause-ran
+returns-then-payload_length-gt-MOST_PAYLOAD_BYTES-clause-ran g c =
     same_then g.D.Device.disk c.args.device.now c.check_body.new.device c.read.new.self c.check_body.ensures.ran c.read.ensures.ran
 
 pub returns-in_err-read-clause-ran : goal.returns-in_err-read-clause-ran
@@ -57,19 +57,19 @@ returns-clause-ran g c =
 too_long : (size n : ℕ) → size ≡ n → n ≤ 67108864 → 67108864 < size → ⊥
 too_long size n is_size limit long = omega arith
 
-pub returns-then-payload_length-gt-MOST_PAYLOAD-clause-damaged : goal.returns-then-payload_length-gt-MOST_PAYLOAD-clause-damaged
-returns-then-payload_length-gt-MOST_PAYLOAD-clause-damaged g c keeps is_damaged payload holds =
+pub returns-then-payload_length-gt-MOST_PAYLOAD_BYTES-clause-damaged : goal.returns-then-payload_length-gt-MOST_PAYLOAD_BYTES-clause-damaged
+returns-then-payload_length-gt-MOST_PAYLOAD_BYTES-clause-damaged g c keeps is_damaged payload holds =
     let disk = g.D.Device.disk in
     let checked = c.in_ok-count.ensures.found keeps in
     let count = c.in_ok-count.count in
-    let read = was_read g (goal.at.returns-then-payload_length-gt-MOST_PAYLOAD-clause-damaged g c).After-read_u32-payload_length keeps in
+    let read = was_read g (goal.at.returns-then-payload_length-gt-MOST_PAYLOAD_BYTES-clause-damaged g c).After-read_u32-payload_length keeps in
     let is_size : c.read_u32-payload_length.result ≡ length checked.0 =
     length-read c.args.at count c.read_u32-payload_length.result checked.0 c.read.new.buffer (disk.content c.check_body.new.device) (disk.content c.args.device.now) checked.2 checked.1 read.0
     (c.check_body.ensures.ran.seen keeps) read.1 in
-    elim c.then-payload_length-gt-MOST_PAYLOAD.branch [
-      | then-payload_length-gt-MOST_PAYLOAD-via-then-payload_length-gt-MOST_PAYLOAD w ↦
-          too_long c.read_u32-payload_length.result (length checked.0) is_size checked.2.limit w.if-payload_length-gt-MOST_PAYLOAD.true
-      | then-payload_length-gt-MOST_PAYLOAD-via-else-payload_length-gt-MOST_PAYLOAD+then-sectors_of-count w ↦
+    elim c.then-payload_length-gt-MOST_PAYLOAD_BYTES.branch [
+      | then-payload_length-gt-MOST_PAYLOAD_BYTES-via-then-payload_length-gt-MOST_PAYLOAD_BYTES w ↦
+          too_long c.read_u32-payload_length.result (length checked.0) is_size checked.2.limit w.if-payload_length-gt-MOST_PAYLOAD_BYTES.true
+      | then-payload_length-gt-MOST_PAYLOAD_BYTES-via-else-payload_length-gt-MOST_PAYLOAD_BYTES+then-sectors_of-count w ↦
           w.if-sectors_of-count.true (w.sectors_of.ensures ∙ ap body_sectors is_size ∙ sym checked.1)
     ]
 
@@ -84,7 +84,7 @@ pub returns-clause-inside : goal.returns-clause-inside
 returns-clause-inside g c =
     let copy = c.in_ok-copy_of.field-0 in
     copy_inside c.args.at c.args.end c.in_ok-count.count c.read_u32-payload_length.result copy.len copy.items c.deref-2.result.now copy.ok.0 c.in_ok-copy_of.ensures
-    c.if-payload_length-gt-MOST_PAYLOAD.false (sym c.sectors_of.ensures ∙ c.if-sectors_of-count.false) c.in_ok-count.ensures.inside.1
+    c.if-payload_length-gt-MOST_PAYLOAD_BYTES.false (sym c.sectors_of.ensures ∙ c.if-sectors_of-count.false) c.in_ok-count.ensures.inside.1
 
 pub check_body-requires-clause-end : goal.check_body-requires-clause-end
 check_body-requires-clause-end g c = c.requires.end
@@ -144,11 +144,11 @@ pub returns-in_err-read-clause-cause : goal.returns-in_err-read-clause-cause
 returns-in_err-read-clause-cause g c = λ told.
     failed_after g.D.Device.disk c.args.device.now c.check_body.new.device c.read.new.self c.check_body.ensures.ran.count (has_failed c.read.ensures.cause c.in_err-read.was)
 
-pub returns-then-payload_length-gt-MOST_PAYLOAD-clause-found : goal.returns-then-payload_length-gt-MOST_PAYLOAD-clause-found
-returns-then-payload_length-gt-MOST_PAYLOAD-clause-found g c = λ keeps payload holds. tt
+pub returns-then-payload_length-gt-MOST_PAYLOAD_BYTES-clause-found : goal.returns-then-payload_length-gt-MOST_PAYLOAD_BYTES-clause-found
+returns-then-payload_length-gt-MOST_PAYLOAD_BYTES-clause-found g c = λ keeps payload holds. tt
 
-pub returns-then-payload_length-gt-MOST_PAYLOAD-clause-inside : goal.returns-then-payload_length-gt-MOST_PAYLOAD-clause-inside
-returns-then-payload_length-gt-MOST_PAYLOAD-clause-inside g c = tt
+pub returns-then-payload_length-gt-MOST_PAYLOAD_BYTES-clause-inside : goal.returns-then-payload_length-gt-MOST_PAYLOAD_BYTES-clause-inside
+returns-then-payload_length-gt-MOST_PAYLOAD_BYTES-clause-inside g c = tt
 
 pub returns-in_err-copy_of-clause-found : goal.returns-in_err-copy_of-clause-found
 returns-in_err-copy_of-clause-found g c = λ keeps payload holds. IfOk-from_err c.from_residual-in_err-copy_of.result _ c.from_residual-in_err-copy_of.ensures.0
@@ -165,11 +165,11 @@ returns-in_err-copy_of-clause-refusal g c = λ told. memory_alone c.from_residua
 pub returns-in_err-copy_of-clause-cause : goal.returns-in_err-copy_of-clause-cause
 returns-in_err-copy_of-clause-cause g c = λ told. absurd (memory_alone c.from_residual-in_err-copy_of.ensures.1 told)
 
-pub returns-then-payload_length-gt-MOST_PAYLOAD-clause-refusal : goal.returns-then-payload_length-gt-MOST_PAYLOAD-clause-refusal
-returns-then-payload_length-gt-MOST_PAYLOAD-clause-refusal g c = λ told. damaged_alone told
+pub returns-then-payload_length-gt-MOST_PAYLOAD_BYTES-clause-refusal : goal.returns-then-payload_length-gt-MOST_PAYLOAD_BYTES-clause-refusal
+returns-then-payload_length-gt-MOST_PAYLOAD_BYTES-clause-refusal g c = λ told. damaged_alone told
 
-pub returns-then-payload_length-gt-MOST_PAYLOAD-clause-cause : goal.returns-then-payload_length-gt-MOST_PAYLOAD-clause-cause
-returns-then-payload_length-gt-MOST_PAYLOAD-clause-cause g c = λ told. absurd (damaged_alone told)
+pub returns-then-payload_length-gt-MOST_PAYLOAD_BYTES-clause-cause : goal.returns-then-payload_length-gt-MOST_PAYLOAD_BYTES-clause-cause
+returns-then-payload_length-gt-MOST_PAYLOAD_BYTES-clause-cause g c = λ told. absurd (damaged_alone told)
 
 pub returns-clause-damaged : goal.returns-clause-damaged
 returns-clause-damaged g c = λ keeps told payload holds. no_fault told

@@ -7,4 +7,4 @@ pub returns-clause-written : goal.returns-clause-written
 returns-clause-written g c keeps =
     let disk = g.D.Device.disk in
     let At : ℕ → Type 0 = λ at. OnOk c.write.result (Holds (disk.content c.args.device.now) (512 * at) (replicate 512 0) (disk.content c.write.new.self)) in
-    subst At c.log_start.ensures.place (c.write.ensures.written keeps)
+    subst At c.log_sector.ensures.place (c.write.ensures.written keeps)

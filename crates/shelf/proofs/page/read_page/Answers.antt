@@ -14,7 +14,7 @@ returns-in_err-check-clause-damaged g c keeps is sound =
     let content : List ℕ = g.D.Device.disk.content c.args.device.now in
     let size : length c.in_ok-bytes.bytes.items ≡ 32768 = c.in_ok-bytes.ensures in
     let len : c.in_ok-bytes.bytes.len ≡ 32768 = omega (arith, size, c.in_ok-bytes.bytes.ok.0) in
-    let read = page_read c.args.at c.in_ok-bytes.bytes.len content c.in_ok-bytes.bytes.items c.deref_mut.result.now c.read.new.buffer size len
+    let read = page_read c.args.first_sector c.in_ok-bytes.bytes.len content c.in_ok-bytes.bytes.items c.deref_mut.result.now c.read.new.buffer size len
     c.deref_mut.ensures.value (c.in_ok-read.ensures.bytes keeps) (c.requires.inside keeps)
     in
     unsound _ c.in_err-check.field-0.0 ((c.in_err-check.ensures.damage c.in_err-check.field-0.0).0 refl) (subst (λ (bytes : List ℕ). IsSound bytes) (sym read) sound)
@@ -24,7 +24,7 @@ returns-clause-page g c keeps =
     let content : List ℕ = g.D.Device.disk.content c.args.device.now in
     let size : length c.in_ok-bytes.bytes.items ≡ 32768 = c.in_ok-bytes.ensures in
     let len : c.in_ok-bytes.bytes.len ≡ 32768 = omega (arith, size, c.in_ok-bytes.bytes.ok.0) in
-    let read = page_read c.args.at c.in_ok-bytes.bytes.len content c.in_ok-bytes.bytes.items c.deref_mut.result.now c.read.new.buffer size len
+    let read = page_read c.args.first_sector c.in_ok-bytes.bytes.len content c.in_ok-bytes.bytes.items c.deref_mut.result.now c.read.new.buffer size len
     c.deref_mut.ensures.value (c.in_ok-read.ensures.bytes keeps) (c.requires.inside keeps)
     in
     sym c.in_ok-check.ensures.found.are ∙ ap entries_in read
@@ -123,18 +123,18 @@ returns-in_err-check-clause-steady g c = IfOk-from_err c.from_residual-in_err-ch
 pub returns-clause-steady : goal.returns-clause-steady
 returns-clause-steady g c = c.in_ok-read.ensures.cause.well refl
 
-pub returns-in_err-bytes-clause-memory : goal.returns-in_err-bytes-clause-memory
-returns-in_err-bytes-clause-memory g c told = refl
+pub returns-in_err-bytes-clause-unfailed : goal.returns-in_err-bytes-clause-unfailed
+returns-in_err-bytes-clause-unfailed g c told = refl
 
-pub returns-in_err-read-clause-memory : goal.returns-in_err-read-clause-memory
-returns-in_err-read-clause-memory g c told =
+pub returns-in_err-read-clause-unfailed : goal.returns-in_err-read-clause-unfailed
+returns-in_err-read-clause-unfailed g c told =
     let is : ShelfFault.Memory ≡ ShelfFault.Device =
     err_is c.from_residual-in_err-read.result _ ShelfFault.Memory c.from_residual-in_err-read.ensures.1 told
     in
     absurd cc
 
-pub returns-in_err-check-clause-memory : goal.returns-in_err-check-clause-memory
-returns-in_err-check-clause-memory g c told = c.in_ok-read.ensures.cause.well refl
+pub returns-in_err-check-clause-unfailed : goal.returns-in_err-check-clause-unfailed
+returns-in_err-check-clause-unfailed g c told = c.in_ok-read.ensures.cause.well refl
 
-pub returns-clause-memory : goal.returns-clause-memory
-returns-clause-memory g c told = c.in_ok-read.ensures.cause.well refl
+pub returns-clause-unfailed : goal.returns-clause-unfailed
+returns-clause-unfailed g c told = c.in_ok-read.ensures.cause.well refl

@@ -20,7 +20,7 @@ returns-clause-found g c entries objects shelves of =
 pub returns-in_err-tell-clause-memory : goal.returns-in_err-tell-clause-memory
 returns-in_err-tell-clause-memory g c is =
     let told : of_shelf_fault c.in_err-tell.field-0.0 ≡ ObjectCacheFault.Memory = search rules in
-    c.tell.ensures.memory (c.in_err-tell.was ∙ ap (λ fault. Err fault) (memory_is c.in_err-tell.field-0.0 told))
+    c.tell.ensures.unfailed (c.in_err-tell.was ∙ ap (λ fault. Err fault) (memory_is c.in_err-tell.field-0.0 told))
 
 pub returns-clause-steady : goal.returns-clause-steady
 returns-clause-steady g c = c.in_ok-tell.ensures.steady

@@ -50,8 +50,8 @@ pub returns-in-Ok-check-clause-steady : goal.returns-in-Ok-check-clause-steady
 returns-in-Ok-check-clause-steady g c = ap g.D.Device.disk.failures c.into_device.ensures ∙ c.in-Ok-check.ensures.steady ∙ c.in-Ok.ensures.steady
 
 pub returns-in-Err-check-clause-unfailed : goal.returns-in-Err-check-clause-unfailed
-returns-in-Err-check-clause-unfailed g c rules h holds is =
+returns-in-Err-check-clause-unfailed g c is =
     ap g.D.Device.disk.failures c.into_device-in-Err-check.ensures ∙ c.check.ensures.unfailed (c.in-Err-check.is ∙ ap Err is) ∙ c.in-Ok.ensures.steady
 
 pub returns-in-Err-clause-unfailed : goal.returns-in-Err-clause-unfailed
-returns-in-Err-clause-unfailed g c rules h holds is = c.in-Err.ensures.unfailed rules h holds.keeps holds.read is
+returns-in-Err-clause-unfailed g c is = c.in-Err.ensures.unfailed is

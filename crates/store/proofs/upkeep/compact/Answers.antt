@@ -50,9 +50,9 @@ pub returns-in-Ok-compact-clause-steady : goal.returns-in-Ok-compact-clause-stea
 returns-in-Ok-compact-clause-steady g c = ap g.D.Device.disk.failures c.into_device.ensures ∙ c.in-Ok-compact.ensures.steady ∙ c.in-Ok.ensures.steady
 
 pub returns-in-Err-compact-clause-unfailed : goal.returns-in-Err-compact-clause-unfailed
-returns-in-Err-compact-clause-unfailed g c rules h holds told =
+returns-in-Err-compact-clause-unfailed g c told =
     ap g.D.Device.disk.failures c.into_device-in-Err-compact.ensures
     ∙ c.compact.ensures.unfailed (⊎_elim (λ is. inl (c.in-Err-compact.is ∙ ap Err is)) (λ is. inr (c.in-Err-compact.is ∙ ap Err is)) told) ∙ c.in-Ok.ensures.steady
 
 pub returns-in-Err-clause-unfailed : goal.returns-in-Err-clause-unfailed
-returns-in-Err-clause-unfailed g c rules h holds told = ⊎_elim (λ is. c.in-Err.ensures.unfailed rules h holds.keeps holds.read is) (λ is. absurd (c.in-Err.ensures.never_failed.1 is)) told
+returns-in-Err-clause-unfailed g c told = ⊎_elim (λ is. c.in-Err.ensures.unfailed is) (λ is. absurd (c.in-Err.ensures.never_failed.1 is)) told

@@ -34,9 +34,9 @@ returns-in-Err g c =
       never_failed = λ is. c.in-Err.ensures.never_failed.0 (only_failed_is c.in-Err.fault (sym c.from.ensures ∙ is));
       cause = λ is. c.in-Err.ensures.cause (only_device_is c.in-Err.fault (sym c.from.ensures ∙ is));
       steady = tt;
-      unfailed = λ rules h holds told.
+      unfailed = λ told.
           let Unchanged : UpgradeFault → Type 0 = λ x. (x ≡ upgrade.Memory) ⊎ IsRefusal x in
-          c.in-Err.ensures.unfailed rules h holds.keeps holds.read (opening_unfailed c.in-Err.fault c.in-Err.ensures.never_failed (subst Unchanged c.from.ensures told));
+          c.in-Err.ensures.unfailed (opening_unfailed c.in-Err.fault c.in-Err.ensures.never_failed (subst Unchanged c.from.ensures told));
     }
 
 pub returns-in-Ok-upgrade : goal.returns-in-Ok-upgrade
@@ -69,7 +69,7 @@ returns-in-Ok-upgrade g c =
       never_failed = tt;
       cause = tt;
       steady = ap disk.failures c.into_device.ensures ∙ c.in-Ok-upgrade.ensures.steady ∙ c.in-Ok.ensures.steady;
-      unfailed = λ rules h holds. tt;
+      unfailed = tt;
     }
 
 pub returns-in-Err-upgrade : goal.returns-in-Err-upgrade
@@ -110,5 +110,5 @@ returns-in-Err-upgrade g c =
           let Failed : g.row.D.Denot → Type 0 = λ d. HasFailed disk c.args.device d in
           subst Failed (sym same) (failed_since disk c.args.device opened.device new.device c.in-Ok.ensures.count (c.upgrade.ensures.cause (is ∙ ap Err failed)));
       steady = tt;
-      unfailed = λ rules h holds unchanged. ap disk.failures same ∙ c.upgrade.ensures.unfailed (unchanged_by c.upgrade.result told is unchanged) ∙ c.in-Ok.ensures.steady;
+      unfailed = λ unchanged. ap disk.failures same ∙ c.upgrade.ensures.unfailed (unchanged_by c.upgrade.result told is unchanged) ∙ c.in-Ok.ensures.steady;
     }

@@ -12,7 +12,7 @@ use Rattle.durable.proofs.store.Store.start_over.Goals as goal
 pub invariant_of-self : goal.invariant_of-self
 invariant_of-self g c =
     let place = c.restart-self.ensures.place in
-    let at = c.log_start.ensures.place in
+    let at = c.log_sector.ensures.place in
     let Ready : Root → Type 0 = λ root. ∥ IsReady g.D.Device.disk c.args.self.now.device root c.restart-self.result ∥₁ in
     record {
       numbers = ap (λ (core : State Decoded). core.rules) c.start_over.ensures.core ∙ c.requires.numbers ∙ sym (ap (λ (r : Root). rules_by r.label) c.start_over.ensures.root);

@@ -25,15 +25,15 @@ returns-in_err-check_works-clause-cause g c = λ works. absurd (works_not c.in_e
 
 pub returns-in_err-write_record-clause-any_moment : goal.returns-in_err-write_record-clause-any_moment
 returns-in_err-write_record-clause-any_moment g c = λ keeps payloads settled.
-    (c.write_record.ensures.stands keeps c.args.self.now.start payloads settled.holds settled.durable).moments
+    (c.write_record.ensures.stands keeps c.args.self.now.first_gate_sector payloads settled.holds settled.durable).moments
 
 pub returns-in_err-write_record-clause-found : goal.returns-in_err-write_record-clause-found
 returns-in_err-write_record-clause-found g c = λ keeps payloads settled.
-    (c.write_record.ensures.stands keeps c.args.self.now.start payloads settled.holds settled.durable).seen
+    (c.write_record.ensures.stands keeps c.args.self.now.first_gate_sector payloads settled.holds settled.durable).seen
 
 pub returns-in_err-write_record-clause-left : goal.returns-in_err-write_record-clause-left
 returns-in_err-write_record-clause-left g c = λ keeps payloads settled.
-    (c.write_record.ensures.stands keeps c.args.self.now.start payloads settled.holds settled.durable).crash
+    (c.write_record.ensures.stands keeps c.args.self.now.first_gate_sector payloads settled.holds settled.durable).crash
 
 pub returns-in_err-write_record-clause-cause : goal.returns-in_err-write_record-clause-cause
 returns-in_err-write_record-clause-cause g c = λ works. record {
@@ -47,12 +47,12 @@ returns-clause-ok g c = λ keeps payloads settled.
     let log = c.args.self.now in
     let payload = payload_of c.args.body in
     let content = g.D.Device.disk.content c.write_record.new.device in
-    let End : ℕ → Type 0 = λ last. HoldsLog log.start (payloads ++ payload ∷ []) last content in
+    let End : ℕ → Type 0 = λ last. HoldsLog log.first_gate_sector (payloads ++ payload ∷ []) last content in
     record {
       works = refl;
-      holds = subst End (behind log.last c.sectors.result (sectors payload) c.sectors.ensures)
-          (c.in_ok-write_record.ensures.longer keeps log.start payloads settled.holds settled.durable);
-      durable = λ left is_left. ap (take (512 * (log.last + (1 + c.sectors.result)) + 512)) (c.in_ok-write_record.ensures.durable keeps left is_left);
+      holds = subst End (behind log.last_gate_sector c.sectors.result (sectors payload) c.sectors.ensures)
+          (c.in_ok-write_record.ensures.longer keeps log.first_gate_sector payloads settled.holds settled.durable);
+      durable = λ left is_left. ap (take (512 * (log.last_gate_sector + (1 + c.sectors.result)) + 512)) (c.in_ok-write_record.ensures.durable keeps left is_left);
     }
   where
     behind : (last told count : ℕ) → told ≡ count → last + 1 + count ≡ last + (1 + told)
@@ -60,12 +60,12 @@ returns-clause-ok g c = λ keeps payloads settled.
 
 pub returns-clause-any_moment : goal.returns-clause-any_moment
 returns-clause-any_moment g c = λ keeps payloads settled.
-    (c.write_record.ensures.stands keeps c.args.self.now.start payloads settled.holds settled.durable).moments
+    (c.write_record.ensures.stands keeps c.args.self.now.first_gate_sector payloads settled.holds settled.durable).moments
 
 pub returns-clause-found : goal.returns-clause-found
 returns-clause-found g c = λ keeps payloads settled.
-    (c.write_record.ensures.stands keeps c.args.self.now.start payloads settled.holds settled.durable).seen
+    (c.write_record.ensures.stands keeps c.args.self.now.first_gate_sector payloads settled.holds settled.durable).seen
 
 pub returns-clause-left : goal.returns-clause-left
 returns-clause-left g c = λ keeps payloads settled.
-    (c.write_record.ensures.stands keeps c.args.self.now.start payloads settled.holds settled.durable).crash
+    (c.write_record.ensures.stands keeps c.args.self.now.first_gate_sector payloads settled.holds settled.durable).crash

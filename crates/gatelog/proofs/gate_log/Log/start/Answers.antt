@@ -5,7 +5,7 @@ use Rattle.gatelog.proofs.gate_log.Log.start.Goals as goal
 pub returns-clause-stands : goal.returns-clause-stands
 returns-clause-stands g c = λ keeps.
     let disk = g.D.Device.disk in
-    (refl, starts_closed c.args.at (disk.content c.args.device.now) (disk.content c.write.new.self) (c.requires keeps) (c.in_ok-write.ensures.written keeps))
+    (refl, starts_closed c.args.first_gate_sector (disk.content c.args.device.now) (disk.content c.write.new.self) (c.requires keeps) (c.in_ok-write.ensures.written keeps))
 
 pub returns-clause-written : goal.returns-clause-written
 returns-clause-written g c = c.in_ok-write.ensures.written

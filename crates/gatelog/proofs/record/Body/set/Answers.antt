@@ -8,5 +8,5 @@ pub returns : goal.returns
 returns c =
     let body = c.args.self.now in
     ap (part 4 body.payload_length) c.put.ensures.row
-    ∙ part-put 4 body.payload_length c.args.at c.args.with.now body.bytes.items
+    ∙ part-put 4 body.payload_length c.args.byte_offset c.args.with.now body.bytes.items
     (omega (arith, c.requires, length-part 4 body.payload_length body.bytes.items (omega (arith, body.size)))) (omega (arith, body.size))

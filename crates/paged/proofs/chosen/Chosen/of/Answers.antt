@@ -13,12 +13,12 @@ loop-key-preserved c = λ k has.
     let x : Key = c.key-item.result in
     let In : List Key → Type 0 = λ ks. Contains ks k in
     let more : take (i + 1) xs ≡ take i xs ++ x ∷ [] = take_more xs i x (omega arith) ∙ ap (λ (y : Key). take i xs ++ y ∷ []) (sym c.key-item.is) in
-    let bytes = c.in_ok-entry_key.field-0 in
+    let bytes = c.in_ok-object_key.field-0 in
     let keys = c.in_ok-insert.ensures.keys in
     ⊎_elim
     (λ before. has_still bytes c.loop-key.of_entries.keys c.insert.new.self.keys (1 ∷ key_bytes k) keys (c.loop-key.invariant k before))
     (λ same. has_inserted bytes c.loop-key.of_entries.keys c.insert.new.self.keys (1 ∷ key_bytes k) keys
-    (c.in_ok-entry_key.ensures ∙ ap (λ (q : Key). 1 ∷ key_bytes q) same))
+    (c.in_ok-object_key.ensures ∙ ap (λ (q : Key). 1 ∷ key_bytes q) same))
     (Contains-push_cases (take i xs) x k (subst In more has))
 
 pub returns : goal.returns

@@ -186,7 +186,7 @@ returns-in_err-chosen-clause-memory g c told = refl
 
 pub returns-in_err-first_keys-clause-memory : goal.returns-in_err-first_keys-clause-memory
 returns-in_err-first_keys-clause-memory g c told =
-    c.scan.ensures.memory (c.in_err-first_keys.was ∙ ap Err
+    c.scan.ensures.unfailed (c.in_err-first_keys.was ∙ ap Err
     (scan_memory c.from_residual-in_err-first_keys.result c.in_err-first_keys.field-0.0 c.from_residual-in_err-first_keys.ensures.1 told))
 
 pub returns-in_err-core-clause-memory : goal.returns-in_err-core-clause-memory

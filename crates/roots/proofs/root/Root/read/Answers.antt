@@ -20,7 +20,7 @@ returns-clause-some c =
     simp take_rest at c.is_zero.ensures
     in
     let generation : c.read_u64.result ≡ big_number 8 (drop 8 c.args.sector.now) = simp take_rest at c.read_u64.ensures in
-    let first : c.read_u64-first.result ≡ big_number 8 (drop 16 c.args.sector.now) = simp take_rest at c.read_u64-first.ensures in
+    let first : c.read_u64-first_sector.result ≡ big_number 8 (drop 16 c.args.sector.now) = simp take_rest at c.read_u64-first_sector.ensures in
     let pages : c.read_u32.result ≡ big_number 4 (drop 24 c.args.sector.now) = simp take_rest at c.read_u32.ensures in
     let revision : c.read_u64-2.result ≡ big_number 8 (drop 28 c.args.sector.now) = simp take_rest at c.read_u64-2.ensures in (
       refl,
@@ -28,7 +28,7 @@ returns-clause-some c =
         whole = c.requires;
         mark = c.in_ok-format.ensures.some;
         generation = sym generation;
-        first = sym first;
+        first_sector = sym first;
         pages = sym pages;
         revision = sym revision;
         in_data = omega arith;
@@ -36,7 +36,7 @@ returns-clause-some c =
       },
     )
 
-pub returns-then-first-lt8-clause-none : goal.returns-then-first-lt8-clause-none
-returns-then-first-lt8-clause-none c = λ root is.
-    let first : c.read_u64-first.result ≡ big_number 8 (drop 16 c.args.sector.now) = simp take_rest at c.read_u64-first.ensures in
-    omega (arith, first, is.first, is.in_data, c.if-first-lt8.true)
+pub returns-then-first_sector-lt8-clause-none : goal.returns-then-first_sector-lt8-clause-none
+returns-then-first_sector-lt8-clause-none c = λ root is.
+    let first : c.read_u64-first_sector.result ≡ big_number 8 (drop 16 c.args.sector.now) = simp take_rest at c.read_u64-first_sector.ensures in
+    omega (arith, first, is.first_sector, is.in_data, c.if-first_sector-lt8.true)

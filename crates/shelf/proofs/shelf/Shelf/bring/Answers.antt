@@ -100,17 +100,17 @@ returns-clause-cause g c is = absurd (no_fault is)
 pub returns-then-count-eq0-clause-steady : goal.returns-then-count-eq0-clause-steady
 returns-then-count-eq0-clause-steady g c = refl
 
-pub returns-then-count-eq0-clause-memory : goal.returns-then-count-eq0-clause-memory
-returns-then-count-eq0-clause-memory g c is = refl
+pub returns-then-count-eq0-clause-unfailed : goal.returns-then-count-eq0-clause-unfailed
+returns-then-count-eq0-clause-unfailed g c is = refl
 
 pub returns-in_err-fetch-clause-steady : goal.returns-in_err-fetch-clause-steady
 returns-in_err-fetch-clause-steady g c = IfOk-from_err c.from_residual.result _ c.from_residual.ensures.0
 
-pub returns-in_err-fetch-clause-memory : goal.returns-in_err-fetch-clause-memory
-returns-in_err-fetch-clause-memory g c is = c.fetch.ensures.memory (was_err c.in_err-fetch.was (err_is c.from_residual.result _ ShelfFault.Memory c.from_residual.ensures.1 is))
+pub returns-in_err-fetch-clause-unfailed : goal.returns-in_err-fetch-clause-unfailed
+returns-in_err-fetch-clause-unfailed g c is = c.fetch.ensures.unfailed (was_err c.in_err-fetch.was (err_is c.from_residual.result _ ShelfFault.Memory c.from_residual.ensures.1 is))
 
 pub returns-clause-steady : goal.returns-clause-steady
 returns-clause-steady g c = c.in_ok-fetch.ensures.steady
 
-pub returns-clause-memory : goal.returns-clause-memory
-returns-clause-memory g c is = c.in_ok-fetch.ensures.steady
+pub returns-clause-unfailed : goal.returns-clause-unfailed
+returns-clause-unfailed g c is = c.in_ok-fetch.ensures.steady

@@ -11,7 +11,7 @@ returns-in-Some g c entries shelves =
     let shelf = c.args.self.now in
     let key : List ℕ = c.args.key.now in
     let pages : List (List Entry) = pages_of g.D.Device.disk c.args.device.now shelf in
-    let is : c.args.place ≡ Some c.in-Some.page = search rules in
+    let is : c.args.page ≡ Some c.in-Some.page = search rules in
     let There : Option ℕ → Type 0 = λ place. IfSome place (λ page. (page < (root_of shelf).pages) × Has shelf page) in
     let there : (c.in-Some.page < (root_of shelf).pages) × Has shelf c.in-Some.page = subst There is c.requires.there in
     c.find.ensures
@@ -24,6 +24,6 @@ returns-in-None g c entries shelves =
     let shelf = c.args.self.now in
     let key : List ℕ = c.args.key.now in
     let pages : List (List Entry) = pages_of g.D.Device.disk c.args.device.now shelf in
-    let is : c.args.place ≡ None = search rules in
+    let is : c.args.page ≡ None = search rules in
     sym (c.requires.found pages shelves.index ∙ ap (λ place. option_map_or (λ page. find bytes_cmp key (get_or pages page [])) place None) is)
     ∙ ap (λ (es : List Entry). find bytes_cmp key es) shelves.are

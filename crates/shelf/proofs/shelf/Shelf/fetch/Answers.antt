@@ -48,9 +48,9 @@ returns-in_err-owned-clause-damaged g c entries shelves is =
     let content : List ℕ = g.D.Device.disk.content c.args.device.now in
     let held = shelves.held (omega (arith, c.requires.number)) in
     let told : IsErrOf c.read_page.result ShelfFault.Page = search rules in
-    let place : root.first + 64 * c.args.page ≡ root.first + 64 * c.from.result = omega (arith, c.from.ensures) in
+    let place : root.first_sector + 64 * c.args.page ≡ root.first_sector + 64 * c.from.result = omega (arith, c.from.ensures) in
     c.read_page.ensures.damaged held.keeps told
-    (subst (λ at. IsSound (part (512 * at) 32768 content)) place (sound_at root.first root.pages c.args.page content held.sound c.requires.number))
+    (subst (λ at. IsSound (part (512 * at) 32768 content)) place (sound_at root.first_sector root.pages c.args.page content held.sound c.requires.number))
 
 pub returns-in_err-put-clause-kept : goal.returns-in_err-put-clause-kept
 returns-in_err-put-clause-kept g c entries shelves =
@@ -71,10 +71,10 @@ returns-clause-kept g c entries shelves =
     let root = c.args.self.now.root in
     let content : List ℕ = g.D.Device.disk.content c.args.device.now in
     let still = ran_same _ _ _ c.read_page.ensures.ran held.keeps in
-    let place : root.first + 64 * c.from.result ≡ root.first + 64 * c.args.page = omega (arith, c.from.ensures) in
+    let place : root.first_sector + 64 * c.from.result ≡ root.first_sector + 64 * c.args.page = omega (arith, c.from.ensures) in
     let read : c.in_ok-owned.owned ≡ get_or (pages_of g.D.Device.disk c.args.device.now c.args.self.now) c.args.page [] =
     c.in_ok-owned.ensures.page held.keeps ∙ ap (λ at. entries_in (part (512 * at) 32768 content)) place
-    ∙ sym (get-pages_at root.first root.pages c.args.page content c.requires.number)
+    ∙ sym (get-pages_at root.first_sector root.pages c.args.page content c.requires.number)
     in (
       still.0,
       still.1,
@@ -160,23 +160,23 @@ returns-clause-cause g c is = absurd (no_fault is)
 pub returns-then-promote-clause-steady : goal.returns-then-promote-clause-steady
 returns-then-promote-clause-steady g c = refl
 
-pub returns-then-promote-clause-memory : goal.returns-then-promote-clause-memory
-returns-then-promote-clause-memory g c is = refl
+pub returns-then-promote-clause-unfailed : goal.returns-then-promote-clause-unfailed
+returns-then-promote-clause-unfailed g c is = refl
 
 pub returns-in_err-owned-clause-steady : goal.returns-in_err-owned-clause-steady
 returns-in_err-owned-clause-steady g c = IfOk-from_err c.from_residual.result _ c.from_residual.ensures.0
 
-pub returns-in_err-owned-clause-memory : goal.returns-in_err-owned-clause-memory
-returns-in_err-owned-clause-memory g c is = c.read_page.ensures.memory (was_err c.in_err-owned.was (err_is c.from_residual.result _ ShelfFault.Memory c.from_residual.ensures.1 is))
+pub returns-in_err-owned-clause-unfailed : goal.returns-in_err-owned-clause-unfailed
+returns-in_err-owned-clause-unfailed g c is = c.read_page.ensures.unfailed (was_err c.in_err-owned.was (err_is c.from_residual.result _ ShelfFault.Memory c.from_residual.ensures.1 is))
 
 pub returns-in_err-put-clause-steady : goal.returns-in_err-put-clause-steady
 returns-in_err-put-clause-steady g c = IfOk-from_err c.from_residual-in_err-put.result _ c.from_residual-in_err-put.ensures.0
 
-pub returns-in_err-put-clause-memory : goal.returns-in_err-put-clause-memory
-returns-in_err-put-clause-memory g c is = c.in_ok-owned.ensures.steady
+pub returns-in_err-put-clause-unfailed : goal.returns-in_err-put-clause-unfailed
+returns-in_err-put-clause-unfailed g c is = c.in_ok-owned.ensures.steady
 
 pub returns-clause-steady : goal.returns-clause-steady
 returns-clause-steady g c = c.in_ok-owned.ensures.steady
 
-pub returns-clause-memory : goal.returns-clause-memory
-returns-clause-memory g c is = c.in_ok-owned.ensures.steady
+pub returns-clause-unfailed : goal.returns-clause-unfailed
+returns-clause-unfailed g c is = c.in_ok-owned.ensures.steady

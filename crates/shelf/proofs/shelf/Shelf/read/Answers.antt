@@ -19,9 +19,9 @@ returns-clause-page g c entries shelves =
     let root = c.args.self.now.root in
     let content : List ℕ = g.D.Device.disk.content c.args.device.now in
     let held = shelves.held (omega (arith, c.requires.number)) in
-    let place : root.first + 64 * c.from.result ≡ root.first + 64 * c.args.page = omega (arith, c.from.ensures) in
-    let there : entries_in (part (512 * (root.first + 64 * c.from.result)) 32768 content) ≡ get_or (pages_of g.D.Device.disk c.args.device.now c.args.self.now) c.args.page [] =
-    ap (λ at. entries_in (part (512 * at) 32768 content)) place ∙ sym (get-pages_at root.first root.pages c.args.page content c.requires.number)
+    let place : root.first_sector + 64 * c.from.result ≡ root.first_sector + 64 * c.args.page = omega (arith, c.from.ensures) in
+    let there : entries_in (part (512 * (root.first_sector + 64 * c.from.result)) 32768 content) ≡ get_or (pages_of g.D.Device.disk c.args.device.now c.args.self.now) c.args.page [] =
+    ap (λ at. entries_in (part (512 * at) 32768 content)) place ∙ sym (get-pages_at root.first_sector root.pages c.args.page content c.requires.number)
     in
     let Read : List Entry → Type 0 = λ page. IfOk c.read_page.result (λ read. read ≡ page) in
     subst Read there (c.read_page.ensures.page held.keeps)
@@ -38,12 +38,12 @@ returns-clause-damaged g c entries shelves is =
     let root = c.args.self.now.root in
     let content : List ℕ = g.D.Device.disk.content c.args.device.now in
     let held = shelves.held (omega (arith, c.requires.number)) in
-    let place : root.first + 64 * c.args.page ≡ root.first + 64 * c.from.result = omega (arith, c.from.ensures) in
+    let place : root.first_sector + 64 * c.args.page ≡ root.first_sector + 64 * c.from.result = omega (arith, c.from.ensures) in
     c.read_page.ensures.damaged held.keeps is
-    (subst (λ at. IsSound (part (512 * at) 32768 content)) place (sound_at root.first root.pages c.args.page content held.sound c.requires.number))
+    (subst (λ at. IsSound (part (512 * at) 32768 content)) place (sound_at root.first_sector root.pages c.args.page content held.sound c.requires.number))
 
 pub returns-clause-steady : goal.returns-clause-steady
 returns-clause-steady g c = c.read_page.ensures.steady
 
-pub returns-clause-memory : goal.returns-clause-memory
-returns-clause-memory g c = c.read_page.ensures.memory
+pub returns-clause-unfailed : goal.returns-clause-unfailed
+returns-clause-unfailed g c = c.read_page.ensures.unfailed

@@ -107,13 +107,13 @@ returns-clause-cause g c is = absurd (no_fault is)
 pub returns-in_err-tell_one-clause-steady : goal.returns-in_err-tell_one-clause-steady
 returns-in_err-tell_one-clause-steady g c = IfOk-from_err c.from_residual.result _ c.from_residual.ensures.0
 
-pub returns-in_err-tell_one-clause-memory : goal.returns-in_err-tell_one-clause-memory
-returns-in_err-tell_one-clause-memory g c is =
-    c.tell_one.ensures.memory (was_err c.in_err-tell_one.was (err_is c.from_residual.result _ ShelfFault.Memory c.from_residual.ensures.1 is))
+pub returns-in_err-tell_one-clause-unfailed : goal.returns-in_err-tell_one-clause-unfailed
+returns-in_err-tell_one-clause-unfailed g c is =
+    c.tell_one.ensures.unfailed (was_err c.in_err-tell_one.was (err_is c.from_residual.result _ ShelfFault.Memory c.from_residual.ensures.1 is))
     ∙ c.loop-i.invariant.steady
 
 pub returns-clause-steady : goal.returns-clause-steady
 returns-clause-steady g c = c.loop-i.invariant.steady
 
-pub returns-clause-memory : goal.returns-clause-memory
-returns-clause-memory g c is = c.loop-i.invariant.steady
+pub returns-clause-unfailed : goal.returns-clause-unfailed
+returns-clause-unfailed g c is = c.loop-i.invariant.steady

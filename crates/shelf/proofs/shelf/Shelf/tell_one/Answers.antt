@@ -39,7 +39,7 @@ returns-in_err-fetch-in-Kept g c =
       ran = fetch.ran;
       cause = λ is. fetch.cause (was_err was (err_is handed.result _ ShelfFault.Device handed.ensures.1 is));
       steady = IfOk-from_err handed.result _ handed.ensures.0;
-      memory = λ is. fetch.memory (was_err was (err_is handed.result _ ShelfFault.Memory handed.ensures.1 is));
+      unfailed = λ is. fetch.unfailed (was_err was (err_is handed.result _ ShelfFault.Memory handed.ensures.1 is));
     }
 
 pub returns-in_ok-fetch-in-Kept : goal.returns-in_ok-fetch-in-Kept
@@ -67,7 +67,7 @@ returns-in_ok-fetch-in-Kept g c =
       ran = fetch.ran;
       cause = λ is. absurd (never_device c.tell_page.result telling.refusal is);
       steady = on_ok_weaker c.tell_page.result (λ told. c.in_ok-fetch-in-Kept.ensures.steady) telling.told;
-      memory = λ is. c.in_ok-fetch-in-Kept.ensures.steady;
+      unfailed = λ is. c.in_ok-fetch-in-Kept.ensures.steady;
     }
 
 pub returns-in-Passing : goal.returns-in-Passing
@@ -88,7 +88,7 @@ returns-in-Passing g c =
       ran = not_yet disk device Same (λ c. refl) (λ keeps content since. g.met.D.Device.only_now device content keeps since);
       cause = λ is. absurd (never_device told telling.refusal is);
       steady = on_ok_weaker told (λ told. refl) telling.told;
-      memory = λ is. refl;
+      unfailed = λ is. refl;
     }
 
 pub returns-in_err-owned-in-Passing-2 : goal.returns-in_err-owned-in-Passing-2
@@ -107,7 +107,7 @@ returns-in_err-owned-in-Passing-2 g c =
       ran = read.ran;
       cause = λ is. read.cause (was_err was (err_is handed.result _ ShelfFault.Device handed.ensures.1 is));
       steady = IfOk-from_err handed.result _ handed.ensures.0;
-      memory = λ is. read.memory (was_err was (err_is handed.result _ ShelfFault.Memory handed.ensures.1 is));
+      unfailed = λ is. read.unfailed (was_err was (err_is handed.result _ ShelfFault.Memory handed.ensures.1 is));
     }
 
 pub returns-in_ok-owned-in-Passing-2 : goal.returns-in_ok-owned-in-Passing-2
@@ -132,5 +132,5 @@ returns-in_ok-owned-in-Passing-2 g c =
       ran = read.ran;
       cause = λ is. absurd (never_device told telling.refusal is);
       steady = on_ok_weaker told (λ told. c.in_ok-owned-in-Passing-2.ensures.steady) telling.told;
-      memory = λ is. c.in_ok-owned-in-Passing-2.ensures.steady;
+      unfailed = λ is. c.in_ok-owned-in-Passing-2.ensures.steady;
     }

@@ -33,7 +33,7 @@ returns-in_err-bytes-clause-memory g c is = refl
 pub returns-in_err-place-clause-memory : goal.returns-in_err-place-clause-memory
 returns-in_err-place-clause-memory g c is =
     let told : of_shelf_fault c.in_err-place.field-0.0 ≡ ObjectCacheFault.Memory = search rules in
-    c.bring.ensures.memory (c.in_err-place.was ∙ ap (λ fault. Err fault) (memory_is c.in_err-place.field-0.0 told))
+    c.bring.ensures.unfailed (c.in_err-place.was ∙ ap (λ fault. Err fault) (memory_is c.in_err-place.field-0.0 told))
 
 pub returns-clause-steady : goal.returns-clause-steady
 returns-clause-steady g c = on_any c.read.result c.in_ok-place.ensures.steady

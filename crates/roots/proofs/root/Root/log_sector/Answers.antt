@@ -1,5 +1,5 @@
 use Rattle.roots.proofs.Counting.{one_counts}
-use Rattle.roots.proofs.root.Root.log_start.Goals as goal
+use Rattle.roots.proofs.root.Root.log_sector.Goals as goal
 
 pub returns-clause-one_root : goal.returns-clause-one_root
 returns-clause-one_root c = one_counts
