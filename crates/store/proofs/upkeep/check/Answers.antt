@@ -4,7 +4,7 @@ use Rattle.roots.specs.declared.root.Root.{Root}
 use Rattle.durable.specs.Settled.{root_of}
 use Rattle.durable.proofs.Answering.{settled_serves}
 use Rattle.durable.proofs.Numbers.{history_kept}
-use Rattle.store.proofs.Keeping.{kept_read, same_root, told_of_view}
+use Rattle.store.proofs.Keeping.{kept_read, kept_unopened, same_root, told_of_view}
 use Rattle.store.proofs.upkeep.check.Goals as goal
 
 pub returns-in-Err-clause-undamaged : goal.returns-in-Err-clause-undamaged
@@ -55,3 +55,8 @@ returns-in-Err-check-clause-unfailed g c is =
 
 pub returns-in-Err-clause-unfailed : goal.returns-in-Err-clause-unfailed
 returns-in-Err-clause-unfailed g c is = c.in-Err.ensures.unfailed is
+
+pub returns-in-Err-clause-failed : goal.returns-in-Err-clause-failed
+returns-in-Err-clause-failed g c rules h holds =
+    kept_unopened rules g.D.Device.disk c.args.device c.in-Err.device h holds (c.in-Err.ensures.any_moment_err holds.keeps) (c.in-Err.ensures.content_err holds.keeps)
+    (c.in-Err.ensures.left_err holds.keeps)

@@ -4,7 +4,7 @@ use Rattle.roots.specs.declared.root.Root.{Root}
 use Rattle.durable.specs.Settled.{root_of, kept_rules}
 use Rattle.durable.proofs.Numbers.{format_of}
 use Rattle.store.specs.Upkeep.{IsWrittenAnew}
-use Rattle.store.proofs.Keeping.{kept_settled, kept_failed, same_root}
+use Rattle.store.proofs.Keeping.{kept_settled, kept_failed, kept_unopened, same_root}
 use Rattle.store.proofs.upkeep.compact.Goals as goal
 
 pub returns-in-Err-clause-undamaged : goal.returns-in-Err-clause-undamaged
@@ -56,3 +56,8 @@ returns-in-Err-compact-clause-unfailed g c told =
 
 pub returns-in-Err-clause-unfailed : goal.returns-in-Err-clause-unfailed
 returns-in-Err-clause-unfailed g c told = ⊎_elim (λ is. c.in-Err.ensures.unfailed is) (λ is. absurd (c.in-Err.ensures.never_failed.1 is)) told
+
+pub returns-in-Err-clause-failed : goal.returns-in-Err-clause-failed
+returns-in-Err-clause-failed g c rules h holds =
+    kept_unopened rules g.D.Device.disk c.args.device c.in-Err.device h holds (c.in-Err.ensures.any_moment_err holds.keeps) (c.in-Err.ensures.content_err holds.keeps)
+    (c.in-Err.ensures.left_err holds.keeps)
