@@ -98,7 +98,7 @@ impl<D: Device> Store<D> {
         }
     }
 
-    // Takes the step of a request, after those of its group, whose writes are gathered and not on the device yet.
+    /// Takes the step of a request, after those of its group, whose writes are gathered and not on the device yet.
     pub(super) fn step(
         &mut self,
         alloc: Global,
@@ -122,7 +122,7 @@ impl<D: Device> Store<D> {
         Ok(reply)
     }
 
-    // Appends the writes of a group, if there are any.
+    /// Appends the writes of a group, if there are any.
     pub(super) fn append_group(&mut self, group: Group) -> Result<(), Fault>
         requires serves { serves self.old ≡ true }
         requires few { count_of group ≤ group_limit }

@@ -119,7 +119,7 @@ impl<D: Device> Store<D> {
         self.write_next(alloc, next)
     }
 
-    // What the next generation has. Where the device fails, or what is read of it is damaged, the store serves no more.
+    /// What the next generation has. Where the device fails, or what is read of it is damaged, the store serves no more.
     pub(super) fn next(&mut self, alloc: Global) -> Result<NextCheckpoint, Fault>
         requires serves { serves self.old ≡ true }
         ensures entries { (v : View) → IsShown self.old v → IfOk result (λ n. in_list n.entries ≡ entries_of v) }
@@ -146,8 +146,8 @@ impl<D: Device> Store<D> {
         Err(self.stop_for(Fault::Damaged(Damage::Entry)))
     }
 
-    // Writes the next generation, whose entries ascend: a crash leaves the history that stood, or the one that it keeps. After a failure the store serves
-    // no more.
+    /// Writes the next generation, whose entries ascend: a crash leaves the history that stood, or the one that it keeps. After a failure the store serves
+    /// no more.
     pub(super) fn write_next(
         &mut self,
         alloc: Global,
