@@ -10,7 +10,8 @@ use Rattle.window.specs.declared.event.Change.{Change}
 use Rattle.window.specs.declared.event.Change.TheVariants.{Added, Modified, Deleted}
 use Rattle.window.specs.declared.event.Event.{Event}
 use Rattle.documents.specs.Document.{Document}
-use Rattle.records.proofs.Writes.{key-fits, same-documents}
+use Rattle.records.proofs.Frames.{key-fits}
+use Rattle.records.proofs.Writes.{same-documents}
 use Rattle.pages.specs.Page.{Entry}
 use Rattle.records.specs.Entries.{object_entry, event_entry, change_number}
 use Rattle.records.specs.Holding.{IsStorableObject, IsStorableEvent}

@@ -14,8 +14,8 @@ use crate::stored_write::{StoredWrite, read_one};
 use byteorder::{BigEndian, ByteOrder};
 use std::alloc::Global;
 
-// The number of writes that a record may hold, and what stands after it.
-fn split_count(payload: &[u8]) -> Option<(u16, &[u8])>
+/// The number of writes that a record may hold, and what stands after it.
+pub(crate) fn split_count(payload: &[u8]) -> Option<(u16, &[u8])>
     ensures parts { IfSome result (λ parts. payload.now ≡ big_bytes 2 parts.0 ++ parts.1.now) }
     ensures some { IfSome result (λ parts. 1 ≤ parts.0) }
     ensures few { IfSome result (λ parts. parts.0 ≤ group_limit) }

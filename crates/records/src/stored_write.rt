@@ -4,7 +4,8 @@ ghost use Rattle.names.specs.Key.{Key as KeyData, is_key, key_bytes};
 ghost use Rattle.documents.specs.Document.{Document};
 ghost use Rattle.requests.specs.Codes.{document_in};
 ghost use Rattle.documents.specs.Form.{HasForm};
-ghost use Rattle.histories.specs.History.{Write, put, delete};
+ghost use Rattle.fields.specs.Field.{field};
+ghost use Rattle.histories.specs.History.{Write, put};
 ghost use Rattle.records.specs.declared.fault.RecordFault.TheVariants as RecordFault;
 ghost use Rattle.records.specs.Payload.{fields, write_bytes, IsStorable};
 ghost use Rattle.records.specs.WriteOf.{write_of};
@@ -40,7 +41,7 @@ pub(crate) fn read_one(alloc: Global, bytes: &[u8]) -> Result<(StoredWrite<'_>, 
             Ok((StoredWrite::Put(manifest, plans), rest))
         }
         DELETE => {
-            let (key, rest) = read_delete(alloc, fields)?;
+            let (key, rest) = read_key_field(alloc, fields)?;
             Ok((StoredWrite::Delete(key), rest))
         }
         _ => Err(RecordFault::Damaged),
@@ -108,12 +109,12 @@ pub fn read_document(
     Ok(manifest)
 }
 
-// Reads the field of a deletion, and hands on what stands after it.
-fn read_delete(alloc: Global, bytes: &[u8]) -> Result<(Key, &[u8]), RecordFault>
-    ensures write { IfOk result (λ r. fields (delete r.0) ++ r.1.now ≡ bytes.now) }
+/// Reads the key that the bytes begin with, behind its number, and hands on what stands after it. `Damaged` where they begin with no well-formed key.
+pub(crate) fn read_key_field(alloc: Global, bytes: &[u8]) -> Result<(Key, &[u8]), RecordFault>
+    ensures field { IfOk result (λ r. field 2 (key_bytes r.0) ++ r.1.now ≡ bytes.now) }
     ensures form { IfOk result (λ r. IsTrue (is_key r.0)) }
     ensures damaged { IsErrOf result RecordFault.Damaged → (k : KeyData) (rest : List ℕ)
-        → IsTrue (is_key k) → fields (delete k) ++ rest ≢ bytes.now }
+        → IsTrue (is_key k) → field 2 (key_bytes k) ++ rest ≢ bytes.now }
 {
     let Some((key, rest)) = short_field(bytes) else {
         return Err(RecordFault::Damaged);

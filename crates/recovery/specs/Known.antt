@@ -1,5 +1,5 @@
 -- What memory knows of the keys that a log writes.
-use Rattle.std.specs.Prelude.{◌≡◌, ℕ, List, map, Contains}
+use Rattle.std.specs.Prelude.{◌≡◌, ℕ, List, [], ◌∷◌, ◌++◌, map, Contains}
 use Rattle.std.specs.List.{AllByRecursion}
 use Rattle.names.specs.Key.{Key}
 use Rattle.histories.specs.declared.stored.Stored.{Stored}
@@ -8,6 +8,7 @@ use Rattle.histories.specs.History.{put, delete}
 use Rattle.holdings.specs.Holdings.{State}
 use Rattle.holdings.specs.Known.{IsKnown}
 use Rattle.records.specs.Payload as bytes
+use Rattle.records.specs.Frames.{IsFramed}
 use Rattle.decoded.specs.Decoded.{Decoded}
 
 -- the key that a write writes
@@ -21,6 +22,15 @@ pub record Writes (payload : List ℕ) (key : Key) : Type 0 where
   pub group : bytes.IsGroup writes
   pub payload_is : bytes.payload writes ≡ payload
   pub has : Contains (map written_key writes) key
+
+-- The bytes are the payload of writes which a record can hold.
+abbrev pub IsOfGroup : List ℕ → Type 0
+IsOfGroup found = (ws : List (plain.Write (List ℕ))) × bytes.IsGroup ws × (bytes.payload ws ≡ found)
+
+-- Each payload is one as far as its writes and their fields go, and these are the keys of all of them, in order.
+abbrev pub AreKeysOf : (payloads : List (List ℕ)) → List Key → Type 0
+AreKeysOf [] keys = keys ≡ []
+AreKeysOf (payload ∷ payloads) keys = (own : List Key) × (others : List Key) × IsFramed payload own × AreKeysOf payloads others × (keys ≡ own ++ others)
 
 -- Memory knows each key that these payloads write, over the objects that lie below.
 abbrev pub AllKnown : State Decoded → List (Key × Stored Decoded) → (payloads : List (List ℕ)) → Type 0

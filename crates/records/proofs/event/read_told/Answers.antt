@@ -4,7 +4,7 @@ use Rattle.fields.proofs.Fields.{same-fields}
 use Rattle.jsondoc.specs.Json.{text}
 use Rattle.names.specs.Key.{key_bytes}
 use Rattle.records.specs.declared.fault.RecordFault.TheVariants as RecordFault
-use Rattle.records.proofs.Writes.{key-fits}
+use Rattle.records.proofs.Frames.{key-fits}
 use Rattle.records.proofs.event.read_told.Goals as goal
 
 pub returns-in_default-clause-damaged : goal.returns-in_default-clause-damaged

@@ -1,57 +1,43 @@
-use Rattle.std.proofs.Common.{rules, arith, ◌≡◌, ◌∙◌, sym, ap, subst, map, take, ◌+◌, ◌++◌, ◌∷◌, [], List, ℕ, Vec, Global, Contains}
+use Rattle.std.proofs.Common.{rules, arith, ◌≡◌, ◌∙◌, sym, ap, subst, map, take, ◌+◌, ◌++◌, ◌∷◌, [], List, ℕ, Vec, Global}
 use Rattle.std.proofs.lemmas.List.{map_more, take_all}
 use Rattle.std.specs.Prelude.{IsErrOf}
-use Rattle.recovery.specs.declared.fault.RecoveryFault.TheVariants as RecoveryFault
-use Rattle.recovery.proofs.Written.{all_added, none_added}
+use Rattle.names.specs.Key.{Key}
+use Rattle.records.specs.declared.fault.RecordFault.TheVariants as RecordFault
+use Rattle.records.specs.Frames.{IsFramed}
+use Rattle.recovery.specs.Known.{AreKeysOf}
+use Rattle.recovery.proofs.Written.{keys_more, framed_at}
 use Rattle.recovery.proofs.Knowing.{contains_at}
 use Rattle.recovery.proofs.keys.written_keys.Goals as goal
 
 abbrev items : Vec ℕ Global → List ℕ
 items v = v.items
 
-pub loop-payload-init : goal.loop-payload-init
-loop-payload-init c = record {
-  all = λ payload key has writes. absurd (omega (arith, has.1));
-  only = λ key has. absurd (omega (arith, has.1));
-}
-
-pub returns-in_err-add_written-clause-damaged : goal.returns-in_err-add_written-clause-damaged
-returns-in_err-add_written-clause-damaged c = λ is_damaged.
-    let told : IsErrOf c.add_written.result RecoveryFault.Damaged = search rules in
-    let x = c.payload-item.result in (
-      x.items,
-      contains_at items c.args.payloads.now c.loop-payload.payload-index x (omega arith) c.payload-item.is,
-      λ ws group is. c.add_written.ensures.damaged told ws group (is ∙ sym c.deref.ensures.value),
-    )
+pub returns-in_err-own-clause-damaged : goal.returns-in_err-own-clause-damaged
+returns-in_err-own-clause-damaged c = λ is_damaged keys are.
+    let told : IsErrOf c.read_keys.result RecordFault.Damaged = search rules in
+    let x = c.payload-item.result in
+    let framed = framed_at (map items c.args.payloads.now) x.items keys are
+    (contains_at items c.args.payloads.now c.loop-payload.payload-index x (omega arith) c.payload-item.is) in
+    let Framed : List ℕ → Type 0 = λ p. IsFramed p framed.0 in
+    c.read_keys.ensures.damaged told framed.0 (subst Framed (sym c.deref.ensures.value) framed.1)
 
 pub loop-payload-preserved : goal.loop-payload-preserved
 loop-payload-preserved c =
-    let inv = c.loop-payload.invariant in
     let i = c.loop-payload.payload-index in
     let xs = c.args.payloads.now in
     let x = c.payload-item.result in
-    let added = c.in_ok-add_written.ensures.added in
     let more : map items (take (i + 1) xs) ≡ map items (take i xs) ++ x.items ∷ [] =
     map_more items xs i x (omega arith) ∙ ap (λ (v : Vec ℕ Global). map items (take i xs) ++ v.items ∷ []) (sym c.payload-item.is)
     in
-    record {
-      all = all_added (map items (take i xs)) (map items (take (i + 1) xs)) x.items c.loop-payload.keys.items c.add_written.new.keys.items added.0 more added.3 added.1
-          (added.2 ∙ c.deref.ensures.value) inv.all;
-      only = none_added (map items (take i xs)) (map items (take (i + 1) xs)) x.items c.loop-payload.keys.items c.add_written.new.keys.items added.0 more added.3 added.1
-          (added.2 ∙ c.deref.ensures.value) inv.only;
-    }
+    let Framed : List ℕ → Type 0 = λ p. IsFramed p c.in_ok-own.own.items in
+    let Of : List (List ℕ) → Type 0 = λ ps. AreKeysOf ps (c.loop-payload.keys.items ++ c.in_ok-own.own.items) in
+    let now = subst Of (sym more) (keys_more (map items (take i xs)) x.items c.loop-payload.keys.items c.in_ok-own.own.items c.loop-payload.invariant
+    (subst Framed c.deref.ensures.value c.in_ok-own.ensures.framed)) in
+    let Keys : List Key → Type 0 = λ ks. AreKeysOf (map items (take (i + 1) xs)) ks in
+    let added : c.append.new.self.items ≡ c.loop-payload.keys.items ++ c.in_ok-own.own.items = search rules in
+    subst Keys (sym added) now
 
-pub returns-clause-all : goal.returns-clause-all
-returns-clause-all c = λ payload key has writes.
-    let In : List (List ℕ) → Type 0 = λ ps. Contains ps payload in
-    c.loop-payload.invariant.all payload key
-    (subst In (sym (ap (map items) (take_all c.loop-payload.payload-index c.args.payloads.now c.loop-payload-test.false))) has) writes
-
-pub returns-clause-only : goal.returns-clause-only
-returns-clause-only c = λ key has.
-    let found = c.loop-payload.invariant.only key has in
-    let In : List (List ℕ) → Type 0 = λ ps. Contains ps found.0 in (
-      found.0,
-      subst In (ap (map items) (take_all c.loop-payload.payload-index c.args.payloads.now c.loop-payload-test.false)) found.1,
-      found.2,
-    )
+pub returns-clause-keys : goal.returns-clause-keys
+returns-clause-keys c =
+    let Of : List (Vec ℕ Global) → Type 0 = λ ps. AreKeysOf (map items ps) c.loop-payload.keys.items in
+    subst Of (take_all c.loop-payload.payload-index c.args.payloads.now c.loop-payload-test.false) c.loop-payload.invariant
