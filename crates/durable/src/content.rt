@@ -1,6 +1,7 @@
 //! The content of a device that is opened.
 
 ghost use Rattle.std.specs.Prelude.{◌≡◌, ◌≢◌, ◌<◌, ◌≤◌, ◌*◌, ◌^◌, [], false, ℕ, List, length, map, Contains, IfOk, OnOk, OnErr, IsErrOf, Err};
+ghost use Rattle.std.specs.List.{AllByRecursion};
 ghost use Rattle.device.specs.Disk.{Only, HasFailed};
 ghost use Rattle.device.specs.Step.{Same};
 ghost use Rattle.device.specs.Run.{Ran};
@@ -10,7 +11,7 @@ ghost use Rattle.checkpoint.specs.Pages.{HoldsPages};
 ghost use Rattle.names.specs.declared.format.Rules.{Rules};
 ghost use Rattle.names.specs.Key.{Key as KeyData};
 ghost use Rattle.decoded.specs.Standing.{History, IsHistory, with_plans};
-ghost use Rattle.recovery.specs.Known.{Writes};
+ghost use Rattle.recovery.specs.Known.{Writes, IsOfGroup};
 ghost use Rattle.recovery.specs.Taken.{HasRedone};
 ghost use Rattle.recovery.specs.Written.{Write, IsWritten};
 ghost use Rattle.durable.specs.declared.fault.Damage.{Damage as DamageData};
@@ -22,10 +23,11 @@ ghost use Rattle.decoded.specs.Decoded.{Decoded as DecodedData};
 ghost use Rattle.histories.specs.View as seen;
 ghost use Rattle.histories.specs.View.{view};
 ghost use Rattle.holdings.specs.Holdings as holdings;
+ghost use Rattle.paged.specs.Chosen.{HasHeldEntries};
 ghost use Rattle.paged.specs.Lying.{base_of};
 ghost use Rattle.paged.specs.Paged.{Below, HasEntries, root_of};
 ghost use Rattle.durable.specs.Rules.{rules_at};
-ghost use Rattle.durable.specs.Stands.{HoldsBase, StandsFor};
+ghost use Rattle.durable.specs.Stands.{HoldsBase};
 
 use crate::fault::{Damage, Fault};
 use device::Device;
@@ -50,7 +52,7 @@ fn rules(root: &Root) -> Rules
     root.label.format.rules(0)
 }
 
-// The keys that a log with these payloads writes. Where some payload is that of no writes there are none: it is told where the writes are taken.
+// The keys that a log with these payloads writes. Where some payload is that of no writes there may be none: it is told where the writes are taken.
 fn keys_in(alloc: Global, payloads: &[Vec<u8>]) -> Result<Vec<Key>, Fault>
     ensures all { (own : Rules) (v : seen.View DecodedData) (ws : List Write) → IsWritten own v ws (map (λ p. p.items) payloads.now)
         → IfOk result (λ keys. (payload : List ℕ) (key : KeyData) → Contains (map (λ p. p.items) payloads.now) payload → Writes payload key → Contains keys.items key) }
@@ -88,6 +90,8 @@ fn read_objects<D: Device>(
         × ((held : seen.View DecodedData) × holdings.Shows p.core [] held × IsRedone (rules_at root.now) held)) }
     ensures whole { D.disk.keeps device.old → OnOk result (HoldsPages (D.disk.content device.old) root.now) }
     ensures entries { D.disk.keeps device.old → IfOk result (λ p. HasEntries D.disk device.new p (entries_under root.now (D.disk.content device.old))) }
+    ensures kept { D.disk.keeps device.old → OnOk result (HasHeldEntries (rules_at root.now) root.now.label.revision (entries_under root.now (D.disk.content device.old))) }
+    ensures groups { OnOk result (AllByRecursion IsOfGroup (map (λ p. p.items) payloads.now)) }
     ensures ran { Ran D.disk device.old device.new Same }
     ensures refusal { (result ≢ Err Fault.Failed) × (result ≢ Err Fault.Exhausted) }
     ensures cause { IsErrOf result Fault.Device → HasFailed D.disk device.old device.new }

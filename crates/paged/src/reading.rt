@@ -1,6 +1,7 @@
 //! The objects of a store, read from the pages of a root.
 
 ghost use Rattle.std.specs.Prelude.{◌≡◌, ◌<◌, ◌≤◌, ◌-◌, ◌*◌, ◌^◌, ◌⊎◌, ◌∷◌, ℕ, Bool, true, List, [], map, length, Contains, IfOk, OnOk, IsErrOf};
+ghost use Rattle.std.specs.List.{AllByRecursion};
 ghost use Rattle.device.specs.Disk.{HasFailed};
 ghost use Rattle.device.specs.Step.{Same};
 ghost use Rattle.device.specs.Run.{Ran};
@@ -20,12 +21,12 @@ ghost use Rattle.holdings.specs.Known.{IsKnown};
 ghost use Rattle.snapshots.specs.Keeping.{IsHeld, held_entries};
 ghost use Rattle.snapshots.specs.Restoring.{IsDamaged};
 ghost use Rattle.decoded.specs.Decoded.{Decoded as DecodedData};
-ghost use Rattle.recovery.specs.Known.{AllKnown};
+ghost use Rattle.recovery.specs.Known.{AllKnown, IsOfGroup};
 ghost use Rattle.decoded.specs.Shown.{plans_held};
 ghost use Rattle.recovery.specs.Taken.{HasRedone};
 ghost use Rattle.recovery.specs.Written.{Write, IsWritten};
 ghost use Rattle.recovery.specs.declared.fault.RecoveryFault.TheVariants as RecoveryFault;
-ghost use Rattle.paged.specs.Chosen.{rules_among, ChoosesRules};
+ghost use Rattle.paged.specs.Chosen.{rules_among, ChoosesRules, HasHeldEntries};
 ghost use Rattle.paged.specs.Lying.{base_of};
 ghost use Rattle.paged.specs.Paged.{Below, HasEntries, root_of};
 ghost use Rattle.paged.specs.declared.fault.PagedFault.TheVariants as PagedFault;
@@ -67,6 +68,7 @@ fn core_of(
     ensures damaged { IsDamaged result → (held : seen.View DecodedData) (chosen : List ℕ → Bool) → IsHeld rules held → ChoosesRules chosen
         → kept.now ≡ held_entries (chosen_of chosen held) → objects ≡ objects_among (held_entries held) → held.revision ≡ revision → ⊥ }
     ensures none { kept.now ≡ [] → objects ≡ 0 → IfOk result (λ core. (held : seen.View DecodedData) × IsHeld rules held × Shows core [] held) }
+    ensures kept { OnOk result ((held : seen.View DecodedData) × IsHeld rules held × (held.revision ≡ revision) × (held_entries held ≡ kept.now)) }
 {
     let count = count_below(kept, objects);
     restored(alloc, rules, kept, &WithoutPlans, count, revision)
@@ -130,6 +132,8 @@ impl Paged {
         ensures whole { D.disk.keeps device.old → OnOk result (HoldsPages (D.disk.content device.old) root.now) }
         ensures entries { D.disk.keeps device.old
             → IfOk result (λ p. HasEntries D.disk device.new p (joined (pages_of_root root.now (D.disk.content device.old)))) }
+        ensures kept { D.disk.keeps device.old
+            → OnOk result (HasHeldEntries rules root.now.label.revision (joined (pages_of_root root.now (D.disk.content device.old)))) }
 
         // And of a root without pages, whatever the device.
         ensures no_pages { root.now.pages ≡ 0 → IfOk result (λ p. Below D.disk device.new p [] × ((held : seen.View DecodedData) × IsHeld rules held × Shows p.core [] held)) }
@@ -172,6 +176,7 @@ impl Paged {
             → AllKnown self.core base (map (λ p. p.items) payloads.now)
             → IsErrOf result RecoveryFault.Damaged ⊎ IsErrOf result RecoveryFault.Plans
             → (ws : List Write) → IsWritten self.core.rules (mapped plans_held held) ws (map (λ p. p.items) payloads.now) → ⊥ }
+        ensures groups { OnOk result (AllByRecursion IsOfGroup (map (λ p. p.items) payloads.now)) }
     {
         let core = redone(alloc, self.core, payloads)?;
         Ok(Paged {

@@ -1,4 +1,5 @@
 ghost use Rattle.std.specs.Prelude.{◌≡◌, ◌⊎◌, ℕ, List, [], map, Contains, IfOk, OnOk, IsErrOf};
+ghost use Rattle.std.specs.List.{AllByRecursion};
 ghost use Rattle.names.specs.Key.{Key as KeyData};
 ghost use Rattle.histories.specs.declared.stored.Stored.{Stored as StoredData};
 ghost use Rattle.histories.specs.View.{View, after_all, MayFollow, AllMayFollow};
@@ -10,7 +11,7 @@ ghost use Rattle.holdings.specs.Known.{IsKnown, KnowsSame};
 ghost use Rattle.records.specs.WriteOf.{write_of};
 ghost use Rattle.decoded.specs.Decoded.{Decoded as DecodedData};
 ghost use Rattle.recovery.specs.Faults.{PutsOtherPlans, OneHasOther, HasOtherPlans};
-ghost use Rattle.recovery.specs.Known.{written_key, Writes, AllKnown, KnowsEach};
+ghost use Rattle.recovery.specs.Known.{written_key, Writes, IsOfGroup, AllKnown, KnowsEach};
 ghost use Rattle.decoded.specs.Standing.{recorded};
 ghost use Rattle.decoded.specs.Shown.{plans_held};
 ghost use Rattle.recovery.specs.declared.fault.RecoveryFault.TheVariants as RecoveryFault;
@@ -39,6 +40,8 @@ pub fn redone(alloc: Global, core: Core, payloads: &[Vec<u8>]) -> Result<Core, R
     ensures damaged { (base : List (KeyData × StoredData DecodedData)) (held : View DecodedData) → Shows core base held → AllKnown core base (map (λ p. p.items) payloads.now)
         → IsErrOf result RecoveryFault.Damaged ⊎ IsErrOf result RecoveryFault.Plans
         → (ws : List Write) → IsWritten core.rules (mapped plans_held held) ws (map (λ p. p.items) payloads.now) → ⊥ }
+    // Each payload is that of writes which a record can hold, whatever the core shows.
+    ensures groups { OnOk result (AllByRecursion IsOfGroup (map (λ p. p.items) payloads.now)) }
     // Plans are told only where an object that is no policy has some.
     ensures plans { IsErrOf result RecoveryFault.Plans → (bytes : List ℕ) × Contains (map (λ p. p.items) payloads.now) bytes × HasOtherPlans bytes }
 {
@@ -62,6 +65,7 @@ fn redo(alloc: Global, core: &mut Core, bytes: &[u8]) -> Result<(), RecoveryFaul
         → ((key : KeyData) → Writes bytes.now key → IsKnown core.old base key)
         → IsErrOf result RecoveryFault.Damaged ⊎ IsErrOf result RecoveryFault.Plans
         → (ws : List Write) → IsGroup ws → payload ws ≡ bytes.now → AllMayFollow core.old.rules (mapped plans_held held) ws → ⊥ }
+    ensures group { OnOk result (IsOfGroup bytes.now) }
     ensures plans { IsErrOf result RecoveryFault.Plans → HasOtherPlans bytes.now }
 {
     let writes = read_writes(alloc, bytes)?;

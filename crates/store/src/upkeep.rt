@@ -9,7 +9,7 @@ ghost use Rattle.durable.specs.declared.fault.Damage.{Damage as DamageData};
 ghost use Rattle.durable.specs.declared.fault.Fault.TheVariants as FaultData;
 ghost use Rattle.durable.specs.declared.upgraded.UpgradeFault.TheVariants as UpgradeFaultData;
 ghost use Rattle.durable.specs.Ready.{HoldsHistory};
-ghost use Rattle.durable.specs.ReadWhole.{HoldsObjects};
+ghost use Rattle.durable.specs.ReadWhole.{HoldsWellFormed};
 ghost use Rattle.durable.specs.Upgraded.{refusals, first_of, IsRefusal};
 ghost use Rattle.store.specs.Upkeep.{KeepsHistory, IsWrittenAnew, IsUpgraded, IsEither, IsToldUpgraded, IsToldOfHistory};
 
@@ -88,7 +88,7 @@ pub fn check<D: Device>(alloc: Global, device: D) -> Result<(Checked, D), (Fault
     ensures ok { (rules : Rules) (h : History) → HoldsHistory rules D.disk device h → IfOk result (λ done. KeepsHistory rules D.disk device done.1 h) }
     ensures told { (rules : Rules) (h : History) (holds : HoldsHistory rules D.disk device h)
         → IfOk result (λ done. IsToldOfHistory rules h holds.read.root done.0) }
-    ensures whole { D.disk.keeps device → IfOk result (λ done. HoldsObjects (D.disk.content device)) }
+    ensures whole { D.disk.keeps device → IfOk result (λ done. HoldsWellFormed (D.disk.content device)) }
     ensures failed { (rules : Rules) (h : History) → HoldsHistory rules D.disk device h → IfErr result (λ e. KeepsHistory rules D.disk device e.1 h) }
     ensures undamaged { (rules : Rules) (h : History) → HoldsHistory rules D.disk device h
         → IfErr result (λ e. (damage : DamageData) → e.0 ≢ FaultData.Damaged damage) }

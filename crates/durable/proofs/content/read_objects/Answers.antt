@@ -15,6 +15,7 @@ use Rattle.decoded.specs.Standing.{with_plans}
 use Rattle.recovery.specs.Taken.{HasRedone}
 use Rattle.recovery.specs.Written.{IsWritten}
 use Rattle.snapshots.specs.ObjectCache.{HasEntries}
+use Rattle.paged.specs.Chosen.{HasHeldEntries}
 use Rattle.paged.specs.Lying.{base_of, LiesBelow}
 use Rattle.durable.specs.Rules.{rules_by}
 use Rattle.durable.specs.ReadWhole.{entries_under}
@@ -129,3 +130,10 @@ returns-in_err-paged-clause-unfailed g c told =
 
 pub returns-in_err-redone-clause-unfailed : goal.returns-in_err-redone-clause-unfailed
 returns-in_err-redone-clause-unfailed g c told = c.in_ok-paged.ensures.steady
+
+pub returns-clause-kept : goal.returns-clause-kept
+returns-clause-kept g c keeps =
+    let content = g.D.Device.disk.content c.args.device.now in
+    let root = c.args.root.now in
+    let By : Rules → Type 0 = λ r. HasHeldEntries r root.label.revision (entries_under root content) in
+    subst By c.rules.ensures (c.in_ok-paged.ensures.kept keeps)

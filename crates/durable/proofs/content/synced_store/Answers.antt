@@ -1,4 +1,5 @@
-use Rattle.std.proofs.Common.{arith, rules as common, ◌≡◌, ◌∙◌, sym, ap, subst, List, [], ℕ, map, Result, Err, IsErrOf}
+use Rattle.std.proofs.Common.{arith, rules as common, ◌≡◌, ◌∙◌, sym, ap, subst, List, [], ℕ, map, Result, Err, IsErrOf, Vec, Global}
+use Rattle.std.specs.List.{AllByRecursion}
 use Rattle.device.specs.Run.{Ran}
 use Rattle.device.specs.Step.{Same}
 use Rattle.names.specs.declared.format.Rules.{Rules}
@@ -12,9 +13,11 @@ use Rattle.roots.proofs.Syncing.{only_after}
 use Rattle.snapshots.proofs.Showing.{held_as_it_is}
 use Rattle.decoded.specs.Decoded.{Decoded}
 use Rattle.decoded.specs.Standing.{write_with_plans, with_plans}
+use Rattle.recovery.specs.Known.{IsOfGroup}
 use Rattle.recovery.specs.Taken.{HasRedone}
 use Rattle.recovery.specs.Written.{Write, IsWritten}
 use Rattle.checkpoint.specs.Pages.{HoldsPages}
+use Rattle.paged.specs.Chosen.{HasHeldEntries}
 use Rattle.paged.specs.Lying.{base_of}
 use Rattle.paged.specs.Paged.{HasEntries}
 use Rattle.paged.proofs.Staying.{below_free}
@@ -23,7 +26,7 @@ use Rattle.durable.specs.declared.fault.Fault.{Fault as AnyFault}
 use Rattle.durable.specs.declared.fault.Fault.TheVariants as Fault
 use Rattle.durable.specs.Faults.{of_root_fault}
 use Rattle.durable.specs.Stands.{HoldsBase}
-use Rattle.durable.specs.Rules.{rules_by}
+use Rattle.durable.specs.Rules.{rules_at, rules_by}
 use Rattle.durable.proofs.Called.{err_same}
 use Rattle.durable.proofs.Renewing.{failed_then}
 use Rattle.durable.proofs.Unwritten.{read_then}
@@ -188,12 +191,23 @@ returns-in_ok-paged-in-Ok-clause-whole g c keeps =
     read_then disk c.args.device.now c.synced_root.new.device c.read_log.new.device c.synced_root.ensures.ran c.read_log.ensures.ran
     in
     let Counts : Root → Type 0 = λ r. HoldsRoot content r in
+    let Log : ℕ → List ℕ → Type 0 = λ at x. HoldsLog at (map (λ p. p.items) c.in-Ok.payloads.items) c.in-Ok.log.last_gate_sector x in
+    let Kept : List ℕ → Root → Type 0 = λ x r. HasHeldEntries (rules_at r) r.label.revision (entries_under r x) in
+    let Each : List (Vec ℕ Global) → Type 0 = λ ps. AllByRecursion IsOfGroup (map (λ p. p.items) ps) in
     let In : List ℕ → Root → Type 0 = λ x r. HoldsPages x r in
     let Has : List ℕ → Root → Type 0 = λ x r. HasEntries disk c.read_objects.new.device paged (entries_under r x) in
     record {
       counts = subst Counts (sym read.root) (c.in_ok-root.ensures.found keeps);
       pages = subst (In content) (sym read.root) (subst (λ x. In x c.in_ok-root.root) (first.seen keeps) (read.whole (first.kept keeps)));
       entries = subst (Has content) (sym read.root) (subst (λ x. Has x c.in_ok-root.root) (first.seen keeps) (read.entries (first.kept keeps)));
+      kept = subst (Kept content) (sym read.root) (subst (λ x. Kept x c.in_ok-root.root) (first.seen keeps) (read.kept (first.kept keeps)));
+      log = record {
+        payloads = map (λ p. p.items) c.in-Ok.payloads.items;
+        last = c.in-Ok.log.last_gate_sector;
+        log = subst (λ r. Log (log_sector r) content) (sym read.root) (subst (Log (log_sector c.in_ok-root.root)) (c.synced_root.ensures.ran.seen keeps)
+            (subst (λ at. Log at (disk.content c.synced_root.new.device)) c.log_sector.ensures.place (c.in-Ok.ensures.found (c.synced_root.ensures.ran.kept keeps))));
+        groups = subst Each c.deref.ensures.value read.groups;
+      };
     }
 
 pub returns-in_ok-paged-in-Ok-clause-durable : goal.returns-in_ok-paged-in-Ok-clause-durable

@@ -2,7 +2,8 @@ use Rattle.std.proofs.Common.{map}
 use Rattle.histories.specs.Mapped.{mapped}
 use Rattle.decoded.specs.Shown.{plans_held}
 use Rattle.records.specs.WriteOf.{write_of}
-use Rattle.recovery.proofs.Histories.{on_ok_to, group_taken, group_recorded}
+use Rattle.recovery.specs.Known.{IsOfGroup}
+use Rattle.recovery.proofs.Histories.{on_ok_to, always_ok, group_taken, group_recorded}
 use Rattle.recovery.proofs.Knowing.{written_known}
 use Rattle.recovery.proofs.redo.redo.Goals as goal
 
@@ -17,6 +18,11 @@ returns-clause-taken c = λ base held shows known.
     ))
     (c.redo_writes.ensures.taken base held shows
     (written_known c.args.core.now base (map write_of read.writes.items) c.args.bytes.now read.ensures.form read.ensures.writes known))
+
+pub returns-clause-group : goal.returns-clause-group
+returns-clause-group c =
+    let read = c.in_ok-writes in
+    always_ok c.redo_writes.result (IsOfGroup c.args.bytes.now) (map write_of read.writes.items, read.ensures.form, read.ensures.writes)
 
 pub returns-clause-damaged : goal.returns-clause-damaged
 returns-clause-damaged c = λ base held shows known is_damaged ws group is follow.

@@ -1,11 +1,14 @@
 use Rattle.std.proofs.Common.{rules, arith, refl, ◌≡◌, ◌∙◌, sym, ap, subst, map, take, drop, ◌+◌, ◌++◌, ◌∷◌, ◌⊎◌, inl, inr, [], List, ℕ, Vec, Global}
 use Rattle.std.proofs.lemmas.List.{map_more, take_all}
 use Rattle.std.specs.Prelude.{IsErrOf}
+use Rattle.std.specs.List.{AllByRecursion}
 use Rattle.recovery.specs.declared.fault.RecoveryFault.TheVariants as RecoveryFault
 use Rattle.histories.specs.Mapped.{mapped}
 use Rattle.decoded.specs.Shown.{plans_held}
 use Rattle.recovery.specs.Written.{IsWritten}
 use Rattle.recovery.proofs.Histories.{IsWritten-none, grown, stuck, map-at}
+use Rattle.records.proofs.Groups.{all-push}
+use Rattle.recovery.specs.Known.{IsOfGroup}
 use Rattle.recovery.proofs.Knowing.{known_at, contains_at}
 use Rattle.recovery.specs.Faults.{HasOtherPlans}
 use Rattle.recovery.proofs.redo.redone.Goals as goal
@@ -17,6 +20,7 @@ pub loop-payload-init : goal.loop-payload-init
 loop-payload-init c = record {
   rules_stay = refl;
   known = λ _ _ known. known;
+  groups = tt;
   found = λ base held shows known. (held, shows, ([], IsWritten-none c.args.core.rules (mapped plans_held held), refl));
 }
 
@@ -40,9 +44,15 @@ loop-payload-preserved c =
     let i = c.loop-payload.payload-index in
     let xs = c.args.payloads.now in
     let x = c.payload-item.result in
+    let more : map items (take (i + 1) xs) ≡ map items (take i xs) ++ x.items ∷ [] =
+    map_more items xs i x (omega arith) ∙ ap (λ (v : Vec ℕ Global). map items (take i xs) ++ v.items ∷ []) (sym c.payload-item.is)
+    in
+    let Each : List (List ℕ) → Type 0 = λ ps. AllByRecursion IsOfGroup ps in
+    let Group : List ℕ → Type 0 = λ p. IsOfGroup p in
     record {
       rules_stay = c.redo.ensures.rules ∙ inv.rules_stay;
       known = λ base k known. c.redo.ensures.known base k (inv.known base k known);
+      groups = subst Each (sym more) (all-push IsOfGroup (map items (take i xs)) x.items inv.groups (subst Group c.deref.ensures.value c.in_ok-redo.ensures.group));
       found = λ base held shows known.
           let now = inv.found base held shows known in
           let next =
@@ -52,8 +62,7 @@ loop-payload-preserved c =
             next.0,
             next.1,
             grown c.args.core.rules c.loop-payload.core.rules (mapped plans_held held) (mapped plans_held now.0) (mapped plans_held next.0) now.2.0 (map items (take i xs))
-                (map items (take (i + 1) xs)) x.items next.2.0 inv.rules_stay now.2.1 now.2.2 next.2.1 (next.2.2 ∙ c.deref.ensures.value) next.2.3 next.2.4
-                (map_more items xs i x (omega arith) ∙ ap (λ (v : Vec ℕ Global). map items (take i xs) ++ v.items ∷ []) (sym c.payload-item.is)),
+                (map items (take (i + 1) xs)) x.items next.2.0 inv.rules_stay now.2.1 now.2.2 next.2.1 (next.2.2 ∙ c.deref.ensures.value) next.2.3 next.2.4 more,
           );
     }
 
@@ -73,6 +82,11 @@ returns-clause-found c = λ base held shows known.
       written = subst (IsWritten c.args.core.rules (mapped plans_held held) now.2.0) all now.2.1;
       left = now.2.2;
     }
+
+pub returns-clause-groups : goal.returns-clause-groups
+returns-clause-groups c =
+    let Each : List (Vec ℕ Global) → Type 0 = λ ps. AllByRecursion IsOfGroup (map items ps) in
+    subst Each (take_all c.loop-payload.payload-index c.args.payloads.now c.loop-payload-test.false) c.loop-payload.invariant.groups
 
 pub returns-in_err-redo-clause-plans : goal.returns-in_err-redo-clause-plans
 returns-in_err-redo-clause-plans c = λ is.

@@ -32,7 +32,7 @@ returns-in-Ok-check-clause-told g c rules h holds =
 pub returns-in-Ok-check-clause-whole : goal.returns-in-Ok-check-clause-whole
 returns-in-Ok-check-clause-whole g c keeps =
     let whole = c.in-Ok.ensures.whole keeps in
-    record { root = root_of c.in-Ok.store; counts = whole.counts; pages = whole.pages; objects = c.in-Ok-check.ensures.are _ whole.entries }
+    record { root = root_of c.in-Ok.store; counts = whole.counts; pages = whole.pages; objects = c.in-Ok-check.ensures.are _ whole.entries; kept = whole.kept; log = whole.log }
 
 pub returns-in-Err-check-clause-failed : goal.returns-in-Err-check-clause-failed
 returns-in-Err-check-clause-failed g c rules h holds =

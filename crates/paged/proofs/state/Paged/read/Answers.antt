@@ -1,4 +1,4 @@
-use Rattle.std.proofs.Common.{rules, arith, refl, ◌∙◌, sym, ap, subst, ⊎_elim, inl, inr, List, [], ℕ, Err}
+use Rattle.std.proofs.Common.{rules, arith, refl, ◌∙◌, sym, ap, subst, ⊎_elim, inl, inr, List, [], ◌++◌, ℕ, Err}
 use Rattle.std.proofs.lemmas.List.{length-map}
 use Rattle.std.proofs.lemmas.Result.{IfOk-from_err}
 use Rattle.device.specs.Step.{Same}
@@ -8,6 +8,7 @@ use Rattle.snapshots.specs.declared.kept_entries.KeptEntries.{KeptEntries}
 use Rattle.pages.specs.Page.{Entry}
 use Rattle.checkpoint.specs.Pages.{joined, pages_of_root, HoldsEntries, IsIndex}
 use Rattle.checkpoint.specs.Index.{keys_of}
+use Rattle.snapshots.specs.KeptEntries.{kept_of}
 use Rattle.snapshots.specs.Keeping.{held_entries}
 use Rattle.paged.specs.declared.chosen.Chosen.{Chosen}
 use Rattle.paged.specs.Chosen.{is_chosen}
@@ -238,3 +239,30 @@ returns-clause-entries g c keeps =
     let Holds : List ℕ → Type 0 = λ x. HoldsEntries x root entries in
     c.in_ok-cache.ensures.shelves entries (subst Index same (c.in_ok-first_keys.ensures.index keeps)) (λ some. c.scan.ensures.ran.kept keeps)
     (subst Holds same (record { sound = (c.in_ok-first_keys.ensures.whole keeps).sound; are = refl }))
+
+pub returns-in_err-chosen-clause-kept : goal.returns-in_err-chosen-clause-kept
+returns-in_err-chosen-clause-kept g c keeps = IfOk-from_err c.from_residual.result _ c.from_residual.ensures.0
+
+pub returns-in_err-first_keys-clause-kept : goal.returns-in_err-first_keys-clause-kept
+returns-in_err-first_keys-clause-kept g c keeps = IfOk-from_err c.from_residual-in_err-first_keys.result _ c.from_residual-in_err-first_keys.ensures.0
+
+pub returns-in_err-core-clause-kept : goal.returns-in_err-core-clause-kept
+returns-in_err-core-clause-kept g c keeps = IfOk-from_err c.from_residual-in_err-core.result _ c.from_residual-in_err-core.ensures.0
+
+pub returns-in_err-cache-clause-kept : goal.returns-in_err-cache-clause-kept
+returns-in_err-cache-clause-kept g c keeps = IfOk-from_err c.from_residual-in_err-cache.result _ c.from_residual-in_err-cache.ensures.0
+
+pub returns-clause-kept : goal.returns-clause-kept
+returns-clause-kept g c keeps =
+    let chosen : Chosen = c.in_ok-chosen.chosen in
+    let made = c.new-kept_entries.ensures in
+    let entries : List Entry = joined (pages_of_root c.args.root.now (g.D.Device.disk.content c.args.device.now)) in
+    let held = c.in_ok-core.ensures.kept in
+    record {
+      chosen = is_chosen chosen;
+      choice = chooses_rules chosen;
+      held = held.0;
+      is_held = held.1;
+      counted = held.2;
+      are = sym (held.3 ∙ c.kept.ensures ∙ (c.in_ok-first_keys.ensures.told keeps).kept ∙ (λ i. made.kept i ++ kept_of (is_chosen (made.choice i)) entries));
+    }
