@@ -56,6 +56,8 @@ fn rules(root: &Root) -> Rules
 fn keys_in(alloc: Global, payloads: &[Vec<u8>]) -> Result<Vec<Key>, Fault>
     ensures all { (own : Rules) (v : seen.View DecodedData) (ws : List Write) → IsWritten own v ws (map (λ p. p.items) payloads.now)
         → IfOk result (λ keys. (payload : List ℕ) (key : KeyData) → Contains (map (λ p. p.items) payloads.now) payload → Writes payload key → Contains keys.items key) }
+    ensures only { IfOk result (λ keys. (key : KeyData) → Contains keys.items key
+        → (payload : List ℕ) × Contains (map (λ p. p.items) payloads.now) payload × (IsOfGroup payload → Writes payload key)) }
     ensures refusal { OnErr result (result ≡ Err Fault.Memory) }
 {
     match written_keys(alloc, payloads) {

@@ -5,7 +5,7 @@ use Rattle.names.specs.Key.{Key}
 use Rattle.records.specs.declared.fault.RecordFault.TheVariants as RecordFault
 use Rattle.records.specs.Frames.{IsFramed}
 use Rattle.recovery.specs.Known.{AreKeysOf}
-use Rattle.recovery.proofs.Written.{keys_more, framed_at}
+use Rattle.recovery.proofs.Written.{keys_more, all_told, told_only}
 use Rattle.recovery.proofs.Knowing.{contains_at}
 use Rattle.recovery.proofs.keys.written_keys.Goals as goal
 
@@ -13,13 +13,11 @@ abbrev items : Vec ℕ Global → List ℕ
 items v = v.items
 
 pub returns-in_err-own-clause-damaged : goal.returns-in_err-own-clause-damaged
-returns-in_err-own-clause-damaged c = λ is_damaged keys are.
+returns-in_err-own-clause-damaged c = λ is_damaged.
     let told : IsErrOf c.read_keys.result RecordFault.Damaged = search rules in
     let x = c.payload-item.result in
-    let framed = framed_at (map items c.args.payloads.now) x.items keys are
-    (contains_at items c.args.payloads.now c.loop-payload.payload-index x (omega arith) c.payload-item.is) in
-    let Framed : List ℕ → Type 0 = λ p. IsFramed p framed.0 in
-    c.read_keys.ensures.damaged told framed.0 (subst Framed (sym c.deref.ensures.value) framed.1)
+    let Unframed : List ℕ → Type 0 = λ p. (keys : List Key) → IsFramed p keys → ⊥ in
+    (x.items, contains_at items c.args.payloads.now c.loop-payload.payload-index x (omega arith) c.payload-item.is, subst Unframed c.deref.ensures.value (c.read_keys.ensures.damaged told))
 
 pub loop-payload-preserved : goal.loop-payload-preserved
 loop-payload-preserved c =
@@ -41,3 +39,15 @@ pub returns-clause-keys : goal.returns-clause-keys
 returns-clause-keys c =
     let Of : List (Vec ℕ Global) → Type 0 = λ ps. AreKeysOf (map items ps) c.loop-payload.keys.items in
     subst Of (take_all c.loop-payload.payload-index c.args.payloads.now c.loop-payload-test.false) c.loop-payload.invariant
+
+pub returns-clause-all : goal.returns-clause-all
+returns-clause-all c =
+    let Of : List (Vec ℕ Global) → Type 0 = λ ps. AreKeysOf (map items ps) c.loop-payload.keys.items in
+    all_told (map items c.args.payloads.now) c.loop-payload.keys.items
+    (subst Of (take_all c.loop-payload.payload-index c.args.payloads.now c.loop-payload-test.false) c.loop-payload.invariant)
+
+pub returns-clause-only : goal.returns-clause-only
+returns-clause-only c =
+    let Of : List (Vec ℕ Global) → Type 0 = λ ps. AreKeysOf (map items ps) c.loop-payload.keys.items in
+    told_only (map items c.args.payloads.now) c.loop-payload.keys.items
+    (subst Of (take_all c.loop-payload.payload-index c.args.payloads.now c.loop-payload-test.false) c.loop-payload.invariant)
