@@ -47,7 +47,7 @@ Stands = Stored Decoded
 pub value_found : (key : Key) (os : List (Key × Stands)) → value_at key (map entry_held os) ≡ option_map held_of (value_at key os)
 value_found key os = value_at-map held_of key os
 
-listed_found : (r : Resource) (n : Option Text) (os : List (Key × Stands)) → listed r n (map entry_held os) ≡ map entry_held (listed r n os)
+pub listed_found : (r : Resource) (n : Option Text) (os : List (Key × Stands)) → listed r n (map entry_held os) ≡ map entry_held (listed r n os)
 listed_found r n os = listed-map held_of r n os
 
 is_policy : (k : Key) → k.resource ≡ ValidatingAdmissionPolicy → IsTrue (is_of ValidatingAdmissionPolicy None k)
@@ -97,7 +97,7 @@ beside_planned : (os : List (Key × Stored (List Expr))) → all_planned (each p
 beside_planned [] = refl
 beside_planned (o ∷ os) = ap (λ (rest : List (Key × Held)). (o.0, asked.held (object_of o.1)) ∷ rest) (beside_planned os)
 
-held_shown : (core : seen.View Decoded) (v : View) → Shows core v → map entry_held core.objects ≡ all_held (objects_of v)
+pub held_shown : (core : seen.View Decoded) (v : View) → Shows core v → map entry_held core.objects ≡ all_held (objects_of v)
 held_shown core v shows =
     sym (held_planned core.objects) ∙ ap (λ (u : seen.View Decoded). all_planned u.objects) shows ∙ beside_planned v.objects
 

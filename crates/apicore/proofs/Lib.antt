@@ -7,6 +7,7 @@ mod First
 mod Found
 mod Read
 mod Own
+mod NoBindings
 mod Conditions
 mod Places
 pub mod Faults

@@ -1,9 +1,10 @@
 //! A write, asked of the policies.
 
-ghost use Rattle.std.specs.Prelude.{◌≡◌, ◌+◌, ◌≤◌, ◌<◌, List, [], ◌∷◌, map, option_map, if◌then◌else◌, Option, Some, None, is_some, IfOk, OnOk, OnErr, IsErrOf, string_bytes};
+ghost use Rattle.std.specs.Prelude.{◌≡◌, ◌+◌, ◌≤◌, ◌<◌, List, [], ◌∷◌, map, option_map, if◌then◌else◌, Option, Some, None, is_some, Decides, IfOk, OnOk, OnErr, IsErrOf, string_bytes};
 ghost use Rattle.celtree.specs.Tree.{Expr};
 ghost use Rattle.serde_json.specs.View.{view};
 ghost use Rattle.names.specs.Key.{Key as KeyData};
+ghost use Rattle.names.specs.declared.resource.Resource.TheVariants.{ValidatingAdmissionPolicyBinding};
 ghost use Rattle.policy.specs.Rules.{attempt_seen};
 ghost use Rattle.policy.specs.declared.match_rules.Operation.TheVariants.{Create, Update, Delete};
 ghost use Rattle.objects.specs.Failing.{HasGrown};
@@ -19,10 +20,11 @@ ghost use Rattle.holdings.specs.Sources.{found_in};
 ghost use Rattle.expressions.specs.Specification.{these, plans_in};
 ghost use Rattle.verdict.specs.Admission.{verdict};
 ghost use Rattle.verdict.specs.DenialSeen.{verdict_seen};
+ghost use Rattle.verdict.specs.Listed.{listed};
 ghost use Rattle.decoded.specs.Decoded.{Decoded as DecodedData, spelled};
 ghost use Rattle.apicore.specs.Judged.{IsJudged};
 ghost use Rattle.apicore.specs.Looked.{HasLooked, IsAsBefore};
-ghost use Rattle.decoded.specs.Shown.{IsOver};
+ghost use Rattle.decoded.specs.Shown.{IsOver, ShowsOver};
 ghost use Rattle.decoded.specs.Standing.{View};
 ghost use Rattle.apicore.specs.Attempts.{objects_of};
 
@@ -35,13 +37,13 @@ use decoded::{Core, Decoded};
 use documents::Document;
 use expressions::StoredPlans;
 use holdings::{FoundDocument, PreparedWrite, Source};
-use names::Key;
+use names::{Key, Resource};
 use objects::LookupFault;
 use plancode::Verified;
 use policy::{Attempt, Operation};
 use requests::{Manifest, Reply};
 use serde_json::Value;
-use std::alloc::Global;
+use std::alloc::{AllocError, Global};
 use verdict::{Verdict, admit};
 
 // The verdict of what the core shows on a write.
@@ -65,6 +67,15 @@ fn verdict_of<S: Source<Decoded>>(
     admit(alloc, &mut lookup, attempt)
 }
 
+/// Whether no binding stands. Where none does, the verdict on each write admits it, and no policy reads what the write replaces or removes.
+pub(crate) fn has_no_bindings(core: &Core, alloc: Global) -> Result<bool, AllocError>
+    ensures { (base : List (KeyData × StoredData DecodedData)) (v : View) → ShowsOver core.now base v
+        → IfOk result (λ none. Decides none (listed ValidatingAdmissionPolicyBinding None (objects_of v) ≡ [])) }
+{
+    let bindings = core.held(alloc, Resource::ValidatingAdmissionPolicyBinding)?;
+    Ok(bindings.is_empty())
+}
+
 // The code that shows a put: of an object that changes, or of a new one.
 fn put_code(stands: bool) -> u16
     ensures { result ≡ if stands then 200 else 201 }
@@ -72,8 +83,8 @@ fn put_code(stands: bool) -> u16
     if stands { 200 } else { 201 }
 }
 
-// The put of a document that the policies admit, shown with their warnings. It is told whether an object stands at the key.
-fn admitted_put(
+/// The put of a document that the policies admit, shown with their warnings. It is told whether an object stands at the key.
+pub(crate) fn admitted_put(
     core: &mut Core,
     alloc: Global,
     manifest: &Manifest,
@@ -142,8 +153,8 @@ pub(crate) fn judged_put<'x, S: Source<Decoded>>(
     }
 }
 
-// The deletion of an object that the policies admit, shown with their warnings. It is told the document that stands there.
-fn admitted_delete(
+/// The deletion of an object that the policies admit, shown with their warnings. It is told the document that stands there.
+pub(crate) fn admitted_delete(
     core: &mut Core,
     alloc: Global,
     key: &Key,

@@ -26,7 +26,7 @@ ghost use Rattle.apicore.specs.Conditions.{first_of, replace_limits, update_conf
 
 use crate::attempts::value_of;
 use crate::conflicts::{deletion_conflicts, update_conflicts};
-use crate::judging::{judged_delete, judged_put};
+use crate::judging::{admitted_delete, admitted_put, has_no_bindings, judged_delete, judged_put};
 use crate::limits::{create_limit, replace_limit};
 use crate::namespaces::{NamespacePlace, is_in_use, namespace_of, place_of};
 use crate::placed::{AskedDeletion, PlacedManifest, Put, Replacement};
@@ -312,10 +312,14 @@ fn replace_there<S: Source<Decoded>>(
     ensures ready { IfOk result (λ p. HasRoomFor core.new p.write) }
     ensures looked { HasLooked S.holds S.goes_to S.failures S.unfailed core.old source.old source.new result }
 {
-    let alloc = replacement.placed.alloc;
+    let placed = replacement.placed;
+    let alloc = placed.alloc;
     let found = replacement.found;
+    if has_no_bindings(core, alloc)? {
+        return admitted_put(core, alloc, placed.manifest, plans, true, Vec::new(alloc));
+    }
     let old = shown_document(alloc, &found.document, found.revision)?;
-    judged_put(core, source, replacement.placed, plans, Some(old.value()))
+    judged_put(core, source, placed, plans, Some(old.value()))
 }
 
 // The deletion of an object, which shows the object that it removes with the revision that it makes.
@@ -391,6 +395,9 @@ fn delete_there<S: Source<Decoded>>(
     ensures looked { HasLooked S.holds S.goes_to S.failures S.unfailed core.old source.old source.new result }
 {
     let alloc = asked.alloc;
+    if has_no_bindings(core, alloc)? {
+        return admitted_delete(core, alloc, asked.key, found.document, Vec::new(alloc));
+    }
     let namespace = namespace_of(core, alloc, source, asked.key)?;
     let old = shown_document(alloc, &found.document, found.revision)?;
     judged_delete(
