@@ -46,6 +46,14 @@ use shelf::Shelf;
 use snapshots::{KeptEntries, ObjectCache, SnapshotFault, restored};
 use std::alloc::Global;
 
+// The keys under which something may stand in a root's pages: none where there are no pages.
+fn keys_in_pages<'a>(root: &Root, keys: &'a [Key]) -> &'a [Key]
+    ensures none { root.now.pages ≡ 0 → result.now ≡ [] }
+    ensures all { 0 < root.now.pages → result.now ≡ keys.now }
+{
+    if root.pages == 0 { &[] } else { keys }
+}
+
 // How many of this many objects lie below, where these entries were kept: all but the policies and the bindings.
 fn count_below(kept: &[Entry], objects: u64) -> usize
     ensures { result ≡ objects - rules_among kept.now }
@@ -143,7 +151,7 @@ impl Paged {
         ensures steady { OnOk result (D.disk.failures device.new ≡ D.disk.failures device.old) }
         ensures memory { IsErrOf result PagedFault.Memory → D.disk.failures device.new ≡ D.disk.failures device.old }
     {
-        let chosen = Chosen::of(alloc, keys)?;
+        let chosen = Chosen::of(alloc, keys_in_pages(root, keys))?;
         let mut kept_entries = KeptEntries::new(alloc, &chosen);
         let first_keys = scan(alloc, device, root, &mut kept_entries)?;
         let core = core_of(

@@ -1,7 +1,8 @@
-use Rattle.std.proofs.Common.{rules, arith, refl, ◌∙◌, sym, ap, subst, ⊎_elim, inl, inr, List, [], ◌++◌, ℕ, Err}
+use Rattle.std.proofs.Common.{rules, arith, refl, ◌∙◌, sym, ap, subst, ⊎_elim, inl, inr, List, [], ◌++◌, ℕ, Err, Contains}
 use Rattle.std.proofs.lemmas.List.{length-map}
 use Rattle.std.proofs.lemmas.Result.{IfOk-from_err}
 use Rattle.device.specs.Step.{Same}
+use Rattle.names.specs.Key.{Key}
 use Rattle.device.proofs.Runs.{not_yet}
 use Rattle.checkpoint.proofs.Faults.{no_fault}
 use Rattle.snapshots.specs.declared.kept_entries.KeptEntries.{KeptEntries}
@@ -14,7 +15,7 @@ use Rattle.paged.specs.declared.chosen.Chosen.{Chosen}
 use Rattle.paged.specs.Chosen.{is_chosen}
 use Rattle.paged.proofs.Choosing.{chooses_rules}
 use Rattle.paged.proofs.Lying.{lying, none_lying}
-use Rattle.paged.proofs.Pages.{IsBad, kept_of_them, pages_hold, count_keys, index_of_none, holds_none, scan_bad, scan_memory, snapshot_bad}
+use Rattle.paged.proofs.Pages.{IsBad, kept_of_them, pages_hold, count_keys, index_of_none, holds_none, knows_all, none_or_some, scan_bad, scan_memory, snapshot_bad}
 use Rattle.paged.proofs.state.Paged.read.Goals as goal
 
 pub returns-in_err-first_keys-clause-damaged : goal.returns-in_err-first_keys-clause-damaged
@@ -74,7 +75,10 @@ returns-clause-held g c keeps held is holds revision =
     in (
       lying disk c.scan.new.device c.in_ok-cache.cache c.args.rules held is c.in_ok-cache.ensures.found shelves,
       shown.0,
-      λ k has. shown.1 k (c.in_ok-chosen.ensures k has),
+      λ k has.
+          let In : List Key → Type 0 = λ ks. Contains ks k in
+          ⊎_elim (λ none. knows_all root content held c.in_ok-core.core k none holds) (λ some. shown.1 k (c.in_ok-chosen.ensures k (subst In (sym (c.keys_in_pages.ensures.all some)) has)))
+          (none_or_some root.pages),
     )
 
 pub returns-clause-no_pages : goal.returns-clause-no_pages
