@@ -12,6 +12,7 @@ use Rattle.durable.specs.declared.compacted.Checked.{Checked}
 use Rattle.durable.specs.declared.compacted.Compacted.{Compacted}
 use Rattle.durable.specs.declared.store.Store.{Store}
 use Rattle.durable.specs.declared.upgraded.Upgraded.{Upgraded}
+use Rattle.durable.specs.ReadWhole.{HoldsWellFormed}
 use Rattle.durable.specs.Ready.{HoldsHistory}
 use Rattle.durable.specs.Settled.{device_of, IsFound, IsSettledAt}
 use Rattle.api.specs.Answers.{Answered, AreRead, all_writes}
@@ -80,7 +81,7 @@ module _ {S D : Type 0} (disk : Disk D) (made opened closed : S → List ℕ →
     pub upgraded : (rules : Rules) (h : History) → HoldsHistory rules disk found h → IsUpgraded rules disk found left h
     pub told : (rules : Rules) (h : History) (holds : HoldsHistory rules disk found h) → IsToldUpgraded rules h (disk.content left) holds.read.root u
 
-  -- The store on the device under the name is whole, and this is told of it.
+  -- The store on the device under the name is whole: all that it holds was read, and is well formed. This is told of it.
   pub record FoundWhole (c : Checked) : Type 0 where
     pub found : D
     pub left : D
@@ -88,6 +89,7 @@ module _ {S D : Type 0} (disk : Disk D) (made opened closed : S → List ℕ →
     pub was_closed : closed storage name left
     pub keeps : (rules : Rules) (h : History) → HoldsHistory rules disk found h → KeepsHistory rules disk found left h
     pub told : (rules : Rules) (h : History) (holds : HoldsHistory rules disk found h) → IsToldOfHistory rules h holds.read.root c
+    pub whole : disk.keeps found → HoldsWellFormed (disk.content found)
 
   -- The device under the name holds no history, and was given back.
   pub record FoundDamaged : Type 0 where

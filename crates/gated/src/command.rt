@@ -228,7 +228,7 @@ fn line<'a>(alloc: Global) -> Result<Command<'a>, AllocError>
 {
     let alone = Command::new(alloc, "gated")
         .about("A small Kubernetes-style API server over one crash-safe file")
-        .version("0.25.0")
+        .version("0.26.0")
         .subcommand_required(true);
     let with_replay = with_over_file(
         alloc,
