@@ -1,12 +1,12 @@
 //! Objects as documents: what is stored of an object, its metadata, how it is shown, and what label selectors ask of it.
 //!
 //! ```text
-//! let document = Document::new(json);
+//! let document = Document::new(alloc, json)?;
 //! let name = metadata_text(document.json(), "name");
 //! let shown = shown_document(alloc, &document, 2)?;
 //! ```
 //!
-//! A [`Document`] is an object's JSON (`jsondoc::Doc`) as it is stored, without a revision. `has_kind` and `has_metadata` decide whether JSON is
+//! A [`Document`] is an object's JSON (`jsondoc::Doc`) as it is stored, without a revision. Its copies share it, so that they cost no memory. `has_kind` and `has_metadata` decide whether JSON is
 //! that of an object, `metadata_text` and `metadata_copy` read its metadata, and `shown_document` adds the revision of its last write. What is
 //! stored under a key has the form of that key (`specs/Form.antt`).
 //!

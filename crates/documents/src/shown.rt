@@ -21,7 +21,7 @@ pub fn shown_from(alloc: Global, document: Document, revision: u64) -> Result<Do
     let mut metadata = metadata_copy(document.json())?;
     let text = format!(in alloc; "{revision}")?;
     metadata.put(alloc, "resourceVersion", Doc::from(text))?;
-    let mut shown = document.into_json();
+    let mut shown = document.into_json()?;
     shown.put(alloc, "metadata", metadata)?;
     Ok(shown)
 }

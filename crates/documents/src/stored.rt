@@ -1,13 +1,14 @@
 ghost use Rattle.std.specs.Prelude.{◌≡◌, IfOk};
 
 use jsondoc::Doc;
-use std::alloc::AllocError;
+use std::alloc::{AllocError, Global};
 use std::marker::Model;
+use std::rc::Rc;
 
-/// What is stored of an object.
+/// What is stored of an object. Its copies share it.
 #[derive(Drop)]
 pub struct Document {
-    json: Doc,
+    json: Rc<Doc>,
 }
 
 impl Model for Document {
@@ -18,30 +19,32 @@ impl Model for Document {
 
     ghost coded = { coded_document };
 
-    ghost view = { λ d. record { json = d.json } };
+    ghost view = { λ d. record { json = d.json.value } };
 }
 
 impl Document {
-    /// The document of an object's JSON.
-    pub fn new(json: Doc) -> Document
-        ensures { result ≡ record { json = json } }
+    /// The document of an object's JSON. `AllocError` when out of memory.
+    pub fn new(alloc: Global, json: Doc) -> Result<Document, AllocError>
+        ensures { IfOk result (λ d. d ≡ record { json = json }) }
     {
-        Document { json }
+        Ok(Document {
+            json: Rc::new(alloc, json)?,
+        })
     }
 
     /// The object's JSON.
     pub fn json(&self) -> &Doc
         ensures { result.now ≡ self.now.json }
     {
-        &self.json
+        self.json.as_ref()
     }
 
-    /// The object's JSON, taken out.
-    pub fn into_json(self) -> Doc
-        ensures { result ≡ self.json }
+    /// The object's JSON, taken out. Where other copies share it, it is copied. `AllocError` when out of memory.
+    pub fn into_json(self) -> Result<Doc, AllocError>
+        ensures { IfOk result (λ d. d ≡ self.json) }
     {
         let Document { json } = self;
-        json
+        Rc::unwrap_or_clone(json)
     }
 }
 

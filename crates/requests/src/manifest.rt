@@ -137,11 +137,11 @@ impl Manifest {
     {
         let document = namespace_document(alloc, name)?;
         let key = key_of(alloc, Resource::Namespace, "", &document)?;
-        let document = Document::new(document);
-        let text = document.json().text(alloc)?;
+        let stored = Document::new(alloc, document)?;
+        let text = stored.json().text(alloc)?;
         Ok(Manifest {
             key,
-            document,
+            document: stored,
             text,
             version: None,
         })
@@ -281,7 +281,7 @@ fn stored_document(
     let metadata = stored_metadata(alloc, resource, namespace, &document)?;
     let mut stored = document;
     stored.put(alloc, "metadata", metadata)?;
-    Ok(Document::new(stored))
+    Document::new(alloc, stored)
 }
 
 // The metadata of what is stored.

@@ -78,7 +78,7 @@ pub fn repeated(
 pub fn shown(alloc: Global, text: &str) -> Result<String, Wrong> {
     let (revision, json) = first_word(text);
     let revision = number(revision)?;
-    let stored = Document::new(document(alloc, json.as_bytes())?);
+    let stored = Document::new(alloc, document(alloc, json.as_bytes())?)?;
     let shown = copy_shown(alloc, &stored, revision);
     drop(stored);
     shown
@@ -102,7 +102,7 @@ pub fn selects(alloc: Global, text: &str) -> Result<String, Wrong> {
     let Some(selector) = selector else {
         return Err(Wrong::Told("no selector"));
     };
-    let document = Document::new(document(alloc, json.as_bytes())?);
+    let document = Document::new(alloc, document(alloc, json.as_bytes())?)?;
     let is_selected = selector.selects(&document);
     drop(document);
     yes_or_no(alloc, is_selected)

@@ -16,11 +16,11 @@ key_of-requires c = ap (λ (d : Data). is_key (key_at Namespace [] d)) c.in_ok-d
 pub invariant_of-result : goal.invariant_of-result
 invariant_of-result c =
     let name : List ℕ = c.args.name.now in
-    let stored : Document = c.new-document.result in
-    let is : stored.json ≡ (namespace_document name).json = ap (λ (d : Document). d.json) c.new-document.ensures ∙ c.in_ok-document.ensures in
+    let stored : Document = c.in_ok-stored.stored in
+    let is : stored.json ≡ (namespace_document name).json = ap (λ (d : Document). d.json) c.in_ok-stored.ensures ∙ c.in_ok-document.ensures in
     let back : IsDocument stored.json =
     IsDocument-text stored.json c.json.result.now (string_bytes c.in_ok-text.text) c.json.ensures c.in_ok-text.ensures.text c.in_ok-text.ensures.reads_back
     (depth-namespace name stored.json is) in (
-      HasForm-of_namespace name c.in_ok-key.key c.in_ok-document.document stored c.in_ok-document.ensures c.in_ok-key.ensures c.new-document.ensures c.requires back,
+      HasForm-of_namespace name c.in_ok-key.key c.in_ok-document.document stored c.in_ok-document.ensures c.in_ok-key.ensures c.in_ok-stored.ensures c.requires back,
       c.in_ok-text.ensures.text ∙ ap text c.json.ensures,
     )
