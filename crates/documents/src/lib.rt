@@ -7,7 +7,7 @@
 //! ```
 //!
 //! A [`Document`] is an object's JSON (`jsondoc::Doc`) as it is stored, without a revision. Its copies share it, so that they cost no memory. `has_kind` and `has_metadata` decide whether JSON is
-//! that of an object, `metadata_text` and `metadata_copy` read its metadata, and `shown_document` adds the revision of its last write. What is
+//! that of an object, `metadata_text` and `metadata_copy` read its metadata, and `shown_document` adds the revision of its last write. `shown_text` is the text of that. What is
 //! stored under a key has the form of that key (`specs/Form.antt`).
 //!
 //! Label selectors (Kubernetes, "Labels and Selectors"): a [`Requirement`] is what one of their parts asks, and `selects` answers exactly
@@ -24,5 +24,5 @@ mod stored;
 pub use metadata::{has_kind, has_metadata, metadata_copy, metadata_text};
 pub use requirement::Requirement;
 pub use selecting::{is_among, selects};
-pub use shown::{shown_document, shown_from};
+pub use shown::{shown_document, shown_from, shown_text};
 pub use stored::Document;

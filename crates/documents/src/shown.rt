@@ -1,5 +1,7 @@
-ghost use Rattle.std.specs.Prelude.{◌≡◌, IfOk};
-ghost use Rattle.documents.specs.Document.{shown};
+ghost use Rattle.std.specs.Prelude.{◌≡◌, codes, decimal, string_bytes, IfOk};
+ghost use Rattle.serde_json.specs.Data.{string};
+ghost use Rattle.jsondoc.specs.Json.{text, with_member};
+ghost use Rattle.documents.specs.Document.{metadata_of, shown};
 
 use crate::metadata::metadata_copy;
 use crate::stored::Document;
@@ -18,10 +20,27 @@ pub fn shown_document(alloc: Global, document: &Document, revision: u64) -> Resu
 pub fn shown_from(alloc: Global, document: Document, revision: u64) -> Result<Doc, AllocError>
     ensures { IfOk result (λ d. d ≡ shown document revision) }
 {
-    let mut metadata = metadata_copy(document.json())?;
-    let text = format!(in alloc; "{revision}")?;
-    metadata.put(alloc, "resourceVersion", Doc::from(text))?;
+    let metadata = shown_metadata(alloc, document.json(), revision)?;
     let mut shown = document.into_json()?;
     shown.put(alloc, "metadata", metadata)?;
     Ok(shown)
+}
+
+/// The text of the object as it is shown. The document is not copied. `AllocError` when out of memory.
+pub fn shown_text(alloc: Global, document: &Document, revision: u64) -> Result<String, AllocError>
+    ensures { IfOk result (λ s. string_bytes s ≡ text (shown document.now revision)) }
+{
+    let json = document.json();
+    let metadata = shown_metadata(alloc, json, revision)?.text(alloc)?;
+    json.text_with(alloc, "metadata", metadata.as_str())
+}
+
+// The metadata of an object's JSON, with a revision as its `resourceVersion`.
+fn shown_metadata(alloc: Global, json: &Doc, revision: u64) -> Result<Doc, AllocError>
+    ensures { IfOk result (λ d. d ≡ with_member (codes "resourceVersion") (string (decimal revision)) (metadata_of json.now)) }
+{
+    let mut metadata = metadata_copy(json)?;
+    let text = format!(in alloc; "{revision}")?;
+    metadata.put(alloc, "resourceVersion", Doc::from(text))?;
+    Ok(metadata)
 }

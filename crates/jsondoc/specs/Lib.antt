@@ -1,3 +1,4 @@
 pub mod DataCode
 pub mod Json
 pub mod Escapes
+pub mod Texts

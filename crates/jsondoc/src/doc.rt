@@ -1,11 +1,12 @@
 ghost use Rattle.std.specs.Prelude.{◌≡◌, ◌≢◌, ℕ, ◌≤◌, List, Bool, Option, Some, None, true, is_some, IsTrue, IfOk, OnOk, OnErr, IfSome, IsErrOf, IfErr, option_map, string_bytes, unwrap_or};
 ghost use Rattle.std.specs.Prelude.{IsSome};
-ghost use Rattle.serde_json.specs.Data.{depth, null, boolean, number, string, array, object, no_items, no_members};
+ghost use Rattle.serde_json.specs.Data.{Data, depth, null, boolean, number, string, array, object, no_items, no_members};
 ghost use Rattle.serde_json.specs.Find.{get, as_str, as_object, as_array, of_integer};
 ghost use Rattle.serde_json.specs.View.{view, items_view, members_view};
 ghost use Rattle.jsondoc.specs.Json.{is_whole, text, reading, not_json, not_whole, document, with_member, without_member, with_item};
 
 use crate::members::{push_item, put_member, remove_member};
+use crate::texts::{NewMember, text_of_members};
 use crate::whole::has_whole_numbers;
 use serde_json::{Category, Map, Number, Value};
 use std::alloc::{AllocError, Global};
@@ -88,6 +89,28 @@ impl Doc {
     {
         let text = self.value.to_string(alloc)?;
         Ok(text)
+    }
+
+    /// The text of the document with a member, in place of one of that name, as `put` would put it. The member is given as its text. What is no
+    /// object has its own text. The document is not copied. `AllocError` when out of memory.
+    pub fn text_with(
+        &self,
+        alloc: Global,
+        name: &str,
+        member_text: &str,
+    ) -> Result<String, AllocError>
+        ensures { (member : Data) → member_text.now ≡ text member → IfOk result (λ s. string_bytes s ≡ text (with_member name.now member self.now)) }
+    {
+        match self.value.as_object() {
+            Some(members) => {
+                let new = NewMember {
+                    name,
+                    text: member_text,
+                };
+                text_of_members(alloc, members, &new)
+            }
+            None => self.text(alloc),
+        }
     }
 
     /// The document as a value of `serde_json`.

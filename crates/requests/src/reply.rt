@@ -5,7 +5,7 @@ ghost use Rattle.requests.specs.Listing.{served};
 ghost use Rattle.requests.specs.Reply.{saying, status, showing, status_document};
 
 use crate::refusal::Refusal;
-use documents::{Document, shown_document, shown_from};
+use documents::{Document, shown_text};
 use jsondoc::Doc;
 use std::alloc::{AllocError, Global};
 use std::marker::Model;
@@ -80,11 +80,11 @@ impl Reply {
         Ok(Reply {
             code,
             warnings,
-            body: shown_document(alloc, document, revision)?.text(alloc)?,
+            body: shown_text(alloc, document, revision)?,
         })
     }
 
-    /// The reply that shows an object that was found, made of the stored document itself, with the revision of its last write.
+    /// The reply that shows an object that was found, with the revision of its last write.
     pub fn showing_found(
         alloc: Global,
         document: Document,
@@ -92,7 +92,7 @@ impl Reply {
     ) -> Result<Reply, AllocError>
         ensures { IfOk result (λ r. r ≡ showing 200 [] document revision) }
     {
-        let body = shown_from(alloc, document, revision)?.text(alloc)?;
+        let body = shown_text(alloc, &document, revision)?;
         Ok(Reply::served(alloc, body))
     }
 

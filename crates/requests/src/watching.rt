@@ -1,13 +1,14 @@
 // The events of a collection, as a watch tells them.
-ghost use Rattle.std.specs.Prelude.{◌≡◌, ◌++◌, ◌∷◌, [], string_bytes, if◌then◌else◌, IfOk, OnOk};
-ghost use Rattle.serde_json.specs.Data.{object, no_members};
+ghost use Rattle.std.specs.Prelude.{◌≡◌, ◌++◌, ◌∷◌, [], codes, string_bytes, if◌then◌else◌, IfOk, OnOk};
+ghost use Rattle.serde_json.specs.Data.{string};
 ghost use Rattle.jsondoc.specs.Json.{text};
+ghost use Rattle.documents.specs.Document.{object_of};
 ghost use Rattle.requests.specs.Collection.{collection_of};
 ghost use Rattle.requests.specs.Listing.{change_text, event_document, line_feed, lines_of, served};
 
 use crate::collection::Collection;
 use crate::reply::{Reply, put_text};
-use documents::{Document, shown_document};
+use documents::{Document, shown_text};
 use jsondoc::Doc;
 use std::alloc::{AllocError, Global};
 use window::{Change, Event, Events};
@@ -60,27 +61,26 @@ fn add_line(alloc: Global, lines: &mut String, event: &Event<Document>) -> Resul
     ensures { OnOk result (string_bytes lines.new ≡
         string_bytes lines.old ++ (text (event_document event.now) ++ line_feed ∷ [])) }
 {
-    let text = event_document(alloc, event)?.text(alloc)?;
+    let text = event_text(alloc, event)?;
     lines.push_str(text.as_str())?;
     lines.push('\n')
 }
 
-// Adds the members of the event as a watch tells it.
-fn put_event(document: &mut Doc, alloc: Global, event: &Event<Document>) -> Result<(), AllocError>
-    requires empty { document.old ≡ object no_members }
-    ensures { OnOk result (document.new ≡ event_document event.now) }
+// The text of an event as a watch tells it.
+fn event_text(alloc: Global, event: &Event<Document>) -> Result<String, AllocError>
+    ensures { IfOk result (λ s. string_bytes s ≡ text (event_document event.now)) }
 {
-    put_text(document, alloc, "type", change_text(event.change))?;
-    let shown = shown_document(alloc, &event.document, event.revision)?;
-    document.put(alloc, "object", shown)
+    let shown = shown_text(alloc, &event.document, event.revision)?;
+    let kind = kind_document(alloc, event.change)?;
+    kind.text_with(alloc, "object", shown.as_str())
 }
 
-// The event as a watch tells it.
-fn event_document(alloc: Global, event: &Event<Document>) -> Result<Doc, AllocError>
-    ensures { IfOk result (λ d. d ≡ event_document event.now) }
+// An event as a watch tells it, without its object.
+fn kind_document(alloc: Global, change: Change) -> Result<Doc, AllocError>
+    ensures { IfOk result (λ d. d ≡ object_of ((codes "type", string (change_text change)) ∷ [])) }
 {
     let mut document = Doc::empty_object(alloc);
-    put_event(&mut document, alloc, event)?;
+    put_text(&mut document, alloc, "type", change_text(change))?;
     Ok(document)
 }
 
