@@ -3,7 +3,9 @@
 use crate::names_asked::resource;
 use crate::texts::{document_text, made_text, or_empty, push_times};
 use cases::{TextBuilder, Wrong, first_word, number, push_bytes, text, yes_or_no};
-use documents::{Document, has_kind, has_metadata, metadata_copy, metadata_text, shown_document};
+use documents::{
+    Document, has_kind, has_metadata, metadata_copy, metadata_text, shown_document, shown_text,
+};
 use jsondoc::{Doc, JsonFault};
 use requests::Selector;
 use std::alloc::Global;
@@ -84,14 +86,24 @@ pub fn shown(alloc: Global, text: &str) -> Result<String, Wrong> {
     shown
 }
 
+// The text of a copy as it is shown, which must be that of the document that shows it.
 fn copy_shown(alloc: Global, stored: &Document, revision: u64) -> Result<String, Wrong> {
     match stored.clone() {
         Ok(copy) => {
             let shown = made_text(alloc, shown_document(alloc, &copy, revision));
+            let written = shown_text(alloc, &copy, revision);
             drop(copy);
-            shown
+            same_text(shown?, written?)
         }
         Err(_) => Err(Wrong::Memory),
+    }
+}
+
+fn same_text(shown: String, written: String) -> Result<String, Wrong> {
+    if shown.as_str() == written.as_str() {
+        Ok(written)
+    } else {
+        Err(Wrong::Told("written as another text than it has"))
     }
 }
 
