@@ -1,5 +1,5 @@
 -- How a log is walked.
-use Rattle.std.proofs.Common.{arith, refl, ◌≡◌, ◌∙◌, sym, ap, subst, ◌<◌, ◌≤◌, ◌+◌, ◌*◌, ◌++◌, ℕ, List, [], ◌∷◌, length, drop, slice_index}
+use Rattle.std.proofs.Common.{arith, refl, ◌≡◌, ◌∙◌, sym, ap, subst, ◌<◌, ◌≤◌, ◌+◌, ◌*◌, ◌++◌, ℕ, List, [], ◌∷◌, length, drop, slice_index, Some, Vec, Global}
 use Rattle.std.proofs.lemmas.List.{append_assoc, append-nil}
 use Rattle.byteorder.specs.Endian.{big_number}
 use Rattle.byteorder.specs.Numbers.{big_from-take}
@@ -9,7 +9,7 @@ use Rattle.device.specs.Run.{Ran}
 use Rattle.device.proofs.Runs.{ran_then}
 use Rattle.gatelog.specs.Record.{part, sectors, body_sectors, IsRecord}
 use Rattle.gatelog.specs.Log.{IsOpen, IsClosed, HoldsLog, AtMostOneLog}
-use Rattle.gatelog.specs.Walk.{HoldsRecord, Leads, Passes}
+use Rattle.gatelog.specs.Walk.{HoldsRecord, Leads, Passes, IsFirstOf}
 use Rattle.gatelog.proofs.Parts.{get-part}
 use Rattle.gatelog.proofs.Logs.{inside}
 
@@ -137,23 +137,17 @@ no_log-record (first ∷ rest) gate last c log before none = none first (record-
 pub passes-here : (from last : ℕ) (c : List ℕ) → Passes from [] from last c
 passes-here from last c payloads log = (payloads, refl, log)
 
--- over one payload
-pub passes-next : (from gate count last : ℕ) (c : List ℕ) (passed after : List (List ℕ)) (payload : List ℕ) → Passes from passed gate last c → gate < last → count ≡ sectors payload
-    → ((first : List ℕ) → HoldsRecord (gate + 1) first c → payload ≡ first) → after ≡ passed ++ payload ∷ [] → Passes from after (gate + (1 + count)) last c
-passes-next from gate count last c passed after payload so_far before is_count found is_after payloads log =
-    let here = so_far payloads log in step here.0 here.1 here.2
-  where
-    step : (rest : List (List ℕ)) → payloads ≡ passed ++ rest → HoldsLog gate rest last c
-        → (ahead : List (List ℕ)) × (payloads ≡ after ++ ahead) × HoldsLog (gate + (1 + count)) ahead last c
-    step [] same closed = absurd (omega (arith, closed.0, before))
-    step (first ∷ rest) same log =
-        let is_first : payload ≡ first = found first (record-behind gate first c log.1) in
-        let place : gate + 1 + sectors first ≡ gate + (1 + count) = omega (arith, is_count, ap length is_first) in
-        let P : ℕ → Type 0 = λ g. HoldsLog g rest last c in (
-          rest,
-          same ∙ ap (λ (x : List ℕ). passed ++ x ∷ rest) (sym is_first) ∙ sym (append_assoc passed (payload ∷ []) rest) ∙ ap (λ (xs : List (List ℕ)). xs ++ rest) (sym is_after),
-          subst P place log.2,
-        )
+-- over the first payload that is left
+pub passes-first : (from gate last : ℕ) (c : List ℕ) (passed after : List (List ℕ)) (told : Vec ℕ Global × ℕ) → Passes from passed gate last c
+    → ((payloads : List (List ℕ)) → HoldsLog gate payloads last c → IsFirstOf (Some told) payloads last c) → after ≡ passed ++ told.0.items ∷ []
+    → Passes from after told.1 last c
+passes-first from gate last c passed after told so_far found is_after payloads log =
+    let here = so_far payloads log in
+    let first = found here.0 here.2 in (
+      first.0,
+      here.1 ∙ ap (λ (x : List (List ℕ)). passed ++ x) first.1 ∙ sym (append_assoc passed (told.0.items ∷ []) first.0) ∙ ap (λ (xs : List (List ℕ)). xs ++ first.0) (sym is_after),
+      first.2,
+    )
 
 -- at the log's end
 pub passes-end : (from gate last : ℕ) (c : List ℕ) (passed : List (List ℕ)) → Passes from passed gate last c → last ≤ gate
@@ -163,3 +157,18 @@ passes-end from gate last c passed so_far at_end payloads log = let here = so_fa
     step : (rest : List (List ℕ)) → payloads ≡ passed ++ rest → HoldsLog gate rest last c → passed ≡ payloads
     step [] same closed = sym (same ∙ append-nil passed)
     step (first ∷ rest) same log = absurd (omega (arith, (inside rest (gate + 1 + sectors first) last c log.2).0, at_end))
+
+-- at the log's end no payload is left
+pub none-left : (payloads : List (List ℕ)) (gate last : ℕ) (c : List ℕ) → last ≤ gate → HoldsLog gate payloads last c → payloads ≡ []
+none-left [] gate last c at_end log = refl
+none-left (first ∷ rest) gate last c at_end log = absurd (omega (arith, (inside rest (gate + 1 + sectors first) last c log.2).0, at_end))
+
+-- the first payload before it, and where the others stand
+pub first-left : (payloads : List (List ℕ)) (gate count last : ℕ) (c payload : List ℕ) → gate < last → count ≡ sectors payload
+    → ((first : List ℕ) → HoldsRecord (gate + 1) first c → payload ≡ first) → HoldsLog gate payloads last c
+    → (others : List (List ℕ)) × (payloads ≡ payload ∷ others) × HoldsLog (gate + 1 + count) others last c
+first-left [] gate count last c payload before is_count found closed = absurd (omega (arith, closed.0, before))
+first-left (first ∷ rest) gate count last c payload before is_count found log =
+    let is_first : payload ≡ first = found first (record-behind gate first c log.1) in
+    let place : gate + 1 + sectors first ≡ gate + 1 + count = omega (arith, is_count, ap length is_first) in
+    let P : ℕ → Type 0 = λ g. HoldsLog g rest last c in (rest, ap (λ (x : List ℕ). x ∷ rest) (sym is_first), subst P place log.2)

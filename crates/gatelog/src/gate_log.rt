@@ -1,6 +1,6 @@
 ghost use Rattle.std.specs.Prelude.{◌≡◌, ◌<◌, ◌≤◌, ◌+◌, ◌*◌, ◌^◌, ◌++◌, ◌∷◌, [], ℕ, List, true, false, not, is_ok, length, take, replicate, IsTrue, IfOk, OnOk, OnErr, IsErrOf, ◌⊎◌, ◌↔◌, map};
 
-use crate::reading::{last_gate_of, payloads_of};
+use crate::reading::{last_gate_of, payload_at, payloads_of};
 use crate::write_record::write_record;
 use crate::{Body, LogFault};
 use device::{Device, SECTOR};
@@ -27,6 +27,7 @@ impl Log {
     ghost use Rattle.gatelog.specs.Payload.{payload_of};
     ghost use Rattle.gatelog.specs.Log.{IsClosed, HoldsLog, AtMostOneLog, IsBeforeOrAfter};
     ghost use Rattle.gatelog.specs.Settled.{IsSettled};
+    ghost use Rattle.gatelog.specs.Walk.{IsFirstOf, IsAhead};
 
     /// Writes a closed gate, the empty log there. It is not synced.
     pub fn start<D: Device>(device: &mut D, first_gate_sector: u64) -> Result<Log, LogFault>
@@ -136,6 +137,41 @@ impl Log {
     {
         self.check_works()?;
         let answer = payloads_of(alloc, device, self.first_gate_sector, self.last_gate_sector);
+        self.failed = matches!(&answer, Err(LogFault::Device));
+        answer
+    }
+
+    /// The payload of the record behind a gate, and the gate behind that record: the next one of the log. Nothing at the log's last gate. The payload
+    /// of one record is all that is held.
+    ///
+    /// # Errors
+    ///
+    /// `Damaged` only where no list of payloads stands at the gate that ends at the log's last gate; `Memory`; `Device` as everywhere.
+    pub fn payload<D: Device>(
+        &mut self,
+        alloc: Global,
+        device: &mut D,
+        gate: u64,
+    ) -> Result<Option<(Vec<u8>, u64)>, LogFault>
+        ensures found { D.disk.keeps device.old → (payloads : List (List ℕ))
+            → HoldsLog gate payloads self.old.last_gate_sector (D.disk.content device.old)
+            → IfOk result (λ told. IsFirstOf told payloads self.old.last_gate_sector (D.disk.content device.old)) }
+        ensures ahead { IfOk result (λ told. IsAhead told gate self.old.last_gate_sector) }
+        ensures damaged { D.disk.keeps device.old → IsErrOf result LogFault.Damaged
+            → (payloads : List (List ℕ)) → HoldsLog gate payloads self.old.last_gate_sector (D.disk.content device.old) → ⊥ }
+        ensures refusal { IsErrOf result LogFault.TooLong → ⊥ }
+        ensures place { (self.new.first_gate_sector ≡ self.old.first_gate_sector) × (self.new.last_gate_sector ≡ self.old.last_gate_sector) }
+        ensures works { OnOk result (self.new.failed ≡ false) }
+        ensures failed { IsTrue self.new.failed ↔ IsErrOf result LogFault.Device }
+        ensures stays_failed { IsTrue self.old.failed → IsErrOf result LogFault.Device }
+        ensures untouched { IsTrue self.old.failed → device.new ≡ device.old }
+        ensures ran { Ran D.disk device.old device.new Same }
+        ensures cause { self.old.failed ≡ false → IsErrOf result LogFault.Device → HasFailed D.disk device.old device.new }
+        ensures steady { OnOk result (D.disk.failures device.new ≡ D.disk.failures device.old) }
+        ensures unfailed { IsErrOf result LogFault.Memory ⊎ IsErrOf result LogFault.Damaged → D.disk.failures device.new ≡ D.disk.failures device.old }
+    {
+        self.check_works()?;
+        let answer = payload_at(alloc, device, gate, self.last_gate_sector);
         self.failed = matches!(&answer, Err(LogFault::Device));
         answer
     }
