@@ -53,22 +53,23 @@ at_most_one gate c (p ∷ payloads) (q ∷ others) last other_last log other =
     (ap (λ (r : List ℕ). r ∷ payloads) same ∙ ap (λ (rs : List (List ℕ)). q ∷ rs) rest.0, rest.1)
 
 -- a walk begins
-pub leads-here : (at : ℕ) (c : List ℕ) → Leads at at c
-leads-here at c = record { forth = λ payloads last log. (payloads, log); back = λ payloads last log. (payloads, log) }
+pub leads-here : (at : ℕ) (c : List ℕ) → Leads at at 0 c
+leads-here at c = record { forth = λ payloads last log. (payloads, omega arith, log); back = λ payloads last log. (payloads, log) }
 
 not_closed : (gate last : ℕ) (c : List ℕ) → IsOpen gate c → (gate ≡ last) × IsClosed last c → ⊥
 not_closed gate last c opened closed = closed.1.1 (let P : ℕ → Type 0 = λ g. IsOpen g c in subst P closed.0 opened)
 
 -- over one record
-pub leads-next : (from gate count : ℕ) (c : List ℕ) → Leads from gate c → IsOpen gate c → (payload : List ℕ) × (count ≡ sectors payload) × HoldsRecord (gate + 1) payload c
-    → Leads from (gate + (1 + count)) c
-leads-next from gate count c so_far opened found =
+pub leads-next : (from gate passed count : ℕ) (c : List ℕ) → Leads from gate passed c → IsOpen gate c
+    → (payload : List ℕ) × (count ≡ sectors payload) × HoldsRecord (gate + 1) payload c → Leads from (gate + (1 + count)) (passed + 1) c
+leads-next from gate passed count c so_far opened found =
     let payload = found.0 in
     let place : gate + 1 + sectors payload ≡ gate + (1 + count) = omega (arith, found.1) in
     record {
       forth = λ payloads last log.
           let P : ℕ → Type 0 = λ g. HoldsLog g payloads last c in
-          so_far.forth (payload ∷ payloads) last (opened, record-ahead gate payload c found.2, subst P (sym place) log);
+          let all = so_far.forth (payload ∷ payloads) last (opened, record-ahead gate payload c found.2, subst P (sym place) log) in
+          (all.0, omega (arith, all.1), all.2);
       back = λ payloads last log.
           let here = so_far.back payloads last log in
           step here.0 last here.1;
@@ -93,22 +94,23 @@ pub same_then : {D : Type 0} (disk : Disk D) (old mid new : D) → Ran disk old 
 same_then disk old mid new first second = ran_then disk old mid new Same Same Same first second (λ a b same. same) (λ a b c same also. also ∙ same)
 
 -- at a closed gate the log ends
-pub found-closed : (from gate : ℕ) (c : List ℕ) → Leads from gate c → IsClosed gate c → (payloads : List (List ℕ)) × HoldsLog from payloads gate c
-found-closed from gate c so_far closed = so_far.forth [] gate (refl, closed)
+pub found-closed : (from gate count : ℕ) (c : List ℕ) → Leads from gate count c → IsClosed gate c
+    → (payloads : List (List ℕ)) × (count ≡ length payloads) × HoldsLog from payloads gate c
+found-closed from gate count c so_far closed = let all = so_far.forth [] gate (refl, closed) in (all.0, omega (arith, all.1), all.2)
 
 -- behind an open gate stands no record, so no log
-pub no_log-body : (from gate : ℕ) (c : List ℕ) → Leads from gate c → IsOpen gate c → ((payload : List ℕ) → HoldsRecord (gate + 1) payload c → ⊥)
+pub no_log-body : (from gate count : ℕ) (c : List ℕ) → Leads from gate count c → IsOpen gate c → ((payload : List ℕ) → HoldsRecord (gate + 1) payload c → ⊥)
     → (payloads : List (List ℕ)) (last : ℕ) → HoldsLog from payloads last c → ⊥
-no_log-body from gate c so_far opened none payloads last log = let here = so_far.back payloads last log in step here.0 here.1
+no_log-body from gate count c so_far opened none payloads last log = let here = so_far.back payloads last log in step here.0 here.1
   where
     step : (rest : List (List ℕ)) → HoldsLog gate rest last c → ⊥
     step [] closed = not_closed gate last c opened closed
     step (first ∷ rest) log = none first (record-behind gate first c log.1)
 
 -- past the end stands no gate, so no log
-pub no_log-end : (from gate end : ℕ) (c : List ℕ) → Leads from gate c → length c ≡ 512 * end → end ≤ gate
+pub no_log-end : (from gate end count : ℕ) (c : List ℕ) → Leads from gate count c → length c ≡ 512 * end → end ≤ gate
     → (payloads : List (List ℕ)) (last : ℕ) → HoldsLog from payloads last c → ⊥
-no_log-end from gate end c so_far size past payloads last log =
+no_log-end from gate end count c so_far size past payloads last log =
     let here = so_far.back payloads last log in
     let within = inside here.0 gate last c here.1 in
     absurd (omega (arith, within.0, within.1, size))

@@ -61,13 +61,13 @@ fn check_body<D: Device>(device: &mut D, at: u64, end: u64) -> Result<u64, LogFa
     Ok(count as u64)
 }
 
-/// The first closed gate of the log that begins at a gate.
-pub(crate) fn last_gate_of<D: Device>(device: &mut D, at: u64) -> Result<u64, LogFault>
+/// The first closed gate of the log that begins at a gate, and the number of the records before it.
+pub(crate) fn last_gate_of<D: Device>(device: &mut D, at: u64) -> Result<(u64, u64), LogFault>
     ensures found { D.disk.keeps device.old
-        → IfOk result (λ last. (payloads : List (List ℕ)) × HoldsLog at payloads last (D.disk.content device.old)) }
+        → IfOk result (λ end. (payloads : List (List ℕ)) × (end.1 ≡ length payloads) × HoldsLog at payloads end.0 (D.disk.content device.old)) }
     ensures damaged { D.disk.keeps device.old → IsErrOf result LogFault.Damaged
         → (payloads : List (List ℕ)) (last : ℕ) → HoldsLog at payloads last (D.disk.content device.old) → ⊥ }
-    ensures in_order { IfOk result (λ last. (at ≤ last) × (last < 2 ^ 54)) }
+    ensures in_order { IfOk result (λ end. (at ≤ end.0) × (end.0 < 2 ^ 54) × (end.1 ≤ end.0)) }
     ensures refusal { OnErr result (IsErrOf result LogFault.Device ⊎ IsErrOf result LogFault.Damaged) }
     ensures ran { Ran D.disk device.old device.new Same }
     ensures cause { IsErrOf result LogFault.Device → HasFailed D.disk device.old device.new }
@@ -76,12 +76,14 @@ pub(crate) fn last_gate_of<D: Device>(device: &mut D, at: u64) -> Result<u64, Lo
 {
     let end = device.len()?;
     let mut gate = at;
+    let mut count = 0;
     while gate < end {
         let sector = read_sector(device, gate)?;
         if sector[0] != OPEN {
-            return Ok(gate);
+            return Ok((gate, count));
         }
         gate += 1 + check_body(device, gate + 1, end)?;
+        count += 1;
     }
     Err(LogFault::Damaged)
 }
