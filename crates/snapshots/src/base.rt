@@ -221,7 +221,8 @@ impl<'a, P: Drop, D: Device, M: FromDocument<P> + Drop> Source<P> for Base<'a, D
         namespace: &str,
         changes: &Changes<Stored<P>>,
     ) -> Result<bool, LookupFault> {
-        if self.making.is_held(resource) {
+        let making = &self.making;
+        if making.is_held(resource) {
             return Ok(false);
         }
         match self
