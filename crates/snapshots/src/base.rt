@@ -221,8 +221,7 @@ impl<'a, P: Drop, D: Device, M: FromDocument<P> + Drop> Source<P> for Base<'a, D
         namespace: &str,
         changes: &Changes<Stored<P>>,
     ) -> Result<bool, LookupFault> {
-        let making = &self.making;
-        if making.is_held(resource) {
+        if self.making.is_held(resource) {
             return Ok(false);
         }
         match self

@@ -278,7 +278,7 @@ impl ObjectCache {
     ///
     /// # Errors
     ///
-    /// Those of `find`. An entry that stands among the objects and is none counts as one, so damage never makes a namespace look empty.
+    /// Those of `find`. An entry that stands among the objects and is none counts as one: what is in doubt is not taken for gone.
     pub fn has_unchanged<D: Device, T: Drop>(
         &mut self,
         alloc: Global,
