@@ -190,9 +190,9 @@ impl Log {
         ensures unfailed { IsErrOf result LogFault.Memory ⊎ IsErrOf result LogFault.Damaged → D.disk.failures device.new ≡ D.disk.failures device.old }
     {
         self.check_works()?;
-        let told = payload_at(alloc, device, gate, self.last_gate_sector);
-        self.failed = matches!(&told, Err(LogFault::Device));
-        told
+        let answer = payload_at(alloc, device, gate, self.last_gate_sector);
+        self.failed = matches!(&answer, Err(LogFault::Device));
+        answer
     }
 
     /// Appends a payload: its record and the closed gate behind it in one write, a sync, then the record's gate, a sync. It takes
