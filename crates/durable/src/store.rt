@@ -7,7 +7,7 @@ mod opening;
 mod running;
 mod upgrading;
 
-ghost use Rattle.std.specs.Prelude.{◌≡◌, ◌≤◌, true, false, ℕ, List, length};
+ghost use Rattle.std.specs.Prelude.{◌≡◌, ◌≤◌, ◌-◌, true, false, ℕ, List, length};
 ghost use Rattle.durable.specs.Ready.{IsReady};
 ghost use Rattle.durable.specs.Rules.{rules_at};
 ghost use Rattle.paged.specs.Paged.{root_of as paged_root};
@@ -84,6 +84,24 @@ impl<D: Device> Store<D> {
             → result ≡ length payloads }
     {
         self.log.record_count()
+    }
+
+    /// How many sectors the records of its log have, with their gates.
+    #[must_use]
+    pub fn log_sectors(&self) -> u64
+        ensures { result ≡ (log_of self.now).last_gate_sector - (log_of self.now).first_gate_sector }
+    {
+        self.log
+            .last_gate_sector()
+            .saturating_sub(self.log.first_gate_sector())
+    }
+
+    /// How many pages of 64 sectors it has.
+    #[must_use]
+    pub fn page_count(&self) -> u32
+        ensures { result ≡ (root_of self.now).pages }
+    {
+        self.paged.root().pages
     }
 
     // The generation of the root that counts.
