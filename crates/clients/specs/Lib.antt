@@ -1,3 +1,5 @@
 pub mod Moving
 pub mod Journal
 pub mod Serving
+pub mod Waiting
+pub mod Places
