@@ -1,3 +1,4 @@
 pub mod Moving
 pub mod Journal
 pub mod Serving
+pub mod Compacting

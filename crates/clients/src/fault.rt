@@ -3,6 +3,7 @@
 ghost use Rattle.std.specs.Prelude.{◌≡◌};
 
 use api::ServeFault;
+use durable::Fault;
 use std::alloc::AllocError;
 use std::io;
 
@@ -15,6 +16,8 @@ pub enum ClientsFault {
     Memory,
     /// The store failed, or what was read of it is damaged.
     Store(ServeFault),
+    /// The store failed, or what was read of it is damaged, while it was compacted.
+    Compaction(Fault),
 }
 
 impl From<AllocError> for ClientsFault {

@@ -1,11 +1,14 @@
 //! The loop that serves clients.
 
-ghost use Rattle.std.specs.Prelude.{MatchResult};
+ghost use Rattle.std.specs.Prelude.{◌≡◌, None, MatchResult};
 ghost use Rattle.names.specs.declared.format.Rules.{Rules};
-ghost use Rattle.decoded.specs.Standing.{View};
+ghost use Rattle.decoded.specs.Standing.{History, View};
+ghost use Rattle.histories.specs.View.{view};
+ghost use Rattle.durable.specs.Settled.{IsSettledAt};
 ghost use Rattle.api.specs.Answers.{ShowsAt};
 ghost use Rattle.clients.specs.Serving.{HasServedSome, StopsServing, StopsClients};
 
+use crate::compacting::{Compacting, tell_compacted};
 use crate::desk::Desk;
 use crate::fault::ClientsFault;
 use crate::places::Places;
@@ -49,6 +52,8 @@ pub struct Limits {
     pub idle: Option<Duration>,
     /// Whether a line is told of each message that is answered.
     pub is_logged: bool,
+    /// The store is compacted between two turns where its log is this many times as long as its pages, and at least 8 MiB; never where it is `None`.
+    pub compact_at: Option<u16>,
 }
 
 // How long the system is asked to wait, in milliseconds: not at all where more can be done at once.
@@ -250,11 +255,11 @@ impl Server {
     ///
     /// # Errors
     ///
-    /// `Store` where the store failed: those whose messages are not answered are told so, for a second at most. `Network` where the system no
-    /// longer tells what is ready, or what time it is.
+    /// `Store` where the store failed, and `Compaction` where it failed while it was compacted: those whose messages are not answered are told so, for a
+    /// second at most. `Network` where the system no longer tells what is ready, or what time it is.
     ///
-    /// Where the limits say so, a line is written to `log` for each message that is answered, after its reply was put to what is sent. A log that
-    /// cannot be written loses lines, and stops nothing.
+    /// Where the limits say so, a line is written to `log` for each message that is answered, after its reply was put to what is sent, and the store is
+    /// compacted between two turns, of which a line is written too. All clients wait meanwhile. A log that cannot be written loses lines, and stops nothing.
     pub fn run<C: Clock, D: Device, L: Output>(
         &mut self,
         clock: &C,
@@ -262,10 +267,15 @@ impl Server {
         store: &mut Store<D>,
         log: &mut L,
     ) -> Result<(), ClientsFault>
-        ensures served { (rules : Rules) (v : View) → ShowsAt rules store.old v → MatchResult result
+        // Without a compaction this holds of every view that the store shows, whatever its device keeps.
+        ensures served { self.old.limits.compact_at ≡ None → (rules : Rules) (v : View) → ShowsAt rules store.old v → MatchResult result
             (λ _. HasServedSome rules store.old store.new v)
             (StopsClients rules store.old store.new v) }
+        ensures settled { (rules : Rules) (h : History) → IsSettledAt rules store.old h → MatchResult result
+            (λ _. HasServedSome rules store.old store.new (view rules h))
+            (StopsClients rules store.old store.new (view rules h)) }
     {
+        let mut compacting = Compacting::new(self.limits.compact_at);
         let mut wait = 0;
         for _ in 0..u64::MAX {
             if !self.has_left() && self.places.is_empty() {
@@ -277,13 +287,24 @@ impl Server {
             let is_asked = self.accept(alloc, now);
             let turned = self.turn(clock, alloc, now, store);
             self.desk.journal.write_to(alloc, log);
-            match turned {
-                Ok(is_busy) => wait = wait_for(is_asked | is_busy),
+            let is_busy = match turned {
+                Ok(is_busy) => is_busy,
                 Err(fault) => {
                     self.send_last(clock, alloc);
                     return Err(ClientsFault::Store(fault));
                 }
+            };
+            match compacting.compact(alloc, store) {
+                Ok(compacted) => tell_compacted(alloc, compacted, log),
+                Err(fault) => {
+                    // The store has stopped: this turn tells each client with a message so.
+                    let _ = self.turn(clock, alloc, now, store);
+                    self.desk.journal.write_to(alloc, log);
+                    self.send_last(clock, alloc);
+                    return Err(ClientsFault::Compaction(fault));
+                }
             }
+            wait = wait_for(is_asked | is_busy);
         }
         Ok(())
     }

@@ -7,7 +7,7 @@ mod opening;
 mod running;
 mod upgrading;
 
-ghost use Rattle.std.specs.Prelude.{◌≡◌, ◌≤◌, true, false};
+ghost use Rattle.std.specs.Prelude.{◌≡◌, ◌≤◌, ◌-◌, true, false};
 ghost use Rattle.durable.specs.Ready.{IsReady};
 ghost use Rattle.durable.specs.Rules.{rules_at};
 ghost use Rattle.paged.specs.Paged.{root_of as paged_root};
@@ -36,7 +36,7 @@ impl<D: Device> Store<D> {
     ghost use Rattle.names.specs.declared.format.Rules.{Rules};
     ghost use Rattle.decoded.specs.Standing.{View};
     ghost use Rattle.durable.specs.Faults.{of_lookup_fault, goes_on_after};
-    ghost use Rattle.durable.specs.Settled.{device_of, root_of, serves, kept_rules, revision_of, ServesAt};
+    ghost use Rattle.durable.specs.Settled.{device_of, root_of, log_of, serves, kept_rules, revision_of, ServesAt};
 
     /// Whether the store serves: it does until its device fails, or damage is found.
     #[must_use]
@@ -69,6 +69,24 @@ impl<D: Device> Store<D> {
         ensures { result ≡ (root_of self.now).generation }
     {
         self.paged.root().generation
+    }
+
+    /// How many sectors the records of its log have, with their gates.
+    #[must_use]
+    pub fn log_sectors(&self) -> u64
+        ensures { result ≡ (log_of self.now).last_gate_sector - (log_of self.now).first_gate_sector }
+    {
+        self.log
+            .last_gate_sector()
+            .saturating_sub(self.log.first_gate_sector())
+    }
+
+    /// How many pages of 64 sectors it has.
+    #[must_use]
+    pub fn page_count(&self) -> u32
+        ensures { result ≡ (root_of self.now).pages }
+    {
+        self.paged.root().pages
     }
 
     /// The device, to be opened again.

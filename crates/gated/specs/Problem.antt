@@ -121,3 +121,4 @@ abbrev pub of_clients : clients.ClientsFault → Problem
 of_clients clients_fault.Network = problem.StreamFailed
 of_clients clients_fault.Memory = problem.OutOfMemory
 of_clients (clients_fault.Store f) = of_serve f
+of_clients (clients_fault.Compaction f) = of_store f

@@ -2,10 +2,12 @@
 
 ghost use Rattle.std.specs.Prelude.{IsErrOf, OnOk, OnErr};
 ghost use Rattle.names.specs.declared.format.Rules.{Rules};
-ghost use Rattle.decoded.specs.Standing.{View};
+ghost use Rattle.decoded.specs.Standing.{History, View};
+ghost use Rattle.histories.specs.View.{view};
+ghost use Rattle.durable.specs.Settled.{IsSettledAt};
 ghost use Rattle.api.specs.Answers.{ShowsAt};
 ghost use Rattle.clients.specs.Serving.{HasServedSome};
-ghost use Rattle.gated.specs.Left.{HasServedUpTo};
+ghost use Rattle.gated.specs.Left.{HasServedUpTo, HasServedUntil};
 
 use crate::problem::Problem;
 use clients::{Limits, Server};
@@ -165,8 +167,8 @@ pub(crate) fn serve_at_once<D: Device, R: Net + Clock, O: Output, L: Output>(
     output: &mut O,
     log: &mut L,
 ) -> Result<(), Problem>
-    ensures served { (rules : Rules) (v : View) → ShowsAt rules store.old v → OnOk result (HasServedSome rules store.old store.new v) }
-    ensures stopped { (rules : Rules) (v : View) → ShowsAt rules store.old v → OnErr result (HasServedUpTo rules store.old store.new v) }
+    ensures served { (rules : Rules) (h : History) → IsSettledAt rules store.old h → OnOk result (HasServedSome rules store.old store.new (view rules h)) }
+    ensures stopped { (rules : Rules) (h : History) → IsSettledAt rules store.old h → OnErr result (HasServedUntil rules store.old store.new (view rules h)) }
 {
     let address = address_of(address)?;
     let mut server = Server::bind(net, alloc, address, limits)?;

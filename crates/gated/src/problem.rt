@@ -166,6 +166,7 @@ impl From<ClientsFault> for Problem {
             ClientsFault::Network => Problem::StreamFailed,
             ClientsFault::Memory => Problem::OutOfMemory,
             ClientsFault::Store(fault) => Problem::from(fault),
+            ClientsFault::Compaction(fault) => Problem::from(fault),
         }
     }
 }

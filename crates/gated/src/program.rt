@@ -3,17 +3,18 @@
 ghost use Rattle.std.specs.Prelude.{◌≡◌, ◌≢◌, ◌⊎◌, false, map, IfOk, IfErr, OnOk, OnErr, IsErrOf};
 ghost use Rattle.clap.specs.Words.{kind_of};
 ghost use Rattle.names.specs.declared.format.Rules.{Rules};
-ghost use Rattle.decoded.specs.Standing.{View};
+ghost use Rattle.decoded.specs.Standing.{History};
+ghost use Rattle.histories.specs.View.{view};
+ghost use Rattle.durable.specs.Settled.{IsSettledAt};
 ghost use Rattle.durable.specs.declared.compacted.Compacted.{Compacted as CompactedData};
 ghost use Rattle.durable.specs.declared.fault.Damage.{Damage};
 ghost use Rattle.durable.specs.declared.upgraded.Upgraded.{Upgraded as UpgradedData};
-ghost use Rattle.api.specs.Answers.{ShowsAt};
 ghost use Rattle.store.specs.Upkeep.{KeepsHistory, IsEither};
 ghost use Rattle.gated.specs.declared.command.Verb.{Verb as VerbData};
 ghost use Rattle.gated.specs.CommandLine.{AskFor, is_logged};
 ghost use Rattle.clients.specs.Serving.{HasServedSome};
 ghost use Rattle.gated.specs.Doing.{AnsweredAll, FoundDamaged, FoundWhole, IsOpened, MadeStore, ServedAll, UpgradedStore, WroteAnew};
-ghost use Rattle.gated.specs.Left.{HasAnsweredPart, HasLeft, HasLeftBy, HasMadeNone, HasServedPart, HasServedUpTo, WasRefused};
+ghost use Rattle.gated.specs.Left.{HasAnsweredPart, HasLeft, HasLeftBy, HasMadeNone, HasServedPart, HasServedUntil, WasRefused};
 ghost use Rattle.gated.specs.Problem.{Tells};
 ghost use Rattle.gated.specs.Telling.{HasLine, EndsCheck, IsDone, checked_text, compacted_text, upgraded_text};
 
@@ -146,8 +147,8 @@ fn serve_store<
     log: &mut L,
 ) -> Result<(), Problem>
     ensures silent { is_logged ≡ false → log.new ≡ log.old }
-    ensures served { (rules : Rules) (v : View) → ShowsAt rules store.old v → OnOk result (HasServedSome rules store.old store.new v) }
-    ensures stopped { (rules : Rules) (v : View) → ShowsAt rules store.old v → OnErr result (HasServedUpTo rules store.old store.new v) }
+    ensures served { (rules : Rules) (h : History) → IsSettledAt rules store.old h → OnOk result (HasServedSome rules store.old store.new (view rules h)) }
+    ensures stopped { (rules : Rules) (h : History) → IsSettledAt rules store.old h → OnErr result (HasServedUntil rules store.old store.new (view rules h)) }
 {
     let idle = match idle_seconds {
         0 => None,
@@ -166,6 +167,7 @@ fn serve_store<
                 connections,
                 idle,
                 is_logged,
+                compact_at: None,
             };
             if is_logged {
                 serve_at_once(net, alloc, address, limits, store, output, log)

@@ -1,17 +1,38 @@
-use Rattle.clients.proofs.Served.{served_none, served_then, stops_after}
+use Rattle.std.proofs.Common.{subst, sym, true≢false, ◌∙◌}
+use Rattle.histories.specs.View.{view}
+use Rattle.clients.specs.Serving.{HasStoppedBetween}
+use Rattle.durable.proofs.Answering.{settled_serves}
+use Rattle.clients.proofs.Served.{served_none, served_then, stops_after, compacted_after, stopped_between, turn_of_stopped}
 use Rattle.clients.proofs.server.Server.run.Goals as goal
 
 pub loop-init : goal.loop-init
-loop-init g c rules v shows = served_none rules c.args.store.now v shows (λ keeps content since. g.met.D.Device.only_now _ content keeps since)
+loop-init g c rules h settled =
+    served_none rules c.args.store.now (view rules h) (λ working. settled_serves rules c.args.store.now h settled)
+    (λ keeps content since. g.met.D.Device.only_now _ content keeps since)
 
 pub loop-preserved : goal.loop-preserved
-loop-preserved g c rules v shows =
-    let before = c.loop.invariant rules v shows in
-    served_then rules c.args.store.now c.loop.store c.turn-turned.new.store v before (c.in-Ok-turned.ensures.served rules _ before.store.shows)
+loop-preserved g c rules h settled =
+    let before = c.loop.invariant rules h settled in
+    let served = served_then rules c.args.store.now c.loop.store c.turn-turned.new.store (view rules h) before (c.in-Ok-turned.ensures.served rules _ before.store.shows) in
+    compacted_after rules c.args.store.now c.turn-turned.new.store c.compact-compacted.new.store h served settled
+    (c.in-Ok-compacted.ensures.kept rules) (c.in-Ok-compacted.ensures.moments rules)
 
 pub returns-in-Err : goal.returns-in-Err
 returns-in-Err g c = record {
-  served = λ rules v shows.
-      let before = c.loop.invariant rules v shows in
-      stops_after rules c.args.store.now c.loop.store c.turn-turned.new.store v c.in-Err.fault before (c.in-Err.ensures.served rules _ before.store.shows);
+  served = λ rules h settled.
+      let before = c.loop.invariant rules h settled in
+      stops_after rules c.args.store.now c.loop.store c.turn-turned.new.store (view rules h) c.in-Err.fault before (c.in-Err.ensures.served rules _ before.store.shows);
+}
+
+pub returns-in-Err-compacted : goal.returns-in-Err-compacted
+returns-in-Err-compacted g c = record {
+  served = λ rules h settled.
+      let before = c.loop.invariant rules h settled in
+      let served = served_then rules c.args.store.now c.loop.store c.turn-turned.new.store (view rules h) before (c.in-Ok-turned.ensures.served rules _ before.store.shows) in
+      let stops = c.in-Err-compacted.ensures.stops in
+      let same = turn_of_stopped rules c.compact-compacted.new.store c.turn.new.store (view rules h) c.turn.result stops
+          (c.turn.ensures.served rules (view rules h) (λ working. absurd (true≢false (sym working ∙ stops)))) in
+      subst (λ s. HasStoppedBetween rules c.args.store.now s (view rules h)) (sym same)
+      (stopped_between rules c.args.store.now c.turn-turned.new.store c.compact-compacted.new.store (view rules h) served
+      (c.in-Err-compacted.ensures.left rules) (c.in-Err-compacted.ensures.moments rules) stops);
 }
