@@ -1,4 +1,6 @@
 """Messages to the built program and its replies, for the tools that send and read them: refuse, kill-loop and fuzz."""
+import importlib.machinery
+import importlib.util
 import json
 import os
 import pathlib
@@ -24,6 +26,14 @@ DEPLOYMENT_RULE = {"operations": ["CREATE", "UPDATE"], "apiGroups": ["apps"], "a
 
 class Wrong(Exception):
     """What the program does and may not do."""
+
+
+def tool(name):
+    """A tool of this folder, as a module."""
+    loader = importlib.machinery.SourceFileLoader(name, str(ROOT / "tools" / name))
+    module = importlib.util.module_from_spec(importlib.util.spec_from_loader(name, loader))
+    loader.exec_module(module)
+    return module
 
 
 def message(method, path, body=None, *fields):

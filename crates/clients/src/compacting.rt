@@ -60,7 +60,7 @@ impl Compacting {
     // A compaction was refused memory: the next one is tried once the log is twice as long.
     fn put_off(&mut self, log_sectors: u64)
         ensures times { self.new.times ≡ self.old.times }
-        ensures { self.new.put_off_sectors ≡ min (log_sectors * 2) (2 ^ 64 - 1) }
+        ensures later { self.new.put_off_sectors ≡ min (log_sectors * 2) (2 ^ 64 - 1) }
     {
         self.put_off_sectors = log_sectors.saturating_mul(2);
     }

@@ -4,7 +4,7 @@ ghost use Rattle.std.specs.Prelude.{◌≡◌, false, List, [], map, Some, codes
 ghost use Rattle.clap.specs.Words.{Row, Text, app_of, found_of, rows_of, rule_of, subcommand_rows_of, with_subcommand};
 ghost use Rattle.clap.specs.declared.builder.command.Command.TheViews.{out-Command};
 ghost use Rattle.names.specs.Format.{number_of};
-ghost use Rattle.gated.specs.CommandLine.{AskFor, HasNumber, IsAsked, IsServedAs, at_once_rule, conns_rule, create_shape, file_of, gated_line, log_rule, option_rule, over_file, serve_shape};
+ghost use Rattle.gated.specs.CommandLine.{AskFor, HasNumber, IsAsked, IsServedAs, at_once_rule, compact_at_rule, conns_rule, create_shape, file_of, gated_line, log_rule, option_rule, over_file, serve_shape};
 
 use clap::builder::ValueParser;
 use clap::error::ErrorKind;
@@ -20,10 +20,11 @@ pub enum Serving {
     OneByOne {
         connections: u16,
     },
-    /// So many at once, of this many in all, or of any number.
+    /// So many at once, of this many in all, or of any number. Between them the store is compacted where its log is so many times as long as its pages, or never.
     AtOnce {
         at_once: u16,
         connections: Option<u16>,
+        compact_at: Option<u16>,
     },
 }
 
@@ -138,6 +139,21 @@ fn log_option<'a>(alloc: Global) -> Result<Arg<'a>, AllocError>
     arg.requires_arg("at-once")
 }
 
+// `--compact-at`, which needs `--at-once`.
+fn compact_at_option<'a>(alloc: Global) -> Result<Arg<'a>, AllocError>
+    ensures rule { IfOk result (λ arg. rule_of arg ≡ compact_at_rule) }
+    ensures local { IfOk result (λ arg. arg.global ≡ false) }
+{
+    let arg = option(
+        alloc,
+        "compact-at",
+        "N",
+        "Compacts the store while it is served, where its log is N times as long as its pages, and at least 8 MiB",
+    )
+    .value_parser(ValueParser::unsigned(1, 1000));
+    arg.requires_arg("at-once")
+}
+
 fn serve_line<'a>(alloc: Global) -> Result<Command<'a>, AllocError>
     ensures app { IfOk result (λ c. app_of c ≡ record { top = serve_shape; subs = [] }) }
     ensures local { IfOk result (λ c. (out-Command c).has_globals ≡ false) }
@@ -167,7 +183,8 @@ fn serve_line<'a>(alloc: Global) -> Result<Command<'a>, AllocError>
         .default_value("60")
         .value_parser(ValueParser::unsigned(0, 86400)),
     )?
-    .arg(log_option(alloc)?)
+    .arg(log_option(alloc)?)?
+    .arg(compact_at_option(alloc)?)
 }
 
 fn create_line<'a>(alloc: Global) -> Result<Command<'a>, AllocError>
@@ -268,6 +285,7 @@ fn serving_of<'a>(matches: &ArgMatches<'a>) -> Option<Serving>
         Some(at_once) => Some(Serving::AtOnce {
             at_once,
             connections: matches.get_one::<u16>("conns"),
+            compact_at: matches.get_one::<u16>("compact-at"),
         }),
         None => Some(Serving::OneByOne {
             connections: matches.get_one::<u16>("conns")?,

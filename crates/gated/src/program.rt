@@ -161,15 +161,16 @@ fn serve_store<
         Serving::AtOnce {
             at_once,
             connections,
+            compact_at,
         } => {
             let limits = Limits {
                 at_once,
                 connections,
                 idle,
                 is_logged,
-                compact_at: None,
+                compact_at,
             };
-            if is_logged {
+            if is_logged || compact_at.is_some() {
                 serve_at_once(net, alloc, address, limits, store, output, log)
             } else {
                 serve_at_once(net, alloc, address, limits, store, output, &mut Silent)
