@@ -1,4 +1,5 @@
 pub mod Parts
+pub mod Pieces
 pub mod Gathering
 pub mod Logs
 pub mod Appending

@@ -1,5 +1,5 @@
 -- How a log is walked.
-use Rattle.std.proofs.Common.{arith, refl, ◌≡◌, ◌∙◌, sym, ap, subst, ◌<◌, ◌≤◌, ◌+◌, ◌*◌, ◌++◌, ℕ, List, [], ◌∷◌, length, drop, slice_index}
+use Rattle.std.proofs.Common.{arith, refl, ◌≡◌, ◌∙◌, sym, ap, subst, ◌<◌, ◌≤◌, ◌+◌, ◌*◌, ◌++◌, ℕ, List, [], ◌∷◌, length, drop, slice_index, Some, Vec, Global}
 use Rattle.std.proofs.lemmas.List.{append_assoc, append-nil}
 use Rattle.byteorder.specs.Endian.{big_number}
 use Rattle.byteorder.specs.Numbers.{big_from-take}
@@ -9,7 +9,7 @@ use Rattle.device.specs.Run.{Ran}
 use Rattle.device.proofs.Runs.{ran_then}
 use Rattle.gatelog.specs.Record.{part, sectors, body_sectors, IsRecord}
 use Rattle.gatelog.specs.Log.{IsOpen, IsClosed, HoldsLog, AtMostOneLog}
-use Rattle.gatelog.specs.Walk.{HoldsRecord, Leads, Passes}
+use Rattle.gatelog.specs.Walk.{HoldsRecord, Leads, Passes, IsFirstOf}
 use Rattle.gatelog.proofs.Parts.{get-part}
 use Rattle.gatelog.proofs.Logs.{inside}
 
@@ -53,22 +53,23 @@ at_most_one gate c (p ∷ payloads) (q ∷ others) last other_last log other =
     (ap (λ (r : List ℕ). r ∷ payloads) same ∙ ap (λ (rs : List (List ℕ)). q ∷ rs) rest.0, rest.1)
 
 -- a walk begins
-pub leads-here : (at : ℕ) (c : List ℕ) → Leads at at c
-leads-here at c = record { forth = λ payloads last log. (payloads, log); back = λ payloads last log. (payloads, log) }
+pub leads-here : (at : ℕ) (c : List ℕ) → Leads at at 0 c
+leads-here at c = record { forth = λ payloads last log. (payloads, omega arith, log); back = λ payloads last log. (payloads, log) }
 
 not_closed : (gate last : ℕ) (c : List ℕ) → IsOpen gate c → (gate ≡ last) × IsClosed last c → ⊥
 not_closed gate last c opened closed = closed.1.1 (let P : ℕ → Type 0 = λ g. IsOpen g c in subst P closed.0 opened)
 
 -- over one record
-pub leads-next : (from gate count : ℕ) (c : List ℕ) → Leads from gate c → IsOpen gate c → (payload : List ℕ) × (count ≡ sectors payload) × HoldsRecord (gate + 1) payload c
-    → Leads from (gate + (1 + count)) c
-leads-next from gate count c so_far opened found =
+pub leads-next : (from gate passed count : ℕ) (c : List ℕ) → Leads from gate passed c → IsOpen gate c
+    → (payload : List ℕ) × (count ≡ sectors payload) × HoldsRecord (gate + 1) payload c → Leads from (gate + (1 + count)) (passed + 1) c
+leads-next from gate passed count c so_far opened found =
     let payload = found.0 in
     let place : gate + 1 + sectors payload ≡ gate + (1 + count) = omega (arith, found.1) in
     record {
       forth = λ payloads last log.
           let P : ℕ → Type 0 = λ g. HoldsLog g payloads last c in
-          so_far.forth (payload ∷ payloads) last (opened, record-ahead gate payload c found.2, subst P (sym place) log);
+          let all = so_far.forth (payload ∷ payloads) last (opened, record-ahead gate payload c found.2, subst P (sym place) log) in
+          (all.0, omega (arith, all.1), all.2);
       back = λ payloads last log.
           let here = so_far.back payloads last log in
           step here.0 last here.1;
@@ -93,22 +94,23 @@ pub same_then : {D : Type 0} (disk : Disk D) (old mid new : D) → Ran disk old 
 same_then disk old mid new first second = ran_then disk old mid new Same Same Same first second (λ a b same. same) (λ a b c same also. also ∙ same)
 
 -- at a closed gate the log ends
-pub found-closed : (from gate : ℕ) (c : List ℕ) → Leads from gate c → IsClosed gate c → (payloads : List (List ℕ)) × HoldsLog from payloads gate c
-found-closed from gate c so_far closed = so_far.forth [] gate (refl, closed)
+pub found-closed : (from gate count : ℕ) (c : List ℕ) → Leads from gate count c → IsClosed gate c
+    → (payloads : List (List ℕ)) × (count ≡ length payloads) × HoldsLog from payloads gate c
+found-closed from gate count c so_far closed = let all = so_far.forth [] gate (refl, closed) in (all.0, omega (arith, all.1), all.2)
 
 -- behind an open gate stands no record, so no log
-pub no_log-body : (from gate : ℕ) (c : List ℕ) → Leads from gate c → IsOpen gate c → ((payload : List ℕ) → HoldsRecord (gate + 1) payload c → ⊥)
+pub no_log-body : (from gate count : ℕ) (c : List ℕ) → Leads from gate count c → IsOpen gate c → ((payload : List ℕ) → HoldsRecord (gate + 1) payload c → ⊥)
     → (payloads : List (List ℕ)) (last : ℕ) → HoldsLog from payloads last c → ⊥
-no_log-body from gate c so_far opened none payloads last log = let here = so_far.back payloads last log in step here.0 here.1
+no_log-body from gate count c so_far opened none payloads last log = let here = so_far.back payloads last log in step here.0 here.1
   where
     step : (rest : List (List ℕ)) → HoldsLog gate rest last c → ⊥
     step [] closed = not_closed gate last c opened closed
     step (first ∷ rest) log = none first (record-behind gate first c log.1)
 
 -- past the end stands no gate, so no log
-pub no_log-end : (from gate end : ℕ) (c : List ℕ) → Leads from gate c → length c ≡ 512 * end → end ≤ gate
+pub no_log-end : (from gate end count : ℕ) (c : List ℕ) → Leads from gate count c → length c ≡ 512 * end → end ≤ gate
     → (payloads : List (List ℕ)) (last : ℕ) → HoldsLog from payloads last c → ⊥
-no_log-end from gate end c so_far size past payloads last log =
+no_log-end from gate end count c so_far size past payloads last log =
     let here = so_far.back payloads last log in
     let within = inside here.0 gate last c here.1 in
     absurd (omega (arith, within.0, within.1, size))
@@ -137,23 +139,17 @@ no_log-record (first ∷ rest) gate last c log before none = none first (record-
 pub passes-here : (from last : ℕ) (c : List ℕ) → Passes from [] from last c
 passes-here from last c payloads log = (payloads, refl, log)
 
--- over one payload
-pub passes-next : (from gate count last : ℕ) (c : List ℕ) (passed after : List (List ℕ)) (payload : List ℕ) → Passes from passed gate last c → gate < last → count ≡ sectors payload
-    → ((first : List ℕ) → HoldsRecord (gate + 1) first c → payload ≡ first) → after ≡ passed ++ payload ∷ [] → Passes from after (gate + (1 + count)) last c
-passes-next from gate count last c passed after payload so_far before is_count found is_after payloads log =
-    let here = so_far payloads log in step here.0 here.1 here.2
-  where
-    step : (rest : List (List ℕ)) → payloads ≡ passed ++ rest → HoldsLog gate rest last c
-        → (ahead : List (List ℕ)) × (payloads ≡ after ++ ahead) × HoldsLog (gate + (1 + count)) ahead last c
-    step [] same closed = absurd (omega (arith, closed.0, before))
-    step (first ∷ rest) same log =
-        let is_first : payload ≡ first = found first (record-behind gate first c log.1) in
-        let place : gate + 1 + sectors first ≡ gate + (1 + count) = omega (arith, is_count, ap length is_first) in
-        let P : ℕ → Type 0 = λ g. HoldsLog g rest last c in (
-          rest,
-          same ∙ ap (λ (x : List ℕ). passed ++ x ∷ rest) (sym is_first) ∙ sym (append_assoc passed (payload ∷ []) rest) ∙ ap (λ (xs : List (List ℕ)). xs ++ rest) (sym is_after),
-          subst P place log.2,
-        )
+-- over the first payload that is left
+pub passes-first : (from gate last : ℕ) (c : List ℕ) (passed after : List (List ℕ)) (told : Vec ℕ Global × ℕ) → Passes from passed gate last c
+    → ((payloads : List (List ℕ)) → HoldsLog gate payloads last c → IsFirstOf (Some told) payloads last c) → after ≡ passed ++ told.0.items ∷ []
+    → Passes from after told.1 last c
+passes-first from gate last c passed after told so_far found is_after payloads log =
+    let here = so_far payloads log in
+    let first = found here.0 here.2 in (
+      first.0,
+      here.1 ∙ ap (λ (x : List (List ℕ)). passed ++ x) first.1 ∙ sym (append_assoc passed (told.0.items ∷ []) first.0) ∙ ap (λ (xs : List (List ℕ)). xs ++ first.0) (sym is_after),
+      first.2,
+    )
 
 -- at the log's end
 pub passes-end : (from gate last : ℕ) (c : List ℕ) (passed : List (List ℕ)) → Passes from passed gate last c → last ≤ gate
@@ -163,3 +159,18 @@ passes-end from gate last c passed so_far at_end payloads log = let here = so_fa
     step : (rest : List (List ℕ)) → payloads ≡ passed ++ rest → HoldsLog gate rest last c → passed ≡ payloads
     step [] same closed = sym (same ∙ append-nil passed)
     step (first ∷ rest) same log = absurd (omega (arith, (inside rest (gate + 1 + sectors first) last c log.2).0, at_end))
+
+-- at the log's end no payload is left
+pub none-left : (payloads : List (List ℕ)) (gate last : ℕ) (c : List ℕ) → last ≤ gate → HoldsLog gate payloads last c → payloads ≡ []
+none-left [] gate last c at_end log = refl
+none-left (first ∷ rest) gate last c at_end log = absurd (omega (arith, (inside rest (gate + 1 + sectors first) last c log.2).0, at_end))
+
+-- the first payload before it, and where the others stand
+pub first-left : (payloads : List (List ℕ)) (gate count last : ℕ) (c payload : List ℕ) → gate < last → count ≡ sectors payload
+    → ((first : List ℕ) → HoldsRecord (gate + 1) first c → payload ≡ first) → HoldsLog gate payloads last c
+    → (others : List (List ℕ)) × (payloads ≡ payload ∷ others) × HoldsLog (gate + 1 + count) others last c
+first-left [] gate count last c payload before is_count found closed = absurd (omega (arith, closed.0, before))
+first-left (first ∷ rest) gate count last c payload before is_count found log =
+    let is_first : payload ≡ first = found first (record-behind gate first c log.1) in
+    let place : gate + 1 + sectors first ≡ gate + 1 + count = omega (arith, is_count, ap length is_first) in
+    let P : ℕ → Type 0 = λ g. HoldsLog g rest last c in (rest, ap (λ (x : List ℕ). x ∷ rest) (sym is_first), subst P place log.2)

@@ -4,3 +4,4 @@ pub mod Log
 pub mod Settled
 pub mod Walk
 pub mod Fault
+pub mod ReadAhead

@@ -1,6 +1,6 @@
 ghost use Rattle.std.specs.Prelude.{◌≡◌, ◌<◌, ◌≤◌, ◌+◌, ◌*◌, ◌^◌, ◌++◌, ◌∷◌, [], ℕ, List, true, false, not, is_ok, length, take, replicate, IsTrue, IfOk, OnOk, OnErr, IsErrOf, ◌⊎◌, ◌↔◌, map};
 
-use crate::reading::{last_gate_of, payloads_of};
+use crate::reading::{last_gate_of, payload_at, payloads_of};
 use crate::write_record::write_record;
 use crate::{Body, LogFault};
 use device::{Device, SECTOR};
@@ -13,9 +13,11 @@ use std::alloc::Global;
 pub struct Log {
     first_gate_sector: u64,
     last_gate_sector: u64,
+    record_count: u64,
     failed: bool,
     ghost in_order: { first_gate_sector ≤ last_gate_sector },
     ghost last_fits: { last_gate_sector < 2 ^ 54 },
+    ghost apart: { record_count ≤ last_gate_sector },
 }
 
 impl Log {
@@ -27,12 +29,14 @@ impl Log {
     ghost use Rattle.gatelog.specs.Payload.{payload_of};
     ghost use Rattle.gatelog.specs.Log.{IsClosed, HoldsLog, AtMostOneLog, IsBeforeOrAfter};
     ghost use Rattle.gatelog.specs.Settled.{IsSettled};
+    ghost use Rattle.gatelog.specs.Walk.{IsFirstOf, IsAhead};
 
     /// Writes a closed gate, the empty log there. It is not synced.
     pub fn start<D: Device>(device: &mut D, first_gate_sector: u64) -> Result<Log, LogFault>
         requires { D.disk.keeps device.old → 512 * first_gate_sector ≤ length (D.disk.content device.old) }
         ensures log { IfOk result
             (λ log. (log.first_gate_sector ≡ first_gate_sector) × (log.last_gate_sector ≡ first_gate_sector) × (log.failed ≡ false)) }
+        ensures none { IfOk result (λ log. log.record_count ≡ 0) }
         ensures stands { D.disk.keeps device.old → OnOk result (HoldsLog first_gate_sector [] first_gate_sector (D.disk.content device.new)) }
         ensures written { D.disk.keeps device.old
             → OnOk result (Holds (D.disk.content device.old) (512 * first_gate_sector) (replicate 512 0) (D.disk.content device.new)) }
@@ -44,6 +48,7 @@ impl Log {
         Ok(Log {
             first_gate_sector,
             last_gate_sector: first_gate_sector,
+            record_count: 0,
             failed: false,
         })
     }
@@ -54,6 +59,8 @@ impl Log {
         ensures log { IfOk result (λ log. (log.first_gate_sector ≡ first_gate_sector) × (log.failed ≡ false)) }
         ensures found { D.disk.keeps device.old
             → IfOk result (λ log. (payloads : List (List ℕ)) × HoldsLog first_gate_sector payloads log.last_gate_sector (D.disk.content device.old)) }
+        ensures counted { D.disk.keeps device.old → (payloads : List (List ℕ))
+            → IfOk result (λ log. HoldsLog first_gate_sector payloads log.last_gate_sector (D.disk.content device.old) → log.record_count ≡ length payloads) }
         ensures damaged { D.disk.keeps device.old → IsErrOf result LogFault.Damaged
             → (payloads : List (List ℕ)) (last : ℕ) → HoldsLog first_gate_sector payloads last (D.disk.content device.old) → ⊥ }
         ensures refusal { OnErr result (IsErrOf result LogFault.Device ⊎ IsErrOf result LogFault.Damaged) }
@@ -62,9 +69,11 @@ impl Log {
         ensures steady { OnOk result (D.disk.failures device.new ≡ D.disk.failures device.old) }
         ensures unfailed { IsErrOf result LogFault.Damaged → D.disk.failures device.new ≡ D.disk.failures device.old }
     {
+        let (last_gate_sector, record_count) = last_gate_of(device, first_gate_sector)?;
         Ok(Log {
             first_gate_sector,
-            last_gate_sector: last_gate_of(device, first_gate_sector)?,
+            last_gate_sector,
+            record_count,
             failed: false,
         })
     }
@@ -73,6 +82,7 @@ impl Log {
     pub fn restart<D: Device>(device: &D, first_gate_sector: u64) -> Log
         requires { first_gate_sector < 2 ^ 54 }
         ensures place { (result.first_gate_sector ≡ first_gate_sector) × (result.last_gate_sector ≡ first_gate_sector) }
+        ensures none { result.record_count ≡ 0 }
         ensures works { result.failed ≡ false }
         ensures settled { IsClosed first_gate_sector (D.disk.content device.now)
             → ((c : List ℕ) → D.disk.left device.now c → take (512 * first_gate_sector + 512) c
@@ -83,6 +93,7 @@ impl Log {
         Log {
             first_gate_sector,
             last_gate_sector: first_gate_sector,
+            record_count: 0,
             failed: false,
         }
     }
@@ -100,6 +111,13 @@ impl Log {
         ensures { result ≡ self.now.last_gate_sector }
     {
         self.last_gate_sector
+    }
+
+    /// How many payloads the log has. An opening counts them as it finds them, and an append counts one more.
+    pub fn record_count(&self) -> u64
+        ensures { result ≡ self.now.record_count }
+    {
+        self.record_count
     }
 
     // Answers `Device` after a failure.
@@ -126,6 +144,7 @@ impl Log {
             → (payloads : List (List ℕ)) → HoldsLog self.old.first_gate_sector payloads self.old.last_gate_sector (D.disk.content device.old) → ⊥ }
         ensures refusal { IsErrOf result LogFault.TooLong → ⊥ }
         ensures place { (self.new.first_gate_sector ≡ self.old.first_gate_sector) × (self.new.last_gate_sector ≡ self.old.last_gate_sector) }
+        ensures counted { self.new.record_count ≡ self.old.record_count }
         ensures failed { IsTrue self.new.failed ↔ IsErrOf result LogFault.Device }
         ensures stays_failed { IsTrue self.old.failed → IsErrOf result LogFault.Device }
         ensures untouched { IsTrue self.old.failed → device.new ≡ device.old }
@@ -136,6 +155,42 @@ impl Log {
     {
         self.check_works()?;
         let answer = payloads_of(alloc, device, self.first_gate_sector, self.last_gate_sector);
+        self.failed = matches!(&answer, Err(LogFault::Device));
+        answer
+    }
+
+    /// The payload of the record behind a gate, and the gate behind that record: the next one of the log. Nothing at the log's last gate. The payload
+    /// of one record is all that is held.
+    ///
+    /// # Errors
+    ///
+    /// `Damaged` only where no list of payloads stands at the gate that ends at the log's last gate; `Memory`; `Device` as everywhere.
+    pub fn payload<D: Device>(
+        &mut self,
+        alloc: Global,
+        device: &mut D,
+        gate: u64,
+    ) -> Result<Option<(Vec<u8>, u64)>, LogFault>
+        ensures found { D.disk.keeps device.old → (payloads : List (List ℕ))
+            → HoldsLog gate payloads self.old.last_gate_sector (D.disk.content device.old)
+            → IfOk result (λ told. IsFirstOf told payloads self.old.last_gate_sector (D.disk.content device.old)) }
+        ensures ahead { IfOk result (λ told. IsAhead told gate self.old.last_gate_sector) }
+        ensures damaged { D.disk.keeps device.old → IsErrOf result LogFault.Damaged
+            → (payloads : List (List ℕ)) → HoldsLog gate payloads self.old.last_gate_sector (D.disk.content device.old) → ⊥ }
+        ensures refusal { IsErrOf result LogFault.TooLong → ⊥ }
+        ensures place { (self.new.first_gate_sector ≡ self.old.first_gate_sector) × (self.new.last_gate_sector ≡ self.old.last_gate_sector) }
+        ensures works { OnOk result (self.new.failed ≡ false) }
+        ensures counted { self.new.record_count ≡ self.old.record_count }
+        ensures failed { IsTrue self.new.failed ↔ IsErrOf result LogFault.Device }
+        ensures stays_failed { IsTrue self.old.failed → IsErrOf result LogFault.Device }
+        ensures untouched { IsTrue self.old.failed → device.new ≡ device.old }
+        ensures ran { Ran D.disk device.old device.new Same }
+        ensures cause { self.old.failed ≡ false → IsErrOf result LogFault.Device → HasFailed D.disk device.old device.new }
+        ensures steady { OnOk result (D.disk.failures device.new ≡ D.disk.failures device.old) }
+        ensures unfailed { IsErrOf result LogFault.Memory ⊎ IsErrOf result LogFault.Damaged → D.disk.failures device.new ≡ D.disk.failures device.old }
+    {
+        self.check_works()?;
+        let answer = payload_at(alloc, device, gate, self.last_gate_sector);
         self.failed = matches!(&answer, Err(LogFault::Device));
         answer
     }
@@ -165,6 +220,7 @@ impl Log {
 
         ensures start { self.new.first_gate_sector ≡ self.old.first_gate_sector }
         ensures last { OnOk result (self.new.last_gate_sector ≡ self.old.last_gate_sector + 1 + sectors (payload_of body)) }
+        ensures counted { OnOk result (self.new.record_count ≡ self.old.record_count + 1) }
         ensures kept { D.disk.keeps device.old → D.disk.keeps device.new }
         ensures had_kept { D.disk.keeps device.new → D.disk.keeps device.old }
     {
@@ -172,6 +228,7 @@ impl Log {
         self.failed = true;
         write_record(device, self.last_gate_sector, &body)?;
         self.last_gate_sector += 1 + body.sectors();
+        self.record_count += 1;
         self.failed = false;
         Ok(())
     }

@@ -17,11 +17,13 @@
 
 mod fault;
 mod gate_log;
+mod read_ahead;
 mod reading;
 mod record;
 mod write_record;
 
 pub use fault::LogFault;
 pub use gate_log::Log;
+pub use read_ahead::ReadAhead;
 pub use record::Body;
 pub use write_record::OPEN;

@@ -6,7 +6,7 @@ ghost use Rattle.device.specs.Run.{Ran};
 ghost use Rattle.gatelog.specs.declared.fault.LogFault.TheVariants as LogFault;
 ghost use Rattle.gatelog.specs.Record.{part, sectors, body_sectors};
 ghost use Rattle.gatelog.specs.Log.{HoldsLog};
-ghost use Rattle.gatelog.specs.Walk.{HoldsRecord};
+ghost use Rattle.gatelog.specs.Walk.{HoldsRecord, IsFirstOf, IsAhead};
 
 use crate::LogFault;
 use crate::record::{LENGTH_BYTES, MOST_PAYLOAD_BYTES, sectors_of};
@@ -61,13 +61,13 @@ fn check_body<D: Device>(device: &mut D, at: u64, end: u64) -> Result<u64, LogFa
     Ok(count as u64)
 }
 
-/// The first closed gate of the log that begins at a gate.
-pub(crate) fn last_gate_of<D: Device>(device: &mut D, at: u64) -> Result<u64, LogFault>
+/// The first closed gate of the log that begins at a gate, and the number of the records before it.
+pub(crate) fn last_gate_of<D: Device>(device: &mut D, at: u64) -> Result<(u64, u64), LogFault>
     ensures found { D.disk.keeps device.old
-        → IfOk result (λ last. (payloads : List (List ℕ)) × HoldsLog at payloads last (D.disk.content device.old)) }
+        → IfOk result (λ end. (payloads : List (List ℕ)) × (end.1 ≡ length payloads) × HoldsLog at payloads end.0 (D.disk.content device.old)) }
     ensures damaged { D.disk.keeps device.old → IsErrOf result LogFault.Damaged
         → (payloads : List (List ℕ)) (last : ℕ) → HoldsLog at payloads last (D.disk.content device.old) → ⊥ }
-    ensures in_order { IfOk result (λ last. (at ≤ last) × (last < 2 ^ 54)) }
+    ensures in_order { IfOk result (λ end. (at ≤ end.0) × (end.0 < 2 ^ 54) × (end.1 ≤ end.0)) }
     ensures refusal { OnErr result (IsErrOf result LogFault.Device ⊎ IsErrOf result LogFault.Damaged) }
     ensures ran { Ran D.disk device.old device.new Same }
     ensures cause { IsErrOf result LogFault.Device → HasFailed D.disk device.old device.new }
@@ -76,12 +76,14 @@ pub(crate) fn last_gate_of<D: Device>(device: &mut D, at: u64) -> Result<u64, Lo
 {
     let end = device.len()?;
     let mut gate = at;
+    let mut count = 0;
     while gate < end {
         let sector = read_sector(device, gate)?;
         if sector[0] != OPEN {
-            return Ok(gate);
+            return Ok((gate, count));
         }
         gate += 1 + check_body(device, gate + 1, end)?;
+        count += 1;
     }
     Err(LogFault::Damaged)
 }
@@ -124,6 +126,61 @@ fn read_payload<D: Device>(
     Ok(copy_of(alloc, &body, LENGTH_BYTES, payload_length)?)
 }
 
+// The payload of the record behind a gate of a log whose last gate is `last`, and the gate behind that record; none at the last gate. The device has
+// `end` sectors.
+fn payload_behind<D: Device>(
+    alloc: Global,
+    device: &mut D,
+    gate: u64,
+    last: u64,
+    end: u64,
+) -> Result<Option<(Vec<u8>, u64)>, LogFault>
+    requires end { D.disk.keeps device.old → length (D.disk.content device.old) ≡ 512 * end }
+    requires at_most { end ≤ 2 ^ 54 }
+    ensures found { D.disk.keeps device.old → (payloads : List (List ℕ)) → HoldsLog gate payloads last (D.disk.content device.old)
+        → IfOk result (λ told. IsFirstOf told payloads last (D.disk.content device.old)) }
+    ensures damaged { D.disk.keeps device.old → IsErrOf result LogFault.Damaged
+        → (payloads : List (List ℕ)) → HoldsLog gate payloads last (D.disk.content device.old) → ⊥ }
+    ensures ahead { IfOk result (λ told. IsAhead told gate last) }
+    ensures refusal { IsErrOf result LogFault.TooLong → ⊥ }
+    ensures ran { Ran D.disk device.old device.new Same }
+    ensures cause { IsErrOf result LogFault.Device → HasFailed D.disk device.old device.new }
+    ensures steady { OnOk result (D.disk.failures device.new ≡ D.disk.failures device.old) }
+    ensures unfailed { IsErrOf result LogFault.Memory ⊎ IsErrOf result LogFault.Damaged → D.disk.failures device.new ≡ D.disk.failures device.old }
+{
+    if gate >= last {
+        return Ok(None);
+    }
+    if gate >= end {
+        return Err(LogFault::Damaged);
+    }
+    let payload = read_payload(alloc, device, gate + 1, end)?;
+    let next = gate + 1 + sectors_of(payload.len()) as u64;
+    Ok(Some((payload, next)))
+}
+
+/// The payload of the record behind a gate of a log whose last gate is `last`, and the gate behind that record; none at the last gate.
+pub(crate) fn payload_at<D: Device>(
+    alloc: Global,
+    device: &mut D,
+    gate: u64,
+    last: u64,
+) -> Result<Option<(Vec<u8>, u64)>, LogFault>
+    ensures found { D.disk.keeps device.old → (payloads : List (List ℕ)) → HoldsLog gate payloads last (D.disk.content device.old)
+        → IfOk result (λ told. IsFirstOf told payloads last (D.disk.content device.old)) }
+    ensures damaged { D.disk.keeps device.old → IsErrOf result LogFault.Damaged
+        → (payloads : List (List ℕ)) → HoldsLog gate payloads last (D.disk.content device.old) → ⊥ }
+    ensures ahead { IfOk result (λ told. IsAhead told gate last) }
+    ensures refusal { IsErrOf result LogFault.TooLong → ⊥ }
+    ensures ran { Ran D.disk device.old device.new Same }
+    ensures cause { IsErrOf result LogFault.Device → HasFailed D.disk device.old device.new }
+    ensures steady { OnOk result (D.disk.failures device.new ≡ D.disk.failures device.old) }
+    ensures unfailed { IsErrOf result LogFault.Memory ⊎ IsErrOf result LogFault.Damaged → D.disk.failures device.new ≡ D.disk.failures device.old }
+{
+    let end = device.len()?;
+    payload_behind(alloc, device, gate, last, end)
+}
+
 /// The payloads of the log between two gates.
 pub(crate) fn payloads_of<D: Device>(
     alloc: Global,
@@ -144,13 +201,9 @@ pub(crate) fn payloads_of<D: Device>(
     let end = device.len()?;
     let mut found = Vec::new(alloc);
     let mut gate = start;
-    while gate < last {
-        if gate >= end {
-            return Err(LogFault::Damaged);
-        }
-        let payload = read_payload(alloc, device, gate + 1, end)?;
-        gate += 1 + sectors_of(payload.len()) as u64;
+    'each: while let Some((payload, next)) = payload_behind(alloc, device, gate, last, end)? {
         found.push(payload)?;
+        gate = next;
     }
     Ok(found)
 }

@@ -5,9 +5,10 @@
 //! ```
 //!
 //! A history is a list of writes (`specs/History.antt`), and its view (`specs/View.antt`) is what is seen of it: the objects, the revision and
-//! the last events. `AllFollow` says which lists of writes are histories of a store: each write may follow those before it. Decoded each
-//! document stands something of the caller's, of which nothing is asked here: `specs/Mapped.antt` has the same history with something else
-//! beside. `specs/Wider.antt` says under which other rules a history stays one and is seen as it was.
+//! the last events. `AllFollow` says which lists of writes are histories of a store: each write may follow those before it. Beside each
+//! document the caller may keep something of its own, such as the compiled code of a policy. Nothing is asked of it here: `specs/Mapped.antt`
+//! has the same history with something else beside its documents. `specs/Wider.antt` says under which other rules a history stays one and is
+//! seen as it was.
 //!
 //! Contracts alone speak of histories. The code has a [`Stored`] for each object of a view.
 #![tactic(auto)]

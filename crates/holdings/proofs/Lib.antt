@@ -1,3 +1,5 @@
 pub mod Showing
 mod Telling
 mod Redoing
+mod Ranging
+mod Among

@@ -2,7 +2,7 @@
 
 ghost use Rattle.std.specs.Prelude.{◌≡◌, ◌+◌, ◌^◌, ◌-◌, ◌<◌, ◌≤◌, ◌++◌, ◌∷◌, Bool, false, nat_le, List, [], length, is_some, Some, None, IsTrue, IfOk, OnOk, OnErr, IfErr, IsErrOf, option_copied, option_map, if◌then◌else◌};
 ghost use Rattle.std.specs.FinMap.{is_sorted};
-ghost use Rattle.std.specs.List.{filter};
+ghost use Rattle.std.specs.List.{filter, list_any};
 ghost use Rattle.circular_buffer.specs.Buffer.{keep_last};
 ghost use Rattle.names.specs.Key.{Key as KeyData, key_cmp};
 ghost use Rattle.std.specs.Option.{option_map_or};
@@ -29,6 +29,7 @@ ghost use Rattle.objects.specs.declared.fault.Part.{Part};
 ghost use Rattle.objects.specs.declared.fault.LookupFault.TheVariants as LookupFault;
 
 use crate::prepared::{Deletion, PreparedWrite, Put};
+use crate::range::{changes_in, has_put};
 use crate::source::{FoundDocument, Source};
 use documents::Document;
 use histories::Stored;
@@ -251,6 +252,35 @@ impl<P: Drop> Holdings<P> {
             Some(change) => Ok(found(change)?),
             None => source.find(alloc, key),
         }
+    }
+
+    /// Whether an object of a resource stands in a namespace. Where a put of one is among the changes, nothing is looked up below; else the source is
+    /// asked for an object that has no change. No object is copied.
+    ///
+    /// # Errors
+    ///
+    /// Those of the source.
+    pub fn has_any<S: Source<P>>(
+        &self,
+        alloc: Global,
+        source: &mut S,
+        resource: Resource,
+        namespace: &str,
+    ) -> Result<bool, LookupFault>
+        ensures any { (base : List (KeyData × StoredData P)) (v : View P) → S.holds source.old base → Shows self.now base v
+            → IfOk result (λ b. b ≡ list_any (λ o. is_of resource (Some namespace.now) o.0) v.objects) }
+        ensures kept { (base : List (KeyData × StoredData P)) → S.holds source.old base → S.holds source.new base }
+        ensures goes { S.goes_to source.old source.new }
+        ensures counts { S.failures source.old ≤ S.failures source.new }
+        ensures steady { OnOk result (S.unfailed source.old source.new) }
+        ensures device { IsErrOf result LookupFault.Device → HasGrown (S.failures source.old) (S.failures source.new) }
+        ensures memory { IsErrOf result LookupFault.Memory → S.unfailed source.old source.new }
+        ensures damaged { (part : Part) → IsErrOf result (LookupFault.Damaged part) → S.is_damaged source.new }
+    {
+        if has_put(changes_in(self.changes.made(), resource, namespace)) {
+            return Ok(true);
+        }
+        source.has_unchanged(alloc, resource, namespace, &self.changes)
     }
 
     /// The objects of a resource, in one namespace or in all, in key order, over those of them that lie below. No object is copied.

@@ -5,7 +5,7 @@ ghost use Rattle.std.specs.Prelude.{◌≡◌, []};
 use crate::source::{FoundDocument, Source};
 use histories::Stored;
 use names::{Key, Resource};
-use objects::LookupFault;
+use objects::{Changes, LookupFault};
 use std::alloc::Global;
 
 /// A source below which nothing lies.
@@ -44,5 +44,15 @@ impl<P: Drop> Source<P> for Nothing {
         _namespace: Option<&str>,
     ) -> Result<Vec<(Key, Stored<P>)>, LookupFault> {
         Ok(Vec::new(alloc))
+    }
+
+    fn has_unchanged(
+        &mut self,
+        _alloc: Global,
+        _resource: Resource,
+        _namespace: &str,
+        _changes: &Changes<Stored<P>>,
+    ) -> Result<bool, LookupFault> {
+        Ok(false)
     }
 }

@@ -1,19 +1,19 @@
 //! The trait of the objects that lie below memory.
 
 ghost use Rattle.std.specs.Prelude.{◌≡◌, ◌≤◌, ℕ, List, option_map, IfOk, OnOk, IsErrOf};
-ghost use Rattle.std.specs.List.{filter};
+ghost use Rattle.std.specs.List.{filter, list_any};
 ghost use Rattle.names.specs.Key.{Key as KeyData};
 ghost use Rattle.objects.specs.Objects.{value_at, is_of};
 ghost use Rattle.histories.specs.declared.stored.Stored.{Stored as StoredData};
 ghost use Rattle.objects.specs.Failing.{HasGrown};
-ghost use Rattle.holdings.specs.Sources.{found_in};
+ghost use Rattle.holdings.specs.Sources.{found_in, is_unchanged};
 ghost use Rattle.objects.specs.declared.fault.Part.{Part};
 ghost use Rattle.objects.specs.declared.fault.LookupFault.TheVariants as LookupFault;
 
 use documents::Document;
 use histories::Stored;
 use names::{Key, Resource};
-use objects::LookupFault;
+use objects::{Changes, LookupFault};
 use std::alloc::Global;
 
 /// An object that was found: what is stored of it, and the revision of its last write.
@@ -69,6 +69,28 @@ pub trait Source<P> {
     ) -> Result<Vec<(Key, Stored<P>)>, LookupFault>
         ensures listed { let text = option_map (λ text. text.now) namespace.entry in (objects : List (KeyData × StoredData P)) → holds self.old objects
             → IfOk result (λ listed. listed.items ≡ filter (λ o. is_of resource text o.0) objects) }
+        ensures kept { (objects : List (KeyData × StoredData P)) → holds self.old objects → holds self.new objects }
+        ensures goes { goes_to self.old self.new }
+        ensures counts { failures self.old ≤ failures self.new }
+        ensures steady { OnOk result (unfailed self.old self.new) }
+        ensures device { IsErrOf result LookupFault.Device → HasGrown (failures self.old) (failures self.new) }
+        ensures memory { IsErrOf result LookupFault.Memory → unfailed self.old self.new }
+        ensures damaged { (part : Part) → IsErrOf result (LookupFault.Damaged part) → is_damaged self.new };
+
+    /// Whether an object of a resource in a namespace lies below whose key has none of these changes. It may stop at the first. No object is copied.
+    ///
+    /// # Errors
+    ///
+    /// As those of `find`.
+    fn has_unchanged(
+        &mut self,
+        alloc: Global,
+        resource: Resource,
+        namespace: &str,
+        changes: &Changes<Stored<P>>,
+    ) -> Result<bool, LookupFault>
+        ensures unchanged { (objects : List (KeyData × StoredData P)) → holds self.old objects
+            → IfOk result (λ b. b ≡ list_any (λ o. is_unchanged resource namespace.now changes.now.made o.0) objects) }
         ensures kept { (objects : List (KeyData × StoredData P)) → holds self.old objects → holds self.new objects }
         ensures goes { goes_to self.old self.new }
         ensures counts { failures self.old ≤ failures self.new }

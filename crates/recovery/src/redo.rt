@@ -26,8 +26,8 @@ use records::{StoredWrite, read_writes};
 use requests::Manifest;
 use std::alloc::Global;
 
-/// The store, once it took the writes of a log with these payloads, over the objects that lie below. Of those nothing is looked up: memory has to know
-/// each key that the payloads write, which `written_keys` tells.
+/// The store, once it took the writes of these payloads, which follow one another in a log, over the objects that lie below. Of those nothing is looked
+/// up: memory has to know each key that the payloads write, which `written_keys` tells. A log may be taken at once, or one payload after the other.
 ///
 /// # Errors
 ///
@@ -40,6 +40,8 @@ pub fn redone(alloc: Global, core: Core, payloads: &[Vec<u8>]) -> Result<Core, R
     ensures damaged { (base : List (KeyData × StoredData DecodedData)) (held : View DecodedData) → Shows core base held → AllKnown core base (map (λ p. p.items) payloads.now)
         → IsErrOf result RecoveryFault.Damaged ⊎ IsErrOf result RecoveryFault.Plans
         → (ws : List Write) → IsWritten core.rules (mapped plans_held held) ws (map (λ p. p.items) payloads.now) → ⊥ }
+    // What memory knew of the keys that lie below it still knows, so that the next payloads can be taken.
+    ensures known { IfOk result (λ new. KnowsSame core new) }
     // Each payload is that of writes which a record can hold, whatever the core shows.
     ensures groups { OnOk result (AllByRecursion IsOfGroup (map (λ p. p.items) payloads.now)) }
     // Plans are told only where an object that is no policy has some.

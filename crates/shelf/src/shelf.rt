@@ -274,6 +274,7 @@ impl Shelf {
         ensures cause { IsErrOf result ShelfFault.Device → HasFailed D.disk device.old device.new }
         ensures steady { OnOk result (D.disk.failures device.new ≡ D.disk.failures device.old) }
         ensures unfailed { IsErrOf result ShelfFault.Memory → D.disk.failures device.new ≡ D.disk.failures device.old }
+        ensures stopped { IsErrOf result ShelfFault.Entry → D.disk.failures device.new ≡ D.disk.failures device.old }
     {
         match reading {
             Reading::Kept => {
@@ -295,7 +296,8 @@ impl Shelf {
     ///
     /// # Errors
     ///
-    /// Those of `bring`, and `Entry` where the reader refused an entry; it is told nothing more then. It may have been told some of the entries.
+    /// Those of `bring`, and `Entry` where the reader refused an entry; it is told nothing more then, no page behind is read, and the device did not fail.
+    /// It may have been told some of the entries.
     pub fn tell<D: Device, R: Reader>(
         &mut self,
         alloc: Global,
@@ -316,6 +318,7 @@ impl Shelf {
         ensures cause { IsErrOf result ShelfFault.Device → HasFailed D.disk device.old device.new }
         ensures steady { OnOk result (D.disk.failures device.new ≡ D.disk.failures device.old) }
         ensures unfailed { IsErrOf result ShelfFault.Memory → D.disk.failures device.new ≡ D.disk.failures device.old }
+        ensures stopped { IsErrOf result ShelfFault.Entry → D.disk.failures device.new ≡ D.disk.failures device.old }
     {
         let start = self.count_up_to(prefix).saturating_sub(1);
         for i in 0..self.count_with(prefix).saturating_sub(start) {

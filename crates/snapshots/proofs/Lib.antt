@@ -19,6 +19,7 @@ pub mod Holding
 pub mod Views
 pub mod Sieving
 mod Objects
+mod Unchanged
 mod Lookups
 pub mod Lying
 mod NamesInUse

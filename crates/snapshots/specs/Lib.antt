@@ -7,6 +7,7 @@ pub mod Laws
 pub mod ObjectCache
 pub mod ObjectCacheFaults
 pub mod Listed
+pub mod Changed
 pub mod ObjectCacheLaws
 pub mod KeptEntries
 pub mod Whole

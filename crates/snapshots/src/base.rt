@@ -22,7 +22,7 @@ use device::Device;
 use histories::Stored;
 use holdings::{FoundDocument, Source};
 use names::{Key, Resource};
-use objects::{LookupFault, Part};
+use objects::{Changes, LookupFault, Part};
 use std::alloc::{AllocError, Global};
 
 /// The objects of a cache, on the device that its pages stand on, without those that are held in memory; and how what stands beside each is made.
@@ -210,6 +210,25 @@ impl<'a, P: Drop, D: Device, M: FromDocument<P> + Drop> Source<P> for Base<'a, D
         }
         match self.cache.list(alloc, self.device, resource, namespace) {
             Ok(objects) => Ok(all_of(alloc, &self.making, objects)?),
+            Err(fault) => Err(self.told(fault)),
+        }
+    }
+
+    fn has_unchanged(
+        &mut self,
+        alloc: Global,
+        resource: Resource,
+        namespace: &str,
+        changes: &Changes<Stored<P>>,
+    ) -> Result<bool, LookupFault> {
+        if self.making.is_held(resource) {
+            return Ok(false);
+        }
+        match self
+            .cache
+            .has_unchanged(alloc, self.device, resource, namespace, changes)
+        {
+            Ok(has) => Ok(has),
             Err(fault) => Err(self.told(fault)),
         }
     }

@@ -17,6 +17,7 @@
 //! let mut cache = ObjectCache::new(alloc, shelf);                     // and the objects in its pages
 //! let cached = cache.find(alloc, &mut device, &key)?;          // reads one page, or none
 //! let pods = cache.list(alloc, &mut device, Resource::Pod, Some("default"))?;
+//! let stands = cache.has_unchanged(alloc, &mut device, Resource::Pod, "default", &changes)?; // stops at the first that has no change
 //! let mut base = Base::new(&mut device, &mut cache, making);
 //! let found = holdings.find(alloc, &mut base, &key)?;
 //! ```
@@ -32,7 +33,7 @@
 //!
 //! A shelf holds objects where their entries stand in front in its pages, as `records` makes them, and no entry after them has an object's key. `find`
 //! of a [`ObjectCache`] answers what is stored under a key, `list` the objects of a resource, in one namespace or in all, and `list_all` all objects,
-//! as a map in memory would. What the shelf holds stays, and damage is answered only where it does not hold objects so. The documents of objects that
+//! as a map in memory would. `has_unchanged` answers whether a namespace has one that has no change, and reads no document. What the shelf holds stays, and damage is answered only where it does not hold objects so. The documents of objects that
 //! were found are kept, up to [`BYTES_IN_MEMORY`], so that a text is not read at each look. The entries of a view hold its objects
 //! ([`views_hold_objects`]).
 //!
@@ -45,6 +46,7 @@ mod added;
 mod base;
 mod below;
 mod cached_object;
+mod changed;
 mod event_entries;
 mod fault;
 mod kept_entries;

@@ -1,12 +1,13 @@
 //! Objects in pages, as they are looked up and listed.
 
-ghost use Rattle.std.specs.Prelude.{◌≡◌, ◌<◌, ◌≤◌, ◌*◌, ◌^◌, ◌∷◌, List, [], Some, length, option_map, IsTrue, IfOk, OnOk, IsErrOf};
-ghost use Rattle.std.specs.List.{filter};
+ghost use Rattle.std.specs.Prelude.{◌≡◌, ◌<◌, ◌≤◌, ◌*◌, ◌^◌, ◌∷◌, List, [], Some, not, is_some, length, option_map, IsTrue, IfOk, OnOk, IsErrOf};
+ghost use Rattle.std.specs.List.{filter, list_any};
 ghost use Rattle.device.specs.Disk.{HasFailed};
 ghost use Rattle.device.specs.Step.{Same};
 ghost use Rattle.device.specs.Run.{Ran};
 ghost use Rattle.names.specs.Key.{Key as KeyData, is_key, key_bytes};
 ghost use Rattle.objects.specs.Objects.{value_at, is_of};
+ghost use Rattle.holdings.specs.Sources.{is_unchanged};
 ghost use Rattle.pages.specs.Page.{Entry as EntryData};
 ghost use Rattle.roots.specs.Root.{log_sector};
 ghost use Rattle.checkpoint.specs.Index.{keys_of};
@@ -18,16 +19,17 @@ ghost use Rattle.snapshots.specs.declared.cached_object.CachedObject.{CachedObje
 ghost use Rattle.snapshots.specs.ObjectCache.{ObjectCaches, HasEntries, AreAmong, AreOf, root_of};
 
 use crate::cached_object::{CachedObject, read_entry};
+use crate::changed::ChangedReader;
 use crate::keys::prefix_of;
 use crate::listed::ListingReader;
 use crate::object_cache_fault::ObjectCacheFault;
 use device::Device;
 use names::{Key, Resource};
-use objects::{KeyValue, Objects};
+use objects::{Changes, KeyValue, Objects};
 use pages::PAGE_BYTES;
 use records::{OBJECT_MARK, object_key};
 use roots::Root;
-use shelf::{PAGES_IN_MEMORY, Reading, Shelf};
+use shelf::{PAGES_IN_MEMORY, Reading, Shelf, ShelfFault};
 use std::alloc::{AllocError, Global};
 
 /// How many bytes the cells of the objects have together, at most, whose documents are kept: as many as the pages in memory.
@@ -59,6 +61,36 @@ fn objects_with<D: Device>(
     };
     shelf.tell(alloc, device, prefix, Reading::Passing, &mut listed)?;
     Ok(listed.objects)
+}
+
+// Whether one of the entries whose keys begin with a prefix is of an object that has none of these changes. The first that is ends the reading, and the pages
+// that were read lie in memory then.
+fn has_unchanged_with<D: Device, T: Drop>(
+    alloc: Global,
+    shelf: &mut Shelf,
+    device: &mut D,
+    prefix: &[u8],
+    changes: &Changes<T>,
+) -> Result<bool, ObjectCacheFault>
+    requires inside { D.disk.keeps device.old → 512 * log_sector (shelves.root_of shelf.old) ≤ length (D.disk.content device.old) }
+    ensures found { (entries : List EntryData) (objects : List (KeyData × CachedObjectData)) → shelves.Shelves D.disk device.old shelf.old entries
+        → AreOf (beginning prefix.now entries) objects → IfOk result (λ b. b ≡ list_any (λ o. not (is_some (value_at o.0 changes.now.made))) objects) }
+    ensures entries { (entries : List EntryData) → shelves.Shelves D.disk device.old shelf.old entries → shelves.Shelves D.disk device.new shelf.new entries }
+    ensures root { shelves.root_of shelf.new ≡ shelves.root_of shelf.old }
+    ensures damaged { (entries : List EntryData) → shelves.Shelves D.disk device.old shelf.old entries → IsErrOf result ObjectCacheFault.Damaged → ⊥ }
+    ensures ran { Ran D.disk device.old device.new Same }
+    ensures cause { IsErrOf result ObjectCacheFault.Device → HasFailed D.disk device.old device.new }
+    ensures steady { OnOk result (D.disk.failures device.new ≡ D.disk.failures device.old) }
+    ensures memory { IsErrOf result ObjectCacheFault.Memory → D.disk.failures device.new ≡ D.disk.failures device.old }
+{
+    let mut reader = ChangedReader { changes };
+    match shelf.tell(alloc, device, prefix, Reading::Kept, &mut reader) {
+        Ok(()) => Ok(false),
+        Err(ShelfFault::Entry) => Ok(true),
+        Err(ShelfFault::Device) => Err(ObjectCacheFault::Device),
+        Err(ShelfFault::Page) => Err(ObjectCacheFault::Damaged),
+        Err(ShelfFault::Memory) => Err(ObjectCacheFault::Memory),
+    }
 }
 
 /// The objects in the pages of a shelf. The documents of those that were found are kept, up to [`BYTES_IN_MEMORY`]: of one that is found again the page is
@@ -239,6 +271,35 @@ impl ObjectCache {
     {
         let prefix = prefix_of(alloc, resource, namespace)?;
         objects_with(alloc, &mut self.shelf, device, &prefix)
+    }
+
+    /// Whether an object of a resource in a namespace has none of these changes. The pages that may have one are read one after the other, up to the first
+    /// such object, and no document is. They lie in memory then: to ask again reads none, but for those that do not fit there.
+    ///
+    /// # Errors
+    ///
+    /// Those of `find`. An entry that stands among the objects and is none counts as one: what is in doubt is not taken for gone.
+    pub fn has_unchanged<D: Device, T: Drop>(
+        &mut self,
+        alloc: Global,
+        device: &mut D,
+        resource: Resource,
+        namespace: &str,
+        changes: &Changes<T>,
+    ) -> Result<bool, ObjectCacheFault>
+        requires inside { D.disk.keeps device.old → 512 * log_sector (root_of self.old) ≤ length (D.disk.content device.old) }
+        ensures found { (objects : List (KeyData × CachedObjectData)) → ObjectCaches D.disk device.old self.old objects
+            → IfOk result (λ b. b ≡ list_any (λ object. is_unchanged resource namespace.now changes.now.made object.0) objects) }
+        ensures kept { (objects : List (KeyData × CachedObjectData)) → ObjectCaches D.disk device.old self.old objects → ObjectCaches D.disk device.new self.new objects }
+        ensures root { root_of self.new ≡ root_of self.old }
+        ensures damaged { (objects : List (KeyData × CachedObjectData)) → ObjectCaches D.disk device.old self.old objects → IsErrOf result ObjectCacheFault.Damaged → ⊥ }
+        ensures ran { Ran D.disk device.old device.new Same }
+        ensures cause { IsErrOf result ObjectCacheFault.Device → HasFailed D.disk device.old device.new }
+        ensures steady { OnOk result (D.disk.failures device.new ≡ D.disk.failures device.old) }
+        ensures memory { IsErrOf result ObjectCacheFault.Memory → D.disk.failures device.new ≡ D.disk.failures device.old }
+    {
+        let prefix = prefix_of(alloc, resource, Some(namespace))?;
+        has_unchanged_with(alloc, &mut self.shelf, device, &prefix, changes)
     }
 
     /// All objects, ascending by key. Each page is read once that may have one, one after the other, and what lies in memory stays as it is.

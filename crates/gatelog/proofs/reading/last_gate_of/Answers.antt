@@ -10,7 +10,7 @@ returns-then-sector-clause-found g c keeps =
     let inv = c.loop-gate.invariant in
     let content = g.D.Device.disk.content c.args.device.now in
     let byte = gate-byte c.loop-gate.gate c.in_ok-sector.sector (g.D.Device.disk.content c.loop-gate.device) content (c.in_ok-sector.ensures.bytes (inv.ran.kept keeps)) (inv.ran.seen keeps) in
-    found-closed c.args.at c.loop-gate.gate content (inv.leads keeps) (omega (arith, inv.end keeps, c.loop-gate-test.true), λ opened. c.if-sector.true (byte ∙ opened))
+    found-closed c.args.at c.loop-gate.gate c.loop-gate.count content (inv.leads keeps) (omega (arith, inv.end keeps, c.loop-gate-test.true), λ opened. c.if-sector.true (byte ∙ opened))
 
 pub returns-in_err-gate-clause-damaged : goal.returns-in_err-gate-clause-damaged
 returns-in_err-gate-clause-damaged g c keeps is_damaged payloads last log =
@@ -20,7 +20,7 @@ returns-in_err-gate-clause-damaged g c keeps is_damaged payloads last log =
     let byte = gate-byte c.loop-gate.gate c.in_ok-sector.sector (g.D.Device.disk.content c.loop-gate.device) content (c.in_ok-sector.ensures.bytes kept) (inv.ran.seen keeps) in
     let same = c.read_sector.ensures.ran.seen kept ∙ inv.ran.seen keeps in
     let told = same_fault c.from_residual-in_err-gate.ensures.1 c.in_err-gate.was is_damaged in
-    no_log-body c.args.at c.loop-gate.gate content (inv.leads keeps) (sym byte ∙ c.if-sector.false)
+    no_log-body c.args.at c.loop-gate.gate c.loop-gate.count content (inv.leads keeps) (sym byte ∙ c.if-sector.false)
     (λ payload holds. c.check_body.ensures.damaged (c.read_sector.ensures.ran.kept kept) told payload (subst (HoldsRecord (c.loop-gate.gate + 1) payload) (sym same) holds))
     payloads last log
 
@@ -41,18 +41,19 @@ loop-gate-preserved g c =
       at_most = inv.at_most;
       steady = c.in_ok-gate.ensures.steady ∙ (c.in_ok-sector.ensures.cause.well refl ∙ inv.steady);
       later = omega (arith, inv.later);
+      counted = omega (arith, inv.counted);
       leads = λ keeps.
           let content = disk.content c.args.device.now in
           let byte = gate-byte c.loop-gate.gate c.in_ok-sector.sector (disk.content c.loop-gate.device) content (c.in_ok-sector.ensures.bytes (inv.ran.kept keeps)) (inv.ran.seen keeps) in
           let found = c.in_ok-gate.ensures.found (read.kept keeps) in
-          leads-next c.args.at c.loop-gate.gate _ content (inv.leads keeps) (sym byte ∙ c.if-sector.false)
+          leads-next c.args.at c.loop-gate.gate c.loop-gate.count _ content (inv.leads keeps) (sym byte ∙ c.if-sector.false)
           (found.0, found.1, subst (HoldsRecord (c.loop-gate.gate + 1) found.0) (read.seen keeps) found.2);
     }
 
 pub returns-clause-damaged : goal.returns-clause-damaged
 returns-clause-damaged g c keeps is_damaged payloads last log =
     let inv = c.loop-gate.invariant in
-    no_log-end c.args.at c.loop-gate.gate c.in_ok-end.end (g.D.Device.disk.content c.args.device.now) (inv.leads keeps) (inv.end keeps) c.loop-gate-test.false payloads last log
+    no_log-end c.args.at c.loop-gate.gate c.in_ok-end.end c.loop-gate.count (g.D.Device.disk.content c.args.device.now) (inv.leads keeps) (inv.end keeps) c.loop-gate-test.false payloads last log
 
 pub returns-in_err-end-clause-found : goal.returns-in_err-end-clause-found
 returns-in_err-end-clause-found g c = λ keeps. IfOk-from_err c.from_residual.result _ c.from_residual.ensures.0

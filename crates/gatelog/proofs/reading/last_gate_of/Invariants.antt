@@ -11,7 +11,8 @@ invariant-loop-gate g l = record {
   at_most : l.end ≤ 2 ^ 54;
   steady : g.D.Device.disk.failures l.device ≡ g.D.Device.disk.failures l.fn.device;
   later : l.fn.at ≤ l.gate;
-  leads : g.D.Device.disk.keeps l.fn.device → Leads l.fn.at l.gate (g.D.Device.disk.content l.fn.device);
+  counted : l.count ≤ l.gate;
+  leads : g.D.Device.disk.keeps l.fn.device → Leads l.fn.at l.gate l.count (g.D.Device.disk.content l.fn.device);
 }
 
 abbrev pub decreases-loop-gate : goal.decreases-loop-gate

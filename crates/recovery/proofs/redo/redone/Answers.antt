@@ -97,3 +97,6 @@ returns-in_err-redo-clause-plans c = λ is.
       contains_at items c.args.payloads.now c.loop-payload.payload-index x (omega arith) c.payload-item.is,
       subst Has c.deref.ensures.value (c.redo.ensures.plans told),
     )
+
+pub returns-clause-known : goal.returns-clause-known
+returns-clause-known c = c.loop-payload.invariant.known

@@ -1,4 +1,5 @@
 use Rattle.std.proofs.Common.{arith, refl, ap, subst, ◌≡◌, ◌+◌, ◌*◌, ◌++◌, ◌∷◌, [], ℕ, take}
+use Rattle.std.proofs.lemmas.List.{length-append}
 use Rattle.std.specs.Prelude.{Bool, true, false, not}
 use Rattle.gatelog.specs.Log.{HoldsLog}
 use Rattle.gatelog.specs.Payload.{payload_of}
@@ -52,6 +53,7 @@ returns-clause-ok g c = λ keeps payloads settled.
       works = refl;
       holds = subst End (behind log.last_gate_sector c.sectors.result (sectors payload) c.sectors.ensures)
           (c.in_ok-write_record.ensures.longer keeps log.first_gate_sector payloads settled.holds settled.durable);
+      counted = omega (arith, settled.counted, length-append payloads (payload ∷ []));
       durable = λ left is_left. ap (take (512 * (log.last_gate_sector + (1 + c.sectors.result)) + 512)) (c.in_ok-write_record.ensures.durable keeps left is_left);
     }
   where

@@ -117,3 +117,11 @@ returns-clause-steady g c = c.loop-i.invariant.steady
 
 pub returns-clause-unfailed : goal.returns-clause-unfailed
 returns-clause-unfailed g c is = c.loop-i.invariant.steady
+
+pub returns-in_err-tell_one-clause-stopped : goal.returns-in_err-tell_one-clause-stopped
+returns-in_err-tell_one-clause-stopped g c is =
+    c.tell_one.ensures.stopped (was_err c.in_err-tell_one.was (err_is c.from_residual.result _ ShelfFault.Entry c.from_residual.ensures.1 is))
+    ∙ c.loop-i.invariant.steady
+
+pub returns-clause-stopped : goal.returns-clause-stopped
+returns-clause-stopped g c is = c.loop-i.invariant.steady

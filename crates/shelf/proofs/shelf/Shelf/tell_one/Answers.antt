@@ -40,6 +40,7 @@ returns-in_err-fetch-in-Kept g c =
       cause = λ is. fetch.cause (was_err was (err_is handed.result _ ShelfFault.Device handed.ensures.1 is));
       steady = IfOk-from_err handed.result _ handed.ensures.0;
       unfailed = λ is. fetch.unfailed (was_err was (err_is handed.result _ ShelfFault.Memory handed.ensures.1 is));
+      stopped = λ is. absurd (fetch.refusal (was_err was (err_is handed.result _ ShelfFault.Entry handed.ensures.1 is)));
     }
 
 pub returns-in_ok-fetch-in-Kept : goal.returns-in_ok-fetch-in-Kept
@@ -68,6 +69,7 @@ returns-in_ok-fetch-in-Kept g c =
       cause = λ is. absurd (never_device c.tell_page.result telling.refusal is);
       steady = on_ok_weaker c.tell_page.result (λ told. c.in_ok-fetch-in-Kept.ensures.steady) telling.told;
       unfailed = λ is. c.in_ok-fetch-in-Kept.ensures.steady;
+      stopped = λ is. c.in_ok-fetch-in-Kept.ensures.steady;
     }
 
 pub returns-in-Passing : goal.returns-in-Passing
@@ -89,6 +91,7 @@ returns-in-Passing g c =
       cause = λ is. absurd (never_device told telling.refusal is);
       steady = on_ok_weaker told (λ told. refl) telling.told;
       unfailed = λ is. refl;
+      stopped = λ is. refl;
     }
 
 pub returns-in_err-owned-in-Passing-2 : goal.returns-in_err-owned-in-Passing-2
@@ -108,6 +111,7 @@ returns-in_err-owned-in-Passing-2 g c =
       cause = λ is. read.cause (was_err was (err_is handed.result _ ShelfFault.Device handed.ensures.1 is));
       steady = IfOk-from_err handed.result _ handed.ensures.0;
       unfailed = λ is. read.unfailed (was_err was (err_is handed.result _ ShelfFault.Memory handed.ensures.1 is));
+      stopped = λ is. absurd (read.refusal (was_err was (err_is handed.result _ ShelfFault.Entry handed.ensures.1 is)));
     }
 
 pub returns-in_ok-owned-in-Passing-2 : goal.returns-in_ok-owned-in-Passing-2
@@ -133,4 +137,5 @@ returns-in_ok-owned-in-Passing-2 g c =
       cause = λ is. absurd (never_device told telling.refusal is);
       steady = on_ok_weaker told (λ told. c.in_ok-owned-in-Passing-2.ensures.steady) telling.told;
       unfailed = λ is. c.in_ok-owned-in-Passing-2.ensures.steady;
+      stopped = λ is. c.in_ok-owned-in-Passing-2.ensures.steady;
     }
