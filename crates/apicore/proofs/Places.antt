@@ -1,8 +1,6 @@
 -- Namespaces, and the objects in them.
-use Rattle.std.proofs.Common.{◌≡◌, ◌∙◌, sym, ap, refl, ℕ, List, [], ◌∷◌, length, Bool, true, false, cond, not, ◌&&◌, ◌||◌, ◌==◌, nat_eq, Option, Some, None, is_some, option_map, option_and_then, arith, bytes_eq}
-use Rattle.std.proofs.Common.{suc}
-use Rattle.std.proofs.lemmas.Bool.Decides.{nat_tests}
-use Rattle.std.specs.List.{filter, list_any}
+use Rattle.std.proofs.Common.{◌≡◌, ◌∙◌, sym, ap, refl, ℕ, List, [], ◌∷◌, Bool, true, false, not, ◌&&◌, ◌||◌, nat_eq, Option, Some, None, is_some, option_map, option_and_then, bytes_eq}
+use Rattle.std.specs.List.{list_any}
 use Rattle.names.specs.declared.format.Format.{Format}
 use Rattle.names.specs.declared.format.Rules.{Rules}
 use Rattle.names.specs.Format.{has_namespaces, has_resource}
@@ -107,17 +105,6 @@ module _ {X : Type 0} where
   any_same : (p q : X → Bool) → ((x : X) → p x ≡ q x) → (xs : List X) → list_any p xs ≡ list_any q xs
   any_same p q same [] = refl
   any_same p q same (x ∷ xs) = λ i. same x i || any_same p q same xs i
-
-  -- some are filtered out if one is of them
-  pub any_filtered : (p : X → Bool) (xs : List X) → not (length (filter p xs) == 0) ≡ list_any p xs
-  any_filtered p [] = refl
-  any_filtered p (x ∷ xs) = elim (p x) as (λ b. not (length (cond b (x ∷ filter p xs) (filter p xs)) == 0) ≡ (b || list_any p xs)) [
-    | true ↦ more (length (filter p xs))
-    | false ↦ any_filtered p xs
-  ]
-    where
-      more : (n : ℕ) → not (suc n == 0) ≡ true
-      more n = (let other : (suc n == 0) ≡ false = grind (arith, nat_tests) in ap not other)
 
 abbrev pub Among : Resource → List ℕ → seen.View Decoded → Bool
 Among r name held = list_any (λ o. is_of r (Some name) o.0) held.objects

@@ -109,7 +109,7 @@ pub(crate) fn place_of<S: Source<Decoded>>(
     Ok(NamespacePlace::In(namespace))
 }
 
-// Whether an object of the resource stands in a namespace.
+// Whether an object of the resource stands in a namespace. It looks no further than the first.
 fn holds_any<S: Source<Decoded>>(
     core: &Core,
     alloc: Global,
@@ -121,9 +121,7 @@ fn holds_any<S: Source<Decoded>>(
         → IfOk result (λ b. b ≡ list_any (λ o. is_of resource (Some namespace.now) o.0) held.objects) }
     ensures looked { HasLooked S.holds S.goes_to S.failures S.unfailed core.now source.old source.new result }
 {
-    let below = source.list(alloc, resource, Some(namespace))?;
-    let objects = core.list(alloc, resource, Some(namespace), &below)?;
-    Ok(!objects.is_empty())
+    core.has_any(alloc, source, resource, namespace)
 }
 
 // Whether an object of one of two resources stands in a namespace. The second is asked where there is none of the first.
