@@ -1,8 +1,7 @@
 //! The smallest program over a store: makes one in the new file `store.db`, and answers the HTTP requests on standard input against it.
 //!
 //! It is what a program that has a store of its own begins with: a device, a store made on it, and a connection that is served. There is no
-//! command line, so `./demo` has it built sooner than `gated` itself. It ends with status 0, or with 1 where a step
-//! fails, which is told on standard error.
+//! command line. It ends with status 0, or with 1 where a step fails, which is told on standard error.
 #![tactic(auto)]
 
 use std::fmt::Display;
