@@ -67,8 +67,7 @@ StopsServing rules old new v serve_fault.Memory = ⊥
 StopsServing rules old new v (serve_fault.Damaged damage) = ⊥
 StopsServing rules old new v serve_fault.Failed = HasFailedAt rules old new v
 
--- how it stops by any fault: one of the network or of memory leaves what was served before
+-- how it stops by any fault: one of the network leaves what was served before
 abbrev pub StopsClients : {D : Type 0} {g : Ghosts D} → Rules → Store D g → Store D g → View → ClientsFault → Type 0
 StopsClients rules old new v clients_fault.Network = HasServedSome rules old new v
-StopsClients rules old new v clients_fault.Memory = HasServedSome rules old new v
 StopsClients rules old new v (clients_fault.Store fault) = StopsServing rules old new v fault
