@@ -78,9 +78,8 @@ pub record HasStoppedBetween {D : Type 0} {g : Ghosts D} (rules : Rules) (old ne
   pub left : WhereSettled rules old v (λ h. IsLeftAt rules new h (all_writes rules v answered) (all_writes rules v answered))
   pub moments : WhereSettled rules old v (λ h. LeavesSome rules old new h (all_writes rules v answered))
 
--- how it stops by any fault: one of the network or of memory leaves what was served before
+-- how it stops by any fault: one of the network leaves what was served before
 abbrev pub StopsClients : {D : Type 0} {g : Ghosts D} → Rules → Store D g → Store D g → View → ClientsFault → Type 0
 StopsClients rules old new v clients_fault.Network = HasServedSome rules old new v
-StopsClients rules old new v clients_fault.Memory = HasServedSome rules old new v
 StopsClients rules old new v (clients_fault.Store fault) = StopsServing rules old new v fault
 StopsClients rules old new v (clients_fault.Compaction fault) = HasStoppedBetween rules old new v

@@ -24,6 +24,6 @@ mod moving;
 mod places;
 mod server;
 
-pub use crate::fault::ClientsFault;
+pub use crate::fault::{BindFault, ClientsFault};
 pub use crate::laws::texts_are_shown;
 pub use crate::server::{Limits, Server};

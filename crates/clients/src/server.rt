@@ -10,7 +10,7 @@ ghost use Rattle.clients.specs.Serving.{HasServedSome, StopsServing, StopsClient
 
 use crate::compacting::{Compacting, tell_compacted};
 use crate::desk::Desk;
-use crate::fault::ClientsFault;
+use crate::fault::{BindFault, ClientsFault};
 use crate::places::Places;
 use api::ServeFault;
 use device::Device;
@@ -22,7 +22,7 @@ use std::alloc::Global;
 use std::io;
 use std::io::ErrorKind;
 use std::net::{Net, SocketAddr};
-use std::time::{Clock, Duration, Instant};
+use std::time::{Clock, Duration, Instant, SystemTime, UNIX_EPOCH};
 
 // The listening socket's token. A client's is its place.
 const LISTENER: Token = Token(usize::MAX);
@@ -61,6 +61,13 @@ fn wait_for(is_busy: bool) -> u64 {
     if is_busy { 0 } else { WAIT_MILLISECONDS }
 }
 
+// The time, in seconds after 1970-01-01T00:00:00Z; none where the system does not tell it.
+fn seconds_of<C: Clock>(clock: &C) -> Option<u64> {
+    let now = SystemTime::now(clock).ok()?;
+    let passed = now.duration_since(UNIX_EPOCH).ok()?;
+    Some(passed.as_secs())
+}
+
 /// A listening socket and the clients that came by it.
 #[derive(Drop)]
 pub struct Server {
@@ -79,13 +86,13 @@ impl Server {
     ///
     /// # Errors
     ///
-    /// `Network` where the address cannot be listened on; out of memory.
+    /// `System` where the system refuses the address, or to tell what is ready; out of memory.
     pub fn bind<N: Net>(
         net: &N,
         alloc: Global,
         address: SocketAddr,
         limits: Limits,
-    ) -> Result<Server, ClientsFault> {
+    ) -> Result<Server, BindFault> {
         let mut listener = TcpListener::bind(net, address)?;
         let poll = Poll::new(net)?;
         poll.registry()
@@ -122,6 +129,13 @@ impl Server {
             }
         }
         Instant::now(clock)
+    }
+
+    // The lines of the log that this turn tells have the time that it is now.
+    fn note_time<C: Clock>(&mut self, clock: &C) {
+        if self.desk.journal.is_kept() {
+            self.desk.journal.set_time(seconds_of(clock));
+        }
     }
 
     // Whether one more connection may be accepted.
@@ -258,8 +272,9 @@ impl Server {
     /// `Store` where the store failed, and `Compaction` where it failed while it was compacted: those whose messages are not answered are told so, for a
     /// second at most. `Network` where the system no longer tells what is ready, or what time it is.
     ///
-    /// Where the limits say so, a line is written to `log` for each message that is answered, after its reply was put to what is sent, and the store is
-    /// compacted between two turns, of which a line is written too. All clients wait meanwhile. A log that cannot be written loses lines, and stops nothing.
+    /// Where the limits say so, a line is written to `log` for each message that is answered, after its reply was put to what is sent. It begins with the time
+    /// at which the turn began that answered the message. Where the limits say so, the store is compacted between two turns, and a line is written of each
+    /// compaction. All clients wait meanwhile. A log that cannot be written loses lines, and stops nothing.
     pub fn run<C: Clock, D: Device, L: Output>(
         &mut self,
         clock: &C,
@@ -284,6 +299,7 @@ impl Server {
             let Ok(now) = self.look(clock, wait) else {
                 return Err(ClientsFault::Network);
             };
+            self.note_time(clock);
             let is_asked = self.accept(alloc, now);
             let turned = self.turn(clock, alloc, now, store);
             self.desk.journal.write_to(alloc, log);
