@@ -310,8 +310,9 @@ impl Server {
                     return Err(ClientsFault::Store(fault));
                 }
             };
-            match compacting.compact(alloc, store) {
-                Ok(compacted) => tell_compacted(alloc, compacted, log),
+            let compacted = compacting.compact(alloc, store);
+            match compacted {
+                Ok(generation) => tell_compacted(alloc, generation, log),
                 Err(fault) => {
                     // The store has stopped: this turn tells each client with a message so.
                     let _ = self.turn(clock, alloc, now, store);
