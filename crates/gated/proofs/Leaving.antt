@@ -1,5 +1,5 @@
 -- What a command that failed left of the device behind its file.
-use Rattle.std.proofs.Common.{arith, ◌≡◌, ◌≢◌, sym, subst, refl, ◌⊎◌, inl, inr, ⊎_elim, ℕ, List, [], ◌++◌, Result, Ok, Err, IfErr, OnErr, IsErrOf}
+use Rattle.std.proofs.Common.{arith, ◌≡◌, ◌≢◌, sym, subst, refl, ◌⊎◌, inl, inr, ⊎_elim, ℕ, List, [], ◌++◌, Result, Ok, Err, IfErr, OnOk, OnErr, IsErrOf}
 use Rattle.std.proofs.lemmas.List.{append-nil}
 use Rattle.device.specs.declared.device.Device.{Ghosts}
 use Rattle.device.specs.Disk.{Disk, LeavesOnly}
@@ -36,6 +36,11 @@ use Rattle.gated.proofs.Served.{read_some, wrote_some, some_after}
 pub on_err : {T E P : Type 0} (r : Result T E) → P → OnErr r P
 on_err (Ok x) holds = tt
 on_err (Err e) holds = holds
+
+-- where there is none
+pub on_ok : {T E P : Type 0} (r : Result T E) → P → OnOk r P
+on_ok (Ok x) holds = holds
+on_ok (Err e) holds = tt
 
 -- and what holds of each of its kind
 pub on_each : {T E : Type 0} {P : E → Type 0} (r : Result T E) → ((e : E) → P e) → IfErr r P
@@ -130,7 +135,6 @@ module _ {D : Type 0} {g : Ghosts D} (rules : Rules) (old new : Store D g) (v : 
   -- clients that were served, up to a fault
   pub clients_up_to : (fault : ClientsFault) → StopsClients rules old new v fault → HasServedUntil rules old new v
   clients_up_to clients_fault.Network stops = inl (inl stops)
-  clients_up_to clients_fault.Memory stops = inl (inl stops)
   clients_up_to (clients_fault.Store serve_fault.Read) stops = absurd stops
   clients_up_to (clients_fault.Store serve_fault.Write) stops = absurd stops
   clients_up_to (clients_fault.Store serve_fault.Device) stops = inl (inr stops)
