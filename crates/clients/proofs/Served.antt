@@ -1,7 +1,7 @@
 -- What turns leave of a store, one after another.
-use Rattle.std.proofs.Common.{◌≡◌, ◌∙◌, refl, sym, subst, true≢false, false, ◌++◌, ℕ, List, [], Result, Ok, Err}
+use Rattle.std.proofs.Common.{◌≡◌, ◌∙◌, ap, refl, sym, subst, true≢false, false, ◌++◌, ℕ, List, [], Option, None, Result, Ok, Err}
 use Rattle.std.proofs.lemmas.List.{append-nil}
-use Rattle.std.specs.Prelude.{MatchResult}
+use Rattle.std.specs.Prelude.{MatchResult, is_ok}
 use Rattle.device.specs.declared.device.Device.{Ghosts}
 use Rattle.names.specs.declared.format.Rules.{Rules}
 use Rattle.histories.specs.View.{view, after_all}
@@ -18,7 +18,15 @@ use Rattle.api.proofs.Folds.{applied_then, applied_none, failed_then, left_after
 use Rattle.sessions.specs.State.{State}
 use Rattle.sessions.specs.Turn.{Turned}
 use Rattle.sessions.specs.Stops.{TurnStops}
+use Rattle.clients.specs.Compacting.{is_due}
 use Rattle.clients.specs.Serving.{Gathers, AnswersGroup, StopsAtGroup, HasServedSome, HasFailedAt, HasStoppedBetween, StopsServing}
+
+-- a store that is never compacted is never due
+pub never_due : (times : Option ℕ) (put_off_sectors log_sectors pages : ℕ) → times ≡ None → is_due times put_off_sectors log_sectors pages ≡ false
+never_due times put_off_sectors log_sectors pages never = subst (λ t. is_due t put_off_sectors log_sectors pages ≡ false) (sym never) refl
+
+pub ok_is_no_err : {T E : Type 0} (r : Result T E) (x : T) (e : E) → r ≡ Ok x → r ≡ Err e → ⊥
+ok_is_no_err r x e well failed = true≢false (ap is_ok (sym well ∙ failed))
 
 module _ {D : Type 0} {g : Ghosts D} (rules : Rules) where
   pub served_none : (store : Store D g) (v : View) → ShowsAt rules store v

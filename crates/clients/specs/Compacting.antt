@@ -21,4 +21,4 @@ is_due (Some times) put_off_sectors log_sectors pages = nat_le put_off_sectors l
 -- the line that is told of a compaction
 abbrev pub compacted_line : Compacted → List ℕ
 compacted_line c =
-    codes "gated: compacted: generation " ++ decimal c.generation ++ codes ", " ++ decimal c.pages ++ codes " pages at sector " ++ decimal c.first_sector ++ codes "\n"
+    codes "gated: compacted: generation " ++ (decimal c.generation ++ (codes ", " ++ (decimal c.pages ++ (codes " pages at sector " ++ (decimal c.first_sector ++ codes "\n")))))

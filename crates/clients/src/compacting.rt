@@ -1,6 +1,6 @@
 //! Compactions of a store between the turns that serve it.
 
-ghost use Rattle.std.specs.Prelude.{◌≡◌, ◌+◌, ◌-◌, ◌*◌, ◌^◌, ◌⊎◌, ◌×◌, min, [], true, false, Some, None, Ok, IfOk, OnOk, OnErr};
+ghost use Rattle.std.specs.Prelude.{◌≡◌, ◌+◌, ◌-◌, ◌*◌, ◌^◌, ◌⊎◌, min, [], true, false, Some, None, Ok, IfOk, OnOk, OnErr, string_bytes};
 ghost use Rattle.names.specs.declared.format.Rules.{Rules};
 ghost use Rattle.decoded.specs.Standing.{History};
 ghost use Rattle.durable.specs.declared.compacted.Compacted.{Compacted as CompactedData};
@@ -115,7 +115,7 @@ impl Compacting {
 
 // The line of a generation that was written.
 fn compacted_line(alloc: Global, compacted: Compacted) -> Result<String, AllocError>
-    ensures { IfOk result (λ line. line ≡ compacted_line compacted) }
+    ensures { IfOk result (λ line. string_bytes line ≡ compacted_line compacted) }
 {
     let Compacted {
         generation,

@@ -18,4 +18,4 @@ returns-in_err-print_ready-clause-stopped g c rules h settled =
     on_err c.from_residual-in_err-print_ready.result (inl (inl (served_none rules c.args.store.now (view rules h) (λ working. settled_serves rules c.args.store.now h settled) (λ keeps content since. g.met.D.Device.only_now _ content keeps since))))
 
 pub returns-clause-stopped : goal.returns-clause-stopped
-returns-clause-stopped g c rules h settled = clients_up_to rules c.args.store.now c.run.new.store (view rules h) c.in-Err.fault (c.in-Err.ensures.served rules h settled)
+returns-clause-stopped g c rules h settled = clients_up_to rules c.args.store.now c.run.new.store (view rules h) c.in-Err.fault (c.in-Err.ensures.settled rules h settled)
