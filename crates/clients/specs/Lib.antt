@@ -2,3 +2,5 @@ pub mod Moving
 pub mod Journal
 pub mod Serving
 pub mod Compacting
+pub mod Waiting
+pub mod Places

@@ -24,6 +24,14 @@ pub record Sends (held holds : Option (List ℕ)) (old new : State) : Type 0 whe
   pub progress : new.progress ≡ old.progress
   pub phase : new.phase ≡ old.phase
 
+-- Some of the first of the bytes that waited to be sent wait no longer, perhaps none. All else of the session stays.
+pub record LosesFront (old new : State) : Type 0 where
+  pub front : List ℕ
+  pub waited : old.unsent ≡ front ++ new.unsent
+  pub waiting : new.waiting ≡ old.waiting
+  pub progress : new.progress ≡ old.progress
+  pub phase : new.phase ≡ old.phase
+
 -- a piece was read, and the session took it after what was read before
 pub record ReadsPiece (remained remains : Option (List ℕ)) (read : List ℕ) (ms : List Message) (old new : State) : Type 0 where
   pub piece : List ℕ

@@ -1,7 +1,11 @@
 //! The socket of one client.
 
-ghost use Rattle.std.specs.Prelude.{◌≡◌, ◌↔◌, [], true, IsTrue};
-ghost use Rattle.sessions.specs.State.{is_open};
+ghost use Rattle.std.specs.Prelude.{◌≡◌, ◌↔◌, ◌≤◌, ◌-◌, [], true, false, IfErr, IsTrue, MatchResult};
+ghost use Rattle.std.specs.Duration.{as_nanos};
+ghost use Rattle.std.specs.Time.{instant_nanos};
+ghost use Rattle.sessions.specs.State.{is_open, is_lost};
+ghost use Rattle.clients.specs.Moving.{LosesFront};
+ghost use Rattle.clients.specs.Waiting.{IsWaitedFor, IsLate, IsEnd, EndsAtRest, EndsFor};
 
 use crate::desk::Desk;
 use crate::journal::{Journal, status_in};
@@ -19,15 +23,38 @@ const SENDS: u32 = 64;
 // How long what a client sends is read and forgotten, once it was sent all.
 const DRAIN_SECONDS: u64 = 1;
 
-/// The connection is let go.
+/// Why a connection is let go.
 #[derive(Clone, Copy)]
-pub(crate) struct Gone;
+pub(crate) enum Gone {
+    /// Memory was refused to what is to be sent to the client.
+    Lost,
+    /// The stream failed, or takes no byte.
+    Failed,
+    /// All was sent to the client, and nothing more is taken of it.
+    Done,
+    /// The client did not do in time what it is waited for.
+    Late,
+}
 
 // Whether nothing waits in a session, neither to be answered nor to be sent.
 fn is_quiet(session: &Session) -> bool
     ensures { IsTrue result ↔ ((session.now.waiting ≡ []) × (session.now.unsent ≡ [])) }
 {
     session.is_idle() && session.rest().is_empty()
+}
+
+// Whether a client is waited for: none of its messages waits to be answered, or bytes wait for it to take them.
+fn is_waited_for(session: &Session) -> bool
+    ensures { IsTrue result ↔ IsWaitedFor session.now }
+{
+    session.is_idle() || !session.rest().is_empty()
+}
+
+// Whether a time has passed since a moment.
+fn has_passed(since: Instant, now: Instant, time: Duration) -> bool
+    ensures { IsTrue result ↔ (as_nanos time ≤ instant_nanos now - instant_nanos since) }
+{
+    time.as_nanos() <= now.saturating_duration_since(since).as_nanos()
 }
 
 // Tells in the log of the reply that closed a session, where it got one. Nothing waited to be sent before.
@@ -104,19 +131,33 @@ impl Line {
         u64::try_from(waited.as_micros()).unwrap_or(u64::MAX)
     }
 
+    // Takes note of what came of one call that sends. A connection whose stream would have waited goes on.
+    fn note_sent(&mut self, moved: Moved, now: Instant) -> Result<(), Gone>
+        ensures ends { MatchResult result (λ _. moved ≡ Moved.Failed → ⊥) (λ gone. (gone ≡ Gone.Failed) × (moved ≡ Moved.Failed)) }
+        ensures since { moved ≡ Moved.Some → self.new.since ≡ now }
+    {
+        match moved {
+            Moved::Some => self.since = now,
+            Moved::Again | Moved::Ended => {}
+            Moved::Waits => self.is_writable = false,
+            Moved::Failed => return Err(Gone::Failed),
+        }
+        Ok(())
+    }
+
     // Sends what waits, as far as the socket takes it now.
-    fn send(&mut self, alloc: Global, session: &mut Session, now: Instant) -> Result<(), Gone> {
+    #[tactic(auto, using(crate::proofs::Sending::loses_none))]
+    fn send(&mut self, alloc: Global, session: &mut Session, now: Instant) -> Result<(), Gone>
+        ensures sent { LosesFront session.old session.new }
+        ensures failed { IfErr result (λ gone. gone ≡ Gone.Failed) }
+    {
         for _ in 0..SENDS {
             if session.rest().is_empty() || !self.is_writable {
                 return Ok(());
             }
             let mut stream = &self.stream;
-            match send_once(alloc, &mut stream, session) {
-                Moved::Some => self.since = now,
-                Moved::Again | Moved::Ended => {}
-                Moved::Waits => self.is_writable = false,
-                Moved::Failed => return Err(Gone),
-            }
+            let moved = send_once(alloc, &mut stream, session);
+            self.note_sent(moved, now)?;
         }
         Ok(())
     }
@@ -143,6 +184,7 @@ impl Line {
         requires opened { is_open session.old.phase ≡ true }
         requires idle { session.old.waiting ≡ [] }
         requires sent { session.old.unsent ≡ [] }
+        ensures failed { IfErr result (λ gone. gone ≡ Gone.Failed) }
     {
         let mut stream = &self.stream;
         match read_once(
@@ -156,7 +198,7 @@ impl Line {
             Moved::Again => {}
             Moved::Waits => self.is_readable = false,
             Moved::Ended => self.has_ended = true,
-            Moved::Failed => return Err(Gone),
+            Moved::Failed => return Err(Gone::Failed),
         }
         tell_closing(alloc, &mut desk.journal, self.peer(), session);
         Ok(())
@@ -164,9 +206,11 @@ impl Line {
 
     // Reads on and forgets: a socket that is closed with bytes that nobody read resets the connection, and the client may then lose the last
     // reply. So a refused upload is taken to its end, within bounds.
-    fn drain(&mut self, buffer: &mut [u8], now: Instant) -> Result<(), Gone> {
+    fn drain(&mut self, buffer: &mut [u8], now: Instant) -> Result<(), Gone>
+        ensures { IfErr result IsEnd }
+    {
         if self.has_ended {
-            return Err(Gone);
+            return Err(Gone::Done);
         }
         let since = match self.drained_since {
             Some(since) => since,
@@ -177,20 +221,22 @@ impl Line {
                 now
             }
         };
-        if now.saturating_duration_since(since) >= Duration::from_secs(DRAIN_SECONDS) {
-            return Err(Gone);
+        if has_passed(since, now, Duration::from_secs(DRAIN_SECONDS)) {
+            return Err(Gone::Done);
         }
         self.forget(buffer)
     }
 
     // One read of what is forgotten.
-    fn forget(&mut self, buffer: &mut [u8]) -> Result<(), Gone> {
+    fn forget(&mut self, buffer: &mut [u8]) -> Result<(), Gone>
+        ensures { IfErr result IsEnd }
+    {
         if !self.is_readable {
             return Ok(());
         }
         let mut stream = &self.stream;
         match stream.read(buffer) {
-            Ok(0) => Err(Gone),
+            Ok(0) => Err(Gone::Done),
             Ok(_) => Ok(()),
             Err(error) => match failed(error.kind()) {
                 Moved::Waits => {
@@ -198,7 +244,7 @@ impl Line {
                     Ok(())
                 }
                 Moved::Again => Ok(()),
-                Moved::Some | Moved::Ended | Moved::Failed => Err(Gone),
+                Moved::Some | Moved::Ended | Moved::Failed => Err(Gone::Failed),
             },
         }
     }
@@ -210,7 +256,9 @@ impl Line {
         desk: &mut Desk,
         session: &mut Session,
         now: Instant,
-    ) -> Result<(), Gone> {
+    ) -> Result<(), Gone>
+        ensures failed { IfErr result (λ gone. gone ≡ Gone.Failed) }
+    {
         if !self.looks_on || !is_quiet(session) {
             return Ok(());
         }
@@ -227,7 +275,9 @@ impl Line {
         desk: &mut Desk,
         session: &mut Session,
         now: Instant,
-    ) -> Result<(), Gone> {
+    ) -> Result<(), Gone>
+        ensures { IfErr result (λ gone. EndsAtRest gone session.new) }
+    {
         if !is_quiet(session) {
             return Ok(());
         }
@@ -242,12 +292,11 @@ impl Line {
 
     // Whether the client has not done for too long what it is waited for: the whole of a message that it began, the first byte of the next
     // one, or to take a byte. A client whose messages wait to be answered is not waited for.
-    fn is_late(&self, session: &Session, now: Instant, idle: Option<Duration>) -> bool {
+    fn is_late(&self, session: &Session, now: Instant, idle: Option<Duration>) -> bool
+        ensures { IsTrue result ↔ IsLate session.now self.now.since now idle }
+    {
         match idle {
-            Some(idle) => {
-                (session.is_idle() || !session.rest().is_empty())
-                    && now.saturating_duration_since(self.since) >= idle
-            }
+            Some(idle) => { is_waited_for(session) && has_passed(self.since, now, idle) }
             None => false,
         }
     }
@@ -261,6 +310,7 @@ impl Line {
     }
 
     /// One turn of the connection: sends what waits, and reads one piece where nothing waits. It tells whether more can be done at once.
+    #[tactic(auto, using(crate::proofs::Leaving::at_rest, crate::proofs::Leaving::has_failed))]
     pub(crate) fn turn(
         &mut self,
         alloc: Global,
@@ -268,15 +318,19 @@ impl Line {
         session: &mut Session,
         now: Instant,
         idle: Option<Duration>,
-    ) -> Result<bool, Gone> {
+    ) -> Result<bool, Gone>
+        ensures { MatchResult result
+            (λ _. (is_lost session.old.phase ≡ false) × (IsLate session.new self.new.since now idle → ⊥))
+            (λ gone. EndsFor gone session.old session.new (IsLate session.new self.new.since now idle)) }
+    {
         if session.is_lost() {
-            return Err(Gone);
+            return Err(Gone::Lost);
         }
         self.send(alloc, session, now)?;
         self.look_on(alloc, desk, session, now)?;
         self.attend(alloc, desk, session, now)?;
         if self.is_late(session, now, idle) {
-            return Err(Gone);
+            return Err(Gone::Late);
         }
         Ok(self.is_busy(session))
     }
@@ -288,14 +342,17 @@ impl Line {
         desk: &mut Desk,
         session: &mut Session,
         now: Instant,
-    ) -> Result<(), Gone> {
+    ) -> Result<(), Gone>
+        ensures sent { LosesFront session.old session.new }
+        ensures ends { IfErr result (λ gone. (gone ≡ Gone.Done) → session.new.unsent ≡ []) }
+    {
         if session.is_lost() {
-            return Err(Gone);
+            return Err(Gone::Lost);
         }
         self.send(alloc, session, now)?;
         if session.rest().is_empty() {
             if session.is_open() {
-                return Err(Gone);
+                return Err(Gone::Done);
             }
             return self.drain(&mut desk.buffer, now);
         }

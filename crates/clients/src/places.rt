@@ -1,5 +1,8 @@
 //! The clients, each at its place.
 
+ghost use Rattle.std.specs.Prelude.{◌≡◌, ◌↔◌, ◌<◌, ℕ, length, IfNone, IfOk, IfSome, IsTrue};
+ghost use Rattle.clients.specs.Places.{fresh, count, session_at, IsFree, IsFreshWhereFree, StaysBeside, StaysWhereFree, TakesTurn};
+
 use crate::desk::Desk;
 use crate::line::Line;
 use mio::net::TcpStream;
@@ -16,10 +19,15 @@ pub(crate) struct Places {
 
 impl Places {
     /// This many places, at which nobody is.
-    pub(crate) fn new(alloc: Global, count: u16) -> Result<Places, AllocError> {
-        let mut lines = Vec::with_capacity(alloc, usize::from(count))?;
-        let mut sessions = Vec::with_capacity(alloc, usize::from(count))?;
-        for _ in 0..count {
+    #[tactic(auto, using(crate::proofs::Beginning::one_more))]
+    pub(crate) fn new(alloc: Global, places: u16) -> Result<Places, AllocError>
+        ensures many { IfOk result (λ p. (count p ≡ places) × (length p.sessions.items ≡ places)) }
+        ensures free { IfOk result (λ p. (i : ℕ) → i < places → IsFree p i) }
+        ensures fresh { IfOk result IsFreshWhereFree }
+    {
+        let mut lines = Vec::with_capacity(alloc, usize::from(places))?;
+        let mut sessions = Vec::with_capacity(alloc, usize::from(places))?;
+        for _ in 0..places {
             lines.push(None)?;
             sessions.push(Session::new(alloc))?;
         }
@@ -27,7 +35,10 @@ impl Places {
     }
 
     /// A place at which nobody is.
-    pub(crate) fn free(&self) -> Option<usize> {
+    pub(crate) fn free(&self) -> Option<usize>
+        ensures free { IfSome result (λ place. IsFree self.now place) }
+        ensures none { IfNone result ((i : ℕ) → IsFree self.now i → ⊥) }
+    {
         for (place, line) in self.lines.iter().enumerate() {
             if line.is_none() {
                 return Some(place);
@@ -37,7 +48,9 @@ impl Places {
     }
 
     /// Whether nobody is there at all.
-    pub(crate) fn is_empty(&self) -> bool {
+    pub(crate) fn is_empty(&self) -> bool
+        ensures { IsTrue result ↔ ((i : ℕ) → i < count self.now → IsFree self.now i) }
+    {
         for line in &self.lines {
             if line.is_some() {
                 return false;
@@ -53,26 +66,41 @@ impl Places {
         stream: TcpStream,
         peer: Option<String>,
         now: Instant,
-    ) {
-        if let Some(line) = self.lines.get_mut(place) {
-            *line = Some(Line::new(stream, peer, now));
+    )
+        ensures beside { StaysBeside place self.old self.new }
+        ensures session { session_at self.new place ≡ session_at self.old place }
+        ensures there { IsFree self.new place → ⊥ }
+    {
+        if place < self.lines.len() {
+            self.lines[place] = Some(Line::new(stream, peer, now));
         }
     }
 
     /// The system tells what the socket of the client at a place is ready for.
-    pub(crate) fn mark(&mut self, place: usize, is_readable: bool, is_writable: bool) {
-        if let Some(Some(line)) = self.lines.get_mut(place) {
+    pub(crate) fn mark(&mut self, place: usize, is_readable: bool, is_writable: bool)
+        ensures beside { StaysBeside place self.old self.new }
+        ensures session { session_at self.new place ≡ session_at self.old place }
+        ensures free { IsFree self.new place ↔ IsFree self.old place }
+    {
+        if place >= self.lines.len() {
+            return;
+        }
+        if let Some(line) = &mut self.lines[place] {
             line.mark(is_readable, is_writable);
         }
     }
 
     // Lets the client at a place go, with all that waits of it.
-    fn let_go(&mut self, alloc: Global, place: usize) {
-        if let Some(line) = self.lines.get_mut(place) {
-            *line = None;
+    fn let_go(&mut self, alloc: Global, place: usize)
+        ensures beside { StaysBeside place self.old self.new }
+        ensures free { place < count self.old → IsFree self.new place }
+        ensures fresh { session_at self.new place ≡ fresh }
+    {
+        if place < self.lines.len() {
+            self.lines[place] = None;
         }
-        if let Some(session) = self.sessions.get_mut(place) {
-            *session = Session::new(alloc);
+        if place < self.sessions.len() {
+            self.sessions[place] = Session::new(alloc);
         }
     }
 
@@ -84,14 +112,16 @@ impl Places {
         place: usize,
         now: Instant,
         idle: Option<Duration>,
-    ) -> bool {
-        let Some(session) = self.sessions.get_mut(place) else {
+    ) -> bool
+        ensures { TakesTurn place self.old self.new }
+    {
+        if place >= self.lines.len() || place >= self.sessions.len() {
+            return false;
+        }
+        let Some(line) = &mut self.lines[place] else {
             return false;
         };
-        let Some(Some(line)) = self.lines.get_mut(place) else {
-            return false;
-        };
-        match line.turn(alloc, desk, session, now, idle) {
+        match line.turn(alloc, desk, &mut self.sessions[place], now, idle) {
             Ok(is_busy) => is_busy,
             Err(_) => {
                 self.let_go(alloc, place);
@@ -101,13 +131,17 @@ impl Places {
     }
 
     /// One turn of each client. It tells whether more can be done at once.
+    #[tactic(auto, using(crate::proofs::Turns::stays_all, crate::proofs::Turns::stays_then, crate::proofs::Turns::fresh_then))]
     pub(crate) fn turn_all(
         &mut self,
         alloc: Global,
         desk: &mut Desk,
         now: Instant,
         idle: Option<Duration>,
-    ) -> bool {
+    ) -> bool
+        ensures free { StaysWhereFree self.old self.new }
+        ensures fresh { IsFreshWhereFree self.old → IsFreshWhereFree self.new }
+    {
         let mut is_busy = false;
         for place in 0..self.lines.len() {
             if self.turn(alloc, desk, place, now, idle) {
@@ -130,13 +164,17 @@ impl Places {
     }
 
     /// One turn more of each client whose messages were answered, so that the replies leave at once.
+    #[tactic(auto, using(crate::proofs::Turns::stays_all, crate::proofs::Turns::stays_then, crate::proofs::Turns::fresh_then))]
     pub(crate) fn turn_answered(
         &mut self,
         alloc: Global,
         desk: &mut Desk,
         now: Instant,
         idle: Option<Duration>,
-    ) {
+    )
+        ensures free { StaysWhereFree self.old self.new }
+        ensures fresh { IsFreshWhereFree self.old → IsFreshWhereFree self.new }
+    {
         for index in 0..self.lines.len() {
             let Some(place) = desk.answered_at(index) else {
                 return;
@@ -146,20 +184,27 @@ impl Places {
     }
 
     // The last turn of the client at a place.
-    fn last_turn(&mut self, alloc: Global, desk: &mut Desk, place: usize, now: Instant) {
-        let Some(session) = self.sessions.get_mut(place) else {
+    fn last_turn(&mut self, alloc: Global, desk: &mut Desk, place: usize, now: Instant)
+        ensures { TakesTurn place self.old self.new }
+    {
+        if place >= self.lines.len() || place >= self.sessions.len() {
+            return;
+        }
+        let Some(line) = &mut self.lines[place] else {
             return;
         };
-        let Some(Some(line)) = self.lines.get_mut(place) else {
-            return;
-        };
-        if line.last_turn(alloc, desk, session, now).is_err() {
+        let turned = line.last_turn(alloc, desk, &mut self.sessions[place], now);
+        if turned.is_err() {
             self.let_go(alloc, place);
         }
     }
 
     /// A turn of each client once nothing more is answered.
-    pub(crate) fn last_turn_all(&mut self, alloc: Global, desk: &mut Desk, now: Instant) {
+    #[tactic(auto, using(crate::proofs::Turns::stays_all, crate::proofs::Turns::stays_then, crate::proofs::Turns::fresh_then))]
+    pub(crate) fn last_turn_all(&mut self, alloc: Global, desk: &mut Desk, now: Instant)
+        ensures free { StaysWhereFree self.old self.new }
+        ensures fresh { IsFreshWhereFree self.old → IsFreshWhereFree self.new }
+    {
         for place in 0..self.lines.len() {
             self.last_turn(alloc, desk, place, now);
         }

@@ -22,6 +22,7 @@ use Rattle.durable.specs.declared.fault.Damage.TheVariants as damages
 use Rattle.durable.specs.declared.fault.Fault.{Fault}
 use Rattle.durable.specs.declared.fault.Fault.TheVariants as fault
 use Rattle.durable.specs.Faults.{of_root_fault, of_log_fault, of_paged_fault, of_recovery_fault}
+use Rattle.durable.specs.LogStill.{IsOfLog}
 use Rattle.durable.specs.Stands.{StandsFor}
 use Rattle.durable.specs.Opened.{HoldsNoBase, IsDamageBehind, IsDamageOf, HasRead}
 
@@ -69,6 +70,19 @@ no_root_memory root_fault.Root is = cc
 
 -- ---- damage
 
+-- of the records of a log
+pub of_records : (f : LogFault) (damage : Damage) → of_log_fault f ≡ fault.Damaged damage → IsOfLog damage
+of_records log_fault.Device damage is = cc
+of_records log_fault.Damaged damage is = subst IsOfLog (damage_same is) tt
+of_records log_fault.TooLong damage is = cc
+of_records log_fault.Memory damage is = cc
+
+-- of payloads that are not taken
+pub of_payloads : (f : RecoveryFault) (damage : Damage) → of_recovery_fault f ≡ fault.Damaged damage → IsOfLog damage
+of_payloads recovery_fault.Damaged damage is = subst IsOfLog (damage_same is) tt
+of_payloads recovery_fault.Plans damage is = subst IsOfLog (damage_same is) tt
+of_payloads recovery_fault.Memory damage is = cc
+
 module _ (content : List ℕ) (root : Root) where
   -- pages that hold no base
   pub behind_pages : {T : Type 0} (r : Result T PagedFault) (f : PagedFault) → r ≡ Err f
@@ -80,11 +94,14 @@ module _ (content : List ℕ) (root : Root) where
   behind_pages r read_fault.Plans was none damage is = subst (IsDamageBehind content root) (damage_same is) tt
   behind_pages r read_fault.Memory was none damage is = cc
 
-  -- payloads that are not taken
-  pub behind_payloads : (f : RecoveryFault) (damage : Damage) → of_recovery_fault f ≡ fault.Damaged damage → IsDamageBehind content root damage
-  behind_payloads recovery_fault.Damaged damage is = subst (IsDamageBehind content root) (damage_same is) tt
-  behind_payloads recovery_fault.Plans damage is = subst (IsDamageBehind content root) (damage_same is) tt
-  behind_payloads recovery_fault.Memory damage is = cc
+  -- the log
+  pub behind_log : (damage : Damage) → IsOfLog damage → IsDamageBehind content root damage
+  behind_log damages.Header of_log = absurd of_log
+  behind_log damages.Root of_log = absurd of_log
+  behind_log damages.Page of_log = absurd of_log
+  behind_log damages.Entry of_log = absurd of_log
+  behind_log damages.Log of_log = tt
+  behind_log damages.Plan of_log = tt
 
   -- of a content whose root counts
   pub behind_counts : HoldsRoot content root → (damage : Damage) → IsDamageBehind content root damage → IsDamageOf content damage

@@ -26,12 +26,13 @@ use Rattle.roots.specs.Root.{IsHeader, log_sector, HoldsRoot}
 use Rattle.gatelog.specs.Log.{HoldsLog}
 use Rattle.durable.specs.declared.content.Opened.{Opened}
 
--- The root counts, and the log is the one behind its pages, with these payloads.
+-- The root counts, and the log is the one behind its pages, with these payloads, which it counts.
 pub record IsLogOf (content : List ℕ) (root : Root) (log : Log) : Type 0 where
   pub counts : HoldsRoot content root
   pub start : log.first_gate_sector ≡ log_sector root
   pub payloads : List (List ℕ)
   pub holds : HoldsLog log.first_gate_sector payloads log.last_gate_sector content
+  pub counted : log.record_count ≡ length payloads
 
 -- The pages of a root hold what is seen of no history.
 abbrev pub HoldsNoBase : List ℕ → Root → Type 0

@@ -7,7 +7,7 @@ mod opening;
 mod running;
 mod upgrading;
 
-ghost use Rattle.std.specs.Prelude.{◌≡◌, ◌≤◌, ◌-◌, true, false};
+ghost use Rattle.std.specs.Prelude.{◌≡◌, ◌≤◌, ◌-◌, true, false, ℕ, List, length};
 ghost use Rattle.durable.specs.Ready.{IsReady};
 ghost use Rattle.durable.specs.Rules.{rules_at};
 ghost use Rattle.paged.specs.Paged.{root_of as paged_root};
@@ -36,7 +36,10 @@ impl<D: Device> Store<D> {
     ghost use Rattle.names.specs.declared.format.Rules.{Rules};
     ghost use Rattle.decoded.specs.Standing.{View};
     ghost use Rattle.durable.specs.Faults.{of_lookup_fault, goes_on_after};
-    ghost use Rattle.durable.specs.Settled.{device_of, root_of, log_of, serves, kept_rules, revision_of, ServesAt};
+    ghost use Rattle.durable.specs.Settled.{device_of, log_of, root_of, serves, kept_rules, revision_of, Holds, ServesAt};
+    ghost use Rattle.gatelog.specs.Log.{HoldsLog};
+    ghost use Rattle.histories.specs.View as seen;
+    ghost use Rattle.decoded.specs.Decoded.{Decoded};
 
     /// Whether the store serves: it does until its device fails, or damage is found.
     #[must_use]
@@ -64,11 +67,23 @@ impl<D: Device> Store<D> {
         self.paged.root().label.format
     }
 
-    // The generation of the root that counts.
-    fn generation(&self) -> u64
-        ensures { result ≡ (root_of self.now).generation }
+    /// How many objects the store has.
+    #[must_use]
+    pub fn object_count(&self) -> usize
+        ensures { (held : seen.View Decoded) → Holds self.now held → result ≡ length held.objects }
     {
-        self.paged.root().generation
+        self.paged.core().object_count()
+    }
+
+    /// How many records the log behind the pages has: one for each group of writes since the last checkpoint. Nothing is read.
+    #[must_use]
+    pub fn record_count(&self) -> u64
+        ensures value { result ≡ (log_of self.now).record_count }
+        ensures counted { serves self.now ≡ true → D.disk.keeps (device_of self.now) → (payloads : List (List ℕ))
+            → HoldsLog (log_of self.now).first_gate_sector payloads (log_of self.now).last_gate_sector (D.disk.content (device_of self.now))
+            → result ≡ length payloads }
+    {
+        self.log.record_count()
     }
 
     /// How many sectors the records of its log have, with their gates.
@@ -87,6 +102,13 @@ impl<D: Device> Store<D> {
         ensures { result ≡ (root_of self.now).pages }
     {
         self.paged.root().pages
+    }
+
+    // The generation of the root that counts.
+    fn generation(&self) -> u64
+        ensures { result ≡ (root_of self.now).generation }
+    {
+        self.paged.root().generation
     }
 
     /// The device, to be opened again.

@@ -58,7 +58,7 @@ there_now v (x ∷ xs) = step (order v x) refl (there_now v xs)
 pub or_second : (a : Bool) {b : Bool} → b ≡ true → (a || b) ≡ true
 or_second a is = ap (λ (t : Bool). a || t) is ∙ or_true a
 
-or_more : (a b c : Bool) → (b ≡ true → c ≡ true) → (a || b) ≡ true → (a || c) ≡ true
+pub or_more : (a b c : Bool) → (b ≡ true → c ≡ true) → (a || b) ≡ true → (a || c) ≡ true
 or_more true b c more is = refl
 or_more false b c more is = more is
 

@@ -1,8 +1,8 @@
 //! Which objects of a checkpoint an opening keeps in memory: policies, bindings, and those that the log writes.
 
-ghost use Rattle.std.specs.Prelude.{◌≡◌, ◌∷◌, true, Contains, IfOk};
+ghost use Rattle.std.specs.Prelude.{◌≡◌, ◌∷◌, ℕ, List, true, false, Contains, OnOk};
 ghost use Rattle.names.specs.Key.{Key as KeyData, key_bytes};
-ghost use Rattle.paged.specs.Chosen.{is_rule_number, is_rule_key, rules_among, is_chosen};
+ghost use Rattle.paged.specs.Chosen.{is_rule_number, is_rule_key, rules_among, has_key, is_chosen};
 
 use names::{Key, ResourceTable};
 use policy::is_guarded;
@@ -47,22 +47,32 @@ pub(crate) fn rules_among(entries: &[Entry]) -> usize
     count
 }
 
-/// The policies and the bindings are held, and the objects under some keys, each of which is looked up in the order of their bytes.
+/// The policies and the bindings are held, and the objects under some keys, each of which is looked up in the order of their bytes. A key that was added
+/// twice is kept once.
 #[derive(Drop)]
-pub(crate) struct Chosen {
+pub struct Chosen {
     keys: BTreeSet<Vec<u8>>,
 }
 
 impl Chosen {
-    /// What stands under these keys, and the policies and the bindings.
-    pub(crate) fn of(alloc: Global, keys: &[Key]) -> Result<Chosen, AllocError>
-        ensures { IfOk result (λ chosen. (k : KeyData) → Contains keys.now k → is_chosen chosen (1 ∷ key_bytes k) ≡ true) }
+    /// The policies and the bindings alone.
+    pub fn new(alloc: Global) -> Chosen
+        ensures { (key : List ℕ) → has_key result.keys key ≡ false }
     {
-        let mut of_entries = BTreeSet::new(alloc);
-        for key in keys {
-            of_entries.insert(object_key(alloc, key)?)?;
+        Chosen {
+            keys: BTreeSet::new(alloc),
         }
-        Ok(Chosen { keys: of_entries })
+    }
+
+    /// Adds what stands under these keys. What was chosen stays so, also where memory is refused.
+    pub fn add(&mut self, alloc: Global, keys: &[Key]) -> Result<(), AllocError>
+        ensures added { OnOk result ((k : KeyData) → Contains keys.now k → is_chosen self.new (1 ∷ key_bytes k) ≡ true) }
+        ensures stays { (key : List ℕ) → is_chosen self.old key ≡ true → is_chosen self.new key ≡ true }
+    {
+        for key in keys {
+            self.keys.insert(object_key(alloc, key)?)?;
+        }
+        Ok(())
     }
 }
 

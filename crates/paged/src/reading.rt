@@ -1,6 +1,6 @@
 //! The objects of a store, read from the pages of a root.
 
-ghost use Rattle.std.specs.Prelude.{◌≡◌, ◌<◌, ◌≤◌, ◌-◌, ◌*◌, ◌^◌, ◌⊎◌, ◌∷◌, ℕ, Bool, true, List, [], map, length, Contains, IfOk, OnOk, IsErrOf};
+ghost use Rattle.std.specs.Prelude.{◌≡◌, ◌<◌, ◌≤◌, ◌-◌, ◌*◌, ◌^◌, ◌⊎◌, ◌∷◌, ℕ, Bool, true, List, [], map, length, IfOk, OnOk, IsErrOf};
 ghost use Rattle.std.specs.List.{AllByRecursion};
 ghost use Rattle.device.specs.Disk.{HasFailed};
 ghost use Rattle.device.specs.Step.{Same};
@@ -17,7 +17,7 @@ ghost use Rattle.histories.specs.declared.stored.Stored.{Stored as StoredData};
 ghost use Rattle.histories.specs.View as seen;
 ghost use Rattle.histories.specs.Mapped.{mapped};
 ghost use Rattle.holdings.specs.Holdings.{Shows};
-ghost use Rattle.holdings.specs.Known.{IsKnown};
+ghost use Rattle.holdings.specs.Known.{IsKnown, KnowsSame};
 ghost use Rattle.snapshots.specs.Keeping.{IsHeld, held_entries};
 ghost use Rattle.snapshots.specs.Restoring.{IsDamaged};
 ghost use Rattle.decoded.specs.Decoded.{Decoded as DecodedData};
@@ -26,7 +26,7 @@ ghost use Rattle.decoded.specs.Shown.{plans_held};
 ghost use Rattle.recovery.specs.Taken.{HasRedone};
 ghost use Rattle.recovery.specs.Written.{Write, IsWritten};
 ghost use Rattle.recovery.specs.declared.fault.RecoveryFault.TheVariants as RecoveryFault;
-ghost use Rattle.paged.specs.Chosen.{rules_among, ChoosesRules, HasHeldEntries};
+ghost use Rattle.paged.specs.Chosen.{rules_among, is_chosen, ChoosesRules, HasHeldEntries};
 ghost use Rattle.paged.specs.Lying.{base_of};
 ghost use Rattle.paged.specs.Paged.{Below, HasEntries, root_of};
 ghost use Rattle.paged.specs.declared.fault.PagedFault.TheVariants as PagedFault;
@@ -38,21 +38,13 @@ use crate::without_plans::WithoutPlans;
 use checkpoint::scan;
 use decoded::Core;
 use device::Device;
-use names::{Key, Rules};
+use names::Rules;
 use records::Entry;
 use recovery::{RecoveryFault, redone};
 use roots::Root;
 use shelf::Shelf;
 use snapshots::{KeptEntries, ObjectCache, SnapshotFault, restored};
 use std::alloc::Global;
-
-// The keys under which something may stand in a root's pages: none where there are no pages.
-fn keys_in_pages<'a>(root: &Root, keys: &'a [Key]) -> &'a [Key]
-    ensures none { root.now.pages ≡ 0 → result.now ≡ [] }
-    ensures all { 0 < root.now.pages → result.now ≡ keys.now }
-{
-    if root.pages == 0 { &[] } else { keys }
-}
 
 // How many of this many objects lie below, where these entries were kept: all but the policies and the bindings.
 fn count_below(kept: &[Entry], objects: u64) -> usize
@@ -108,8 +100,7 @@ fn cache_of<D: Device>(
 }
 
 impl Paged {
-    /// The objects that a root's pages have. Each page is read once, by one read of 64 sectors; held in memory are the policies, the bindings and the objects
-    /// under these keys, and no page.
+    /// The objects that a root's pages have. Each page is read once, by one read of 64 sectors; held in memory are the objects that were chosen, and no page.
     ///
     /// # Errors
     ///
@@ -120,18 +111,18 @@ impl Paged {
         device: &mut D,
         rules: Rules,
         root: &Root,
-        keys: &[Key],
+        chosen: Chosen,
     ) -> Result<Paged, PagedFault>
         requires small { log_sector root.now < 2 ^ 54 }
         requires inside { D.disk.keeps device.old → 512 * log_sector root.now ≤ length (D.disk.content device.old) }
         ensures rules { IfOk result (λ p. p.core.rules ≡ rules) }
         ensures root { IfOk result (λ p. root_of p ≡ root.now) }
 
-        // What a checkpoint keeps is held over what of it lies in the pages, and memory knows the keys.
+        // What a checkpoint keeps is held over what of it lies in the pages, and memory knows the keys that were chosen; where there are no pages, each.
         ensures held { D.disk.keeps device.old → (held : seen.View DecodedData) → IsHeld rules held
             → HoldsEntries (D.disk.content device.old) root.now (held_entries held) → root.now.label.revision ≡ held.revision
             → IfOk result (λ p. Below D.disk device.new p (base_of held) × Shows p.core (base_of held) held
-            × ((k : KeyData) → Contains keys.now k → IsKnown p.core (base_of held) k)) }
+            × ((k : KeyData) → (0 < root.now.pages → is_chosen chosen (1 ∷ key_bytes k) ≡ true) → IsKnown p.core (base_of held) k)) }
         ensures damaged { D.disk.keeps device.old → IsErrOf result PagedFault.Page ⊎ (IsErrOf result PagedFault.Entry ⊎ IsErrOf result PagedFault.Plans)
             → (held : seen.View DecodedData) → IsHeld rules held
             → HoldsEntries (D.disk.content device.old) root.now (held_entries held) → root.now.label.revision ≡ held.revision → ⊥ }
@@ -151,7 +142,6 @@ impl Paged {
         ensures steady { OnOk result (D.disk.failures device.new ≡ D.disk.failures device.old) }
         ensures memory { IsErrOf result PagedFault.Memory → D.disk.failures device.new ≡ D.disk.failures device.old }
     {
-        let chosen = Chosen::of(alloc, keys_in_pages(root, keys))?;
         let mut kept_entries = KeptEntries::new(alloc, &chosen);
         let first_keys = scan(alloc, device, root, &mut kept_entries)?;
         let core = core_of(
@@ -168,7 +158,8 @@ impl Paged {
         Ok(Paged { core, cache })
     }
 
-    /// The objects, once the store took the writes of a log with these payloads. No page is read: memory has to know each key that they write.
+    /// The objects, once the store took the writes of these payloads, which follow one another in a log. No page is read: memory has to know each key that
+    /// they write, and knows after them what it knew.
     ///
     /// # Errors
     ///
@@ -184,6 +175,7 @@ impl Paged {
             → AllKnown self.core base (map (λ p. p.items) payloads.now)
             → IsErrOf result RecoveryFault.Damaged ⊎ IsErrOf result RecoveryFault.Plans
             → (ws : List Write) → IsWritten self.core.rules (mapped plans_held held) ws (map (λ p. p.items) payloads.now) → ⊥ }
+        ensures known { IfOk result (λ p. KnowsSame self.core p.core) }
         ensures groups { OnOk result (AllByRecursion IsOfGroup (map (λ p. p.items) payloads.now)) }
     {
         let core = redone(alloc, self.core, payloads)?;

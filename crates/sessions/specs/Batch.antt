@@ -1,5 +1,6 @@
 -- What a batch takes of sessions.
-use Rattle.std.specs.Prelude.{◌≡◌, ℕ, ◌<◌, ◌≤◌, ◌⊎◌, List, [], ◌∷◌, ◌++◌, length, ◌==◌, if◌then◌else◌, slice_index_or}
+use Rattle.std.specs.Prelude.{◌≡◌, ℕ, ◌<◌, ◌≤◌, ◌-◌, ◌⊎◌, List, [], ◌∷◌, ◌++◌, Option, length, ◌==◌, if◌then◌else◌, slice_index_or}
+use Rattle.std.specs.List.{slice_get}
 use Rattle.httpmsg.specs.Stream.{Message}
 use Rattle.records.specs.Payload.{group_limit}
 use Rattle.sessions.specs.declared.batch.Batch.{Batch}
@@ -12,6 +13,10 @@ held b = b.messages.items
 -- and beside each the place of its session
 abbrev pub places_of : Batch → List ℕ
 places_of b = b.places.items
+
+-- the last of these places, if there is one
+abbrev pub last_place : (places : List ℕ) → Option ℕ
+last_place places = slice_get places (length places - 1)
 
 -- the messages that were answered last, until they are forgotten
 abbrev pub last_answered : Batch → List Message

@@ -1,6 +1,6 @@
 //! The messages of sessions that are answered together.
 
-ghost use Rattle.std.specs.Prelude.{◌≡◌, ◌<◌, ◌≤◌, ℕ, All, [], length, slice_index_or, IfOk, MatchResult};
+ghost use Rattle.std.specs.Prelude.{◌≡◌, ◌<◌, ◌≤◌, ◌+◌, ℕ, All, [], length, min, slice_index_or, IfOk, MatchOption, MatchResult};
 ghost use Rattle.std.specs.Vec.{vec_capacity};
 ghost use Rattle.names.specs.declared.format.Rules.{Rules};
 ghost use Rattle.records.specs.Payload.{group_limit};
@@ -40,7 +40,7 @@ pub struct Batch {
 
 impl Batch {
     ghost use Rattle.sessions.specs.State.{State};
-    ghost use Rattle.sessions.specs.Batch.{Takes, AllKept, IsPassedOver, places_of, held, last_answered};
+    ghost use Rattle.sessions.specs.Batch.{Takes, AllKept, IsPassedOver, places_of, last_place, held, last_answered};
 
     /// An empty one. All its memory is taken here.
     pub fn new(alloc: Global) -> Result<Batch, AllocError>
@@ -127,6 +127,7 @@ impl Batch {
         requires empty { held self.old ≡ [] }
         ensures kept { AllKept self.old self.new sessions.old sessions.new }
         ensures known { All (λ p. p < length sessions.old) (places_of self.new) }
+        ensures next { MatchOption (last_place (places_of self.new)) (result ≡ min first (length sessions.old)) (λ p. result ≡ p + 1) }
         ensures some { held self.new ≡ [] → (i : ℕ) (d : State) → i < length sessions.old → IsPassedOver (slice_index_or sessions.old i d) }
     {
         let first = first.min(sessions.len());

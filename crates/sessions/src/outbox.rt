@@ -1,6 +1,7 @@
 //! What was replied to a client, as far as it was not sent.
 
 ghost use Rattle.std.specs.Prelude.{◌≡◌, ◌≤◌, ◌++◌, [], ℕ, length, drop, IfOk};
+ghost use Rattle.std.specs.Vec.{vec_capacity};
 
 use httpmsg::{Output, StreamFault};
 use std::alloc::Global;
@@ -41,7 +42,10 @@ impl Outbox {
     /// So many bytes of what waits were sent. Where nothing waits any more, large room is given back.
     pub fn take(&mut self, alloc: Global, count: usize)
         requires { count ≤ length (unsent self.old) }
-        ensures { unsent self.new ≡ drop count (unsent self.old) }
+        ensures rest { unsent self.new ≡ drop count (unsent self.old) }
+
+        // Where nothing waits any more, room for 4096 bytes is kept at most.
+        ensures room { unsent self.new ≡ [] → vec_capacity self.new.bytes ≤ 4096 }
     {
         self.sent += count;
         if self.sent < self.bytes.len() {

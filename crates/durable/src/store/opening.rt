@@ -5,7 +5,7 @@ ghost use Rattle.durable.specs.Ready.{IsReady};
 ghost use Rattle.durable.specs.Rules.{rules_at};
 ghost use Rattle.paged.specs.Paged.{root_of as paged_root};
 
-use crate::content::synced_store;
+use crate::content::opened_store;
 use crate::fault::Fault;
 use crate::store::Store;
 use device::Device;
@@ -26,7 +26,8 @@ impl<D: Device> Store<D> {
     ghost use Rattle.durable.specs.Stands.{StandsFor};
     ghost use Rattle.durable.specs.Settled.{device_of, paged_of, root_of, log_of, serves, kept_rules, Holds, IsSettledAt};
 
-    /// Opens the store on a device: syncs it, reads it, and writes nothing. With a refusal it gives the device back.
+    /// Opens the store on a device: syncs it, reads it in pieces of up to 1 MiB, and writes nothing. Of the log one payload is held at a time. With a refusal
+    /// it gives the device back.
     ///
     /// # Errors
     ///
@@ -65,8 +66,8 @@ impl<D: Device> Store<D> {
         ensures steady { IfOk result (λ store. D.disk.failures (device_of store) ≡ D.disk.failures device) }
         ensures unfailed { IfErr result (λ e. e.0 ≡ Fault.Memory → D.disk.failures e.1 ≡ D.disk.failures device) }
     {
-        let mut device = device;
-        match synced_store(alloc, &mut device) {
+        let (read, device) = opened_store(alloc, device);
+        match read {
             Ok(opened) => Ok(Store::serving(device, opened.paged, opened.log)),
             Err(fault) => Err((fault, device)),
         }

@@ -1,4 +1,4 @@
-use Rattle.std.proofs.Common.{arith, rules as common, ◌≡◌, ◌∙◌, sym, ap, subst, List, [], ℕ, map, Result, Err, IsErrOf, Vec, Global}
+use Rattle.std.proofs.Common.{arith, rules as common, ◌≡◌, ◌∙◌, refl, sym, ap, subst, List, [], ℕ, map, Result, Err, IsErrOf, Vec, Global}
 use Rattle.std.specs.List.{AllByRecursion}
 use Rattle.device.specs.Run.{Ran}
 use Rattle.device.specs.Step.{Same}
@@ -36,6 +36,7 @@ use Rattle.durable.specs.ReadWhole.{entries_under}
 use Rattle.durable.proofs.Bases.{read_thrice}
 use Rattle.durable.proofs.FoundFaults.{err_of, found_none, found_no_root, behind_counts, no_root_memory}
 use Rattle.checkpoint.proofs.Faults.{err_is}
+use Rattle.durable.proofs.Payloads.{log_still}
 use Rattle.durable.proofs.Reading.{base_is, base_here, no_log_here, written_here, opened_shows}
 use Rattle.durable.proofs.content.synced_store.Goals as goal
 
@@ -53,31 +54,33 @@ returns-in_err-paged-in-Ok-clause-read g c =
     let content = disk.content c.args.device.now in
     let root = c.in_ok-root.root in
     let fault = c.in_err-paged-in-Ok.field-0.0 in
-    let first : Ran disk c.args.device.now c.read_log.new.device Same =
-    read_then disk c.args.device.now c.synced_root.new.device c.read_log.new.device c.synced_root.ensures.ran c.read_log.ensures.ran
+    let first : Ran disk c.args.device.now c.open_log.new.device Same =
+    read_then disk c.args.device.now c.synced_root.new.device c.open_log.new.device c.synced_root.ensures.ran c.open_log.ensures.ran
     in
     let Read : Result Opened AnyFault → Type 0 = λ r. HasRead disk c.args.device.now c.read_objects.new.device r in
     subst Read (sym (err_of c.from_residual-in_err-paged-in-Ok.result fault c.from_residual-in_err-paged-in-Ok.ensures.1))
     (found_none disk c.args.device.now c.read_objects.new.device
-    (read_then disk c.args.device.now c.read_log.new.device c.read_objects.new.device first c.read_objects.ensures.ran) fault
+    (read_then disk c.args.device.now c.open_log.new.device c.read_objects.new.device first c.read_objects.ensures.ran) fault
     (λ is. c.read_objects.ensures.refusal.0 (c.in_err-paged-in-Ok.was ∙ ap Err is)) (λ is. c.read_objects.ensures.refusal.1 (c.in_err-paged-in-Ok.was ∙ ap Err is))
-    (λ is. failed_then disk c.args.device.now c.read_log.new.device c.read_objects.new.device first (c.read_objects.ensures.cause (c.in_err-paged-in-Ok.was ∙ ap Err is)))
+    (λ is. failed_then disk c.args.device.now c.open_log.new.device c.read_objects.new.device first (c.read_objects.ensures.cause (c.in_err-paged-in-Ok.was ∙ ap Err is)))
     (λ keeps damage is rules h stands.
     let counts = c.in_ok-root.ensures.found keeps in
     let kept = c.synced_root.ensures.ran.kept keeps in
     let root_same : disk.content c.synced_root.new.device ≡ content = c.synced_root.ensures.ran.seen keeps in
-    let log = c.in-Ok.log in
-    let payloads : List (List ℕ) = map (λ p. p.items) c.in-Ok.payloads.items in
-    let held : seen.View Decoded = with_plans (view rules stands.base) in
+    let log = c.in-Ok.found in
+    let found = c.in-Ok.ensures.found kept in
+    let payloads : List (List ℕ) = found.0 in
     let later : List Write = map write_with_plans (writes_in stands.groups) in
     let In : List ℕ → Type 0 = λ x. HoldsLog (log_sector root) payloads log.last_gate_sector x in
-    let At : ℕ → Type 0 = λ at. HoldsLog at payloads log.last_gate_sector (disk.content c.synced_root.new.device) in
-    let there : HoldsLog (log_sector root) payloads log.last_gate_sector content = subst In root_same (subst At c.log_sector.ensures.place (c.in-Ok.ensures.found kept)) in
+    let At : ℕ → List ℕ → Type 0 = λ at x. HoldsLog at payloads log.last_gate_sector x in
+    let there : HoldsLog (log_sector root) payloads log.last_gate_sector content =
+    subst In root_same (subst (λ at. At at (disk.content c.synced_root.new.device)) c.log_sector.ensures.place found.2) in
+    let given : HoldsLog log.first_gate_sector payloads log.last_gate_sector (disk.content c.open_log.new.device) =
+    subst (λ at. At at (disk.content c.open_log.new.device)) (sym c.in-Ok.ensures.place.0) (subst (At c.log_sector.result) (sym (c.open_log.ensures.ran.seen kept)) found.2) in
     let Keeps : List ℕ → Type 0 = λ x. HoldsBase rules x root stands.base in
-    let By : List (List ℕ) → Type 0 = λ ps. IsWritten rules held later ps in
-    c.read_objects.ensures.damaged (first.kept keeps) damage (c.in_err-paged-in-Ok.was ∙ ap Err is) rules stands.base later
+    c.read_objects.ensures.damaged (first.kept keeps) damage (c.in_err-paged-in-Ok.was ∙ ap Err is) payloads given rules stands.base later
     (base_is rules content h stands) (subst Keeps (sym (first.seen keeps)) (base_here rules content h stands root counts))
-    (subst By (ap (map (λ p. p.items)) (sym c.deref.ensures.value)) (written_here rules content h stands root counts payloads log.last_gate_sector there)))
+    (written_here rules content h stands root counts payloads log.last_gate_sector there))
     (λ keeps damage is.
     let Behind : List ℕ → Type 0 = λ x. IsDamageBehind x root damage in
     behind_counts content root (c.in_ok-root.ensures.found keeps) damage
@@ -88,36 +91,37 @@ returns-in_ok-paged-in-Ok-clause-read g c =
     let disk = g.D.Device.disk in
     let content = disk.content c.args.device.now in
     let root = c.in_ok-root.root in
-    let log = c.in-Ok.log in
+    let log = c.in-Ok.found in
     let paged = c.in_ok-paged-in-Ok.paged in
     let read = c.in_ok-paged-in-Ok.ensures in
-    let payloads : List (List ℕ) = map (λ p. p.items) c.in-Ok.payloads.items in
-    let In : List ℕ → Type 0 = λ x. HoldsLog (log_sector root) payloads log.last_gate_sector x in
-    let At : ℕ → Type 0 = λ at. HoldsLog at payloads log.last_gate_sector (disk.content c.synced_root.new.device) in
     record {
       rules = read.rules ∙ ap (λ (r : Root). rules_by r.label) (sym read.root);
-      works = c.in-Ok.ensures.place.1;
-      in_data = omega (arith, c.in-Ok.ensures.place.0, c.log_sector.ensures.place, c.in_ok-root.ensures.in_data);
+      works = read.works;
+      in_data = omega (arith, read.log.first, c.in-Ok.ensures.place.0, c.log_sector.ensures.place, c.in_ok-root.ensures.in_data);
       found = λ keeps rules h stands.
           let counts = c.in_ok-root.ensures.found keeps in
           let kept = c.synced_root.ensures.ran.kept keeps in
           let root_same : disk.content c.synced_root.new.device ≡ content = c.synced_root.ensures.ran.seen keeps in
-          let same : disk.content c.read_log.new.device ≡ content = c.read_log.ensures.ran.seen kept ∙ root_same in
+          let same : disk.content c.open_log.new.device ≡ content = c.open_log.ensures.ran.seen kept ∙ root_same in
           let held : seen.View Decoded = with_plans (view rules stands.base) in
           let later : List Write = map write_with_plans (writes_in stands.groups) in
-          let there : HoldsLog (log_sector root) payloads log.last_gate_sector content = subst In root_same (subst At c.log_sector.ensures.place (c.in-Ok.ensures.found kept)) in
+          let opened = c.in-Ok.ensures.found kept in
+          let payloads : List (List ℕ) = opened.0 in
+          let In : List ℕ → Type 0 = λ x. HoldsLog (log_sector root) payloads log.last_gate_sector x in
+          let At : ℕ → List ℕ → Type 0 = λ at x. HoldsLog at payloads log.last_gate_sector x in
+          let there : HoldsLog (log_sector root) payloads log.last_gate_sector content =
+          subst In root_same (subst (λ at. At at (disk.content c.synced_root.new.device)) c.log_sector.ensures.place opened.2) in
+          let given : HoldsLog log.first_gate_sector payloads log.last_gate_sector (disk.content c.open_log.new.device) =
+          subst (λ at. At at (disk.content c.open_log.new.device)) (sym c.in-Ok.ensures.place.0) (subst (At c.log_sector.result) (sym (c.open_log.ensures.ran.seen kept)) opened.2) in
           let Keeps : List ℕ → Type 0 = λ x. HoldsBase rules x root stands.base in
-          let By : List (List ℕ) → Type 0 = λ ps. IsWritten rules held later ps in
-          let Redone : List (List ℕ) → Type 0 = λ ps. HasRedone rules (base_of held) held paged.core ps in
-          let found = read.found (c.read_log.ensures.ran.kept kept) rules stands.base later (base_is rules content h stands)
-          (subst Keeps (sym same) (base_here rules content h stands root counts))
-          (subst By (ap (map (λ p. p.items)) (sym c.deref.ensures.value)) (written_here rules content h stands root counts payloads log.last_gate_sector there)) in (
+          let found = read.found (c.open_log.ensures.ran.kept kept) payloads given rules stands.base later (base_is rules content h stands)
+          (subst Keeps (sym same) (base_here rules content h stands root counts)) (written_here rules content h stands root counts payloads log.last_gate_sector there) in (
             read.rules ∙ sym (base_here rules content h stands root counts).numbers,
             record {
               base = base_of held;
               below = found.0;
               shows = opened_shows rules content h stands root counts payloads log.last_gate_sector held (held_as_it_is held) there (base_of held)
-                  (below_free disk paged (base_of held) c.read_objects.new.device found.0) paged.core (subst Redone (ap (map (λ p. p.items)) c.deref.ensures.value) found.1);
+                  (below_free disk paged (base_of held) c.read_objects.new.device found.0) paged.core found.1;
             },
           );
       redone = λ none.
@@ -126,18 +130,19 @@ returns-in_ok-paged-in-Ok-clause-read g c =
           (found.1.0, record { base = []; below = found.0; shows = found.1.1 }, subst Redone (sym read.rules) found.1.2);
       log = λ keeps.
           let Counts : Root → Type 0 = λ r. HoldsRoot content r in
-          let Of : ℕ → Type 0 = λ start. HoldsLog start payloads log.last_gate_sector content in
-          let there : HoldsLog c.log_sector.result payloads log.last_gate_sector (disk.content c.synced_root.new.device) = c.in-Ok.ensures.found (c.synced_root.ensures.ran.kept keeps) in
-          let Log : List ℕ → Type 0 = λ x. HoldsLog c.log_sector.result payloads log.last_gate_sector x in
+          let opened = c.in-Ok.ensures.found (c.synced_root.ensures.ran.kept keeps) in
+          let Of : ℕ → List ℕ → Type 0 = λ start x. HoldsLog start opened.0 log.last_gate_sector x in
           record {
             counts = subst Counts (sym read.root) (c.in_ok-root.ensures.found keeps);
-            start = c.in-Ok.ensures.place.0 ∙ c.log_sector.ensures.place ∙ ap log_sector (sym read.root);
-            payloads = payloads;
-            holds = subst Of (sym c.in-Ok.ensures.place.0) (subst Log (c.synced_root.ensures.ran.seen keeps) there);
+            start = read.log.first ∙ c.in-Ok.ensures.place.0 ∙ c.log_sector.ensures.place ∙ ap log_sector (sym read.root);
+            payloads = opened.0;
+            holds = log_still log c.read_objects.new.log opened.0 content content read.log refl
+                (subst (λ start. Of start content) (sym c.in-Ok.ensures.place.0) (subst (Of c.log_sector.result) (c.synced_root.ensures.ran.seen keeps) opened.2));
+            counted = read.log.count ∙ opened.1;
           };
       damaged = λ keeps damage is rules h stands. cc;
       told = λ keeps damage is. cc;
-      ran = read_thrice disk c.args.device.now c.synced_root.new.device c.read_log.new.device c.read_objects.new.device c.synced_root.ensures.ran c.read_log.ensures.ran
+      ran = read_thrice disk c.args.device.now c.synced_root.new.device c.open_log.new.device c.read_objects.new.device c.synced_root.ensures.ran c.open_log.ensures.ran
           c.read_objects.ensures.ran;
       refusal = ((λ is. cc), (λ is. cc));
       cause = λ is. cc;
@@ -149,25 +154,25 @@ returns-in-Err-Damaged-clause-read g c =
     let content = disk.content c.args.device.now in
     let root = c.in_ok-root.root in
     let told = c.read_pages_alone.ensures in
-    let first : Ran disk c.args.device.now c.read_log.new.device Same =
-    read_then disk c.args.device.now c.synced_root.new.device c.read_log.new.device c.synced_root.ensures.ran c.read_log.ensures.ran
+    let first : Ran disk c.args.device.now c.open_log.new.device Same =
+    read_then disk c.args.device.now c.synced_root.new.device c.open_log.new.device c.synced_root.ensures.ran c.open_log.ensures.ran
     in
-    found_none disk c.args.device.now c.read_pages_alone.new.device (read_then disk c.args.device.now c.read_log.new.device c.read_pages_alone.new.device first told.ran)
+    found_none disk c.args.device.now c.read_pages_alone.new.device (read_then disk c.args.device.now c.open_log.new.device c.read_pages_alone.new.device first told.ran)
     c.read_pages_alone.result told.refusal.0 told.refusal.1
-    (λ is. failed_then disk c.args.device.now c.read_log.new.device c.read_pages_alone.new.device first (told.cause is))
+    (λ is. failed_then disk c.args.device.now c.open_log.new.device c.read_pages_alone.new.device first (told.cause is))
     (λ keeps damage _ rules h stands.
     let root_same : disk.content c.synced_root.new.device ≡ content = c.synced_root.ensures.ran.seen keeps in
     let None : ℕ → List ℕ → Type 0 = λ at x. (payloads : List (List ℕ)) (last : ℕ) → HoldsLog at payloads last x → ⊥ in
     let At : ℕ → Type 0 = λ at. None at (disk.content c.synced_root.new.device) in
-    let found : IsErrOf c.read_log.result (Fault.Damaged c.in-Err-Damaged.damage) = search common in
+    let found : IsErrOf c.open_log.result (Fault.Damaged c.in-Err-Damaged.damage) = search common in
     no_log_here rules content h stands root (c.in_ok-root.ensures.found keeps)
     (subst (None (log_sector root)) root_same
-    (subst At c.log_sector.ensures.place (c.read_log.ensures.damaged (c.synced_root.ensures.ran.kept keeps) c.in-Err-Damaged.damage found))))
+    (subst At c.log_sector.ensures.place (c.open_log.ensures.damaged (c.synced_root.ensures.ran.kept keeps) c.in-Err-Damaged.damage found))))
     (λ keeps damage is.
     let Behind : List ℕ → Type 0 = λ x. IsDamageBehind x root damage in
-    let here = disk.content c.read_log.new.device in
-    let found : IsErrOf c.read_log.result (Fault.Damaged c.in-Err-Damaged.damage) = search common in
-    let of_log = subst (IsDamageBehind here root) (sym (c.read_log.ensures.log c.in-Err-Damaged.damage found)) tt in
+    let here = disk.content c.open_log.new.device in
+    let found : IsErrOf c.open_log.result (Fault.Damaged c.in-Err-Damaged.damage) = search common in
+    let of_log = subst (IsDamageBehind here root) (sym (c.open_log.ensures.log c.in-Err-Damaged.damage found)) tt in
     behind_counts content root (c.in_ok-root.ensures.found keeps) damage (subst Behind (first.seen keeps) (told.behind (first.kept keeps) of_log damage is)))
 
 pub returns-in-Err-clause-read : goal.returns-in-Err-clause-read
@@ -175,10 +180,10 @@ returns-in-Err-clause-read g c =
     let disk = g.D.Device.disk in
     let told = c.in-Err.ensures in
     let excluded : (damage : Damage) → c.in-Err.fault ≡ Fault.Damaged damage → ⊥ = λ damage is. search common in
-    found_none disk c.args.device.now c.read_log.new.device
-    (read_then disk c.args.device.now c.synced_root.new.device c.read_log.new.device c.synced_root.ensures.ran c.read_log.ensures.ran) c.in-Err.fault
+    found_none disk c.args.device.now c.open_log.new.device
+    (read_then disk c.args.device.now c.synced_root.new.device c.open_log.new.device c.synced_root.ensures.ran c.open_log.ensures.ran) c.in-Err.fault
     (λ is. told.refusal.0 (ap Err is)) (λ is. told.refusal.1 (ap Err is))
-    (λ is. failed_then disk c.args.device.now c.synced_root.new.device c.read_log.new.device c.synced_root.ensures.ran (told.cause (ap Err is)))
+    (λ is. failed_then disk c.args.device.now c.synced_root.new.device c.open_log.new.device c.synced_root.ensures.ran (told.cause (ap Err is)))
     (λ keeps damage is. absurd (excluded damage is)) (λ keeps damage is. absurd (excluded damage is))
 
 pub returns-in_ok-paged-in-Ok-clause-whole : goal.returns-in_ok-paged-in-Ok-clause-whole
@@ -187,13 +192,17 @@ returns-in_ok-paged-in-Ok-clause-whole g c keeps =
     let content = disk.content c.args.device.now in
     let paged = c.in_ok-paged-in-Ok.paged in
     let read = c.in_ok-paged-in-Ok.ensures in
-    let first : Ran disk c.args.device.now c.read_log.new.device Same =
-    read_then disk c.args.device.now c.synced_root.new.device c.read_log.new.device c.synced_root.ensures.ran c.read_log.ensures.ran
+    let first : Ran disk c.args.device.now c.open_log.new.device Same =
+    read_then disk c.args.device.now c.synced_root.new.device c.open_log.new.device c.synced_root.ensures.ran c.open_log.ensures.ran
     in
     let Counts : Root → Type 0 = λ r. HoldsRoot content r in
-    let Log : ℕ → List ℕ → Type 0 = λ at x. HoldsLog at (map (λ p. p.items) c.in-Ok.payloads.items) c.in-Ok.log.last_gate_sector x in
+    let kept = c.synced_root.ensures.ran.kept keeps in
+    let log = c.in-Ok.found in
+    let opened = c.in-Ok.ensures.found kept in
+    let Log : ℕ → List ℕ → Type 0 = λ at x. HoldsLog at opened.0 log.last_gate_sector x in
+    let given : HoldsLog log.first_gate_sector opened.0 log.last_gate_sector (disk.content c.open_log.new.device) =
+    subst (λ at. Log at (disk.content c.open_log.new.device)) (sym c.in-Ok.ensures.place.0) (subst (Log c.log_sector.result) (sym (c.open_log.ensures.ran.seen kept)) opened.2) in
     let Kept : List ℕ → Root → Type 0 = λ x r. HasHeldEntries (rules_at r) r.label.revision (entries_under r x) in
-    let Each : List (Vec ℕ Global) → Type 0 = λ ps. AllByRecursion IsOfGroup (map (λ p. p.items) ps) in
     let In : List ℕ → Root → Type 0 = λ x r. HoldsPages x r in
     let Has : List ℕ → Root → Type 0 = λ x r. HasEntries disk c.read_objects.new.device paged (entries_under r x) in
     record {
@@ -202,11 +211,11 @@ returns-in_ok-paged-in-Ok-clause-whole g c keeps =
       entries = subst (Has content) (sym read.root) (subst (λ x. Has x c.in_ok-root.root) (first.seen keeps) (read.entries (first.kept keeps)));
       kept = subst (Kept content) (sym read.root) (subst (λ x. Kept x c.in_ok-root.root) (first.seen keeps) (read.kept (first.kept keeps)));
       log = record {
-        payloads = map (λ p. p.items) c.in-Ok.payloads.items;
-        last = c.in-Ok.log.last_gate_sector;
+        payloads = opened.0;
+        last = log.last_gate_sector;
         log = subst (λ r. Log (log_sector r) content) (sym read.root) (subst (Log (log_sector c.in_ok-root.root)) (c.synced_root.ensures.ran.seen keeps)
-            (subst (λ at. Log at (disk.content c.synced_root.new.device)) c.log_sector.ensures.place (c.in-Ok.ensures.found (c.synced_root.ensures.ran.kept keeps))));
-        groups = subst Each c.deref.ensures.value read.groups;
+            (subst (λ at. Log at (disk.content c.synced_root.new.device)) c.log_sector.ensures.place opened.2));
+        groups = read.groups (c.open_log.ensures.ran.kept kept) opened.0 given;
       };
     }
 
@@ -215,7 +224,7 @@ returns-in_ok-paged-in-Ok-clause-durable g c = λ keeps.
     let disk = g.D.Device.disk in
     let kept = c.synced_root.ensures.ran.kept keeps in
     let rest : Ran disk c.synced_root.new.device c.read_objects.new.device Same =
-    read_then disk c.synced_root.new.device c.read_log.new.device c.read_objects.new.device c.read_log.ensures.ran c.read_objects.ensures.ran
+    read_then disk c.synced_root.new.device c.open_log.new.device c.read_objects.new.device c.open_log.ensures.ran c.read_objects.ensures.ran
     in
     only_after disk c.synced_root.new.device c.read_objects.new.device rest kept (c.in_ok-root.ensures.durable keeps)
 
@@ -234,8 +243,8 @@ returns-in_ok-paged-in-Ok-clause-steady g c = c.in_ok-paged-in-Ok.ensures.steady
 
 pub returns-in-Err-Damaged-clause-unfailed : goal.returns-in-Err-Damaged-clause-unfailed
 returns-in-Err-Damaged-clause-unfailed g c told =
-    let found : IsErrOf c.read_log.result (Fault.Damaged c.in-Err-Damaged.damage) = search common in
-    c.read_pages_alone.ensures.unfailed (err_same told) ∙ c.read_log.ensures.unfailed_damaged c.in-Err-Damaged.damage found ∙ c.in_ok-root.ensures.steady
+    let found : IsErrOf c.open_log.result (Fault.Damaged c.in-Err-Damaged.damage) = search common in
+    c.read_pages_alone.ensures.unfailed (err_same told) ∙ c.open_log.ensures.unfailed_damaged c.in-Err-Damaged.damage found ∙ c.in_ok-root.ensures.steady
 
 pub returns-in-Err-clause-unfailed : goal.returns-in-Err-clause-unfailed
 returns-in-Err-clause-unfailed g c told = c.in-Err.ensures.unfailed (ap Err (err_same told)) ∙ c.in_ok-root.ensures.steady

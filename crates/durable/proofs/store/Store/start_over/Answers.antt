@@ -19,7 +19,7 @@ invariant_of-self g c =
       in_data = omega (arith, c.requires.in_data, place.0, at);
       works = λ _. c.restart-self.ensures.works;
       ready = λ _ keeps. subst Ready (sym c.start_over.ensures.root) (∥∥₁_elim (c.requires.in_use keeps) ∥∥₁_prop
-          (λ ready. merely (ready_anew g.D.Device.disk c.args.self.now.device c.args.written.root c.restart-self.result (place.0 ∙ at) (place.1 ∙ at) c.restart-self.ensures.works ready)));
+          (λ ready. merely (ready_anew g.D.Device.disk c.args.self.now.device c.args.written.root c.restart-self.result (place.0 ∙ at) (place.1 ∙ at) c.restart-self.ensures.works c.restart-self.ensures.none ready)));
     }
 
 pub returns-clause-lies : goal.returns-clause-lies

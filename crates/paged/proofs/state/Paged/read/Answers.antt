@@ -1,9 +1,6 @@
-use Rattle.std.proofs.Common.{rules, arith, refl, ◌∙◌, sym, ap, subst, ⊎_elim, inl, inr, List, [], ◌++◌, ℕ, Err, Contains}
+use Rattle.std.proofs.Common.{rules, arith, refl, ◌∙◌, sym, ap, subst, ⊎_elim, inl, inr, List, [], ◌++◌, ℕ, Err}
 use Rattle.std.proofs.lemmas.List.{length-map}
 use Rattle.std.proofs.lemmas.Result.{IfOk-from_err}
-use Rattle.device.specs.Step.{Same}
-use Rattle.names.specs.Key.{Key}
-use Rattle.device.proofs.Runs.{not_yet}
 use Rattle.checkpoint.proofs.Faults.{no_fault}
 use Rattle.snapshots.specs.declared.kept_entries.KeptEntries.{KeptEntries}
 use Rattle.pages.specs.Page.{Entry}
@@ -24,12 +21,12 @@ returns-in_err-first_keys-clause-damaged g c keeps told held is holds revision =
     ⊎_elim
     (λ bad. c.scan.ensures.page keeps (c.in_err-first_keys.was ∙ ap Err bad) (pages_hold c.args.rules held c.args.root.now content is holds))
     (λ bad. let refused = c.scan.ensures.refused keeps (c.in_err-first_keys.was ∙ ap Err bad) in refused.refused)
-    (scan_bad c.from_residual-in_err-first_keys.result c.in_err-first_keys.field-0.0 c.from_residual-in_err-first_keys.ensures.1 told)
+    (scan_bad c.from_residual.result c.in_err-first_keys.field-0.0 c.from_residual.ensures.1 told)
 
 pub returns-in_err-core-clause-damaged : goal.returns-in_err-core-clause-damaged
 returns-in_err-core-clause-damaged g c keeps told held is holds revision =
     let content = g.D.Device.disk.content c.args.device.now in
-    let chosen : Chosen = c.in_ok-chosen.chosen in
+    let chosen : Chosen = c.args.chosen in
     let made = c.new-kept_entries.ensures in
     let read =
     kept_of_them c.args.rules held c.args.root.now content chosen c.new-kept_entries.result c.scan.new.reader made.choice made.kept made.objects c.requires.small holds
@@ -56,7 +53,7 @@ returns-clause-held g c keeps held is holds revision =
     let disk = g.D.Device.disk in
     let content = disk.content c.args.device.now in
     let root = c.args.root.now in
-    let chosen : Chosen = c.in_ok-chosen.chosen in
+    let chosen : Chosen = c.args.chosen in
     let made = c.new-kept_entries.ensures in
     let read =
     kept_of_them c.args.rules held root content chosen c.new-kept_entries.result c.scan.new.reader made.choice made.kept made.objects c.requires.small holds
@@ -76,9 +73,7 @@ returns-clause-held g c keeps held is holds revision =
       lying disk c.scan.new.device c.in_ok-cache.cache c.args.rules held is c.in_ok-cache.ensures.found shelves,
       shown.0,
       λ k has.
-          let In : List Key → Type 0 = λ ks. Contains ks k in
-          ⊎_elim (λ none. knows_all root content held c.in_ok-core.core k none holds) (λ some. shown.1 k (c.in_ok-chosen.ensures k (subst In (sym (c.keys_in_pages.ensures.all some)) has)))
-          (none_or_some root.pages),
+          ⊎_elim (λ none. knows_all root content held c.in_ok-core.core k none holds) (λ some. shown.1 k (has some)) (none_or_some root.pages),
     )
 
 pub returns-clause-no_pages : goal.returns-clause-no_pages
@@ -99,32 +94,17 @@ returns-clause-no_pages g c none =
           (c.objects.ensures ∙ ap (λ (s : KeptEntries Chosen). s.objects) untold.2 ∙ made.objects),
     )
 
-pub returns-in_err-chosen-clause-rules : goal.returns-in_err-chosen-clause-rules
-returns-in_err-chosen-clause-rules g c = IfOk-from_err c.from_residual.result _ c.from_residual.ensures.0
-
-pub returns-in_err-chosen-clause-root : goal.returns-in_err-chosen-clause-root
-returns-in_err-chosen-clause-root g c = IfOk-from_err c.from_residual.result _ c.from_residual.ensures.0
-
-pub returns-in_err-chosen-clause-held : goal.returns-in_err-chosen-clause-held
-returns-in_err-chosen-clause-held g c keeps held is holds revision = IfOk-from_err c.from_residual.result _ c.from_residual.ensures.0
-
-pub returns-in_err-chosen-clause-no_pages : goal.returns-in_err-chosen-clause-no_pages
-returns-in_err-chosen-clause-no_pages g c none = IfOk-from_err c.from_residual.result _ c.from_residual.ensures.0
-
-pub returns-in_err-chosen-clause-ran : goal.returns-in_err-chosen-clause-ran
-returns-in_err-chosen-clause-ran g c = not_yet g.D.Device.disk c.args.device.now Same (λ c. refl) (λ keeps content since. g.met.D.Device.only_now c.args.device.now content keeps since)
-
 pub returns-in_err-first_keys-clause-rules : goal.returns-in_err-first_keys-clause-rules
-returns-in_err-first_keys-clause-rules g c = IfOk-from_err c.from_residual-in_err-first_keys.result _ c.from_residual-in_err-first_keys.ensures.0
+returns-in_err-first_keys-clause-rules g c = IfOk-from_err c.from_residual.result _ c.from_residual.ensures.0
 
 pub returns-in_err-first_keys-clause-root : goal.returns-in_err-first_keys-clause-root
-returns-in_err-first_keys-clause-root g c = IfOk-from_err c.from_residual-in_err-first_keys.result _ c.from_residual-in_err-first_keys.ensures.0
+returns-in_err-first_keys-clause-root g c = IfOk-from_err c.from_residual.result _ c.from_residual.ensures.0
 
 pub returns-in_err-first_keys-clause-held : goal.returns-in_err-first_keys-clause-held
-returns-in_err-first_keys-clause-held g c keeps held is holds revision = IfOk-from_err c.from_residual-in_err-first_keys.result _ c.from_residual-in_err-first_keys.ensures.0
+returns-in_err-first_keys-clause-held g c keeps held is holds revision = IfOk-from_err c.from_residual.result _ c.from_residual.ensures.0
 
 pub returns-in_err-first_keys-clause-no_pages : goal.returns-in_err-first_keys-clause-no_pages
-returns-in_err-first_keys-clause-no_pages g c none = IfOk-from_err c.from_residual-in_err-first_keys.result _ c.from_residual-in_err-first_keys.ensures.0
+returns-in_err-first_keys-clause-no_pages g c none = IfOk-from_err c.from_residual.result _ c.from_residual.ensures.0
 
 pub returns-in_err-first_keys-clause-ran : goal.returns-in_err-first_keys-clause-ran
 returns-in_err-first_keys-clause-ran g c = c.scan.ensures.ran
@@ -174,11 +154,8 @@ returns-clause-ran g c = c.scan.ensures.ran
 pub returns-clause-cause : goal.returns-clause-cause
 returns-clause-cause g c told = absurd (no_fault told)
 
-pub returns-in_err-chosen-clause-steady : goal.returns-in_err-chosen-clause-steady
-returns-in_err-chosen-clause-steady g c = IfOk-from_err c.from_residual.result _ c.from_residual.ensures.0
-
 pub returns-in_err-first_keys-clause-steady : goal.returns-in_err-first_keys-clause-steady
-returns-in_err-first_keys-clause-steady g c = IfOk-from_err c.from_residual-in_err-first_keys.result _ c.from_residual-in_err-first_keys.ensures.0
+returns-in_err-first_keys-clause-steady g c = IfOk-from_err c.from_residual.result _ c.from_residual.ensures.0
 
 pub returns-in_err-core-clause-steady : goal.returns-in_err-core-clause-steady
 returns-in_err-core-clause-steady g c = IfOk-from_err c.from_residual-in_err-core.result _ c.from_residual-in_err-core.ensures.0
@@ -186,13 +163,10 @@ returns-in_err-core-clause-steady g c = IfOk-from_err c.from_residual-in_err-cor
 pub returns-in_err-cache-clause-steady : goal.returns-in_err-cache-clause-steady
 returns-in_err-cache-clause-steady g c = IfOk-from_err c.from_residual-in_err-cache.result _ c.from_residual-in_err-cache.ensures.0
 
-pub returns-in_err-chosen-clause-memory : goal.returns-in_err-chosen-clause-memory
-returns-in_err-chosen-clause-memory g c told = refl
-
 pub returns-in_err-first_keys-clause-memory : goal.returns-in_err-first_keys-clause-memory
 returns-in_err-first_keys-clause-memory g c told =
     c.scan.ensures.unfailed (c.in_err-first_keys.was ∙ ap Err
-    (scan_memory c.from_residual-in_err-first_keys.result c.in_err-first_keys.field-0.0 c.from_residual-in_err-first_keys.ensures.1 told))
+    (scan_memory c.from_residual.result c.in_err-first_keys.field-0.0 c.from_residual.ensures.1 told))
 
 pub returns-in_err-core-clause-memory : goal.returns-in_err-core-clause-memory
 returns-in_err-core-clause-memory g c told = c.in_ok-first_keys.ensures.steady
@@ -206,17 +180,11 @@ returns-clause-steady g c = c.in_ok-first_keys.ensures.steady
 pub returns-clause-memory : goal.returns-clause-memory
 returns-clause-memory g c told = c.in_ok-first_keys.ensures.steady
 
-pub returns-in_err-chosen-clause-whole : goal.returns-in_err-chosen-clause-whole
-returns-in_err-chosen-clause-whole g c keeps = IfOk-from_err c.from_residual.result _ c.from_residual.ensures.0
-
-pub returns-in_err-chosen-clause-entries : goal.returns-in_err-chosen-clause-entries
-returns-in_err-chosen-clause-entries g c keeps = IfOk-from_err c.from_residual.result _ c.from_residual.ensures.0
-
 pub returns-in_err-first_keys-clause-whole : goal.returns-in_err-first_keys-clause-whole
-returns-in_err-first_keys-clause-whole g c keeps = IfOk-from_err c.from_residual-in_err-first_keys.result _ c.from_residual-in_err-first_keys.ensures.0
+returns-in_err-first_keys-clause-whole g c keeps = IfOk-from_err c.from_residual.result _ c.from_residual.ensures.0
 
 pub returns-in_err-first_keys-clause-entries : goal.returns-in_err-first_keys-clause-entries
-returns-in_err-first_keys-clause-entries g c keeps = IfOk-from_err c.from_residual-in_err-first_keys.result _ c.from_residual-in_err-first_keys.ensures.0
+returns-in_err-first_keys-clause-entries g c keeps = IfOk-from_err c.from_residual.result _ c.from_residual.ensures.0
 
 pub returns-in_err-core-clause-whole : goal.returns-in_err-core-clause-whole
 returns-in_err-core-clause-whole g c keeps = IfOk-from_err c.from_residual-in_err-core.result _ c.from_residual-in_err-core.ensures.0
@@ -244,11 +212,8 @@ returns-clause-entries g c keeps =
     c.in_ok-cache.ensures.shelves entries (subst Index same (c.in_ok-first_keys.ensures.index keeps)) (λ some. c.scan.ensures.ran.kept keeps)
     (subst Holds same (record { sound = (c.in_ok-first_keys.ensures.whole keeps).sound; are = refl }))
 
-pub returns-in_err-chosen-clause-kept : goal.returns-in_err-chosen-clause-kept
-returns-in_err-chosen-clause-kept g c keeps = IfOk-from_err c.from_residual.result _ c.from_residual.ensures.0
-
 pub returns-in_err-first_keys-clause-kept : goal.returns-in_err-first_keys-clause-kept
-returns-in_err-first_keys-clause-kept g c keeps = IfOk-from_err c.from_residual-in_err-first_keys.result _ c.from_residual-in_err-first_keys.ensures.0
+returns-in_err-first_keys-clause-kept g c keeps = IfOk-from_err c.from_residual.result _ c.from_residual.ensures.0
 
 pub returns-in_err-core-clause-kept : goal.returns-in_err-core-clause-kept
 returns-in_err-core-clause-kept g c keeps = IfOk-from_err c.from_residual-in_err-core.result _ c.from_residual-in_err-core.ensures.0
@@ -258,7 +223,7 @@ returns-in_err-cache-clause-kept g c keeps = IfOk-from_err c.from_residual-in_er
 
 pub returns-clause-kept : goal.returns-clause-kept
 returns-clause-kept g c keeps =
-    let chosen : Chosen = c.in_ok-chosen.chosen in
+    let chosen : Chosen = c.args.chosen in
     let made = c.new-kept_entries.ensures in
     let entries : List Entry = joined (pages_of_root c.args.root.now (g.D.Device.disk.content c.args.device.now)) in
     let held = c.in_ok-core.ensures.kept in

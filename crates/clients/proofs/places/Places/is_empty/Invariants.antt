@@ -1,0 +1,6 @@
+use Rattle.std.proofs.Common.{ℕ, ◌<◌}
+use Rattle.clients.specs.Places.{IsFree}
+use Rattle.clients.proofs.places.Places.is_empty.Given as goal
+
+abbrev pub invariant-loop-line : goal.invariant-loop-line
+invariant-loop-line l = record { free : (i : ℕ) → i < l.line-index → IsFree l.fn.self i }

@@ -1,0 +1,40 @@
+-- Whether a client keeps the server waiting, and why its connection is let go.
+use Rattle.std.specs.Prelude.{◌≡◌, ℕ, ◌≤◌, ◌-◌, ◌⊎◌, true, false, [], Option, None, Some, ⊤}
+use Rattle.std.specs.Time.{instant_nanos}
+use Rattle.std.specs.Duration.{as_nanos}
+use Rattle.std.specs.declared.time.Instant.{Instant}
+use Rattle.std.specs.declared.time.Duration.{Duration}
+use Rattle.sessions.specs.State.{State, is_open, is_lost}
+use Rattle.clients.specs.declared.line.Gone.{Gone}
+use Rattle.clients.specs.declared.line.Gone.TheVariants as gone
+
+-- A client is waited for where none of its messages waits to be answered, and where bytes wait for it to take them.
+abbrev pub IsWaitedFor : State → Type 0
+IsWaitedFor s = (s.waiting ≡ []) ⊎ (s.unsent ≡ [] → ⊥)
+
+-- A client that is waited for, and did nothing since a moment, did nothing for as long as it may. Without a limit it is never late.
+abbrev pub IsLate : State → (since now : Instant) → Option Duration → Type 0
+IsLate s since now None = ⊥
+IsLate s since now (Some idle) = IsWaitedFor s × (as_nanos idle ≤ instant_nanos now - instant_nanos since)
+
+-- the stream failed, or nothing more is taken of the client
+abbrev pub IsEnd : Gone → Type 0
+IsEnd gone.Lost = ⊥
+IsEnd gone.Failed = ⊤
+IsEnd gone.Done = ⊤
+IsEnd gone.Late = ⊥
+
+-- the stream failed, or the session is over and all was sent
+abbrev pub EndsAtRest : Gone → State → Type 0
+EndsAtRest gone.Lost new = ⊥
+EndsAtRest gone.Failed new = ⊤
+EndsAtRest gone.Done new = (is_open new.phase ≡ false) × (new.unsent ≡ [])
+EndsAtRest gone.Late new = ⊥
+
+-- A turn lets a client go because its session was lost, because it is late, or because the session is over and all was sent. That a stream
+-- failed, no contract of a socket says.
+abbrev pub EndsFor : Gone → (old new : State) → (late : Type 0) → Type 0
+EndsFor gone.Lost old new late = is_lost old.phase ≡ true
+EndsFor gone.Failed old new late = ⊤
+EndsFor gone.Done old new late = (is_open new.phase ≡ false) × (new.unsent ≡ [])
+EndsFor gone.Late old new late = late
