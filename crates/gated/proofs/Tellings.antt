@@ -1,10 +1,11 @@
 -- What is told where the program ends with a problem.
-use Rattle.std.proofs.Common.{◌≡◌, ◌∙◌, ℕ, List, [], ◌++◌, append_assoc, codes, refl, sym, subst}
+use Rattle.std.proofs.Common.{◌≡◌, ◌≢◌, ◌∙◌, ℕ, List, [], ◌++◌, append_assoc, codes, refl, sym, subst}
 use Rattle.std.proofs.lemmas.List.{append-nil}
 use Rattle.gated.specs.Problem.{Tells, TellsAll, line_of, status_of}
 use Rattle.gated.specs.declared.problem.Problem.{Problem}
 use Rattle.gated.specs.declared.problem.Problem.TheVariants.{FileExists, NoStore, Damaged, Exhausted, TooManyObjects, RevisionExhausted, AlreadyUpgraded, DeviceFailed, StreamFailed, ListenFailed, OutOfMemory}
 use Rattle.gated.specs.declared.status.Status.{Status}
+use Rattle.gated.specs.declared.status.Status.TheVariants.{Success}
 
 module _ {E : Type 0} (IsMore : Problem → List ℕ → Type 0) (took : E → E → List ℕ → Type 0) (failures : E → ℕ) (old new : E) where
   -- a problem's line, and what stands behind it
@@ -46,3 +47,17 @@ nine_joined a b c d e f g h i = eight_joined a b c d e f g (h ++ i) ∙ sym (app
 pub cause_pieces : (a b c d e name text : List ℕ) → a ≡ codes "gated: " → b ≡ name → c ≡ codes ": " → d ≡ text → e ≡ codes "\n"
     → a ++ (b ++ (c ++ (d ++ (e ++ [])))) ≡ codes "gated: " ++ (name ++ (codes ": " ++ (text ++ codes "\n")))
 cause_pieces a b c d e name text ea eb ec ed ee = rw (ea, eb, ec, ed, ee, append-nil) refl
+
+-- a program with a problem does not end well
+pub no_problem_is_success : (p : Problem) → status_of p ≢ Success
+no_problem_is_success FileExists = λ is. cc
+no_problem_is_success NoStore = λ is. cc
+no_problem_is_success (Damaged d) = λ is. cc
+no_problem_is_success Exhausted = λ is. cc
+no_problem_is_success TooManyObjects = λ is. cc
+no_problem_is_success RevisionExhausted = λ is. cc
+no_problem_is_success AlreadyUpgraded = λ is. cc
+no_problem_is_success DeviceFailed = λ is. cc
+no_problem_is_success StreamFailed = λ is. cc
+no_problem_is_success (ListenFailed cause) = λ is. cc
+no_problem_is_success OutOfMemory = λ is. cc
