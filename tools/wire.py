@@ -1,4 +1,6 @@
-"""Messages to the built program and its replies, for the tools that send and read them: refuse, kill-loop and fuzz."""
+"""Messages to the built program, its replies and what a server tells of its store, for the tools that send and read them."""
+import importlib.machinery
+import importlib.util
 import json
 import os
 import pathlib
@@ -22,8 +24,26 @@ BINDINGS = f"/apis/{ADMISSION}/validatingadmissionpolicybindings"
 DEPLOYMENT_RULE = {"operations": ["CREATE", "UPDATE"], "apiGroups": ["apps"], "apiVersions": ["v1"], "resources": ["deployments"]}
 
 
+# What a server tells on standard error before it listens.
+OPENED = re.compile(rb"gated: \d+\.\d+\.\d+, [^\n]*: format [12], revision \d+, [^\n]*read in \d+\.\d\d s\n")
+
+
 class Wrong(Exception):
     """What the program does and may not do."""
+
+
+def tool(name):
+    """A tool of this folder, as a module."""
+    loader = importlib.machinery.SourceFileLoader(name, str(ROOT / "tools" / name))
+    module = importlib.util.module_from_spec(importlib.util.spec_from_loader(name, loader))
+    loader.exec_module(module)
+    return module
+
+
+def behind_opened(errors):
+    """What a server told on standard error behind the line of its store; None where that line does not stand first."""
+    found = OPENED.match(errors)
+    return errors[found.end():] if found else None
 
 
 def message(method, path, body=None, *fields):

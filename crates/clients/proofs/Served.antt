@@ -1,21 +1,32 @@
 -- What turns leave of a store, one after another.
-use Rattle.std.proofs.Common.{◌++◌, ℕ, List, [], Result, Ok, Err}
-use Rattle.std.specs.Prelude.{MatchResult}
+use Rattle.std.proofs.Common.{◌≡◌, ◌∙◌, ap, refl, sym, subst, true≢false, false, ◌++◌, ℕ, List, [], Option, None, Result, Ok, Err}
+use Rattle.std.proofs.lemmas.List.{append-nil}
+use Rattle.std.specs.Prelude.{MatchResult, is_ok}
 use Rattle.device.specs.declared.device.Device.{Ghosts}
 use Rattle.names.specs.declared.format.Rules.{Rules}
-use Rattle.histories.specs.View.{after_all}
-use Rattle.decoded.specs.Standing.{View}
+use Rattle.histories.specs.View.{view, after_all}
+use Rattle.decoded.specs.Standing.{History, View}
+use Rattle.decoded.specs.Standing as standing
 use Rattle.durable.specs.declared.store.Store.{Store}
-use Rattle.durable.specs.Settled.{device_of}
+use Rattle.durable.specs.Settled.{device_of, serves, IsSettledAt, IsLeftAt, LeavesSome}
+use Rattle.durable.proofs.Answering.{settled_serves}
 use Rattle.httpmsg.specs.Stream.{Message}
 use Rattle.api.specs.declared.fault.ServeFault.{ServeFault}
 use Rattle.api.specs.declared.fault.ServeFault.TheVariants.{Read, Write, Device, Memory, Damaged, Failed}
 use Rattle.api.specs.Answers.{ShowsAt, all_writes}
-use Rattle.api.proofs.Folds.{applied_then, applied_none, failed_then}
+use Rattle.api.proofs.Folds.{applied_then, applied_none, failed_then, left_after, moments_then, seen_view}
 use Rattle.sessions.specs.State.{State}
 use Rattle.sessions.specs.Turn.{Turned}
 use Rattle.sessions.specs.Stops.{TurnStops}
-use Rattle.clients.specs.Serving.{Gathers, AnswersGroup, StopsAtGroup, HasServedSome, HasFailedAt, StopsServing}
+use Rattle.clients.specs.Compacting.{is_due}
+use Rattle.clients.specs.Serving.{Gathers, AnswersGroup, StopsAtGroup, HasServedSome, HasFailedAt, HasStoppedBetween, StopsServing}
+
+-- a store that is never compacted is never due
+pub never_due : (times : Option ℕ) (put_off_sectors log_sectors pages : ℕ) → times ≡ None → is_due times put_off_sectors log_sectors pages ≡ false
+never_due times put_off_sectors log_sectors pages never = subst (λ t. is_due t put_off_sectors log_sectors pages ≡ false) (sym never) refl
+
+pub ok_is_no_err : {T E : Type 0} (r : Result T E) (x : T) (e : E) → r ≡ Ok x → r ≡ Err e → ⊥
+ok_is_no_err r x e well failed = true≢false (ap is_ok (sym well ∙ failed))
 
 module _ {D : Type 0} {g : Ghosts D} (rules : Rules) where
   pub served_none : (store : Store D g) (v : View) → ShowsAt rules store v
@@ -69,3 +80,67 @@ module _ {D : Type 0} {g : Ghosts D} (rules : Rules) where
   stops_after old mid new v Memory before after = after
   stops_after old mid new v (Damaged damage) before after = after
   stops_after old mid new v Failed before after = failed_after old mid new v before after
+
+  -- ---- a compaction between two turns
+
+  -- a store that was compacted, or was not
+  pub compacted_served : (old new : Store D g) (h : History) → IsSettledAt rules old h → ((k : History) → IsSettledAt rules old k → IsSettledAt rules new k)
+      → ((k : History) → IsSettledAt rules old k → LeavesSome rules old new k []) → HasServedSome rules old new (view rules h)
+  compacted_served old new h settled kept moments = record {
+    answered = [];
+    store = record {
+      serving = (kept h settled).working ∙ sym settled.working;
+      shows = λ working. settled_serves rules new h (kept h settled);
+      failed = λ stopped. absurd (true≢false (sym settled.working ∙ stopped));
+      specified = tt;
+      admitted = tt;
+      settled = λ k is was. subst (IsSettledAt rules new) (sym (append-nil k)) (kept k was);
+      moments = λ k is was. moments k was;
+    };
+  }
+
+  -- what a history and the writes of some answers leave
+  pub settled_then : (old mid : Store D g) (h : History) (before : HasServedSome rules old mid (view rules h)) → IsSettledAt rules old h
+      → IsSettledAt rules mid (h ++ all_writes rules (view rules h) before.answered)
+  settled_then old mid h before settled = before.store.settled h refl settled
+
+  -- turns, and then a compaction
+  pub compacted_after : (old mid new : Store D g) (h : History) (before : HasServedSome rules old mid (view rules h)) → IsSettledAt rules old h
+      → ((k : History) → IsSettledAt rules mid k → IsSettledAt rules new k) → ((k : History) → IsSettledAt rules mid k → LeavesSome rules mid new k [])
+      → HasServedSome rules old new (view rules h)
+  compacted_after old mid new h before settled kept moments =
+      let ws : List standing.Write = all_writes rules (view rules h) before.answered in
+      served_then old mid new (view rules h) before
+      (subst (HasServedSome rules mid new) (sym (seen_view rules (view rules h) h ws refl))
+      (compacted_served mid new (h ++ ws) (settled_then old mid h before settled) kept moments))
+
+  -- turns, and then the device fails in a compaction
+  pub stopped_between : (old mid new : Store D g) (v : View) (before : HasServedSome rules old mid v)
+      → ((k : History) → IsSettledAt rules mid k → IsLeftAt rules new k [] []) → ((k : History) → IsSettledAt rules mid k → LeavesSome rules mid new k [])
+      → serves new ≡ false → HasStoppedBetween rules old new v
+  stopped_between old mid new v before left moments stops =
+      let ws : List standing.Write = all_writes rules v before.answered in
+      record {
+        answered = before.answered;
+        stopped = stops;
+        specified = before.store.specified;
+        admitted = before.store.admitted;
+        left = λ k is was.
+            let mid_settled = before.store.settled k is was in
+            subst (λ kept. IsLeftAt rules new k kept kept) (append-nil ws) (left_after rules new k ws [] [] (left (k ++ ws) mid_settled));
+        moments = λ k is was.
+            let mid_settled = before.store.settled k is was in
+            subst (LeavesSome rules old new k) (append-nil ws)
+            (moments_then rules old mid new k ws [] (before.store.moments k is was) (moments (k ++ ws) mid_settled));
+      }
+
+  -- a turn of a store that has stopped leaves it as it is
+  pub turn_of_stopped : {T : Type 0} (old new : Store D g) (v : View) (r : Result T ServeFault) → serves old ≡ false
+      → MatchResult r (λ _. HasServedSome rules old new v) (StopsServing rules old new v) → new ≡ old
+  turn_of_stopped old new v (Ok x) stopped some = (some.store.failed stopped).0
+  turn_of_stopped old new v (Err Read) stopped stops = absurd stops
+  turn_of_stopped old new v (Err Write) stopped stops = absurd stops
+  turn_of_stopped old new v (Err Device) stopped stops = (stops.store.failed stopped).0
+  turn_of_stopped old new v (Err Memory) stopped stops = absurd stops
+  turn_of_stopped old new v (Err (Damaged damage)) stopped stops = absurd stops
+  turn_of_stopped old new v (Err Failed) stopped stops = (stops.store.failed stopped).0

@@ -1,6 +1,9 @@
 -- What is told of a message and its reply.
-use Rattle.std.specs.Prelude.{ℕ, ◌<◌, ◌+◌, ◌-◌, ◌/◌, ◌%◌, Bool, ◌&&◌, List, [], ◌∷◌, ◌++◌, if◌then◌else◌, nat_lt, codes, decimal}
+use Rattle.std.specs.Prelude.{◌≡◌, ℕ, ◌<◌, ◌+◌, ◌-◌, ◌/◌, ◌%◌, ◌⊎◌, pos, ◌*ℤ◌, Bool, false, ◌&&◌, List, [], ◌∷◌, ◌++◌, if◌then◌else◌, Option, None, Some, nat_lt, codes, decimal}
 use Rattle.std.specs.List.{AllByRecursion, flat_map}
+use Rattle.jiff_core.specs.declared.civil.datetime.DateTime.{DateTime}
+use Rattle.jiff_core.specs.DateTime.{civil_nanos}
+use Rattle.jiff_fmt.specs.Text.{datetime_text}
 use Rattle.httpmsg.specs.Stream.{Message}
 use Rattle.httpmsg.specs.declared.head.Method.{Method}
 use Rattle.httpmsg.specs.declared.head.Method.TheVariants.{Get, Head, Post, Put, Delete, Other}
@@ -38,12 +41,28 @@ method_text Put = codes "PUT"
 method_text Delete = codes "DELETE"
 method_text Other = codes "-"
 
--- The line of a message that was answered: peer, method, path, status, bytes, microseconds.
+-- The last second of which the calendar has a text: it has years of four digits.
+abbrev pub last_second : ℕ
+last_second = 253_402_207_200
+
+-- The text of a time so many seconds after 1970-01-01T00:00:00Z: its date and its time of day in UTC, as `2026-12-01T08:30:00Z` (RFC 3339 section 5.6). Where it is not
+-- known, or behind the last second, it is a hyphen.
+abbrev pub HasTime : Option ℕ → List ℕ → Type 0
+HasTime None text = text ≡ codes "-"
+HasTime (Some seconds) text =
+    ((dt : DateTime) × (civil_nanos dt ≡ pos seconds *ℤ pos 1_000_000_000) × (text ≡ datetime_text false 84 None dt ++ codes "Z"))
+    ⊎ ((last_second < seconds) × (text ≡ codes "-"))
+
+-- A line: its time, a space, and what it tells.
+abbrev pub IsLine : Option ℕ → (told line : List ℕ) → Type 0
+IsLine seconds told line = (time : List ℕ) × HasTime seconds time × (line ≡ time ++ (codes " " ++ told))
+
+-- What is told of a message that was answered: peer, method, path, status, bytes, microseconds.
 abbrev pub answered_line : (peer : List ℕ) → Message → Note → (microseconds : ℕ) → List ℕ
 answered_line peer m n microseconds =
     shown peer ++ (codes " " ++ (method_text m.method ++ (codes " " ++ (shown m.target
     ++ (codes " " ++ (decimal n.status ++ (codes " " ++ (decimal n.bytes ++ (codes " " ++ (decimal microseconds ++ codes "\n"))))))))))
 
--- The line of a refusal of what is no message: what is not known is a hyphen.
+-- What is told of a refusal of what is no message: what is not known is a hyphen.
 abbrev pub refused_line : (peer : List ℕ) → Note → List ℕ
 refused_line peer n = shown peer ++ (codes " - - " ++ (decimal n.status ++ (codes " " ++ (decimal n.bytes ++ codes " -\n"))))

@@ -1,5 +1,6 @@
 pub mod Moving
 pub mod Journal
 pub mod Serving
+pub mod Compacting
 pub mod Waiting
 pub mod Places

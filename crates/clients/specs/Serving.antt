@@ -1,5 +1,5 @@
 -- What serving clients does to the store.
-use Rattle.std.specs.Prelude.{◌≡◌, ℕ, ◌<◌, List, [], length, slice_index_or}
+use Rattle.std.specs.Prelude.{◌≡◌, ℕ, ◌<◌, List, [], length, slice_index_or, false}
 use Rattle.device.specs.declared.device.Device.{Ghosts}
 use Rattle.names.specs.declared.format.Rules.{Rules}
 use Rattle.decoded.specs.Standing.{View}
@@ -7,7 +7,9 @@ use Rattle.durable.specs.declared.store.Store.{Store}
 use Rattle.api.specs.declared.fault.ServeFault.{ServeFault}
 use Rattle.api.specs.declared.fault.ServeFault.TheVariants as serve_fault
 use Rattle.httpmsg.specs.Stream.{Message}
-use Rattle.api.specs.Answers.{Answered, HasApplied, HasFailedIn}
+use Rattle.apicore.specs.Admitted.{AreAdmitted}
+use Rattle.durable.specs.Settled.{serves, IsLeftAt, LeavesSome}
+use Rattle.api.specs.Answers.{Answered, AreRead, WhereSettled, all_writes, HasApplied, HasFailedIn}
 use Rattle.sessions.specs.declared.batch.Batch.{Batch}
 use Rattle.sessions.specs.Batch.{AllKept, IsPassedOver, held, places_of}
 use Rattle.sessions.specs.State.{State}
@@ -67,8 +69,17 @@ StopsServing rules old new v serve_fault.Memory = ⊥
 StopsServing rules old new v (serve_fault.Damaged damage) = ⊥
 StopsServing rules old new v serve_fault.Failed = HasFailedAt rules old new v
 
--- how it stops by any fault: one of the network or of memory leaves what was served before
+-- Some messages were answered, and then the device failed in a compaction. What a reader finds then, and a crash leaves, are all of their writes.
+pub record HasStoppedBetween {D : Type 0} {g : Ghosts D} (rules : Rules) (old new : Store D g) (v : View) : Type 0 where
+  pub answered : List Answered
+  pub stopped : serves new ≡ false
+  pub specified : AreRead rules.format answered
+  pub admitted : AreAdmitted rules v (all_writes rules v answered)
+  pub left : WhereSettled rules old v (λ h. IsLeftAt rules new h (all_writes rules v answered) (all_writes rules v answered))
+  pub moments : WhereSettled rules old v (λ h. LeavesSome rules old new h (all_writes rules v answered))
+
+-- how it stops by any fault: one of the network leaves what was served before
 abbrev pub StopsClients : {D : Type 0} {g : Ghosts D} → Rules → Store D g → Store D g → View → ClientsFault → Type 0
 StopsClients rules old new v clients_fault.Network = HasServedSome rules old new v
-StopsClients rules old new v clients_fault.Memory = HasServedSome rules old new v
 StopsClients rules old new v (clients_fault.Store fault) = StopsServing rules old new v fault
+StopsClients rules old new v (clients_fault.Compaction fault) = HasStoppedBetween rules old new v

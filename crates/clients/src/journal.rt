@@ -1,10 +1,12 @@
 //! What is told of messages and their replies, a line each.
 
-ghost use Rattle.std.specs.Prelude.{◌≡◌, ◌⊎◌, ◌<◌, ◌++◌, ◌-◌, ℕ, List, true, false, Some, codes, IfOk, OnOk};
+ghost use Rattle.std.specs.Prelude.{◌≡◌, ◌⊎◌, ◌<◌, ◌++◌, ◌-◌, ◌*ℤ◌, pos, ℕ, List, true, false, None, Some, codes, IfOk, IfSome, OnOk};
 ghost use Rattle.http.specs.StatusCode.{IsStatusCode, code_digits};
-ghost use Rattle.clients.specs.Journal.{is_plain, hex_digit, shown_byte, shown, method_text, answered_line, refused_line};
+ghost use Rattle.clients.specs.Journal.{is_plain, hex_digit, shown_byte, shown, method_text, last_second, HasTime, IsLine, answered_line, refused_line};
 
 use httpmsg::{Message, Method, Output, write_all};
+use jiff_core::Timestamp;
+use jiff_fmt::temporal::DateTimePrinter;
 use sessions::Note;
 use std::alloc::{AllocError, Global};
 
@@ -65,20 +67,47 @@ fn method_text(method: Method) -> &'static str
     }
 }
 
+// The instant so many seconds after 1970-01-01T00:00:00Z; none behind the calendar's end.
+fn instant_at(seconds: u64) -> Option<Timestamp>
+    ensures value { IfSome result (λ t. t.nanosecond ≡ pos seconds *ℤ pos 1_000_000_000) }
+    ensures end { result ≡ None → last_second < seconds }
+{
+    Timestamp::from_nanosecond(i128::from(seconds) * 1_000_000_000).ok()
+}
+
+// Puts the text of a time to a line, so many seconds after 1970-01-01T00:00:00Z.
+fn put_time(line: &mut Vec<u8>, seconds: Option<u64>) -> Result<(), AllocError>
+    ensures { OnOk result ((time : List ℕ) × HasTime seconds time × (line.new.items ≡ line.old.items ++ time)) }
+{
+    match seconds {
+        Some(seconds) => match instant_at(seconds) {
+            Some(instant) => {
+                let text = DateTimePrinter::new().timestamp_text(instant);
+                line.extend_from_slice(text.as_str().as_bytes())
+            }
+            None => line.extend_from_slice(b"-"),
+        },
+        None => line.extend_from_slice(b"-"),
+    }
+}
+
 // The line of a message that was answered.
 fn answered_line(
     alloc: Global,
+    seconds: Option<u64>,
     peer: &str,
     message: &Message,
     note: Note,
     microseconds: u64,
 ) -> Result<Vec<u8>, AllocError>
-    ensures { IfOk result (λ line. line.items ≡ answered_line peer.now message.now note microseconds) }
+    ensures { IfOk result (λ line. IsLine seconds (answered_line peer.now message.now note microseconds) line.items) }
 {
     let method = method_text(message.method());
     let Note { status, bytes } = note;
     let end = format!(in alloc; " {status} {bytes} {microseconds}\n")?;
     let mut line = Vec::new(alloc);
+    put_time(&mut line, seconds)?;
+    line.extend_from_slice(b" ")?;
     put_shown(&mut line, peer.as_bytes())?;
     line.extend_from_slice(b" ")?;
     line.extend_from_slice(method.as_bytes())?;
@@ -89,12 +118,19 @@ fn answered_line(
 }
 
 // The line of a refusal of what is no message.
-fn refused_line(alloc: Global, peer: &str, note: Note) -> Result<Vec<u8>, AllocError>
-    ensures { IfOk result (λ line. line.items ≡ refused_line peer.now note) }
+fn refused_line(
+    alloc: Global,
+    seconds: Option<u64>,
+    peer: &str,
+    note: Note,
+) -> Result<Vec<u8>, AllocError>
+    ensures { IfOk result (λ line. IsLine seconds (refused_line peer.now note) line.items) }
 {
     let Note { status, bytes } = note;
     let end = format!(in alloc; " - - {status} {bytes} -\n")?;
     let mut line = Vec::new(alloc);
+    put_time(&mut line, seconds)?;
+    line.extend_from_slice(b" ")?;
     put_shown(&mut line, peer.as_bytes())?;
     line.extend_from_slice(end.as_bytes())?;
     Ok(line)
@@ -121,6 +157,8 @@ pub(crate) fn status_in(response: &[u8]) -> Option<u16>
 #[derive(Drop)]
 pub(crate) struct Journal {
     is_kept: bool,
+    // The time that the next lines have, in seconds after 1970-01-01T00:00:00Z; none where it is not known.
+    seconds: Option<u64>,
     text: Vec<u8>,
 }
 
@@ -129,6 +167,7 @@ impl Journal {
     pub(crate) fn new(alloc: Global, is_kept: bool) -> Journal {
         Journal {
             is_kept,
+            seconds: None,
             text: Vec::new(alloc),
         }
     }
@@ -140,6 +179,13 @@ impl Journal {
         self.is_kept
     }
 
+    /// Takes the time that the next lines have, in seconds after 1970-01-01T00:00:00Z; none where it is not known.
+    pub(crate) fn set_time(&mut self, seconds: Option<u64>)
+        ensures { self.new ≡ record self.old { seconds = seconds } }
+    {
+        self.seconds = seconds;
+    }
+
     /// Tells of a message that was answered. The line is left out where memory is refused to it.
     pub(crate) fn tell_answered(
         &mut self,
@@ -149,29 +195,30 @@ impl Journal {
         note: Note,
         microseconds: u64,
     )
-        ensures kept { self.new.is_kept ≡ self.old.is_kept }
-        ensures told { (self.new.text.items ≡ self.old.text.items ++ answered_line peer.now message.now note microseconds)
-            ⊎ (self.new.text.items ≡ self.old.text.items) }
+        ensures kept { (self.new.is_kept ≡ self.old.is_kept) × (self.new.seconds ≡ self.old.seconds) }
+        ensures told { ((line : List ℕ) × IsLine self.old.seconds (answered_line peer.now message.now note microseconds) line
+            × (self.new.text.items ≡ self.old.text.items ++ line)) ⊎ (self.new.text.items ≡ self.old.text.items) }
         ensures none { self.old.is_kept ≡ false → self.new.text.items ≡ self.old.text.items }
     {
         if !self.is_kept {
             return;
         }
-        if let Ok(line) = answered_line(alloc, peer, message, note, microseconds) {
+        if let Ok(line) = answered_line(alloc, self.seconds, peer, message, note, microseconds) {
             let _ = self.text.extend_from_slice(&line);
         }
     }
 
     /// Tells of a refusal of what is no message. The line is left out where memory is refused to it.
     pub(crate) fn tell_refused(&mut self, alloc: Global, peer: &str, note: Note)
-        ensures kept { self.new.is_kept ≡ self.old.is_kept }
-        ensures told { (self.new.text.items ≡ self.old.text.items ++ refused_line peer.now note) ⊎ (self.new.text.items ≡ self.old.text.items) }
+        ensures kept { (self.new.is_kept ≡ self.old.is_kept) × (self.new.seconds ≡ self.old.seconds) }
+        ensures told { ((line : List ℕ) × IsLine self.old.seconds (refused_line peer.now note) line
+            × (self.new.text.items ≡ self.old.text.items ++ line)) ⊎ (self.new.text.items ≡ self.old.text.items) }
         ensures none { self.old.is_kept ≡ false → self.new.text.items ≡ self.old.text.items }
     {
         if !self.is_kept {
             return;
         }
-        if let Ok(line) = refused_line(alloc, peer, note) {
+        if let Ok(line) = refused_line(alloc, self.seconds, peer, note) {
             let _ = self.text.extend_from_slice(&line);
         }
     }

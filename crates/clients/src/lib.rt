@@ -7,13 +7,14 @@
 //!
 //! Each client has a place: a [`sessions::Session`] and a socket that does not wait. Each turn of the loop sends what waits to be sent, reads
 //! one piece of each client of which nothing waits, and answers up to 16 messages of all clients as one group of the store. So a client that
-//! sends nothing, or that does not read, holds nobody else.
+//! sends nothing, or that does not read, holds nobody else. Between two turns the store is compacted, where the limits ask for it and its log is long.
 //!
 //! What a turn does to the store and to the sessions is proved over the clauses of `sessions`: no reply is put where it may be sent before its
 //! group's second sync. What a piece does to a session, and what sending does, is proved for any reader and writer. That a socket which is
 //! ready is told, and told again, is the system's, and no contract speaks of it.
 #![tactic(auto)]
 
+mod compacting;
 mod desk;
 mod fault;
 mod journal;
@@ -23,6 +24,6 @@ mod moving;
 mod places;
 mod server;
 
-pub use crate::fault::ClientsFault;
+pub use crate::fault::{BindFault, ClientsFault};
 pub use crate::laws::texts_are_shown;
 pub use crate::server::{Limits, Server};

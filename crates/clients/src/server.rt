@@ -1,13 +1,16 @@
 //! The loop that serves clients.
 
-ghost use Rattle.std.specs.Prelude.{MatchResult};
+ghost use Rattle.std.specs.Prelude.{◌≡◌, None, MatchResult};
 ghost use Rattle.names.specs.declared.format.Rules.{Rules};
-ghost use Rattle.decoded.specs.Standing.{View};
+ghost use Rattle.decoded.specs.Standing.{History, View};
+ghost use Rattle.histories.specs.View.{view};
+ghost use Rattle.durable.specs.Settled.{IsSettledAt};
 ghost use Rattle.api.specs.Answers.{ShowsAt};
 ghost use Rattle.clients.specs.Serving.{HasServedSome, StopsServing, StopsClients};
 
+use crate::compacting::{Compacting, tell_compacted};
 use crate::desk::Desk;
-use crate::fault::ClientsFault;
+use crate::fault::{BindFault, ClientsFault};
 use crate::places::Places;
 use api::ServeFault;
 use device::Device;
@@ -19,7 +22,7 @@ use std::alloc::Global;
 use std::io;
 use std::io::ErrorKind;
 use std::net::{Net, SocketAddr};
-use std::time::{Clock, Duration, Instant};
+use std::time::{Clock, Duration, Instant, SystemTime, UNIX_EPOCH};
 
 // The listening socket's token. A client's is its place.
 const LISTENER: Token = Token(usize::MAX);
@@ -49,11 +52,20 @@ pub struct Limits {
     pub idle: Option<Duration>,
     /// Whether a line is told of each message that is answered.
     pub is_logged: bool,
+    /// The store is compacted between two turns where its log is this many times as long as its pages, and at least 8 MiB; never where it is `None`.
+    pub compact_at: Option<u16>,
 }
 
 // How long the system is asked to wait, in milliseconds: not at all where more can be done at once.
 fn wait_for(is_busy: bool) -> u64 {
     if is_busy { 0 } else { WAIT_MILLISECONDS }
+}
+
+// The time, in seconds after 1970-01-01T00:00:00Z; none where the system does not tell it.
+fn seconds_of<C: Clock>(clock: &C) -> Option<u64> {
+    let now = SystemTime::now(clock).ok()?;
+    let passed = now.duration_since(UNIX_EPOCH).ok()?;
+    Some(passed.as_secs())
 }
 
 /// A listening socket and the clients that came by it.
@@ -74,13 +86,13 @@ impl Server {
     ///
     /// # Errors
     ///
-    /// `Network` where the address cannot be listened on; out of memory.
+    /// `System` where the system refuses the address, or to tell what is ready; out of memory.
     pub fn bind<N: Net>(
         net: &N,
         alloc: Global,
         address: SocketAddr,
         limits: Limits,
-    ) -> Result<Server, ClientsFault> {
+    ) -> Result<Server, BindFault> {
         let mut listener = TcpListener::bind(net, address)?;
         let poll = Poll::new(net)?;
         poll.registry()
@@ -117,6 +129,13 @@ impl Server {
             }
         }
         Instant::now(clock)
+    }
+
+    // The lines of the log that this turn tells have the time that it is now.
+    fn note_time<C: Clock>(&mut self, clock: &C) {
+        if self.desk.journal.is_kept() {
+            self.desk.journal.set_time(seconds_of(clock));
+        }
     }
 
     // Whether one more connection may be accepted.
@@ -250,11 +269,12 @@ impl Server {
     ///
     /// # Errors
     ///
-    /// `Store` where the store failed: those whose messages are not answered are told so, for a second at most. `Network` where the system no
-    /// longer tells what is ready, or what time it is.
+    /// `Store` where the store failed, and `Compaction` where it failed while it was compacted: those whose messages are not answered are told so, for a
+    /// second at most. `Network` where the system no longer tells what is ready, or what time it is.
     ///
-    /// Where the limits say so, a line is written to `log` for each message that is answered, after its reply was put to what is sent. A log that
-    /// cannot be written loses lines, and stops nothing.
+    /// Where the limits say so, a line is written to `log` for each message that is answered, after its reply was put to what is sent. It begins with the time
+    /// at which the turn began that answered the message. Where the limits say so, the store is compacted between two turns, and a line is written of each
+    /// compaction. All clients wait meanwhile. A log that cannot be written loses lines, and stops nothing.
     pub fn run<C: Clock, D: Device, L: Output>(
         &mut self,
         clock: &C,
@@ -262,10 +282,15 @@ impl Server {
         store: &mut Store<D>,
         log: &mut L,
     ) -> Result<(), ClientsFault>
-        ensures served { (rules : Rules) (v : View) → ShowsAt rules store.old v → MatchResult result
+        // Without a compaction this holds of every view that the store shows, whatever its device keeps.
+        ensures served { self.old.limits.compact_at ≡ None → (rules : Rules) (v : View) → ShowsAt rules store.old v → MatchResult result
             (λ _. HasServedSome rules store.old store.new v)
             (StopsClients rules store.old store.new v) }
+        ensures settled { (rules : Rules) (h : History) → IsSettledAt rules store.old h → MatchResult result
+            (λ _. HasServedSome rules store.old store.new (view rules h))
+            (StopsClients rules store.old store.new (view rules h)) }
     {
+        let mut compacting = Compacting::new(self.limits.compact_at);
         let mut wait = 0;
         for _ in 0..u64::MAX {
             if !self.has_left() && self.places.is_empty() {
@@ -274,16 +299,29 @@ impl Server {
             let Ok(now) = self.look(clock, wait) else {
                 return Err(ClientsFault::Network);
             };
+            self.note_time(clock);
             let is_asked = self.accept(alloc, now);
             let turned = self.turn(clock, alloc, now, store);
             self.desk.journal.write_to(alloc, log);
-            match turned {
-                Ok(is_busy) => wait = wait_for(is_asked | is_busy),
+            let is_busy = match turned {
+                Ok(is_busy) => is_busy,
                 Err(fault) => {
                     self.send_last(clock, alloc);
                     return Err(ClientsFault::Store(fault));
                 }
+            };
+            let compacted = compacting.compact(alloc, store);
+            match compacted {
+                Ok(generation) => tell_compacted(alloc, generation, log),
+                Err(fault) => {
+                    // The store has stopped: this turn tells each client with a message so.
+                    let _ = self.turn(clock, alloc, now, store);
+                    self.desk.journal.write_to(alloc, log);
+                    self.send_last(clock, alloc);
+                    return Err(ClientsFault::Compaction(fault));
+                }
             }
+            wait = wait_for(is_asked | is_busy);
         }
         Ok(())
     }

@@ -1,5 +1,5 @@
 -- What a command that failed left of the device behind its file.
-use Rattle.std.proofs.Common.{arith, ◌≡◌, ◌≢◌, sym, subst, refl, ◌⊎◌, inl, inr, ⊎_elim, ℕ, List, [], ◌++◌, Result, Ok, Err, IfErr, OnErr, IsErrOf}
+use Rattle.std.proofs.Common.{arith, ◌≡◌, ◌≢◌, sym, subst, refl, ◌⊎◌, inl, inr, ⊎_elim, ℕ, List, [], ◌++◌, Result, Ok, Err, IfErr, OnOk, OnErr, IsErrOf}
 use Rattle.std.proofs.lemmas.List.{append-nil}
 use Rattle.device.specs.declared.device.Device.{Ghosts}
 use Rattle.device.specs.Disk.{Disk, LeavesOnly}
@@ -29,7 +29,7 @@ use Rattle.clients.proofs.Served.{served_none, served_then, stops_after}
 use Rattle.store.specs.Upkeep.{KeepsHistory, IsUpgraded, IsEither}
 use Rattle.store.proofs.Whole.{found_kept}
 use Rattle.gated.specs.Doing.{FoundWhole, HasServedAll, IsOpened, UpgradedStore, WroteAnew}
-use Rattle.gated.specs.Left.{HasLeft, HasServedPart, HasServedUpTo, WasGivenBack}
+use Rattle.gated.specs.Left.{HasLeft, HasServedPart, HasServedUpTo, HasServedUntil, WasGivenBack}
 use Rattle.gated.proofs.Served.{read_some, wrote_some, some_after}
 
 -- what holds of both stands where there is an error
@@ -37,10 +37,20 @@ pub on_err : {T E P : Type 0} (r : Result T E) → P → OnErr r P
 on_err (Ok x) holds = tt
 on_err (Err e) holds = holds
 
+-- where there is none
+pub on_ok : {T E P : Type 0} (r : Result T E) → P → OnOk r P
+on_ok (Ok x) holds = holds
+on_ok (Err e) holds = tt
+
 -- and what holds of each of its kind
 pub on_each : {T E : Type 0} {P : E → Type 0} (r : Result T E) → ((e : E) → P e) → IfErr r P
 on_each (Ok x) holds = tt
 on_each (Err e) holds = holds e
+
+-- and what holds of more where it holds of less
+pub until_from : {T E : Type 0} (A B : Type 0) (r : Result T E) → OnErr r A → OnErr r (A ⊎ B)
+until_from A B (Ok x) holds = tt
+until_from A B (Err e) holds = inl holds
 
 -- ---- what is left of a history
 
@@ -123,21 +133,22 @@ module _ {D : Type 0} {g : Ghosts D} (rules : Rules) (old new : Store D g) (v : 
   stopped_up_to m n only_now shows r read write device memory never serve_fault.Failed is = inr (failed_at m n (device (inr is)))
 
   -- clients that were served, up to a fault
-  pub clients_up_to : (fault : ClientsFault) → StopsClients rules old new v fault → HasServedUpTo rules old new v
-  clients_up_to clients_fault.Network stops = inl stops
-  clients_up_to clients_fault.Memory stops = inl stops
+  pub clients_up_to : (fault : ClientsFault) → StopsClients rules old new v fault → HasServedUntil rules old new v
+  clients_up_to clients_fault.Network stops = inl (inl stops)
   clients_up_to (clients_fault.Store serve_fault.Read) stops = absurd stops
   clients_up_to (clients_fault.Store serve_fault.Write) stops = absurd stops
-  clients_up_to (clients_fault.Store serve_fault.Device) stops = inr stops
+  clients_up_to (clients_fault.Store serve_fault.Device) stops = inl (inr stops)
   clients_up_to (clients_fault.Store serve_fault.Memory) stops = absurd stops
   clients_up_to (clients_fault.Store (serve_fault.Damaged damage)) stops = absurd stops
-  clients_up_to (clients_fault.Store serve_fault.Failed) stops = inr stops
+  clients_up_to (clients_fault.Store serve_fault.Failed) stops = inl (inr stops)
+  clients_up_to (clients_fault.Compaction fault) stops = inr stops
 
 -- connections, and then one that is served up to a fault
 pub up_to_after : {D : Type 0} {g : Ghosts D} (rules : Rules) (old mid new : Store D g) (v : View) (before : HasServedSome rules old mid v)
     → ((w : View) → ShowsAt rules mid w → HasServedUpTo rules mid new w) → HasServedUpTo rules old new v
 up_to_after rules old mid new v before after =
-    ⊎_elim (λ some. inl (served_then rules old mid new v before some)) (λ failed. inr (stops_after rules old mid new v serve_fault.Device before failed)) (after _ before.store.shows)
+    ⊎_elim (λ some. inl (served_then rules old mid new v before some))
+    (λ failed. inr (stops_after rules old mid new v serve_fault.Device before failed)) (after _ before.store.shows)
 
 -- ---- on the device under a name
 
@@ -174,11 +185,12 @@ module _ {S D : Type 0} (disk : Disk D) (missed : S → List ℕ → Type 0) (op
 
 module _ {S D : Type 0} {g : Ghosts D} (missed : S → List ℕ → Type 0) (opened closed : S → List ℕ → D → Type 0) (storage : S) (name : List ℕ) (first last : Store D g)
     (is : IsOpened opened storage name first) (left : D) (same : left ≡ device_of last) where
-  part_after : ((rules : Rules) (v : View) → ShowsAt rules first v → HasServedUpTo rules first last v) → (rules : Rules) (h : History) → HoldsHistory rules g.disk is.found h
+  part_after : ((rules : Rules) (h : History) → IsSettledAt rules first h → HasServedUntil rules first last (view rules h)) → (rules : Rules) (h : History) → HoldsHistory rules g.disk is.found h
       → HasServedPart rules g.disk is.found left h
   part_after served rules h holds =
       let settled : IsSettledAt rules first h = is.settled rules h holds in
       ⊎_elim
+      (⊎_elim
       (λ some. all_part rules g.disk is.found left h (some_after opened storage name first last is left same rules h holds settled some))
       (λ failed.
       let at = failed.store.left h refl settled in
@@ -194,10 +206,28 @@ module _ {S D : Type 0} {g : Ghosts D} (missed : S → List ℕ → Type 0) (ope
         left = at.left;
         moments = followed_by g.disk is.found (device_of first) (device_of last) (g.disk.left is.found) (IsFound rules h [] _) (IsFound rules h [] _)
             (is.moments holds.keeps) (failed.store.moments h refl settled) (λ c l. found_none rules h _ c (holds.left c l)) (λ c found. found);
+      })))
+      (λ stopped.
+      let at = stopped.left h refl settled in
+      let same_list : stopped.answered ≡ stopped.answered ++ [] = sym (append-nil stopped.answered) in
+      let ws : List Answered → List Write = λ answered. all_writes rules (view rules h) answered in
+      let At : D → Type 0 = λ d. HasServedPart rules g.disk is.found d h in
+      subst At (sym same) (record {
+        answered = stopped.answered;
+        failing = [];
+        few = omega arith;
+        specified = subst (AreRead rules.format) same_list stopped.specified;
+        admitted = subst (λ a. AreAdmitted rules (view rules h) (ws a)) same_list stopped.admitted;
+        keeps = at.keeps;
+        found = subst (λ a. IsFound rules h (ws stopped.answered) (ws a) (g.disk.content (device_of last))) same_list at.read;
+        left = λ c l. subst (λ a. IsFound rules h (ws stopped.answered) (ws a) c) same_list (at.left c l);
+        moments = subst (λ a. LeavesOnly g.disk is.found (device_of last) (IsFound rules h [] (ws a))) same_list
+            (followed_by g.disk is.found (device_of first) (device_of last) (g.disk.left is.found) (IsFound rules h [] (ws stopped.answered)) (IsFound rules h [] (ws stopped.answered))
+            (is.moments holds.keeps) (stopped.moments h refl settled) (λ c l. found_none rules h _ c (holds.left c l)) (λ c found. found));
       }))
-      (served rules (view rules h) (λ working. settled_serves rules first h settled))
+      (served rules h settled)
 
-  pub left_file : closed storage name left → {T E : Type 0} (r : Result T E) → ((rules : Rules) (v : View) → ShowsAt rules first v → OnErr r (HasServedUpTo rules first last v))
+  pub left_file : closed storage name left → {T E : Type 0} (r : Result T E) → ((rules : Rules) (h : History) → IsSettledAt rules first h → OnErr r (HasServedUntil rules first last (view rules h)))
       → OnErr r (HasLeft g.disk missed opened closed storage name (λ rules old new h. HasServedPart rules g.disk old new h))
   left_file was_closed (Ok x) served = tt
   left_file was_closed (Err e) served = inr (record {

@@ -5,4 +5,3 @@ pub mod Showing
 pub mod Served
 pub mod Leaving
 pub mod Watching
-pub mod Unless

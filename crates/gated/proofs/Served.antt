@@ -49,16 +49,16 @@ some_after {D = D} {g = g} opened storage name first last is left same rules h h
     })
 
 served_all : {S D : Type 0} {g : Ghosts D} (opened : S → List ℕ → D → Type 0) (storage : S) (name : List ℕ) (first last : Store D g) (is : IsOpened opened storage name first)
-    → ((rules : Rules) (v : View) → ShowsAt rules first v → HasServedSome rules first last v) → (left : D) → left ≡ device_of last
+    → ((rules : Rules) (h : History) → IsSettledAt rules first h → HasServedSome rules first last (view rules h)) → (left : D) → left ≡ device_of last
     → (rules : Rules) (h : History) → HoldsHistory rules g.disk is.found h → HasServedAll rules g.disk is.found left h
 served_all opened storage name first last is served left same rules h holds =
     let settled : IsSettledAt rules first h = is.settled rules h holds in
-    some_after opened storage name first last is left same rules h holds settled (served rules (view rules h) (λ working. settled_serves rules first h settled))
+    some_after opened storage name first last is left same rules h holds settled (served rules h settled)
 
 -- where they were served
 pub served_file : {S D : Type 0} {g : Ghosts D} (made opened closed : S → List ℕ → D → Type 0) (storage : S) (name : List ℕ) (first last : Store D g) (is : IsOpened opened storage name first)
     (left : D) → left ≡ device_of last → closed storage name left → {T E : Type 0} (r : Result T E)
-    → ((rules : Rules) (v : View) → ShowsAt rules first v → OnOk r (HasServedSome rules first last v)) → OnOk r (ServedAll g.disk made opened closed storage name)
+    → ((rules : Rules) (h : History) → IsSettledAt rules first h → OnOk r (HasServedSome rules first last (view rules h))) → OnOk r (ServedAll g.disk made opened closed storage name)
 served_file made opened closed storage name first last is left same was_closed (Ok x) served = record {
   found = is.found;
   left = left;

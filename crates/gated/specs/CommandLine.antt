@@ -1,5 +1,5 @@
 -- The command line, and what its words ask for.
-use Rattle.std.specs.Prelude.{◌≡◌, ℕ, ◌<◌, ◌^◌, Bool, true, false, List, [], ◌∷◌, Option, None, Some, codes}
+use Rattle.std.specs.Prelude.{◌≡◌, ◌⊎◌, ◌||◌, is_some, ℕ, ◌<◌, ◌^◌, Bool, true, false, List, [], ◌∷◌, Option, None, Some, codes}
 use Rattle.std.specs.Str.Parse.{IsNumeral, digits_value, without_leading_plus}
 use Rattle.clap.specs.Words.{App, Row, Rule, Shape, Text, first_of, new_rule, one_of, subcommand_of}
 use Rattle.clap.specs.Simple.{new_shape}
@@ -25,9 +25,9 @@ option_rule name = record (new_rule name) { long = Some name; value_names = 1; a
 abbrev pub listen_rule : Rule
 listen_rule = record (option_rule (codes "listen")) { required = true }
 
--- `--conns N`: 1 to 65535. It is required unless another option is there, which `is_free` says, and the line's code says which.
+-- `--conns N`: 1 to 65535
 abbrev pub conns_rule : Rule
-conns_rule = record (option_rule (codes "conns")) { parser = Some (parser.Unsigned 1 65535); is_free = false }
+conns_rule = record (option_rule (codes "conns")) { parser = Some (parser.Unsigned 1 65535) }
 
 -- `--at-once M`: 1 to 1024
 abbrev pub at_once_rule : Rule
@@ -37,9 +37,13 @@ at_once_rule = record (option_rule (codes "at-once")) { parser = Some (parser.Un
 abbrev pub idle_rule : Rule
 idle_rule = record (option_rule (codes "idle")) { defaults = codes "60" ∷ []; parser = Some (parser.Unsigned 0 86400) }
 
--- `--log`, a flag. It needs another option, which `is_free` says, and the line's code says which.
+-- `--log`, a flag
 abbrev pub log_rule : Rule
-log_rule = record (new_rule (codes "log")) { long = Some (codes "log"); action = Some SetTrue; is_free = false }
+log_rule = record (new_rule (codes "log")) { long = Some (codes "log"); action = Some SetTrue }
+
+-- `--compact-at N`: 1 to 1000
+abbrev pub compact_at_rule : Rule
+compact_at_rule = record (option_rule (codes "compact-at")) { parser = Some (parser.Unsigned 1 1000) }
 
 -- `--format N`: 1 or 2, and 2 where it is left out
 abbrev pub format_rule : Rule
@@ -53,7 +57,7 @@ abbrev pub create_shape : Shape
 create_shape = record (new_shape (codes "create")) { rules = file_rule ∷ format_rule ∷ [] }
 
 abbrev pub serve_shape : Shape
-serve_shape = record (new_shape (codes "serve")) { rules = file_rule ∷ listen_rule ∷ conns_rule ∷ at_once_rule ∷ idle_rule ∷ log_rule ∷ [] }
+serve_shape = record (new_shape (codes "serve")) { rules = file_rule ∷ listen_rule ∷ conns_rule ∷ at_once_rule ∷ idle_rule ∷ log_rule ∷ compact_at_rule ∷ [] }
 
 -- `gated COMMAND FILE`, where the command is replay, compact, upgrade or check, `gated create FILE OPTION` and `gated serve FILE OPTION..`; `gated` alone is refused
 unfoldable pub gated_line : App
@@ -78,10 +82,23 @@ abbrev pub MayHaveNumber : Text → List Row → Option ℕ → Type 0
 MayHaveNumber name rows None = HasNoNumber name rows
 MayHaveNumber name rows (Some n) = HasNumber name rows n
 
--- Connections are served at once where the rows have `--at-once`, of as many in all as `--conns` says, and else one by one.
+-- Connections are served at once where the rows have `--at-once`, of as many in all as `--conns` says; where they have `--conns` alone one by one, so many in
+-- all; and where they have neither, 256 at once, of any number in all.
 abbrev pub IsServedAs : List Row → Serving → Type 0
 IsServedAs rows (OneByOne connections) = HasNoNumber (codes "at-once") rows × HasNumber (codes "conns") rows connections
-IsServedAs rows (AtOnce at_once connections) = HasNumber (codes "at-once") rows at_once × MayHaveNumber (codes "conns") rows connections
+IsServedAs rows (AtOnce at_once connections compact_at) =
+    (HasNumber (codes "at-once") rows at_once × MayHaveNumber (codes "conns") rows connections)
+    ⊎ (HasNoNumber (codes "at-once") rows × HasNoNumber (codes "conns") rows × (at_once ≡ 256) × (connections ≡ None))
+
+-- Messages are told of in a log of connections that are served at once, and of no others.
+abbrev pub MayBeLogged : Serving → Bool → Type 0
+MayBeLogged (OneByOne connections) is_logged = is_logged ≡ false
+MayBeLogged (AtOnce at_once connections compact_at) is_logged = Unit {0}
+
+-- when a store is compacted while connections are served so: never where they are served one by one
+abbrev pub compacted_at : Serving → Option ℕ
+compacted_at (OneByOne connections) = None
+compacted_at (AtOnce at_once connections times) = times
 
 -- whether an option without a value is there, as its row says
 pub record IsFlag (name : Text) (rows : List Row) (is_there : Bool) : Type 0 where
@@ -96,7 +113,8 @@ IsAsked name rows (Create file format) =
 IsAsked name rows (Replay file) = (name ≡ codes "replay") × (first_of (codes "file") rows ≡ Some file.now)
 IsAsked name rows (Serve file address serving idle_seconds is_logged) =
     (name ≡ codes "serve") × (first_of (codes "file") rows ≡ Some file.now) × (first_of (codes "listen") rows ≡ Some address.now)
-    × IsServedAs rows serving × HasNumber (codes "idle") rows idle_seconds × IsFlag (codes "log") rows is_logged
+    × IsServedAs rows serving × HasNumber (codes "idle") rows idle_seconds × IsFlag (codes "log") rows is_logged × MayBeLogged serving is_logged
+    × MayHaveNumber (codes "compact-at") rows (compacted_at serving)
 IsAsked name rows (Compact file) = (name ≡ codes "compact") × (first_of (codes "file") rows ≡ Some file.now)
 IsAsked name rows (Upgrade file) = (name ≡ codes "upgrade") × (first_of (codes "file") rows ≡ Some file.now)
 IsAsked name rows (Check file) = (name ≡ codes "check") × (first_of (codes "file") rows ≡ Some file.now)
@@ -114,14 +132,23 @@ is_check (Compact file) = false
 is_check (Upgrade file) = false
 is_check (Check file) = true
 
--- Whether messages are told of in a log.
+-- Whether something is told of in a log: messages, or compactions.
 abbrev pub is_logged : Verb → Bool
 is_logged (Create file format) = false
 is_logged (Replay file) = false
-is_logged (Serve file address serving idle_seconds told) = told
+is_logged (Serve file address serving idle_seconds told) = told || is_some (compacted_at serving)
 is_logged (Compact file) = false
 is_logged (Upgrade file) = false
 is_logged (Check file) = false
+
+-- a verb's address, if it has one
+abbrev pub address_of : Verb → Option Text
+address_of (Create file format) = None
+address_of (Replay file) = None
+address_of (Serve file address serving idle_seconds is_logged) = Some address.now
+address_of (Compact file) = None
+address_of (Upgrade file) = None
+address_of (Check file) = None
 
 -- a verb's file
 abbrev pub file_of : Verb → Text

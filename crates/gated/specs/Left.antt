@@ -15,7 +15,7 @@ use Rattle.durable.specs.Ready.{HoldsHistory}
 use Rattle.durable.specs.Settled.{IsFound}
 use Rattle.api.specs.Answers.{Answered, AreRead, all_writes}
 use Rattle.api.specs.Serving.{Exchanged}
-use Rattle.clients.specs.Serving.{HasServedSome, HasFailedAt}
+use Rattle.clients.specs.Serving.{HasServedSome, HasFailedAt, HasStoppedBetween}
 use Rattle.store.specs.Upkeep.{KeepsHistory, IsEither}
 use Rattle.store.specs.Whole.{HasEndedEarly, IsKept}
 use Rattle.gated.specs.declared.command.Verb.{Verb}
@@ -28,6 +28,10 @@ use Rattle.gated.specs.declared.status.Status.TheVariants as status
 -- A store served messages up to a fault: they were answered, and perhaps the device failed at others.
 abbrev pub HasServedUpTo : {D : Type 0} {g : Ghosts D} → Rules → (old new : Store D g) → View → Type 0
 HasServedUpTo rules old new v = HasServedSome rules old new v ⊎ HasFailedAt rules old new v
+
+-- The same of clients at once: perhaps the device failed in a compaction between them.
+abbrev pub HasServedUntil : {D : Type 0} {g : Ghosts D} → Rules → (old new : Store D g) → View → Type 0
+HasServedUntil rules old new v = HasServedUpTo rules old new v ⊎ HasStoppedBetween rules old new v
 
 -- Messages were answered, and perhaps the device failed at others, which were to stand in one record. A reader of the device finds the history, then every
 -- write of the answered, and perhaps some of the others, after a crash and without one. Each of these writes was admitted by the policies just before it; and at

@@ -1,6 +1,7 @@
 pub mod Status
 pub mod Problem
 pub mod CommandLine
+pub mod Opening
 pub mod Doing
 pub mod Left
 pub mod Telling

@@ -1,8 +1,13 @@
 -- What the program tells of a problem, and how it then ends.
-use Rattle.std.specs.Prelude.{◌≡◌, ℕ, ◌⊎◌, List, [], ◌++◌, codes}
+use Rattle.std.specs.Prelude.{◌≡◌, ℕ, ℤ, ◌⊎◌, List, [], ◌++◌, Option, None, Some, codes}
+use Rattle.std.specs.IoError.{error_kind, raw_os_error}
+use Rattle.std.specs.Option.{option_map_or}
+use Rattle.std.specs.declared.io.ErrorKind.{ErrorKind}
 use Rattle.objects.specs.Failing.{HasGrown}
 use Rattle.api.specs.declared.fault.ServeFault as serve
 use Rattle.api.specs.declared.fault.ServeFault.TheVariants as serve_fault
+use Rattle.clients.specs.declared.fault.BindFault as bind
+use Rattle.clients.specs.declared.fault.BindFault.TheVariants as bind_fault
 use Rattle.clients.specs.declared.fault.ClientsFault as clients
 use Rattle.clients.specs.declared.fault.ClientsFault.TheVariants as clients_fault
 use Rattle.device.specs.declared.file_device.CreateFault as file_create
@@ -17,12 +22,17 @@ use Rattle.durable.specs.declared.upgraded.UpgradeFault.TheVariants as upgrade_f
 use Rattle.durable.specs.declared.new_store.CreateFault as store_create
 use Rattle.durable.specs.declared.new_store.CreateFault.TheVariants as store_create_fault
 use Rattle.httpmsg.specs.Flow.{TookSome}
+use Rattle.store.specs.declared.cause.Cause.{Cause}
 use Rattle.store.specs.declared.fault.AnswerFault as answer
 use Rattle.store.specs.declared.fault.AnswerFault.TheVariants as answer_fault
+use Rattle.store.specs.Cause as told
+use Rattle.gated.specs.declared.command.Verb.{Verb}
 use Rattle.gated.specs.declared.problem.Problem.{Problem}
 use Rattle.gated.specs.declared.problem.Problem.TheVariants as problem
+use Rattle.gated.specs.declared.problem.Reason.{Reason}
 use Rattle.gated.specs.declared.status.Status.{Status}
 use Rattle.gated.specs.declared.status.Status.TheVariants as status
+use Rattle.gated.specs.CommandLine.{address_of, file_of}
 
 -- what is told of it: in its line on standard error after the program's name, and of damage that a check finds in a line of the output
 abbrev pub text_of : Problem → List ℕ
@@ -40,11 +50,21 @@ text_of problem.RevisionExhausted = codes "revision exhausted"
 text_of problem.AlreadyUpgraded = codes "already upgraded"
 text_of problem.DeviceFailed = codes "device failed"
 text_of problem.StreamFailed = codes "input or output failed"
+text_of (problem.ListenFailed cause) = codes "input or output failed"
 text_of problem.OutOfMemory = codes "out of memory"
 
 -- the line
 abbrev pub line_of : Problem → List ℕ
 line_of p = codes "gated: " ++ text_of p ++ codes "\n"
+
+-- the line of why a file or an address of this name could not be had
+abbrev pub cause_line : List ℕ → Cause → List ℕ
+cause_line name cause = codes "gated: " ++ (name ++ (codes ": " ++ (told.text_of cause ++ codes "\n")))
+
+-- the line of a reason, if there is one
+abbrev pub reason_line : Option Reason → List ℕ
+reason_line None = []
+reason_line (Some r) = cause_line r.name.now r.cause
 
 -- the bytes were taken, all of them unless the output failed
 pub record TellsAll {E : Type 0} (took : E → E → List ℕ → Type 0) (failures : E → ℕ) (old new : E) (bytes : List ℕ) : Type 0 where
@@ -62,16 +82,33 @@ status_of problem.RevisionExhausted = status.NoStore
 status_of problem.AlreadyUpgraded = status.NoStore
 status_of problem.DeviceFailed = status.Failed
 status_of problem.StreamFailed = status.Failed
+status_of (problem.ListenFailed cause) = status.Failed
 status_of problem.OutOfMemory = status.OutOfMemory
 
--- What is told of errors where the program ends so: nothing on success, some text where the words were not understood, and else the line
--- of a problem that ends so.
-abbrev pub Tells : {E : Type 0} (took : E → E → List ℕ → Type 0) (failures : E → ℕ) (old new : E) → Status → Type 0
-Tells took failures old new status.Success = new ≡ old
-Tells took failures old new status.Usage = (text : List ℕ) × TookSome took old new text
-Tells took failures old new status.NoStore = (p : Problem) × (status_of p ≡ status.NoStore) × TellsAll took failures old new (line_of p)
-Tells took failures old new status.Failed = (p : Problem) × (status_of p ≡ status.Failed) × TellsAll took failures old new (line_of p)
-Tells took failures old new status.OutOfMemory = (p : Problem) × (status_of p ≡ status.OutOfMemory) × TellsAll took failures old new (line_of p)
+-- What may stand behind the line of a problem where there is no verb: nothing.
+abbrev pub SaysNoMore : Problem → List ℕ → Type 0
+SaysNoMore p more = more ≡ []
+
+-- What stands behind the line of a problem of a verb: where a device failed, what the storage knows of why, with the verb's file; where the address is not listened on,
+-- why, with the verb's address; and nothing else.
+abbrev pub SaysWhy : {S : Type 0} (caused : S → List ℕ → Option Cause → Type 0) → S → Verb → Problem → List ℕ → Type 0
+SaysWhy caused storage v problem.DeviceFailed more =
+    (known : Option Cause) × caused storage (file_of v) known × (more ≡ option_map_or (cause_line (file_of v)) known [])
+SaysWhy caused storage v (problem.ListenFailed cause) more = more ≡ option_map_or (λ address. cause_line address cause) (address_of v) []
+SaysWhy caused storage v other more = more ≡ []
+
+-- a problem that ends so is told in its line, and behind it what may stand there
+abbrev pub TellsOf : {E : Type 0} (IsMore : Problem → List ℕ → Type 0) (took : E → E → List ℕ → Type 0) (failures : E → ℕ) (old new : E) → Status → Type 0
+TellsOf IsMore took failures old new s =
+    (p : Problem) × (more : List ℕ) × (status_of p ≡ s) × IsMore p more × TellsAll took failures old new (line_of p ++ more)
+
+-- What is told of errors where the program ends so: nothing on success, some text where the words were not understood, and else a problem that ends so.
+abbrev pub Tells : {E : Type 0} (IsMore : Problem → List ℕ → Type 0) (took : E → E → List ℕ → Type 0) (failures : E → ℕ) (old new : E) → Status → Type 0
+Tells IsMore took failures old new status.Success = new ≡ old
+Tells IsMore took failures old new status.Usage = (text : List ℕ) × TookSome took old new text
+Tells IsMore took failures old new status.NoStore = TellsOf IsMore took failures old new status.NoStore
+Tells IsMore took failures old new status.Failed = TellsOf IsMore took failures old new status.Failed
+Tells IsMore took failures old new status.OutOfMemory = TellsOf IsMore took failures old new status.OutOfMemory
 
 -- ---- the problem that a fault is
 
@@ -117,7 +154,19 @@ abbrev pub of_answer : answer.AnswerFault → Problem
 of_answer (answer_fault.Opening f) = of_store f
 of_answer (answer_fault.Serving f) = of_serve f
 
+-- by the system's error, where it is known what that says
+abbrev pub of_cause : Option Cause → Problem
+of_cause None = problem.StreamFailed
+of_cause (Some cause) = problem.ListenFailed cause
+
+abbrev pub of_listening : Option ℤ → ErrorKind → Problem
+of_listening code kind = of_cause (told.of_error code kind)
+
+abbrev pub of_bind : bind.BindFault → Problem
+of_bind (bind_fault.System error) = of_listening (raw_os_error error) (error_kind error)
+of_bind bind_fault.Memory = problem.OutOfMemory
+
 abbrev pub of_clients : clients.ClientsFault → Problem
 of_clients clients_fault.Network = problem.StreamFailed
-of_clients clients_fault.Memory = problem.OutOfMemory
 of_clients (clients_fault.Store f) = of_serve f
+of_clients (clients_fault.Compaction f) = of_store f

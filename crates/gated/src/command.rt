@@ -1,10 +1,10 @@
 //! The command line.
 
-ghost use Rattle.std.specs.Prelude.{◌≡◌, false, List, [], map, Some, codes, Contains, IfOk, IfSome};
+ghost use Rattle.std.specs.Prelude.{◌≡◌, true, false, List, [], map, option_map, Some, codes, Contains, IfOk, IfSome};
 ghost use Rattle.clap.specs.Words.{Row, Text, app_of, found_of, rows_of, rule_of, subcommand_rows_of, with_subcommand};
 ghost use Rattle.clap.specs.declared.builder.command.Command.TheViews.{out-Command};
 ghost use Rattle.names.specs.Format.{number_of};
-ghost use Rattle.gated.specs.CommandLine.{AskFor, HasNumber, IsAsked, IsServedAs, at_once_rule, conns_rule, create_shape, file_of, gated_line, log_rule, option_rule, over_file, serve_shape};
+ghost use Rattle.gated.specs.CommandLine.{AskFor, HasNumber, IsAsked, IsServedAs, MayBeLogged, MayHaveNumber, address_of, at_once_rule, compact_at_rule, compacted_at, conns_rule, create_shape, file_of, gated_line, log_rule, option_rule, over_file, serve_shape};
 
 use clap::builder::ValueParser;
 use clap::error::ErrorKind;
@@ -13,6 +13,12 @@ use std::alloc::{AllocError, Global};
 use std::convert::AsStr;
 use store::Format;
 
+/// The program's version.
+pub const VERSION: &str = "0.27.0";
+
+// How many connections are served at once where the words say neither this nor how many there are in all.
+const DEFAULT_AT_ONCE: u16 = 256;
+
 /// How connections are served.
 #[derive(Clone, Copy)]
 pub enum Serving {
@@ -20,10 +26,11 @@ pub enum Serving {
     OneByOne {
         connections: u16,
     },
-    /// So many at once, of this many in all, or of any number.
+    /// So many at once, of this many in all, or of any number. Between them the store is compacted where its log is so many times as long as its pages, or never.
     AtOnce {
         at_once: u16,
         connections: Option<u16>,
+        compact_at: Option<u16>,
     },
 }
 
@@ -62,6 +69,29 @@ pub enum Verb<'a> {
     },
 }
 
+impl<'a> Verb<'a> {
+    /// Its file.
+    pub fn file(self) -> &'a str
+        ensures { result.now ≡ file_of self.entry }
+    {
+        match self {
+            Verb::Create { file, .. } | Verb::Serve { file, .. } => file,
+            Verb::Replay { file } | Verb::Compact { file } => file,
+            Verb::Upgrade { file } | Verb::Check { file } => file,
+        }
+    }
+
+    /// The address that it listens on, if it does.
+    pub fn address(self) -> Option<&'a str>
+        ensures { option_map (λ s. s.now) result ≡ address_of self.entry }
+    {
+        match self {
+            Verb::Serve { address, .. } => Some(address),
+            _ => None,
+        }
+    }
+}
+
 // A subcommand that takes a file, whose help ends in an example.
 fn over_file<'a>(
     alloc: Global,
@@ -95,19 +125,18 @@ fn option<'a>(alloc: Global, name: &'a str, value: &'a str, help: &'a str) -> Ar
         .action(ArgAction::Set)
 }
 
-// `--conns`, which may be left out beside `--at-once`.
-fn conns_option<'a>(alloc: Global) -> Result<Arg<'a>, AllocError>
-    ensures rule { IfOk result (λ arg. rule_of arg ≡ conns_rule) }
-    ensures local { IfOk result (λ arg. arg.global ≡ false) }
+// `--conns`.
+fn conns_option<'a>(alloc: Global) -> Arg<'a>
+    ensures rule { rule_of result ≡ conns_rule }
+    ensures local { result.global ≡ false }
 {
-    let arg = option(
+    option(
         alloc,
         "conns",
         "N",
-        "How many connections are served; with --at-once: any number if it is left out",
+        "How many connections are served, one after the other without --at-once; any number if it is left out",
     )
-    .value_parser(ValueParser::unsigned(1, 65535));
-    arg.required_unless_present("at-once")
+    .value_parser(ValueParser::unsigned(1, 65535))
 }
 
 // `--at-once`.
@@ -119,23 +148,36 @@ fn at_once_option<'a>(alloc: Global) -> Arg<'a>
         alloc,
         "at-once",
         "M",
-        "How many connections are served at once; one after the other if it is left out",
+        "How many connections are served at once; 256 if it and --conns are left out",
     )
     .value_parser(ValueParser::unsigned(1, 1024))
 }
 
-// `--log`, which needs `--at-once`.
-fn log_option<'a>(alloc: Global) -> Result<Arg<'a>, AllocError>
-    ensures rule { IfOk result (λ arg. rule_of arg ≡ log_rule) }
-    ensures local { IfOk result (λ arg. arg.global ≡ false) }
+// `--log`.
+fn log_option<'a>(alloc: Global) -> Arg<'a>
+    ensures rule { rule_of result ≡ log_rule }
+    ensures local { result.global ≡ false }
 {
-    let arg = Arg::new(alloc, "log")
+    Arg::new(alloc, "log")
         .long("log")
         .help(
-            "Tells of each message on standard error: peer, method, path, status, bytes, microseconds",
+            "Tells of each message on standard error: time, peer, method, path, status, bytes, microseconds",
         )
-        .action(ArgAction::SetTrue);
-    arg.requires_arg("at-once")
+        .action(ArgAction::SetTrue)
+}
+
+// `--compact-at`.
+fn compact_at_option<'a>(alloc: Global) -> Arg<'a>
+    ensures rule { rule_of result ≡ compact_at_rule }
+    ensures local { result.global ≡ false }
+{
+    option(
+        alloc,
+        "compact-at",
+        "N",
+        "Compacts the store while it is served, where its log is N times as long as its pages, and at least 8 MiB",
+    )
+    .value_parser(ValueParser::unsigned(1, 1000))
 }
 
 fn serve_line<'a>(alloc: Global) -> Result<Command<'a>, AllocError>
@@ -145,8 +187,8 @@ fn serve_line<'a>(alloc: Global) -> Result<Command<'a>, AllocError>
     over_file(
         alloc,
         "serve",
-        "Serves connections, one after the other or many at once",
-        "Example: gated serve store.db --listen 127.0.0.1:8080 --at-once 256",
+        "Serves connections, many at once or one after the other",
+        "Example: gated serve store.db --listen 127.0.0.1:8080",
     )?
     .arg(option(
         alloc,
@@ -155,7 +197,7 @@ fn serve_line<'a>(alloc: Global) -> Result<Command<'a>, AllocError>
         "The address that is listened on",
     )
     .required(true))?
-    .arg(conns_option(alloc)?)?
+    .arg(conns_option(alloc))?
     .arg(at_once_option(alloc))?
     .arg(
         option(
@@ -167,7 +209,8 @@ fn serve_line<'a>(alloc: Global) -> Result<Command<'a>, AllocError>
         .default_value("60")
         .value_parser(ValueParser::unsigned(0, 86400)),
     )?
-    .arg(log_option(alloc)?)
+    .arg(log_option(alloc))?
+    .arg(compact_at_option(alloc))
 }
 
 fn create_line<'a>(alloc: Global) -> Result<Command<'a>, AllocError>
@@ -228,7 +271,7 @@ fn line<'a>(alloc: Global) -> Result<Command<'a>, AllocError>
 {
     let alone = Command::new(alloc, "gated")
         .about("A small Kubernetes-style API server over one crash-safe file")
-        .version("0.26.0")
+        .version(VERSION)
         .subcommand_required(true);
     let with_replay = with_over_file(
         alloc,
@@ -260,19 +303,72 @@ fn line<'a>(alloc: Global) -> Result<Command<'a>, AllocError>
     )
 }
 
-// How the arguments of `serve` ask for connections to be served.
-fn serving_of<'a>(matches: &ArgMatches<'a>) -> Option<Serving>
-    ensures { IfSome result (IsServedAs (rows_of (found_of matches.now))) }
+// How the arguments of `serve` ask for connections to be served, where the store is compacted meanwhile, or not, if they are served at once.
+fn serving_of<'a>(matches: &ArgMatches<'a>, compact_at: Option<u16>) -> Serving
+    ensures { IsServedAs (rows_of (found_of matches.now)) result }
 {
     match matches.get_one::<u16>("at-once") {
-        Some(at_once) => Some(Serving::AtOnce {
+        Some(at_once) => Serving::AtOnce {
             at_once,
             connections: matches.get_one::<u16>("conns"),
-        }),
-        None => Some(Serving::OneByOne {
-            connections: matches.get_one::<u16>("conns")?,
-        }),
+            compact_at,
+        },
+        None => match matches.get_one::<u16>("conns") {
+            Some(connections) => Serving::OneByOne { connections },
+            None => Serving::AtOnce {
+                at_once: DEFAULT_AT_ONCE,
+                connections: None,
+                compact_at,
+            },
+        },
     }
+}
+
+// When the arguments of `serve` ask for the store to be compacted.
+fn compact_at_of<'a>(matches: &ArgMatches<'a>) -> Option<u16>
+    ensures { MayHaveNumber (codes "compact-at") (rows_of (found_of matches.now)) result }
+{
+    matches.get_one::<u16>("compact-at")
+}
+
+// Whether a store is compacted as this asks, where connections are served so.
+fn is_compacted_at(serving: Serving, asked: Option<u16>) -> bool
+    ensures { result ≡ true → compacted_at serving ≡ asked }
+{
+    match serving {
+        Serving::OneByOne { .. } => asked.is_none(),
+        Serving::AtOnce { compact_at, .. } => compact_at == asked,
+    }
+}
+
+// Whether messages may be told of in a log where this is asked.
+fn may_be_logged(serving: Serving, is_logged: bool) -> bool
+    ensures { result ≡ true → MayBeLogged serving is_logged }
+{
+    match serving {
+        Serving::OneByOne { .. } => !is_logged,
+        Serving::AtOnce { .. } => true,
+    }
+}
+
+// What the arguments of `serve` ask for; none where they ask for a log, or for compactions, of connections that are served one after the other.
+fn serve_verb<'a>(matches: &ArgMatches<'a>) -> Option<Verb<'a>>
+    ensures { IfSome result (IsAsked (codes "serve") (rows_of (found_of matches.now))) }
+{
+    let file = matches.get_str("file")?;
+    let compact_at = compact_at_of(matches);
+    let serving = serving_of(matches, compact_at);
+    let is_logged = matches.get_flag("log");
+    if !may_be_logged(serving, is_logged) || !is_compacted_at(serving, compact_at) {
+        return None;
+    }
+    Some(Verb::Serve {
+        file,
+        address: matches.get_str("listen")?,
+        serving,
+        idle_seconds: matches.get_one::<u32>("idle")?,
+        is_logged,
+    })
 }
 
 // The format of the store that is to be made.
@@ -297,13 +393,7 @@ fn verb_of<'a>(name: &str, matches: &ArgMatches<'a>) -> Option<Verb<'a>>
             format: format_of(matches)?,
         }),
         "replay" => Some(Verb::Replay { file }),
-        "serve" => Some(Verb::Serve {
-            file,
-            address: matches.get_str("listen")?,
-            serving: serving_of(matches)?,
-            idle_seconds: matches.get_one::<u32>("idle")?,
-            is_logged: matches.get_flag("log"),
-        }),
+        "serve" => serve_verb(matches),
         "compact" => Some(Verb::Compact { file }),
         "upgrade" => Some(Verb::Upgrade { file }),
         "check" => Some(Verb::Check { file }),
@@ -334,6 +424,10 @@ pub fn command<'a, S: AsStr>(alloc: Global, words: &'a [S]) -> Result<Verb<'a>, 
     drop(matches);
     match verb {
         Some(verb) => Ok(verb),
-        None => Err(line.error(ErrorKind::MissingSubcommand, "no command")?),
+        // All else that is no verb was refused by then.
+        None => Err(line.error(
+            ErrorKind::MissingRequiredArgument,
+            "--log and --compact-at need --at-once where --conns is given",
+        )?),
     }
 }

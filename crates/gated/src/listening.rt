@@ -1,19 +1,21 @@
 //! Connections to an address, served one after the other, or many at once.
 
-ghost use Rattle.std.specs.Prelude.{IsErrOf, OnOk, OnErr};
+ghost use Rattle.std.specs.Prelude.{◌≡◌, Err, IsErrOf, OnOk, OnErr};
 ghost use Rattle.names.specs.declared.format.Rules.{Rules};
-ghost use Rattle.decoded.specs.Standing.{View};
+ghost use Rattle.decoded.specs.Standing.{History, View};
+ghost use Rattle.histories.specs.View.{view};
+ghost use Rattle.durable.specs.Settled.{IsSettledAt};
 ghost use Rattle.api.specs.Answers.{ShowsAt};
 ghost use Rattle.clients.specs.Serving.{HasServedSome};
-ghost use Rattle.gated.specs.Left.{HasServedUpTo};
+ghost use Rattle.gated.specs.Left.{HasServedUpTo, HasServedUntil};
 
-use crate::problem::Problem;
+use crate::problem::{Problem, not_listening};
 use clients::{Limits, Server};
 use std::alloc::Global;
 use std::io::Read;
 use std::net::{Net, Shutdown, SocketAddr, TcpListener, TcpStream};
 use std::time::{Clock, Duration};
-use store::{Device, End, Output, ServeFault, Std, Store, serve, write_all};
+use store::{Cause, Device, End, Output, ServeFault, Std, Store, serve, write_all};
 
 // For how many reads, of how many bytes and how long, a connection that ends is read on.
 const DRAIN_READS: u32 = 32;
@@ -93,10 +95,12 @@ fn serve_connections<D: Device>(
 }
 
 // The address that a word says: an IP address and a port.
-fn address_of(address: &str) -> Result<SocketAddr, Problem> {
+fn address_of(address: &str) -> Result<SocketAddr, Problem>
+    ensures { OnErr result (result ≡ Err (Problem.ListenFailed Cause.NotAnAddress)) }
+{
     match address.parse::<SocketAddr>() {
         Ok(address) => Ok(address),
-        Err(_) => Err(Problem::StreamFailed),
+        Err(_) => Err(Problem::ListenFailed(Cause::NotAnAddress)),
     }
 }
 
@@ -148,8 +152,9 @@ pub(crate) fn serve_one_by_one<
     ensures stopped { (rules : Rules) (v : View) → ShowsAt rules store.old v → OnErr result (HasServedUpTo rules store.old store.new v) }
 {
     let address = address_of(address)?;
-    let Ok(listener) = TcpListener::bind(net, address) else {
-        return Err(Problem::StreamFailed);
+    let listener = match TcpListener::bind(net, address) {
+        Ok(listener) => listener,
+        Err(error) => return Err(not_listening(&error)),
     };
     print_ready(alloc, address, listener.local_addr().ok(), output)?;
     serve_connections(alloc, &listener, connections, idle, store)
@@ -165,8 +170,8 @@ pub(crate) fn serve_at_once<D: Device, R: Net + Clock, O: Output, L: Output>(
     output: &mut O,
     log: &mut L,
 ) -> Result<(), Problem>
-    ensures served { (rules : Rules) (v : View) → ShowsAt rules store.old v → OnOk result (HasServedSome rules store.old store.new v) }
-    ensures stopped { (rules : Rules) (v : View) → ShowsAt rules store.old v → OnErr result (HasServedUpTo rules store.old store.new v) }
+    ensures served { (rules : Rules) (h : History) → IsSettledAt rules store.old h → OnOk result (HasServedSome rules store.old store.new (view rules h)) }
+    ensures stopped { (rules : Rules) (h : History) → IsSettledAt rules store.old h → OnErr result (HasServedUntil rules store.old store.new (view rules h)) }
 {
     let address = address_of(address)?;
     let mut server = Server::bind(net, alloc, address, limits)?;

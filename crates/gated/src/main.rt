@@ -3,11 +3,12 @@
 //! ```text
 //! gated create store.db
 //! gated replay store.db < requests.http
-//! gated serve store.db --listen 127.0.0.1:8080 --conns 65535
+//! gated serve store.db --listen 127.0.0.1:8080
 //! ```
 //!
 //! It ends with status 0 on success, 2 for a command line that it does not know, and for help; 3 where there is no store, or a
-//! damaged one; 4 where a device, the input or the output failed; 5 when out of memory. Faults are told on standard error.
+//! damaged one; 4 where a device, the input or the output failed; 5 when out of memory. Faults are told on standard error, with the cause in a second line where
+//! it is known.
 #![tactic(auto)]
 
 mod command;
@@ -43,7 +44,7 @@ fn run(runtime: &HostRuntime) -> Status {
     let mut errors = Std::new(runtime.stderr());
     let _places = match take_places(runtime) {
         Ok(places) => places,
-        Err(problem) => return tell(problem, &mut errors),
+        Err(problem) => return tell(problem, None, &mut errors),
     };
     match words(runtime) {
         Ok(words) => program(
@@ -57,7 +58,7 @@ fn run(runtime: &HostRuntime) -> Status {
             terminal(runtime),
             &mut Std::new(runtime.stderr()),
         ),
-        Err(problem) => tell(problem, &mut errors),
+        Err(problem) => tell(problem, None, &mut errors),
     }
 }
 

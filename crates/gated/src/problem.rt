@@ -1,14 +1,17 @@
 //! Problems of the program, their lines and their statuses.
 
 ghost use Rattle.std.specs.Prelude.{◌≡◌, codes, ◌++◌, OnOk, OnErr};
+ghost use Rattle.std.specs.IoError.{error_kind, raw_os_error};
+ghost use Rattle.std.specs.List.{flat_map};
 ghost use Rattle.gated.specs.Telling.{HasLine};
-ghost use Rattle.gated.specs.Problem.{text_of, line_of, TellsAll, status_of, of_file_create, of_file_open, of_store_create, of_store, of_upgrade, of_serve, of_answer, of_clients};
+ghost use Rattle.gated.specs.Problem.{text_of, line_of, reason_line, TellsAll, status_of, of_file_create, of_file_open, of_store_create, of_store, of_upgrade, of_serve, of_answer, of_listening, of_bind, of_clients};
 ghost use Rattle.httpmsg.specs.Flow.{HasCause, Writes};
 
 use crate::status::Status;
-use clients::ClientsFault;
+use clients::{BindFault, ClientsFault};
+use std::io;
 use store::{
-    AnswerFault, CreateFault, Damage, Fault, FileCreateFault, OpenFault, Output, ServeFault,
+    AnswerFault, Cause, CreateFault, Damage, Fault, FileCreateFault, OpenFault, Output, ServeFault,
     StreamFault, UpgradeFault, write_all,
 };
 
@@ -29,6 +32,8 @@ pub enum Problem {
     DeviceFailed,
     /// The input or the output failed.
     StreamFailed,
+    /// The address is not listened on.
+    ListenFailed(Cause),
     OutOfMemory,
 }
 
@@ -51,7 +56,7 @@ impl Problem {
             Problem::RevisionExhausted => "revision exhausted",
             Problem::AlreadyUpgraded => "already upgraded",
             Problem::DeviceFailed => "device failed",
-            Problem::StreamFailed => "input or output failed",
+            Problem::StreamFailed | Problem::ListenFailed(_) => "input or output failed",
             Problem::OutOfMemory => "out of memory",
         }
     }
@@ -66,6 +71,7 @@ impl Problem {
             Problem::TooManyObjects | Problem::RevisionExhausted => Status::NoStore,
             Problem::AlreadyUpgraded => Status::NoStore,
             Problem::DeviceFailed | Problem::StreamFailed => Status::Failed,
+            Problem::ListenFailed(_) => Status::Failed,
             Problem::OutOfMemory => Status::OutOfMemory,
         }
     }
@@ -158,25 +164,55 @@ impl From<AnswerFault> for Problem {
     }
 }
 
+/// The problem that an address is not listened on, by the system's error.
+pub fn not_listening(error: &io::Error) -> Problem
+    ensures { result ≡ of_listening (raw_os_error error.now) (error_kind error.now) }
+{
+    match Cause::of(error) {
+        Some(cause) => Problem::ListenFailed(cause),
+        None => Problem::StreamFailed,
+    }
+}
+
+impl From<BindFault> for Problem {
+    ghost from_gives = { λ fault problem. problem ≡ of_bind fault };
+
+    fn from(fault: BindFault) -> Problem {
+        match fault {
+            BindFault::System(error) => not_listening(&error),
+            BindFault::Memory => Problem::OutOfMemory,
+        }
+    }
+}
+
 impl From<ClientsFault> for Problem {
     ghost from_gives = { λ fault problem. problem ≡ of_clients fault };
 
     fn from(fault: ClientsFault) -> Problem {
         match fault {
             ClientsFault::Network => Problem::StreamFailed,
-            ClientsFault::Memory => Problem::OutOfMemory,
             ClientsFault::Store(fault) => Problem::from(fault),
+            ClientsFault::Compaction(fault) => Problem::from(fault),
         }
     }
 }
 
-/// Tells of a problem in a line, as far as it can be told, and gives the status to end with. It takes no memory.
-pub fn tell<E: Output>(problem: Problem, errors: &mut E) -> Status
+/// Why a file or an address could not be had.
+#[derive(Clone, Copy)]
+pub struct Reason<'a> {
+    /// The file, or the address, as it was asked for.
+    pub name: &'a str,
+    pub cause: Cause,
+}
+
+/// Tells of a problem in a line, and of its reason, if there is one, in a second line, as far as they can be told, and gives the status to end with. It
+/// takes no memory.
+pub fn tell<E: Output>(problem: Problem, reason: Option<Reason<'_>>, errors: &mut E) -> Status
     ensures status { result ≡ status_of problem }
-    ensures line { TellsAll E.took E.failures errors.old errors.new (line_of problem) }
+    ensures lines { TellsAll E.took E.failures errors.old errors.new (line_of problem ++ reason_line reason.entry) }
 {
     // If standard error fails there is nowhere to report it.
-    let _ = write_line(errors, problem.text());
+    let _ = write_lines(errors, problem.text(), reason);
     problem.status()
 }
 
@@ -189,6 +225,65 @@ pub fn print<O: Output>(output: &mut O, text: &str) -> Result<(), Problem>
         return Err(Problem::StreamFailed);
     }
     write_all(output, b"\n").map_err(|_| Problem::StreamFailed)
+}
+
+// Writes the line of a problem, and the line of its reason, if there is one.
+fn write_lines<E: Output>(
+    errors: &mut E,
+    text: &str,
+    reason: Option<Reason<'_>>,
+) -> Result<(), StreamFault>
+    ensures writes { Writes E.took errors.old errors.new (codes "gated: " ++ text.now ++ codes "\n" ++ reason_line reason.entry) result }
+    ensures cause { HasCause (E.failures errors.old) (E.failures errors.new) result }
+{
+    if let Err(fault) = write_line(errors, text) {
+        return Err(fault);
+    }
+    write_reason(errors, reason)
+}
+
+// Writes the line of a reason, if there is one.
+fn write_reason<E: Output>(errors: &mut E, reason: Option<Reason<'_>>) -> Result<(), StreamFault>
+    ensures writes { Writes E.took errors.old errors.new (reason_line reason.entry) result }
+    ensures cause { HasCause (E.failures errors.old) (E.failures errors.new) result }
+{
+    match reason {
+        Some(Reason { name, cause }) => write_cause(errors, name, cause.text()),
+        None => Ok(()),
+    }
+}
+
+// Writes the program's name, the name of a file or an address, and why it could not be had, in a line.
+fn write_cause<'a, E: Output>(
+    errors: &mut E,
+    name: &'a str,
+    text: &'a str,
+) -> Result<(), StreamFault>
+    ensures writes { Writes E.took errors.old errors.new (codes "gated: " ++ (name.entry.now ++ (codes ": " ++ (text.entry.now ++ codes "\n")))) result }
+    ensures cause { HasCause (E.failures errors.old) (E.failures errors.new) result }
+{
+    let pieces = [
+        b"gated: ".as_slice(),
+        name.as_bytes(),
+        b": ".as_slice(),
+        text.as_bytes(),
+        b"\n".as_slice(),
+    ];
+    write_pieces(errors, &pieces)
+}
+
+// Writes the pieces, one after the other.
+fn write_pieces<E: Output>(errors: &mut E, pieces: &[&[u8]]) -> Result<(), StreamFault>
+    ensures writes { Writes E.took errors.old errors.new (flat_map (λ p. p.now) pieces.now) result }
+    ensures cause { HasCause (E.failures errors.old) (E.failures errors.new) result }
+{
+    for piece in pieces {
+        match write_all(errors, piece) {
+            Ok(()) => {}
+            Err(fault) => return Err(fault),
+        }
+    }
+    Ok(())
 }
 
 // Writes the program's name and a text in a line.

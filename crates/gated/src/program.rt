@@ -1,34 +1,39 @@
 //! The commands of the program.
 
-ghost use Rattle.std.specs.Prelude.{◌≡◌, ◌≢◌, ◌⊎◌, false, map, IfOk, IfErr, OnOk, OnErr, IsErrOf};
+ghost use Rattle.std.specs.Prelude.{◌≡◌, ◌≢◌, ◌⊎◌, ◌||◌, is_some, false, map, string_bytes, Err, IfOk, IfErr, OnOk, OnErr, IsErrOf};
+ghost use Rattle.std.specs.Duration.{as_nanos};
 ghost use Rattle.clap.specs.Words.{kind_of};
 ghost use Rattle.names.specs.declared.format.Rules.{Rules};
-ghost use Rattle.decoded.specs.Standing.{View};
+ghost use Rattle.names.specs.Format.{number_of};
+ghost use Rattle.decoded.specs.Standing.{History};
+ghost use Rattle.histories.specs.View.{view};
 ghost use Rattle.durable.specs.declared.compacted.Compacted.{Compacted as CompactedData};
 ghost use Rattle.durable.specs.declared.fault.Damage.{Damage};
 ghost use Rattle.durable.specs.declared.upgraded.Upgraded.{Upgraded as UpgradedData};
-ghost use Rattle.api.specs.Answers.{ShowsAt};
 ghost use Rattle.store.specs.Upkeep.{KeepsHistory, IsEither};
 ghost use Rattle.gated.specs.declared.command.Verb.{Verb as VerbData};
-ghost use Rattle.gated.specs.CommandLine.{AskFor, is_logged};
+ghost use Rattle.gated.specs.CommandLine.{AskFor, compacted_at, is_logged};
 ghost use Rattle.clients.specs.Serving.{HasServedSome};
 ghost use Rattle.gated.specs.Doing.{AnsweredAll, FoundDamaged, FoundWhole, IsOpened, MadeStore, ServedAll, UpgradedStore, WroteAnew};
-ghost use Rattle.gated.specs.Left.{HasAnsweredPart, HasLeft, HasLeftBy, HasMadeNone, HasServedPart, HasServedUpTo, WasRefused};
-ghost use Rattle.gated.specs.Problem.{Tells};
+ghost use Rattle.gated.specs.Left.{HasAnsweredPart, HasLeft, HasLeftBy, HasMadeNone, HasServedPart, HasServedUntil, WasRefused};
+ghost use Rattle.durable.specs.Settled.{kept_rules, revision_of, IsSettledAt};
+ghost use Rattle.gated.specs.Problem.{SaysNoMore, SaysWhy, Tells, TellsAll, reason_line};
+ghost use Rattle.gated.specs.Opening.{MayTell, TellsDone, TellsFailed, TellsOpened, found_shown, opened_line, seconds_shown};
 ghost use Rattle.gated.specs.Telling.{HasLine, EndsCheck, IsDone, checked_text, compacted_text, upgraded_text};
 
-use crate::command::{Serving, Verb, command};
+use crate::command::{Serving, VERSION, Verb, command};
 use crate::listening::{serve_at_once, serve_one_by_one};
-use crate::problem::{Problem, print, tell};
+use crate::problem::{Problem, Reason, print, tell};
 use crate::progress::{Progress, Watched};
 use crate::status::Status;
 use clap::Error;
 use clap::error::ErrorKind;
 use clients::Limits;
-use std::alloc::Global;
+use std::alloc::{AllocError, Global};
 use std::convert::AsStr;
+use std::io;
 use std::net::{Net, TcpListener, TcpStream};
-use std::time::{Clock, Duration};
+use std::time::{Clock, Duration, Instant};
 use store::{
     Checked, Compacted, Device, Format, Input, Output, Storage, Store, StreamFault, Upgraded,
     answer, check as check_store, compact as compact_store, create, upgrade as upgrade_store,
@@ -145,9 +150,9 @@ fn serve_store<
     output: &mut O,
     log: &mut L,
 ) -> Result<(), Problem>
-    ensures silent { is_logged ≡ false → log.new ≡ log.old }
-    ensures served { (rules : Rules) (v : View) → ShowsAt rules store.old v → OnOk result (HasServedSome rules store.old store.new v) }
-    ensures stopped { (rules : Rules) (v : View) → ShowsAt rules store.old v → OnErr result (HasServedUpTo rules store.old store.new v) }
+    ensures silent { (is_logged || is_some (compacted_at serving)) ≡ false → log.new ≡ log.old }
+    ensures served { (rules : Rules) (h : History) → IsSettledAt rules store.old h → OnOk result (HasServedSome rules store.old store.new (view rules h)) }
+    ensures stopped { (rules : Rules) (h : History) → IsSettledAt rules store.old h → OnErr result (HasServedUntil rules store.old store.new (view rules h)) }
 {
     let idle = match idle_seconds {
         0 => None,
@@ -160,14 +165,16 @@ fn serve_store<
         Serving::AtOnce {
             at_once,
             connections,
+            compact_at,
         } => {
             let limits = Limits {
                 at_once,
                 connections,
                 idle,
                 is_logged,
+                compact_at,
             };
-            if is_logged {
+            if is_logged || compact_at.is_some() {
                 serve_at_once(net, alloc, address, limits, store, output, log)
             } else {
                 serve_at_once(net, alloc, address, limits, store, output, &mut Silent)
@@ -176,12 +183,117 @@ fn serve_store<
     }
 }
 
+// The time that passed since an instant; none where the clock fails.
+fn passed_since<C: Clock>(clock: &C, start: io::Result<Instant>) -> Duration {
+    match (start, Instant::now(clock)) {
+        (Ok(start), Ok(now)) => now.saturating_duration_since(start),
+        _ => Duration::ZERO,
+    }
+}
+
+// A time in seconds, with two places behind the point.
+fn seconds_text(alloc: Global, passed: Duration) -> Result<String, AllocError>
+    ensures { IfOk result (λ text. string_bytes text ≡ seconds_shown (as_nanos passed)) }
+{
+    let nanoseconds = passed.as_nanos();
+    let seconds = nanoseconds / 1_000_000_000;
+    let tenths = nanoseconds / 100_000_000 % 10;
+    let hundredths = nanoseconds / 10_000_000 % 10;
+    format!(in alloc; "{seconds}.{tenths}{hundredths}")
+}
+
+// What a store shows.
+fn found_text<D: Device>(alloc: Global, store: &Store<D>) -> Result<String, AllocError>
+    ensures { IfOk result (λ text. string_bytes text ≡ found_shown (number_of (kept_rules store.now).format) (revision_of store.now)) }
+{
+    let format = store.format().number();
+    let revision = store.revision();
+    format!(in alloc; "format {format}, revision {revision}")
+}
+
+// What is told of a store that was opened in this time.
+fn opened_text<D: Device>(
+    alloc: Global,
+    file: &str,
+    store: &Store<D>,
+    passed: Duration,
+) -> Result<String, AllocError>
+    ensures { IfOk result (λ text. string_bytes text ≡ opened_line file.now (kept_rules store.now).format (revision_of store.now) (as_nanos passed)) }
+{
+    let found = found_text(alloc, store)?;
+    let seconds = seconds_text(alloc, passed)?;
+    format!(in alloc; "gated: {VERSION}, {file}: {found}, read in {seconds} s\n")
+}
+
+// Tells of a store that was opened in this time.
+fn print_opened<D: Device, E: Output>(
+    alloc: Global,
+    file: &str,
+    store: &Store<D>,
+    passed: Duration,
+    errors: &mut E,
+) -> Result<(), Problem>
+    ensures line { OnOk result (TellsAll E.took E.failures errors.old errors.new (opened_line file.now (kept_rules store.now).format (revision_of store.now) (as_nanos passed))) }
+    ensures refusal { OnErr result ((result ≡ Err Problem.OutOfMemory) × (errors.new ≡ errors.old)) }
+{
+    match opened_text(alloc, file, store, passed) {
+        Ok(text) => {
+            // If standard error fails there is nowhere to report it.
+            let _ = write_all(errors, text.as_bytes());
+            Ok(())
+        }
+        Err(_) => Err(Problem::OutOfMemory),
+    }
+}
+
+// Tells of a store that was opened in this time, and serves connections against it.
+fn serve_opened<
+    D: Device,
+    R: Net<Stream = TcpStream, Listener = TcpListener> + Clock,
+    O: Output,
+    E: Output,
+    L: Output,
+>(
+    net: &R,
+    alloc: Global,
+    file: &str,
+    passed: Duration,
+    address: &str,
+    serving: Serving,
+    idle_seconds: u32,
+    is_logged: bool,
+    store: &mut Store<D>,
+    output: &mut O,
+    errors: &mut E,
+    log: &mut L,
+) -> Result<(), Problem>
+    ensures silent { (is_logged || is_some (compacted_at serving)) ≡ false → log.new ≡ log.old }
+    ensures told { OnOk result (TellsOpened E.took E.failures errors.old errors.new file.now) }
+    ensures told_err { OnErr result ((errors.new ≡ errors.old) ⊎ TellsOpened E.took E.failures errors.old errors.new file.now) }
+    ensures served { (rules : Rules) (h : History) → IsSettledAt rules store.old h → OnOk result (HasServedSome rules store.old store.new (view rules h)) }
+    ensures stopped { (rules : Rules) (h : History) → IsSettledAt rules store.old h → OnErr result (HasServedUntil rules store.old store.new (view rules h)) }
+{
+    print_opened(alloc, file, store, passed, errors)?;
+    serve_store(
+        net,
+        alloc,
+        address,
+        serving,
+        idle_seconds,
+        is_logged,
+        store,
+        output,
+        log,
+    )
+}
+
 // The same against the store in a file.
 fn serve_file<
     D: Device,
     S: Storage<D>,
     R: Net<Stream = TcpStream, Listener = TcpListener> + Clock,
     O: Output,
+    E: Output,
     L: Output,
 >(
     storage: &S,
@@ -193,22 +305,29 @@ fn serve_file<
     idle_seconds: u32,
     is_logged: bool,
     output: &mut O,
+    errors: &mut E,
     log: &mut L,
 ) -> Result<(), Problem>
-    ensures silent { is_logged ≡ false → log.new ≡ log.old }
+    ensures silent { (is_logged || is_some (compacted_at serving)) ≡ false → log.new ≡ log.old }
+    ensures told { OnOk result (TellsOpened E.took E.failures errors.old errors.new file.now) }
+    ensures told_err { OnErr result ((errors.new ≡ errors.old) ⊎ TellsOpened E.took E.failures errors.old errors.new file.now) }
     ensures served { OnOk result (ServedAll D.disk S.made S.opened S.closed storage.now file.now) }
     ensures left { OnErr result (HasLeft D.disk S.missed S.opened S.closed storage.now file.now (λ rules old new h. HasServedPart rules D.disk old new h)) }
 {
+    let start = Instant::now(net);
     let mut store = open_store(storage, alloc, file)?;
-    let served = serve_store(
+    let served = serve_opened(
         net,
         alloc,
+        file,
+        passed_since(net, start),
         address,
         serving,
         idle_seconds,
         is_logged,
         &mut store,
         output,
+        errors,
         log,
     );
     storage.close(file, store.into_device());
@@ -421,6 +540,7 @@ fn done<
     R: Net<Stream = TcpStream, Listener = TcpListener> + Clock,
     I: Input,
     O: Output,
+    E: Output,
     P: Output + Drop,
     L: Output,
 >(
@@ -430,10 +550,13 @@ fn done<
     verb: Verb<'_>,
     input: &mut I,
     output: &mut O,
+    errors: &mut E,
     progress: Option<P>,
     log: &mut L,
 ) -> Result<Status, Problem>
     ensures silent { is_logged verb.entry ≡ false → log.new ≡ log.old }
+    ensures told { OnOk result (TellsDone E.took E.failures errors.old errors.new verb.entry) }
+    ensures told_err { OnErr result (MayTell E.took E.failures errors.old errors.new verb.entry) }
     ensures done { IfOk result (λ status. IsDone D.disk S.made S.opened S.closed I.gave O.took I.has_ended storage.now input.old input.new output.old output.new verb.entry status) }
     ensures left { OnErr result (HasLeftBy D.disk S.missed S.made S.opened S.closed S.discarded I.gave O.took O.failures storage.now input.old input.new output.old output.new verb.entry) }
 {
@@ -456,6 +579,7 @@ fn done<
             idle_seconds,
             is_logged,
             output,
+            errors,
             log,
         )?,
         Verb::Compact { file } => compact(storage, alloc, file, output, progress)?,
@@ -465,15 +589,39 @@ fn done<
     Ok(Status::Success)
 }
 
+// Why a verb was not done, as far as it is known: of its file what the storage says, of its address why it is not listened on.
+fn reason_of<'a, D: Device, S: Storage<D>>(
+    storage: &S,
+    verb: Verb<'a>,
+    problem: Problem,
+) -> Option<Reason<'a>>
+    ensures { SaysWhy S.caused storage.now verb.entry problem (reason_line result) }
+{
+    match problem {
+        Problem::DeviceFailed => {
+            let name = verb.file();
+            match storage.cause(name) {
+                Some(cause) => Some(Reason { name, cause }),
+                None => None,
+            }
+        }
+        Problem::ListenFailed(cause) => match verb.address() {
+            Some(name) => Some(Reason { name, cause }),
+            None => None,
+        },
+        _ => None,
+    }
+}
+
 // Tells what is wrong with the command line.
 fn refuse<E: Output>(alloc: Global, error: &Error, errors: &mut E) -> Status
-    ensures told { Tells E.took E.failures errors.old errors.new result }
+    ensures told { Tells SaysNoMore E.took E.failures errors.old errors.new result }
     ensures memory { kind_of error.now ≡ ErrorKind.OutOfMemory → result ≡ Status.OutOfMemory }
     ensures refused { result ≢ Status.Success }
     ensures ends { (result ≡ Status.Usage) ⊎ (result ≡ Status.OutOfMemory) }
 {
     if error.kind() == ErrorKind::OutOfMemory {
-        return tell(Problem::OutOfMemory, errors);
+        return tell(Problem::OutOfMemory, None, errors);
     }
     match format!(in alloc; "{error}") {
         Ok(text) => {
@@ -481,12 +629,13 @@ fn refuse<E: Output>(alloc: Global, error: &Error, errors: &mut E) -> Status
             let _ = write_all(errors, text.as_bytes());
             Status::Usage
         }
-        Err(_) => tell(Problem::OutOfMemory, errors),
+        Err(_) => tell(Problem::OutOfMemory, None, errors),
     }
 }
 
 /// Does what the words ask for, of which the first is the program's name, and says how the program ends. Nothing is told on `errors` where
-/// that was done, and where a check finds damage, which it tells on `output`; each other end is told on `errors`. A compaction, and an upgrade, shows on
+/// that was done, and where a check finds damage, which it tells on `output`; each other end is told on `errors`, with its cause in a second line where it
+/// is known. A server tells on `errors` of the store that it opened, before it listens. A compaction, and an upgrade, shows on
 /// `progress`, if there is one, how far it is. A server tells on `log` of each message that it answers, where the words ask for that, and
 /// else nothing is written there.
 ///
@@ -514,17 +663,20 @@ pub fn program<
     log: &mut L,
 ) -> Status
     ensures silent { ((verb : VerbData) → AskFor (map W.text words.now) verb → is_logged verb ≡ false) → log.new ≡ log.old }
-    ensures done { ((errors.new ≡ errors.old) × (verb : VerbData) × AskFor (map W.text words.now) verb × IsDone D.disk S.made S.opened S.closed I.gave O.took I.has_ended storage.now input.old input.new output.old output.new verb result)
-        ⊎ ((result ≢ Status.Success) × Tells E.took E.failures errors.old errors.new result
-        × (WasRefused input.old input.new output.old output.new result
+    ensures done { ((verb : VerbData) × AskFor (map W.text words.now) verb × TellsDone E.took E.failures errors.old errors.new verb
+        × IsDone D.disk S.made S.opened S.closed I.gave O.took I.has_ended storage.now input.old input.new output.old output.new verb result)
+        ⊎ ((result ≢ Status.Success) × ((Tells SaysNoMore E.took E.failures errors.old errors.new result × WasRefused input.old input.new output.old output.new result)
         ⊎ ((verb : VerbData) × AskFor (map W.text words.now) verb
+        × TellsFailed E.took E.failures errors.old errors.new verb (λ mid. Tells (SaysWhy S.caused storage.now verb) E.took E.failures mid errors.new result)
         × HasLeftBy D.disk S.missed S.made S.opened S.closed S.discarded I.gave O.took O.failures storage.now input.old input.new output.old output.new verb))) }
 {
     match command(alloc, words) {
-        Ok(verb) => match done(storage, net, alloc, verb, input, output, progress, log) {
-            Ok(status) => status,
-            Err(problem) => tell(problem, errors),
-        },
+        Ok(verb) => {
+            match done(storage, net, alloc, verb, input, output, errors, progress, log) {
+                Ok(status) => status,
+                Err(problem) => tell(problem, reason_of(storage, verb, problem), errors),
+            }
+        }
         Err(error) => refuse(alloc, &error, errors),
     }
 }

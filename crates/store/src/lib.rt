@@ -36,11 +36,13 @@
 #![tactic(auto)]
 
 mod answering;
+mod cause;
 mod fault;
 mod storage;
 mod upkeep;
 
 pub use crate::answering::answer;
+pub use crate::cause::Cause;
 pub use crate::fault::AnswerFault;
 pub use crate::storage::{FileStorage, Storage};
 pub use crate::upkeep::{check, compact, upgrade};

@@ -17,17 +17,19 @@ returns-clause-app c =
     ∙ ap₂ (λ (r : Rule) p. record r { parser = p }) (default_is ∙ ap (λ (r : Rule). record r { defaults = codes "60" ∷ [] }) c.option-2.ensures.rule) idle_parser
     in
     let with_listen = c.in_ok-arg.ensures.shape (search rules) ∙ ap₂ with_rule c.in_ok-over_file.ensures.app listen_is in
-    let with_conns = c.in_ok-arg-2.ensures.shape (search rules) ∙ ap₂ with_rule with_listen c.in_ok-conns_option.ensures.rule in
+    let with_conns = c.in_ok-arg-2.ensures.shape (search rules) ∙ ap₂ with_rule with_listen c.conns_option.ensures.rule in
     let with_at_once = c.in_ok-arg-3.ensures.shape (search rules) ∙ ap₂ with_rule with_conns c.at_once_option.ensures.rule in
     let with_idle = c.in_ok-arg-4.ensures.shape (search rules) ∙ ap₂ with_rule with_at_once idle_is in
-    IfOk-weaker c.arg-5.result _ _ (λ r h. h.shape (search rules) ∙ ap₂ with_rule with_idle c.in_ok-log_option.ensures.rule) c.arg-5.ensures
+    let with_log = c.in_ok-arg-5.ensures.shape (search rules) ∙ ap₂ with_rule with_idle c.log_option.ensures.rule in
+    IfOk-weaker c.arg-6.result _ _ (λ r h. h.shape (search rules) ∙ ap₂ with_rule with_log c.compact_at_option.ensures.rule) c.arg-6.ensures
 
 pub returns-clause-local : goal.returns-clause-local
 returns-clause-local c =
     let listen_local : c.required.result.global ≡ false = search rules in
     let idle_local : c.value_parser.result.global ≡ false = search rules in
     let with_listen = c.in_ok-arg.ensures.globals ∙ ap₂ (λ a b. a || b) c.in_ok-over_file.ensures.local listen_local in
-    let with_conns = c.in_ok-arg-2.ensures.globals ∙ ap₂ (λ a b. a || b) with_listen c.in_ok-conns_option.ensures.local in
+    let with_conns = c.in_ok-arg-2.ensures.globals ∙ ap₂ (λ a b. a || b) with_listen c.conns_option.ensures.local in
     let with_at_once = c.in_ok-arg-3.ensures.globals ∙ ap₂ (λ a b. a || b) with_conns c.at_once_option.ensures.local in
     let with_idle = c.in_ok-arg-4.ensures.globals ∙ ap₂ (λ a b. a || b) with_at_once idle_local in
-    IfOk-weaker c.arg-5.result _ _ (λ r h. h.globals ∙ ap₂ (λ a b. a || b) with_idle c.in_ok-log_option.ensures.local) c.arg-5.ensures
+    let with_log = c.in_ok-arg-5.ensures.globals ∙ ap₂ (λ a b. a || b) with_idle c.log_option.ensures.local in
+    IfOk-weaker c.arg-6.result _ _ (λ r h. h.globals ∙ ap₂ (λ a b. a || b) with_log c.compact_at_option.ensures.local) c.arg-6.ensures

@@ -7,8 +7,8 @@ pub returns-in_err-address-clause-stopped : goal.returns-in_err-address-clause-s
 returns-in_err-address-clause-stopped g c rules v shows =
     on_err c.from_residual.result (inl (served_none rules c.args.store.now v shows (λ keeps content since. g.met.D.Device.only_now _ content keeps since)))
 
-pub returns-in_default-clause-stopped : goal.returns-in_default-clause-stopped
-returns-in_default-clause-stopped g c rules v shows = inl (served_none rules c.args.store.now v shows (λ keeps content since. g.met.D.Device.only_now _ content keeps since))
+pub returns-in-Err-clause-stopped : goal.returns-in-Err-clause-stopped
+returns-in-Err-clause-stopped g c rules v shows = inl (served_none rules c.args.store.now v shows (λ keeps content since. g.met.D.Device.only_now _ content keeps since))
 
 pub returns-in_err-print_ready-clause-stopped : goal.returns-in_err-print_ready-clause-stopped
 returns-in_err-print_ready-clause-stopped g c rules v shows =

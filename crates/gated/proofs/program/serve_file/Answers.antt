@@ -4,8 +4,8 @@ use Rattle.gated.proofs.program.serve_file.Goals as goal
 
 pub returns-clause-served : goal.returns-clause-served
 returns-clause-served g c =
-    served_file g.S.Storage.made g.S.Storage.opened g.S.Storage.closed c.args.storage.now c.args.file.now c.in_ok-store.store c.serve_store-served.new.store
-    c.in_ok-store.ensures.opened c.into_device.result c.into_device.ensures c.close.ensures.closed c.serve_store-served.result c.serve_store-served.ensures.served
+    served_file g.S.Storage.made g.S.Storage.opened g.S.Storage.closed c.args.storage.now c.args.file.now c.in_ok-store.store c.serve_opened-served.new.store
+    c.in_ok-store.ensures.opened c.into_device.result c.into_device.ensures c.close.ensures.closed c.serve_opened-served.result c.serve_opened-served.ensures.served
 
 pub returns-in_err-store-clause-left : goal.returns-in_err-store-clause-left
 returns-in_err-store-clause-left g c =
@@ -15,5 +15,5 @@ returns-in_err-store-clause-left g c =
 
 pub returns-clause-left : goal.returns-clause-left
 returns-clause-left g c =
-    left_file g.S.Storage.missed g.S.Storage.opened g.S.Storage.closed c.args.storage.now c.args.file.now c.in_ok-store.store c.serve_store-served.new.store
-    c.in_ok-store.ensures.opened c.into_device.result c.into_device.ensures c.close.ensures.closed c.serve_store-served.result c.serve_store-served.ensures.stopped
+    left_file g.S.Storage.missed g.S.Storage.opened g.S.Storage.closed c.args.storage.now c.args.file.now c.in_ok-store.store c.serve_opened-served.new.store
+    c.in_ok-store.ensures.opened c.into_device.result c.into_device.ensures c.close.ensures.closed c.serve_opened-served.result c.serve_opened-served.ensures.stopped

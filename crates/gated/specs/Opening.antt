@@ -1,0 +1,46 @@
+-- What a server tells on standard error of the store that it opened.
+use Rattle.std.specs.Prelude.{◌≡◌, ◌⊎◌, ℕ, ◌/◌, ◌%◌, List, ◌++◌, codes, decimal}
+use Rattle.names.specs.declared.format.Format.{Format}
+use Rattle.names.specs.Format.{number_of}
+use Rattle.gated.specs.declared.command.Verb.{Verb}
+use Rattle.gated.specs.declared.command.Verb.TheVariants as verb
+use Rattle.gated.specs.Problem.{TellsAll}
+
+-- so many nanoseconds in seconds, with two places behind the point
+abbrev pub seconds_shown : ℕ → List ℕ
+seconds_shown nanoseconds =
+    decimal (nanoseconds / 1_000_000_000) ++ (codes "." ++ (decimal (nanoseconds / 100_000_000 % 10) ++ decimal (nanoseconds / 10_000_000 % 10)))
+
+-- what was found in the file
+abbrev pub found_shown : (number revision : ℕ) → List ℕ
+found_shown number revision = codes "format " ++ (decimal number ++ (codes ", revision " ++ decimal revision))
+
+-- The line of a store that was read in so many nanoseconds: the version, the file, what was found there, and the seconds.
+abbrev pub opened_line : (file : List ℕ) → Format → (revision nanoseconds : ℕ) → List ℕ
+opened_line file format revision nanoseconds =
+    codes "gated: 0.27.0, " ++ (file ++ (codes ": " ++ (found_shown (number_of format) revision ++ (codes ", read in " ++ (seconds_shown nanoseconds ++ codes " s\n")))))
+
+module _ {E : Type 0} (took : E → E → List ℕ → Type 0) (failures : E → ℕ) (old new : E) where
+  -- It was told of a store in this file.
+  pub record TellsOpened (file : List ℕ) : Type 0 where
+    pub format : Format
+    pub revision : ℕ
+    pub nanoseconds : ℕ
+    pub line : TellsAll took failures old new (opened_line file format revision nanoseconds)
+
+  -- What a verb that was done tells: a server that line, and no other verb anything.
+  abbrev pub TellsDone : Verb → Type 0
+  TellsDone (verb.Create file format) = new ≡ old
+  TellsDone (verb.Replay file) = new ≡ old
+  TellsDone (verb.Serve file address serving idle_seconds is_logged) = TellsOpened file.now
+  TellsDone (verb.Compact file) = new ≡ old
+  TellsDone (verb.Upgrade file) = new ≡ old
+  TellsDone (verb.Check file) = new ≡ old
+
+  -- What a verb that was not done tells before its problem: a server perhaps that line.
+  abbrev pub MayTell : Verb → Type 0
+  MayTell v = (new ≡ old) ⊎ TellsDone v
+
+-- A verb that was not done tells this, and then what is said of the rest.
+abbrev pub TellsFailed : {E : Type 0} (took : E → E → List ℕ → Type 0) (failures : E → ℕ) (old new : E) → Verb → (E → Type 0) → Type 0
+TellsFailed {E = E} took failures old new v Then = (mid : E) × MayTell took failures old mid v × Then mid
