@@ -122,7 +122,9 @@ fn compacted_line(alloc: Global, compacted: Compacted) -> Result<String, AllocEr
         pages,
         first_sector,
     } = compacted;
-    format!(in alloc; "gated: compacted: generation {generation}, {pages} pages at sector {first_sector}\n")
+    format!(in alloc;
+        "gated: compacted: generation {generation}, {pages} pages at sector {first_sector}\n"
+    )
 }
 
 /// Tells of a generation that was written, if one was, in a line. A line that cannot be made or written is lost, and stops nothing.

@@ -672,7 +672,9 @@ pub fn program<
 {
     match command(alloc, words) {
         Ok(verb) => {
-            match done(storage, net, alloc, verb, input, output, errors, progress, log) {
+            match done(
+                storage, net, alloc, verb, input, output, errors, progress, log,
+            ) {
                 Ok(status) => status,
                 Err(problem) => tell(problem, reason_of(storage, verb, problem), errors),
             }

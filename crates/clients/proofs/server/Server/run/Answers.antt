@@ -10,26 +10,30 @@ use Rattle.clients.proofs.server.Server.run.Goals as goal
 pub loop-init : goal.loop-init
 loop-init g c = (
   search rules,
-  ((λ none rules v shows. served_none rules c.args.store.now v shows (λ keeps content since. g.met.D.Device.only_now _ content keeps since)),
-  (λ rules h settled.
-  served_none rules c.args.store.now (view rules h) (λ working. settled_serves rules c.args.store.now h settled)
-  (λ keeps content since. g.met.D.Device.only_now _ content keeps since))),
+  (
+    (λ none rules v shows. served_none rules c.args.store.now v shows (λ keeps content since. g.met.D.Device.only_now _ content keeps since)),
+    (λ rules h settled.
+        served_none rules c.args.store.now (view rules h) (λ working. settled_serves rules c.args.store.now h settled)
+        (λ keeps content since. g.met.D.Device.only_now _ content keeps since)),
+  ),
 )
 
 pub loop-preserved : goal.loop-preserved
 loop-preserved g c =
     let inv = c.loop.invariant in (
       c.in-Ok-compacted.ensures.times ∙ inv.0,
-      ((λ none rules v shows.
-      let idle = c.in-Ok-compacted.ensures.idle (never_due c.loop.compacting.times c.loop.compacting.put_off_sectors (log_sectors c.turn-turned.new.store) (root_of c.turn-turned.new.store).pages (inv.0 ∙ none)) in
-      let served = served_then rules c.args.store.now c.loop.store c.turn-turned.new.store v (inv.1.0 none rules v shows)
-          (c.in-Ok-turned.ensures.served rules _ (inv.1.0 none rules v shows).store.shows) in
-      subst (λ s. HasServedSome rules c.args.store.now s v) (sym idle.1.0) served),
-      (λ rules h settled.
-      let before = inv.1.1 rules h settled in
-      let served = served_then rules c.args.store.now c.loop.store c.turn-turned.new.store (view rules h) before (c.in-Ok-turned.ensures.served rules _ before.store.shows) in
-      compacted_after rules c.args.store.now c.turn-turned.new.store c.compact-compacted.new.store h served settled
-      (c.in-Ok-compacted.ensures.kept rules) (c.in-Ok-compacted.ensures.moments rules))),
+      (
+        (λ none rules v shows.
+            let idle = c.in-Ok-compacted.ensures.idle (never_due c.loop.compacting.times c.loop.compacting.put_off_sectors (log_sectors c.turn-turned.new.store) (root_of c.turn-turned.new.store).pages (inv.0 ∙ none)) in
+            let served = served_then rules c.args.store.now c.loop.store c.turn-turned.new.store v (inv.1.0 none rules v shows)
+            (c.in-Ok-turned.ensures.served rules _ (inv.1.0 none rules v shows).store.shows) in
+            subst (λ s. HasServedSome rules c.args.store.now s v) (sym idle.1.0) served),
+        (λ rules h settled.
+            let before = inv.1.1 rules h settled in
+            let served = served_then rules c.args.store.now c.loop.store c.turn-turned.new.store (view rules h) before (c.in-Ok-turned.ensures.served rules _ before.store.shows) in
+            compacted_after rules c.args.store.now c.turn-turned.new.store c.compact-compacted.new.store h served settled
+            (c.in-Ok-compacted.ensures.kept rules) (c.in-Ok-compacted.ensures.moments rules)),
+      ),
     )
 
 pub returns-in-Err : goal.returns-in-Err
@@ -52,7 +56,7 @@ returns-in-Err-compacted g c = record {
       let served = served_then rules c.args.store.now c.loop.store c.turn-turned.new.store (view rules h) before (c.in-Ok-turned.ensures.served rules _ before.store.shows) in
       let stops = c.in-Err-compacted.ensures.stops in
       let same = turn_of_stopped rules c.compact-compacted.new.store c.turn.new.store (view rules h) c.turn.result stops
-          (c.turn.ensures.served rules (view rules h) (λ working. absurd (true≢false (sym working ∙ stops)))) in
+      (c.turn.ensures.served rules (view rules h) (λ working. absurd (true≢false (sym working ∙ stops)))) in
       subst (λ s. HasStoppedBetween rules c.args.store.now s (view rules h)) (sym same)
       (stopped_between rules c.args.store.now c.turn-turned.new.store c.compact-compacted.new.store (view rules h) served
       (c.in-Err-compacted.ensures.left rules) (c.in-Err-compacted.ensures.moments rules) stops);
