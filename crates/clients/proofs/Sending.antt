@@ -1,5 +1,5 @@
 -- What several calls of a stream send, one after another.
-use Rattle.std.proofs.Common.{◌≡◌, ◌∙◌, ap, sym, refl, List, [], ◌++◌, append_assoc, Option, ℕ}
+use Rattle.std.proofs.Common.{◌∙◌, ap, sym, refl, List, [], ◌++◌, append_assoc, Option, ℕ}
 use Rattle.sessions.specs.State.{State}
 use Rattle.clients.specs.Moving.{Sends, LosesFront}
 

@@ -1,8 +1,8 @@
 -- What turns of clients do to places, one after another.
-use Rattle.std.proofs.Common.{◌≡◌, ◌∙◌, sym, refl, subst, ⊎_elim, ◌⊎◌, ◌<◌, ℕ}
+use Rattle.std.proofs.Common.{◌≡◌, ◌∙◌, sym, refl, subst, ⊎_elim, ◌<◌, ℕ}
 use Rattle.std.proofs.lemmas.Bool.{cases_eq}
 use Rattle.clients.specs.declared.places.Places.{Places}
-use Rattle.clients.specs.Places.{fresh, session_at, IsFree, IsFreshWhereFree, HasAsMany, StaysAt, StaysBeside, StaysWhereFree, TakesTurn}
+use Rattle.clients.specs.Places.{fresh, session_at, IsFree, IsFreshWhereFree, HasAsMany, StaysAt, StaysWhereFree, TakesTurn}
 
 pub stays_all : (p : Places) → StaysWhereFree p p
 stays_all p = record { many = record { lines = refl; sessions = refl }; free = λ i is. record { line = refl; session = refl } }

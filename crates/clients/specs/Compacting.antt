@@ -1,9 +1,9 @@
 -- When a store is compacted while it serves, and what is told of it.
-use Rattle.std.specs.Prelude.{◌≡◌, ◌-◌, ◌*◌, ℕ, Bool, List, ◌++◌, Option, Some, None, false, ◌&&◌, max, nat_le, codes, decimal}
+use Rattle.std.specs.Prelude.{◌-◌, ◌*◌, ℕ, Bool, List, ◌++◌, Option, Some, None, false, ◌&&◌, max, nat_le, codes, decimal}
 use Rattle.device.specs.declared.device.Device.{Ghosts}
 use Rattle.durable.specs.declared.compacted.Compacted.{Compacted}
 use Rattle.durable.specs.declared.store.Store.{Store}
-use Rattle.durable.specs.Settled.{log_of, root_of}
+use Rattle.durable.specs.Settled.{log_of}
 
 -- how many sectors the records of a store's log have
 abbrev pub log_sectors : {D : Type 0} {g : Ghosts D} → Store D g → ℕ

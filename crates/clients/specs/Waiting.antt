@@ -1,5 +1,5 @@
 -- Whether a client keeps the server waiting, and why its connection is let go.
-use Rattle.std.specs.Prelude.{◌≡◌, ℕ, ◌≤◌, ◌-◌, ◌⊎◌, true, false, [], Option, None, Some, ⊤}
+use Rattle.std.specs.Prelude.{◌≡◌, ◌≤◌, ◌-◌, ◌⊎◌, true, false, [], Option, None, Some, ⊤}
 use Rattle.std.specs.Time.{instant_nanos}
 use Rattle.std.specs.Duration.{as_nanos}
 use Rattle.std.specs.declared.time.Instant.{Instant}

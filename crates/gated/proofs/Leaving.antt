@@ -14,9 +14,8 @@ use Rattle.durable.specs.declared.fault.Damage.{Damage}
 use Rattle.durable.specs.declared.store.Store.{Store}
 use Rattle.durable.specs.declared.upgraded.Upgraded.{Upgraded}
 use Rattle.durable.specs.Ready.{HoldsHistory}
-use Rattle.durable.specs.Settled.{device_of, serves, IsFound, IsSettledAt}
+use Rattle.durable.specs.Settled.{device_of, IsFound, IsSettledAt}
 use Rattle.durable.specs.Stands.{StandsFor}
-use Rattle.durable.proofs.Answering.{settled_serves}
 use Rattle.durable.proofs.Findings.{found_none}
 use Rattle.api.specs.declared.fault.ServeFault.{ServeFault}
 use Rattle.api.specs.declared.fault.ServeFault.TheVariants as serve_fault
@@ -29,7 +28,7 @@ use Rattle.clients.proofs.Served.{served_none, served_then, stops_after}
 use Rattle.store.specs.Upkeep.{KeepsHistory, IsUpgraded, IsEither}
 use Rattle.store.proofs.Whole.{found_kept}
 use Rattle.gated.specs.Doing.{FoundWhole, HasServedAll, IsOpened, UpgradedStore, WroteAnew}
-use Rattle.gated.specs.Left.{HasLeft, HasServedPart, HasServedUpTo, HasServedUntil, WasGivenBack}
+use Rattle.gated.specs.Left.{HasLeft, HasServedPart, HasServedUpTo, HasServedUntil}
 use Rattle.gated.proofs.Served.{read_some, wrote_some, some_after}
 
 -- what holds of both stands where there is an error

@@ -7,11 +7,10 @@ use Rattle.histories.specs.View.{view}
 use Rattle.decoded.specs.Standing.{History, View, Write}
 use Rattle.durable.specs.declared.store.Store.{Store}
 use Rattle.durable.specs.Ready.{HoldsHistory}
-use Rattle.durable.specs.Settled.{device_of, serves, IsFound, IsSettledAt}
-use Rattle.durable.proofs.Answering.{settled_serves}
+use Rattle.durable.specs.Settled.{device_of, IsFound, IsSettledAt}
 use Rattle.durable.proofs.Findings.{found_none}
 use Rattle.httpmsg.specs.declared.head.End.{End}
-use Rattle.api.specs.Answers.{ShowsAt, all_writes}
+use Rattle.api.specs.Answers.{all_writes}
 use Rattle.api.specs.Serving.{Exchanged, HasEnded, HasReadSome, HasWrittenSome}
 use Rattle.clients.specs.Serving.{HasServedSome}
 use Rattle.gated.specs.Doing.{HasServedAll, IsOpened, ServedAll}

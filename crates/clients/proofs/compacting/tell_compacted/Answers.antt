@@ -1,4 +1,4 @@
-use Rattle.std.proofs.Common.{rules, inr, subst, ◌≡◌, ℕ, List}
+use Rattle.std.proofs.Common.{rules, inr, subst, ◌≡◌}
 use Rattle.httpmsg.specs.Flow.{TookSome}
 use Rattle.clients.specs.Compacting.{compacted_line}
 use Rattle.api.proofs.Folds.{took_some_of}

@@ -1,7 +1,7 @@
 use Rattle.std.proofs.Common.{◌≡◌, ◌∙◌, ap, ℕ}
 use Rattle.std.proofs.lemmas.Result.{IfOk-weaker}
 use Rattle.names.specs.Format.{number_of}
-use Rattle.durable.specs.Settled.{kept_rules, revision_of}
+use Rattle.durable.specs.Settled.{kept_rules}
 use Rattle.gated.specs.Opening.{found_shown}
 use Rattle.gated.proofs.program.found_text.Goals as goal
 

@@ -1,7 +1,6 @@
 use Rattle.std.proofs.Common.{◌∙◌, ap, ◌++◌, codes, ℕ, List}
 use Rattle.std.proofs.lemmas.Result.{IfOk-weaker}
 use Rattle.std.specs.Prelude.{string_bytes}
-use Rattle.std.specs.Duration.{as_nanos}
 use Rattle.names.specs.Format.{number_of}
 use Rattle.durable.specs.Settled.{kept_rules, revision_of}
 use Rattle.gated.specs.Opening.{found_shown}

@@ -1,4 +1,4 @@
-use Rattle.std.proofs.Common.{inl, inr, sym, ◌∙◌}
+use Rattle.std.proofs.Common.{inr, sym, ◌∙◌}
 use Rattle.gated.specs.Problem.{SaysWhy}
 use Rattle.gated.proofs.Tellings.{problem_told, no_problem_is_success}
 use Rattle.gated.proofs.program.program.Goals as goal

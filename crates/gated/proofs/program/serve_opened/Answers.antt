@@ -4,7 +4,6 @@ use Rattle.durable.specs.Settled.{kept_rules, revision_of}
 use Rattle.durable.proofs.Answering.{settled_serves}
 use Rattle.histories.specs.View.{view}
 use Rattle.clients.proofs.Served.{served_none}
-use Rattle.gated.specs.Opening.{TellsOpened}
 use Rattle.gated.proofs.Leaving.{on_err, on_ok}
 use Rattle.gated.proofs.program.serve_opened.Goals as goal
 

@@ -1,4 +1,4 @@
-use Rattle.std.proofs.Common.{arith, ◌≡◌, ◌∙◌, ap, sym, subst, ℕ, List, [], ◌∷◌, ◌++◌, None, length, get_or, Option}
+use Rattle.std.proofs.Common.{◌≡◌, sym, subst, ℕ, List, [], ◌∷◌, ◌++◌, None, get_or, Option}
 use Rattle.sessions.specs.State.{State}
 use Rattle.clients.specs.declared.line.Line.{Line}
 use Rattle.clients.specs.Places.{fresh}

@@ -1,4 +1,4 @@
-use Rattle.std.proofs.Common.{rules, refl, subst, sym, true≢false, ◌≡◌, ◌∙◌, None, Err, false}
+use Rattle.std.proofs.Common.{rules, refl, subst, sym, true≢false, ◌∙◌, None, Err}
 use Rattle.histories.specs.View.{view}
 use Rattle.durable.specs.Settled.{root_of}
 use Rattle.clients.specs.Compacting.{log_sectors}
