@@ -142,6 +142,14 @@ impl SectorFile<HostFile> {
         Ok(locked(file)?)
     }
 
+    /// The system's error of the call of this device that failed last; none where none has.
+    #[must_use]
+    pub fn last_error(&self) -> Option<io::Error>
+        ensures { result ≡ self.now.file.error }
+    {
+        self.file().last_error()
+    }
+
     /// Opens a file that is there.
     pub fn open<R: Files<File = File>>(files: &R, path: &str) -> Result<FileDevice, OpenFault>
         ensures { IfOk result (λ device. (sector_disk host_disk).failures device ≡ 0) }

@@ -1,4 +1,4 @@
-ghost use Rattle.std.specs.Prelude.{◌≡◌, ◌<◌, ◌≤◌, ◌⊎◌, ◌^◌, ◌-◌, ◌+◌, ◌↔◌, length, IsOk, IsErr, IfOk, OnOk};
+ghost use Rattle.std.specs.Prelude.{◌≡◌, ◌<◌, ◌≤◌, ◌⊎◌, ◌^◌, ◌-◌, ◌+◌, ◌↔◌, length, None, Some, IsOk, IsErr, IfOk, IfErr, OnOk};
 
 use crate::{DeviceFault, RawFile};
 use std::fs::File;
@@ -17,27 +17,43 @@ const MOST_BYTES: u64 = 1 << 63;
 pub struct HostFile {
     file: File,
     failures: u64,
+    // Why the call that failed last did.
+    error: Option<io::Error>,
 }
 
 impl HostFile {
     /// A file that has not failed.
     pub(crate) fn new(file: File) -> HostFile
-        ensures { result.failures ≡ 0 }
+        ensures { (result.failures ≡ 0) × (result.error ≡ None) }
     {
-        HostFile { file, failures: 0 }
+        HostFile {
+            file,
+            failures: 0,
+            error: None,
+        }
     }
 
-    // Counts a call that failed.
+    /// Why the call that failed last did; none where none has.
+    pub(crate) fn last_error(&self) -> Option<io::Error>
+        ensures { result ≡ self.now.error }
+    {
+        self.error
+    }
+
+    // Counts a call that failed, and keeps why it did.
     fn counted<T: Drop>(&mut self, answer: io::Result<T>) -> Result<T, DeviceFault>
         ensures value { IfOk result (λ value. answer ≡ Ok value) }
         ensures later { self.old.failures ≤ self.new.failures }
         ensures well { IsOk result → self.new.failures ≡ self.old.failures }
         ensures cause { IsErr result → (self.old.failures < self.new.failures) ⊎ (self.new.failures ≡ 2 ^ 64 - 1) }
+        ensures kept { IfOk answer (λ _. self.new.error ≡ self.old.error) }
+        ensures told { IfErr answer (λ error. self.new.error ≡ Some error) }
     {
         match answer {
             Ok(value) => Ok(value),
-            Err(_) => {
+            Err(error) => {
                 self.failures = self.failures.saturating_add(1);
+                self.error = Some(error);
                 Err(DeviceFault)
             }
         }

@@ -25,6 +25,13 @@ impl<F: RawFile> SectorFile<F> {
         SectorFile { file }
     }
 
+    /// The file, while it stays a device.
+    pub fn file(&self) -> &F
+        ensures { result.now ≡ self.now.file }
+    {
+        &self.file
+    }
+
     /// The file.
     pub fn into_file(self) -> F
         ensures { result ≡ self.file }

@@ -75,6 +75,13 @@ impl<'a, R: Files<File = File>> FileStorage<'a, R> {
             cause: Cell::new(None),
         }
     }
+
+    // Keeps why a device has failed, if it has.
+    fn note(&self, device: &FileDevice) {
+        if let Some(error) = device.last_error() {
+            self.cause.set(Cause::of(&error));
+        }
+    }
 }
 
 // Why a file that is open is no device: another process has the lock.
@@ -145,12 +152,14 @@ impl<'a, R: Files<File = File>> Storage<FileDevice> for FileStorage<'a, R> {
     }
 
     fn discard(&self, name: &str, device: FileDevice) {
+        self.note(&device);
         // The file is still locked, so nobody else has begun a store in it.
         let _ = remove_file(self.files, name);
         drop(device);
     }
 
     fn close(&self, _name: &str, device: FileDevice) {
+        self.note(&device);
         drop(device);
     }
 
