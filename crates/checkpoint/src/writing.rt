@@ -6,7 +6,7 @@ ghost use Rattle.device.specs.Disk.{HasFailed};
 ghost use Rattle.device.specs.Step.{Same, Torn};
 ghost use Rattle.device.specs.Run.{Ran, Stands};
 ghost use Rattle.pages.specs.Page.{Entry, bytes_cmp};
-ghost use Rattle.roots.specs.Root.{log_sector};
+ghost use Rattle.roots.specs.Root.{log_sector, MayHaveFloor};
 ghost use Rattle.checkpoint.specs.Pages.{first_key, pages_of_root, IsIndex};
 ghost use Rattle.checkpoint.specs.Filling.{AllFit, pages_of};
 ghost use Rattle.checkpoint.specs.Index.{keys_of};
@@ -160,6 +160,7 @@ fn write_generation<D: Device, E: Entries>(
     writer: &mut PageWriter,
 ) -> Result<(), WriteFault>
     requires ready { IsFor writer.old next.now }
+    requires floor { MayHaveFloor next.now.label.format next.now.label.floor }
     requires in_data { 8 ≤ next.now.first_sector }
     requires room { log_sector next.now < 2 ^ 64 }
     requires inside { D.disk.keeps device.old → 512 * next.now.first_sector ≤ length (D.disk.content device.old) }
@@ -223,6 +224,7 @@ pub fn write<D: Device, E: Entries>(
 ) -> Result<Written, WriteFault>
     requires in_data { 8 ≤ last_gate_sector }
     requires room { last_gate_sector < 2 ^ 54 }
+    requires floor { MayHaveFloor label.format label.floor }
     requires inside { D.disk.keeps device.old → 512 * last_gate_sector + 512 ≤ length (D.disk.content device.old) }
 
     // From a device on which that generation is in use, over which the source gives entries.
