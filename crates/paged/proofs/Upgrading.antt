@@ -10,10 +10,10 @@ use Rattle.objects.specs.declared.fault.Part.{Part}
 use Rattle.objects.specs.declared.fault.LookupFault.{LookupFault}
 use Rattle.objects.specs.declared.fault.LookupFault.TheVariants as lookup
 use Rattle.requests.specs.Manifest.{Manifest}
-use Rattle.requests.specs.Namespaces.{namespaces_in_use}
 use Rattle.histories.specs.View as seen
+use Rattle.histories.specs.Wider.{floor_at}
 use Rattle.decoded.specs.Decoded.{Decoded}
-use Rattle.decoded.specs.Upgraded.{newest, upgraded_rules, upgraded_view, upgraded_count, upgraded_revision, HaveForm, HasRoomForUpgrade, IsOfOlderFormat}
+use Rattle.decoded.specs.Upgraded.{newest, upgraded_rules, new_names, upgraded_view, upgraded_count, upgraded_revision, HaveForm, HasRoomForUpgrade, IsOfOlderFormat}
 use Rattle.snapshots.specs.Added.{with_added, new_of, namespace_manifest}
 use Rattle.snapshots.specs.Keeping.{IsHeld}
 use Rattle.snapshots.proofs.Upgrading.{news_of, upgraded_is}
@@ -47,16 +47,17 @@ only_memory r passed f other told =
     let is : f ≡ lookup.Memory = cc in
     absurd (other is)
 
-module _ (v : seen.View Decoded) where
+module _ (old : Rules) (v : seen.View Decoded) where
   abbrev MayHold : Type 0
-  MayHold = HaveForm (namespaces_in_use v) → HasRoomForUpgrade v → IsHeld upgraded_rules (upgraded_view v)
+  MayHold = HaveForm (new_names old v) → HasRoomForUpgrade old v → IsHeld (upgraded_rules old v.revision) (upgraded_view old v)
 
   pub of_fault : (r : Result NextUpgraded NextFault) (f : NextFault) → IsErrAnd r (λ e. e ≡ f)
-      → (f ≡ fault.TooManyObjects → upgraded_rules.object_limit < upgraded_count v)
-      → (f ≡ fault.RevisionExhausted → (upgraded_count v ≤ upgraded_rules.object_limit) × (upgraded_rules.greatest_revision < upgraded_revision v))
-      → ((part : Part) → f ≡ fault.Lookup (lookup.Damaged part) → IsOfOlderFormat v → MayHold → ⊥) → (f ≡ fault.Lookup lookup.Device → ⊥) → IsUpgradeOf v r
-  of_fault (Ok n) f passed many exhausted damaged device = absurd passed
-  of_fault (Err e) f passed many exhausted damaged device =
+      → (f ≡ fault.TooManyObjects → (upgraded_rules old v.revision).object_limit < upgraded_count old v)
+      → (f ≡ fault.RevisionExhausted
+      → (upgraded_count old v ≤ (upgraded_rules old v.revision).object_limit) × ((upgraded_rules old v.revision).greatest_revision < upgraded_revision old v))
+      → ((part : Part) → f ≡ fault.Lookup (lookup.Damaged part) → IsOfOlderFormat old v → MayHold → ⊥) → IsUpgradeOf old v r
+  of_fault (Ok n) f passed many exhausted damaged = absurd passed
+  of_fault (Err e) f passed many exhausted damaged =
       let r : Result NextUpgraded NextFault = Err e in
       let Passed : NextFault → Type 0 = λ x. x ≡ f in
       record {
@@ -64,57 +65,61 @@ module _ (v : seen.View Decoded) where
         too_many = λ told. many (sym (err_is r Passed fault.TooManyObjects passed told));
         exhausted = λ told. exhausted (sym (err_is r Passed fault.RevisionExhausted passed told));
         damaged = λ part told. damaged part (sym (err_is r Passed (fault.Lookup (lookup.Damaged part)) passed told));
-        device = λ told. device (sym (err_is r Passed (fault.Lookup lookup.Device) passed told));
       }
 
   -- Out of memory refuses nothing.
-  pub of_memory : (r : Result NextUpgraded NextFault) → IsErrAnd r (λ e. e ≡ fault.Lookup lookup.Memory) → IsUpgradeOf v r
-  of_memory r passed =
-      of_fault r (fault.Lookup lookup.Memory) passed (λ is. cc) (λ is. cc) (λ part is older may. cc) (λ is. cc)
+  pub of_memory : (r : Result NextUpgraded NextFault) → IsErrAnd r (λ e. e ≡ fault.Lookup lookup.Memory) → IsUpgradeOf old v r
+  of_memory r passed = of_fault r (fault.Lookup lookup.Memory) passed (λ is. cc) (λ is. cc) (λ part is older may. cc)
+
+-- no fault of a look but the one that is passed on
+pub no_device : {A : Type 0} (r : Result A NextFault) (f : NextFault) → IsErrAnd r (λ e. e ≡ f) → (f ≡ fault.Lookup lookup.Device → ⊥)
+    → IsErrOf r (fault.Lookup lookup.Device) → ⊥
+no_device r f passed other told = other (sym (err_is r (λ e. e ≡ f) (fault.Lookup lookup.Device) passed told))
 
 -- ---- room
 
-module _ (rules : Rules) (v : seen.View Decoded) (count : ℕ) (rules_are : rules ≡ upgraded_rules) (count_is : count ≡ length (namespaces_in_use v)) where
-  limit_is : rules.object_limit ≡ upgraded_rules.object_limit
+pub fits : (old rules : Rules) (revision n : ℕ) → rules ≡ upgraded_rules old revision → n ≤ rules.greatest_revision → n < 2 ^ 64
+fits old rules revision n rules_are some =
+    let g : rules.greatest_revision ≡ (upgraded_rules old revision).greatest_revision = ap (λ (r : Rules). r.greatest_revision) rules_are in
+    let small : (upgraded_rules old revision).greatest_revision < 2 ^ 63 = (numbers_small newest (floor_at old.window_events revision)).revisions in
+    omega (arith, g, small, some)
+
+module _ (old rules : Rules) (v : seen.View Decoded) (count : ℕ) (rules_are : rules ≡ upgraded_rules old v.revision) (count_is : count ≡ length (new_names old v)) where
+  limit_is : rules.object_limit ≡ (upgraded_rules old v.revision).object_limit
   limit_is = ap (λ (r : Rules). r.object_limit) rules_are
 
-  greatest_is : rules.greatest_revision ≡ upgraded_rules.greatest_revision
+  greatest_is : rules.greatest_revision ≡ (upgraded_rules old v.revision).greatest_revision
   greatest_is = ap (λ (r : Rules). r.greatest_revision) rules_are
 
-  pub has_room : length v.objects + count ≤ rules.object_limit → v.revision + count ≤ rules.greatest_revision → HasRoomForUpgrade v
+  pub has_room : length v.objects + count ≤ rules.object_limit → v.revision + count ≤ rules.greatest_revision → HasRoomForUpgrade old v
   has_room objects revisions =
       let l = limit_is in
       let g = greatest_is in
       record { objects = omega arith; revisions = omega arith }
 
-  pub too_many_for : rules.object_limit < length v.objects + count → upgraded_rules.object_limit < upgraded_count v
+  pub too_many_for : rules.object_limit < length v.objects + count → (upgraded_rules old v.revision).object_limit < upgraded_count old v
   too_many_for many = let l = limit_is in omega arith
 
   pub exhausted_for : (length v.objects + count ≤ rules.object_limit) × (rules.greatest_revision < v.revision + count)
-      → (upgraded_count v ≤ upgraded_rules.object_limit) × (upgraded_rules.greatest_revision < upgraded_revision v)
+      → (upgraded_count old v ≤ (upgraded_rules old v.revision).object_limit) × ((upgraded_rules old v.revision).greatest_revision < upgraded_revision old v)
   exhausted_for both =
       let l = limit_is in
       let g = greatest_is in
       (omega arith, omega arith)
 
-  pub fits : v.revision + count ≤ rules.greatest_revision → v.revision + count < 2 ^ 64
-  fits some =
-      let g = greatest_is in
-      let small : upgraded_rules.greatest_revision < 2 ^ 63 = (numbers_small newest 0).revisions in
-      omega arith
-
 -- ---- the view with the Namespaces
 
-module _ (v : seen.View Decoded) (ms : List Manifest) (are : ms ≡ map namespace_manifest (namespaces_in_use v)) where
-  pub count_of : length ms ≡ length (namespaces_in_use v)
-  count_of = ap (λ (all : List Manifest). length all) are ∙ length-map (namespaces_in_use v) namespace_manifest
+module _ (old : Rules) (v : seen.View Decoded) (ms : List Manifest) (are : ms ≡ map namespace_manifest (new_names old v)) where
+  pub count_of : length ms ≡ length (new_names old v)
+  count_of = ap (λ (all : List Manifest). length all) are ∙ length-map (new_names old v) namespace_manifest
 
-  news_are : map new_of ms ≡ news_of (namespaces_in_use v)
+  news_are : map new_of ms ≡ news_of (new_names old v)
   news_are = ap (map new_of) are
 
-  pub count_of_news : length (map new_of ms) ≡ length (namespaces_in_use v)
+  pub count_of_news : length (map new_of ms) ≡ length (new_names old v)
   count_of_news = length-map ms new_of ∙ count_of
 
   -- It is the one that an upgrade leaves.
-  pub with_namespaces : (places : ℕ) → places ≡ upgraded_rules.window_events → IsOfOlderFormat v → with_added places v (map new_of ms) ≡ upgraded_view v
-  with_namespaces places same older = (λ i. with_added (same i) v (news_are i)) ∙ upgraded_is v older
+  pub with_namespaces : (places : ℕ) → places ≡ (upgraded_rules old v.revision).window_events → IsOfOlderFormat old v
+      → with_added places v (map new_of ms) ≡ upgraded_view old v
+  with_namespaces places same older = (λ i. with_added (same i) v (news_are i)) ∙ upgraded_is old v older

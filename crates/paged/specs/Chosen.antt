@@ -8,6 +8,9 @@ use Rattle.std.specs.declared.vec.Vec.{Vec}
 use Rattle.names.specs.Key.{Key, key_bytes}
 use Rattle.names.specs.Resource.{numbered}
 use Rattle.pages.specs.Page.{Entry, bytes_cmp}
+use Rattle.roots.specs.declared.root.Label.{Label}
+use Rattle.names.specs.Format.{has_chunks}
+use Rattle.chunks.specs.Chunks.{cut, AreCuttable}
 use Rattle.names.specs.declared.format.Rules.{Rules}
 use Rattle.histories.specs.View as seen
 use Rattle.decoded.specs.Decoded.{Decoded}
@@ -46,12 +49,16 @@ is_chosen chosen key = is_rule_key key || has_key chosen.keys key
 abbrev pub ChoosesRules : (List ℕ → Bool) → Type 0
 ChoosesRules chosen = (k : Key) → is_rule k.resource ≡ true → chosen (1 ∷ key_bytes k) ≡ true
 
--- The entries of policies and bindings, of some other objects, and all that are no object's, are together the entries of a view that may be held: so each
--- of them is that of an object, of a policy's plans or of an event, and the revisions of the events count up to this one.
-pub record HasHeldEntries (rules : Rules) (revision : ℕ) (entries : List Entry) : Type 0 where
+-- These are entries as the format of a root has them. Of the whole ones those of policies and bindings, of some other objects, and all that are no object's,
+-- are together the entries of a view that may be held: so each of them is that of an object, of a policy's plans or of an event, and the revisions of the
+-- events count up to that of the root.
+pub record HasHeldEntries (rules : Rules) (label : Label) (entries : List Entry) : Type 0 where
+  pub whole : List Entry
+  pub can : has_chunks label.format ≡ true → AreCuttable whole
+  pub cut_are : cut label.format whole ≡ entries
   pub chosen : List ℕ → Bool
   pub choice : ChoosesRules chosen
   pub held : seen.View Decoded
   pub is_held : IsHeld rules held
-  pub counted : held.revision ≡ revision
-  pub are : kept_of chosen entries ≡ held_entries held
+  pub counted : held.revision ≡ label.revision
+  pub are : kept_of chosen whole ≡ held_entries held

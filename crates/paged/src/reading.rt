@@ -11,6 +11,7 @@ ghost use Rattle.roots.specs.Root.{log_sector};
 ghost use Rattle.checkpoint.specs.Index.{keys_of};
 ghost use Rattle.checkpoint.specs.Pages.{joined, pages_of_root, HoldsPages, HoldsEntries, IsIndex};
 ghost use Rattle.shelf.specs.Shelf.{Shelves};
+ghost use Rattle.chunks.specs.Chunks.{HoldsWhole};
 ghost use Rattle.snapshots.specs.KeptEntries.{chosen_of, objects_among};
 ghost use Rattle.snapshots.specs.ObjectCache as caches;
 ghost use Rattle.histories.specs.declared.stored.Stored.{Stored as StoredData};
@@ -35,7 +36,7 @@ use crate::chosen::{Chosen, rules_among};
 use crate::fault::PagedFault;
 use crate::state::Paged;
 use crate::without_plans::WithoutPlans;
-use checkpoint::scan;
+use chunks::scan_whole;
 use decoded::Core;
 use device::Device;
 use names::Rules;
@@ -120,19 +121,19 @@ impl Paged {
 
         // What a checkpoint keeps is held over what of it lies in the pages, and memory knows the keys that were chosen; where there are no pages, each.
         ensures held { D.disk.keeps device.old → (held : seen.View DecodedData) → IsHeld rules held
-            → HoldsEntries (D.disk.content device.old) root.now (held_entries held) → root.now.label.revision ≡ held.revision
+            → HoldsWhole (D.disk.content device.old) root.now (held_entries held) → root.now.label.revision ≡ held.revision
             → IfOk result (λ p. Below D.disk device.new p (base_of held) × Shows p.core (base_of held) held
             × ((k : KeyData) → (0 < root.now.pages → is_chosen chosen (1 ∷ key_bytes k) ≡ true) → IsKnown p.core (base_of held) k)) }
         ensures damaged { D.disk.keeps device.old → IsErrOf result PagedFault.Page ⊎ (IsErrOf result PagedFault.Entry ⊎ IsErrOf result PagedFault.Plans)
             → (held : seen.View DecodedData) → IsHeld rules held
-            → HoldsEntries (D.disk.content device.old) root.now (held_entries held) → root.now.label.revision ≡ held.revision → ⊥ }
+            → HoldsWhole (D.disk.content device.old) root.now (held_entries held) → root.now.label.revision ≡ held.revision → ⊥ }
 
         // The pages are whole, and hold entries, whatever these are of.
         ensures whole { D.disk.keeps device.old → OnOk result (HoldsPages (D.disk.content device.old) root.now) }
         ensures entries { D.disk.keeps device.old
             → IfOk result (λ p. HasEntries D.disk device.new p (joined (pages_of_root root.now (D.disk.content device.old)))) }
         ensures kept { D.disk.keeps device.old
-            → OnOk result (HasHeldEntries rules root.now.label.revision (joined (pages_of_root root.now (D.disk.content device.old)))) }
+            → OnOk result (HasHeldEntries rules root.now.label (joined (pages_of_root root.now (D.disk.content device.old)))) }
 
         // And of a root without pages, whatever the device.
         ensures no_pages { root.now.pages ≡ 0 → IfOk result (λ p. Below D.disk device.new p [] × ((held : seen.View DecodedData) × IsHeld rules held × Shows p.core [] held)) }
@@ -142,8 +143,8 @@ impl Paged {
         ensures steady { OnOk result (D.disk.failures device.new ≡ D.disk.failures device.old) }
         ensures memory { IsErrOf result PagedFault.Memory → D.disk.failures device.new ≡ D.disk.failures device.old }
     {
-        let mut kept_entries = KeptEntries::new(alloc, &chosen);
-        let first_keys = scan(alloc, device, root, &mut kept_entries)?;
+        let none = KeptEntries::new(alloc, &chosen);
+        let (first_keys, kept_entries) = scan_whole(alloc, device, root, none)?;
         let core = core_of(
             alloc,
             rules,

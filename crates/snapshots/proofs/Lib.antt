@@ -17,6 +17,7 @@ mod Prefixes
 pub mod BaseFaults
 pub mod Holding
 pub mod Views
+pub mod Chunked
 pub mod Sieving
 mod Objects
 mod Unchanged

@@ -10,7 +10,8 @@ use Rattle.std.specs.declared.cmp.Ordering.{Ordering}
 use Rattle.std.specs.declared.cmp.Ordering.TheVariants.{Less, Equal, Greater}
 use Rattle.documents.specs.Document.{Document}
 use Rattle.names.proofs.Formats.{numbers_small}
-use Rattle.names.specs.Format.{has_resource}
+use Rattle.names.specs.Format.{has_namespaces, has_resource}
+use Rattle.names.specs.declared.format.Rules.{Rules}
 use Rattle.names.specs.declared.format.Format.TheVariants.{First}
 use Rattle.names.specs.declared.resource.Resource.{Resource}
 use Rattle.names.specs.declared.resource.Resource.TheVariants.{ConfigMap, Node, Pod, Service, Deployment, ValidatingAdmissionPolicy, ValidatingAdmissionPolicyBinding, Namespace}
@@ -21,16 +22,20 @@ use Rattle.histories.specs.History.{Write}
 use Rattle.requests.specs.Manifest.{Manifest, BodyHasForm}
 use Rattle.requests.specs.Namespaces.{namespace_puts, names_among, namespaces_in_use}
 use Rattle.histories.specs.View.{View, after_all}
+use Rattle.histories.specs.Wider.{floor_at}
 use Rattle.expressions.specs.Specification.{these}
 use Rattle.expressions.proofs.Standing.{no_plans}
 use Rattle.decoded.specs.Decoded.{Decoded, decoded_of, spelled}
-use Rattle.decoded.specs.Upgraded.{newest, upgraded_rules, upgraded_view, HaveForm, IsOfOlderFormat}
+use Rattle.decoded.specs.Upgraded.{newest, upgraded_rules, unless_objects, new_names, upgraded_view, HaveForm, IsOfOlderFormat}
 use Rattle.snapshots.specs.Added.{NewObject, stored_from, with_added, new_of, namespace_manifest}
 use Rattle.snapshots.proofs.Behind.{put_of, IsBehind, StandBehind, all-behind}
 use Rattle.snapshots.proofs.NamesInUse.{Name, bytes_cmp, sorted_names}
 
 abbrev Object : Type 0
 Object = Key × Stored Decoded
+
+low_floor : (window revision : ℕ) → 1 ≤ revision → floor_at window revision ≤ revision
+low_floor window revision begun = omega arith
 
 -- the Namespaces of these names, as objects that were not there
 abbrev pub news_of : List (List ℕ) → List (NewObject Decoded)
@@ -115,14 +120,27 @@ same_puts (name ∷ names) =
 
 -- ---- all of it
 
+-- The new Namespaces stand behind all objects.
+news_stand : (old : Rules) (held : View Decoded) → IsOfOlderFormat old held → StandBehind held.objects held.revision (news_of (new_names old held))
+news_stand old held older = stand_if (has_namespaces old.format) refl
+  where
+    stand_if : (are_objects : Bool) → has_namespaces old.format ≡ are_objects
+        → StandBehind held.objects held.revision (news_of (unless_objects are_objects (namespaces_in_use held)))
+    stand_if true is = tt
+    stand_if false is =
+        let names : List Name = names_among held.objects in
+        stand_behind held.objects held.revision names (sorted_names held.objects) (are_behind held.objects (older.objects is) names)
+
 -- An upgrade leaves a view of an older format with the Namespaces of its names.
-pub upgraded_is : (held : View Decoded) → IsOfOlderFormat held → with_added upgraded_rules.window_events held (news_of (namespaces_in_use held)) ≡ upgraded_view held
-upgraded_is held older =
-    let names : List (List ℕ) = namespaces_in_use held in
-    let floor : upgraded_rules.floor ≤ held.revision = subst (λ (n : ℕ). n ≤ held.revision) (sym (numbers_small newest 0).of_floor) (omega arith) in
-    let stand = stand_behind held.objects held.revision (names_among held.objects) (sorted_names held.objects) (are_behind held.objects older.objects (names_among held.objects)) in
-    sym (all-behind upgraded_rules held (news_of names) floor stand older.events)
-    ∙ ap (after_all upgraded_rules held) (same_puts names)
+pub upgraded_is : (old : Rules) (held : View Decoded) → IsOfOlderFormat old held
+    → with_added (upgraded_rules old held.revision).window_events held (news_of (new_names old held)) ≡ upgraded_view old held
+upgraded_is old held older =
+    let rules : Rules = upgraded_rules old held.revision in
+    let names : List (List ℕ) = new_names old held in
+    let floor : rules.floor ≡ floor_at old.window_events held.revision = (numbers_small newest (floor_at old.window_events held.revision)).of_floor in
+    let above : rules.floor ≤ held.revision = subst (λ (n : ℕ). n ≤ held.revision) (sym floor) (low_floor old.window_events held.revision older.begun) in
+    sym (all-behind rules held (news_of names) above (news_stand old held older) older.events)
+    ∙ ap (after_all rules held) (same_puts names)
 
 -- The documents of these manifests have their form.
 pub have_form : (names : List (List ℕ)) (ms : List Manifest) → ms ≡ map namespace_manifest names → AllByRecursion (λ m. BodyHasForm m.key m.body) ms → HaveForm names

@@ -1,10 +1,11 @@
 -- Objects in entries, and in the pages of a shelf on a device.
-use Rattle.std.specs.Prelude.{◌≡◌, ◌≢◌, ℕ, List, [], ◌∷◌, ◌++◌, map, Option, Some, None, IsTrue}
+use Rattle.std.specs.Prelude.{◌≡◌, ◌≢◌, ◌==◌, ℕ, Bool, false, List, [], ◌∷◌, ◌++◌, map, Option, Some, None, IsTrue}
 use Rattle.std.specs.FinMap.{is_sorted}
-use Rattle.std.specs.List.{AllByRecursion}
+use Rattle.std.specs.List.{AllByRecursion, list_any}
 use Rattle.byteorder.specs.Endian.{big_bytes}
 use Rattle.jsondoc.specs.Json.{text}
 use Rattle.device.specs.Disk.{Disk}
+use Rattle.names.specs.declared.format.Format.{Format}
 use Rattle.names.specs.declared.resource.Resource.{Resource}
 use Rattle.names.specs.Key.{Key, key_cmp}
 use Rattle.names.specs.Resource.{row}
@@ -15,6 +16,9 @@ use Rattle.roots.specs.declared.root.Root.{Root}
 use Rattle.shelf.specs.Prefix.{beginning}
 use Rattle.shelf.specs.Shelf as shelf
 use Rattle.shelf.specs.Shelf.{Shelves}
+use Rattle.names.specs.Format.{has_chunks}
+use Rattle.chunks.specs.Chunks.{cut_if}
+use Rattle.chunks.specs.Whole.{Wholes}
 use Rattle.records.specs.Entries.{object_entry}
 use Rattle.records.specs.Holding.{IsStorableObject}
 use Rattle.snapshots.specs.declared.cached_object.CachedObject.{CachedObject}
@@ -59,7 +63,7 @@ AreAmong some objects = (key : Key) (s : CachedObject) → value_at key some ≡
 -- The pages hold these objects on the device, among which are those that were found.
 pub record ObjectCaches {D : Type 0} (disk : Disk D) (device : D) (cache : ObjectCache) (objects : List (Key × CachedObject)) : Type 0 where
   pub entries : List Entry
-  pub shelves : Shelves disk device cache.shelf entries
+  pub shelves : Wholes disk device cache.shelf entries
   pub hold : HoldObjects entries objects
   pub found : AreAmong cache.found.entries objects
 
@@ -68,9 +72,14 @@ pub record AreOf (entries : List Entry) (objects : List (Key × CachedObject)) :
   pub are : entries ≡ map cached_entry objects
   pub storable : AllByRecursion IsStorable objects
 
--- Each of the entries that have an object's key is that of an object.
-abbrev pub AreObjects : List Entry → Type 0
-AreObjects entries = (objects : List (Key × CachedObject)) × AreOf (beginning (1 ∷ []) entries) objects
+-- The entries are what those of these objects are cut to, and no others.
+pub record AreCutOf (cutting : Bool) (entries : List Entry) (objects : List (Key × CachedObject)) : Type 0 where
+  pub are : entries ≡ cut_if cutting (map cached_entry objects)
+  pub storable : AllByRecursion IsStorable objects
+
+-- Those of the entries that have an object's key are what those of objects are cut to, as a format has them.
+abbrev pub AreObjects : Format → List Entry → Type 0
+AreObjects format entries = (objects : List (Key × CachedObject)) × AreCutOf (has_chunks format) (beginning (1 ∷ []) entries) objects
 
 -- The pages hold these entries on the device, whatever they are of.
 abbrev pub HasEntries : {D : Type 0} → Disk D → D → ObjectCache → List Entry → Type 0
@@ -80,3 +89,8 @@ HasEntries disk device cache entries = Shelves disk device cache.shelf entries
 abbrev pub prefix_of : Resource → (namespace : Option (List ℕ)) → List ℕ
 prefix_of resource None = 1 ∷ (row resource).number ∷ []
 prefix_of resource (Some namespace) = 1 ∷ (row resource).number ∷ namespace ++ 0 ∷ []
+
+-- a text is given that has a zero byte
+abbrev pub has_zero : Option (List ℕ) → Bool
+has_zero None = false
+has_zero (Some text) = list_any (λ byte. byte == 0) text

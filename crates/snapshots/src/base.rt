@@ -86,7 +86,8 @@ impl<'a, D: Device, M: Drop> Base<'a, D, M> {
     where
         M: FromDocument<P>,
         ensures listed { (objects : List (KeyData × StoredData P)) → HoldsBase M.made M.held self.old objects → IfOk result (λ listed. listed.items ≡ objects) }
-        ensures are { (entries : List EntryData) → HasEntries D.disk self.old.device.now self.old.cache.now entries → OnOk result (AreObjects entries) }
+        ensures are { (entries : List EntryData) → HasEntries D.disk self.old.device.now self.old.cache.now entries
+            → OnOk result (AreObjects (root_of self.old.cache.now).label.format entries) }
         ensures kept { (objects : List (KeyData × StoredData P)) → HoldsBase M.made M.held self.old objects → HoldsBase M.made M.held self.new objects }
         ensures goes { GoesTo self.old self.new }
         ensures counts { D.disk.failures self.old.device.now ≤ D.disk.failures self.new.device.now }

@@ -1,24 +1,30 @@
 //! Entries of objects, passed over where their keys have changes.
 
 ghost use Rattle.std.specs.Prelude.{◌≡◌, true, false, IfOk};
+ghost use Rattle.names.specs.Format.{has_chunks};
 ghost use Rattle.snapshots.specs.Changed.{IsChanged, IsUnchanged};
 
 use checkpoint::{Reader, ReaderFault};
-use names::{Key, KeyFault};
+use chunks::whole_key;
+use names::{Format, Key, KeyFault};
 use objects::Changes;
 use std::alloc::{AllocError, Global};
 
-// Whether the object whose entry has this key has one of the changes. Bytes that are no key of an object have none.
+// Whether the object has one of the changes of whose entry this is a key, as a format has it. Bytes that are no such key have none.
 fn has_change<T: Drop>(
     alloc: Global,
+    format: Format,
     changes: &Changes<T>,
     bytes: &[u8],
 ) -> Result<bool, AllocError>
-    ensures changed { IfOk result (λ b. b ≡ true → IsChanged changes.now.made bytes.now) }
-    ensures unchanged { IfOk result (λ b. b ≡ false → IsUnchanged changes.now.made bytes.now) }
+    ensures changed { IfOk result (λ b. b ≡ true → IsChanged (has_chunks format) changes.now.made bytes.now) }
+    ensures unchanged { IfOk result (λ b. b ≡ false → IsUnchanged (has_chunks format) changes.now.made bytes.now) }
 {
+    let Some(whole) = whole_key(format, bytes) else {
+        return Ok(false);
+    };
     // Behind the mark of an object's entry.
-    let Some((_mark, parts)) = bytes.split_first() else {
+    let Some((_mark, parts)) = whole.split_first() else {
         return Ok(false);
     };
     match Key::read(alloc, parts) {
@@ -28,9 +34,11 @@ fn has_change<T: Drop>(
     }
 }
 
-/// Passes over the entries of objects that have a change, and refuses any other entry. It looks at no document.
+/// Is told entries as the pages of a format have them. It passes over those of objects that have a change, and refuses any other. It looks at no document.
 #[derive(Drop)]
 pub(crate) struct ChangedReader<'a, T: Drop> {
+    // of the pages whose entries are told
+    pub(crate) format: Format,
     pub(crate) changes: &'a Changes<T>,
 }
 
@@ -46,7 +54,7 @@ impl<'a, T: Drop> Reader for ChangedReader<'a, T> {
     ghost told_then = { told_then };
 
     fn entry(&mut self, alloc: Global, key: &[u8], _cell: &[u8]) -> Result<(), ReaderFault> {
-        if has_change(alloc, self.changes, key)? {
+        if has_change(alloc, self.format, self.changes, key)? {
             return Ok(());
         }
         Err(ReaderFault::Entry)

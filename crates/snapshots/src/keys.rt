@@ -1,7 +1,7 @@
 //! What the keys of objects' entries begin with.
 
 ghost use Rattle.std.specs.Prelude.{◌≡◌, option_map, IfOk};
-ghost use Rattle.snapshots.specs.ObjectCache.{prefix_of};
+ghost use Rattle.snapshots.specs.ObjectCache.{prefix_of, has_zero};
 
 use names::Resource;
 use records::OBJECT_MARK;
@@ -21,4 +21,14 @@ pub(crate) fn prefix_of(
         prefix.push(0)?;
     }
     Ok(prefix)
+}
+
+/// Whether a text is given that has a zero byte.
+pub(crate) fn has_zero(namespace: Option<&str>) -> bool
+    ensures { result ≡ has_zero (option_map (λ text. text.now) namespace.entry) }
+{
+    match namespace {
+        Some(text) => text.as_bytes().contains(&0),
+        None => false,
+    }
 }

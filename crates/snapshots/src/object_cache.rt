@@ -1,7 +1,7 @@
 //! Objects in pages, as they are looked up and listed.
 
 ghost use Rattle.std.specs.Prelude.{◌≡◌, ◌<◌, ◌≤◌, ◌*◌, ◌^◌, ◌∷◌, List, [], Some, not, is_some, length, option_map, IsTrue, IfOk, OnOk, IsErrOf};
-ghost use Rattle.std.specs.List.{filter, list_any};
+ghost use Rattle.std.specs.List.{filter, list_any, AllByRecursion};
 ghost use Rattle.device.specs.Disk.{HasFailed};
 ghost use Rattle.device.specs.Step.{Same};
 ghost use Rattle.device.specs.Run.{Ran};
@@ -16,13 +16,16 @@ ghost use Rattle.shelf.specs.Prefix.{beginning};
 ghost use Rattle.shelf.specs.Shelf as shelves;
 ghost use Rattle.snapshots.specs.declared.object_cache_fault.ObjectCacheFault.TheVariants as ObjectCacheFault;
 ghost use Rattle.snapshots.specs.declared.cached_object.CachedObject.{CachedObject as CachedObjectData};
-ghost use Rattle.snapshots.specs.ObjectCache.{ObjectCaches, HasEntries, AreAmong, AreOf, root_of};
+ghost use Rattle.chunks.specs.Whole.{cuts_of, first_key, BeginsAlike, Wholes};
+ghost use Rattle.names.specs.Format.{has_chunks};
+ghost use Rattle.snapshots.specs.ObjectCache.{ObjectCaches, HasEntries, AreAmong, AreOf, AreCutOf, root_of};
 
 use crate::cached_object::{CachedObject, read_entry};
 use crate::changed::ChangedReader;
-use crate::keys::prefix_of;
+use crate::keys::{has_zero, prefix_of};
 use crate::listed::ListingReader;
 use crate::object_cache_fault::ObjectCacheFault;
+use chunks::{first_key, tell_whole, value_under};
 use device::Device;
 use names::{Key, Resource};
 use objects::{Changes, KeyValue, Objects};
@@ -43,23 +46,23 @@ fn objects_with<D: Device>(
     prefix: &[u8],
 ) -> Result<Vec<(Key, CachedObject)>, ObjectCacheFault>
     requires inside { D.disk.keeps device.old → 512 * log_sector (shelves.root_of shelf.old) ≤ length (D.disk.content device.old) }
-    ensures found { (entries : List EntryData) (objects : List (KeyData × CachedObjectData)) → shelves.Shelves D.disk device.old shelf.old entries
-        → AreOf (beginning prefix.now entries) objects → IfOk result (λ found. found.items ≡ objects) }
+    ensures found { (entries : List EntryData) (objects : List (KeyData × CachedObjectData)) → Wholes D.disk device.old shelf.old entries
+        → AllByRecursion (BeginsAlike prefix.now) entries → AreOf (beginning prefix.now entries) objects → IfOk result (λ found. found.items ≡ objects) }
     ensures are { (entries : List EntryData) → shelves.Shelves D.disk device.old shelf.old entries
-        → IfOk result (λ found. AreOf (beginning prefix.now entries) found.items) }
+        → IfOk result (λ found. AreCutOf (cuts_of shelf.old) (beginning prefix.now entries) found.items) }
     ensures entries { (entries : List EntryData) → shelves.Shelves D.disk device.old shelf.old entries → shelves.Shelves D.disk device.new shelf.new entries }
     ensures root { shelves.root_of shelf.new ≡ shelves.root_of shelf.old }
-    ensures damaged { (entries : List EntryData) (objects : List (KeyData × CachedObjectData)) → shelves.Shelves D.disk device.old shelf.old entries
-        → AreOf (beginning prefix.now entries) objects → IsErrOf result ObjectCacheFault.Damaged → ⊥ }
+    ensures damaged { (entries : List EntryData) (objects : List (KeyData × CachedObjectData)) → Wholes D.disk device.old shelf.old entries
+        → AllByRecursion (BeginsAlike prefix.now) entries → AreOf (beginning prefix.now entries) objects → IsErrOf result ObjectCacheFault.Damaged → ⊥ }
     ensures ran { Ran D.disk device.old device.new Same }
     ensures cause { IsErrOf result ObjectCacheFault.Device → HasFailed D.disk device.old device.new }
     ensures steady { OnOk result (D.disk.failures device.new ≡ D.disk.failures device.old) }
     ensures memory { IsErrOf result ObjectCacheFault.Memory → D.disk.failures device.new ≡ D.disk.failures device.old }
 {
-    let mut listed = ListingReader {
+    let none = ListingReader {
         objects: Vec::new(alloc),
     };
-    shelf.tell(alloc, device, prefix, Reading::Passing, &mut listed)?;
+    let listed = tell_whole(alloc, shelf, device, prefix, Reading::Passing, none)?;
     Ok(listed.objects)
 }
 
@@ -73,8 +76,9 @@ fn has_unchanged_with<D: Device, T: Drop>(
     changes: &Changes<T>,
 ) -> Result<bool, ObjectCacheFault>
     requires inside { D.disk.keeps device.old → 512 * log_sector (shelves.root_of shelf.old) ≤ length (D.disk.content device.old) }
-    ensures found { (entries : List EntryData) (objects : List (KeyData × CachedObjectData)) → shelves.Shelves D.disk device.old shelf.old entries
-        → AreOf (beginning prefix.now entries) objects → IfOk result (λ b. b ≡ list_any (λ o. not (is_some (value_at o.0 changes.now.made))) objects) }
+    ensures found { (entries : List EntryData) (objects : List (KeyData × CachedObjectData)) → Wholes D.disk device.old shelf.old entries
+        → AllByRecursion (BeginsAlike prefix.now) entries → AreOf (beginning prefix.now entries) objects
+        → IfOk result (λ b. b ≡ list_any (λ o. not (is_some (value_at o.0 changes.now.made))) objects) }
     ensures entries { (entries : List EntryData) → shelves.Shelves D.disk device.old shelf.old entries → shelves.Shelves D.disk device.new shelf.new entries }
     ensures root { shelves.root_of shelf.new ≡ shelves.root_of shelf.old }
     ensures damaged { (entries : List EntryData) → shelves.Shelves D.disk device.old shelf.old entries → IsErrOf result ObjectCacheFault.Damaged → ⊥ }
@@ -83,7 +87,8 @@ fn has_unchanged_with<D: Device, T: Drop>(
     ensures steady { OnOk result (D.disk.failures device.new ≡ D.disk.failures device.old) }
     ensures memory { IsErrOf result ObjectCacheFault.Memory → D.disk.failures device.new ≡ D.disk.failures device.old }
 {
-    let mut reader = ChangedReader { changes };
+    let format = shelf.root().label.format;
+    let mut reader = ChangedReader { format, changes };
     match shelf.tell(alloc, device, prefix, Reading::Kept, &mut reader) {
         Ok(()) => Ok(false),
         Err(ShelfFault::Entry) => Ok(true),
@@ -184,7 +189,8 @@ impl ObjectCache {
         Ok(())
     }
 
-    /// What is stored under a key. At most one page is read, and none that lies in memory.
+    /// What is stored under a key. At most one page is read of a value that is not cut or has one chunk; of a longer one those that have its chunks. None is
+    /// read that lies in memory.
     ///
     /// # Errors
     ///
@@ -209,38 +215,45 @@ impl ObjectCache {
     {
         let _resource = key.resource();
         let bytes = object_key(alloc, key)?;
-        let place = self.shelf.bring(alloc, device, &bytes)?;
-        self.read(alloc, device, place, &bytes, key)
+        let first = first_key(alloc, self.root().label.format, &bytes)?;
+        let place = self.shelf.bring(alloc, device, &first)?;
+        self.read(alloc, device, place, &first, &bytes, key)
     }
 
-    // The same, of the page that was brought into memory: what was found before is not read again, and what is read is kept.
+    // The same, where the page was brought into memory in which its entry begins: what was found before is not read again, and what is read is kept.
     fn read<D: Device>(
         &mut self,
         alloc: Global,
-        device: &D,
+        device: &mut D,
         place: Option<u32>,
+        first: &[u8],
         bytes: &[u8],
         key: &Key,
     ) -> Result<Option<CachedObject>, ObjectCacheFault>
-        requires brought { shelves.IsBrought self.old.shelf bytes.now place }
+        requires brought { shelves.IsBrought self.old.shelf first.now place }
+        requires first { first.now ≡ first_key (cuts_of self.old.shelf) bytes.now }
         requires bytes { bytes.now ≡ 1 ∷ key_bytes key.now }
         requires key { IsTrue (is_key key.now) }
-        ensures found { (objects : List (KeyData × CachedObjectData)) → ObjectCaches D.disk device.now self.old objects
+        requires inside { D.disk.keeps device.old → 512 * log_sector (root_of self.old) ≤ length (D.disk.content device.old) }
+        ensures found { (objects : List (KeyData × CachedObjectData)) → ObjectCaches D.disk device.old self.old objects
             → IfOk result (λ found. found ≡ value_at key.now objects) }
-        ensures kept { (objects : List (KeyData × CachedObjectData)) → ObjectCaches D.disk device.now self.old objects → ObjectCaches D.disk device.now self.new objects }
+        ensures kept { (objects : List (KeyData × CachedObjectData)) → ObjectCaches D.disk device.old self.old objects → ObjectCaches D.disk device.new self.new objects }
         ensures root { root_of self.new ≡ root_of self.old }
-        ensures damaged { (objects : List (KeyData × CachedObjectData)) → ObjectCaches D.disk device.now self.old objects → IsErrOf result ObjectCacheFault.Damaged → ⊥ }
-        ensures cause { IsErrOf result ObjectCacheFault.Device → ⊥ }
+        ensures damaged { (objects : List (KeyData × CachedObjectData)) → ObjectCaches D.disk device.old self.old objects → IsErrOf result ObjectCacheFault.Damaged → ⊥ }
+        ensures ran { Ran D.disk device.old device.new Same }
+        ensures cause { IsErrOf result ObjectCacheFault.Device → HasFailed D.disk device.old device.new }
+        ensures steady { OnOk result (D.disk.failures device.new ≡ D.disk.failures device.old) }
+        ensures memory { IsErrOf result ObjectCacheFault.Memory → D.disk.failures device.new ≡ D.disk.failures device.old }
     {
         if let Some(cached) = self.found.get(key) {
             return Ok(Some(cached.clone()?));
         }
-        let (cached, cell_bytes) = match self.shelf.cell(device, place, bytes) {
-            Some(cell) => (read_entry(alloc, bytes, cell)?.1, cell.len()),
-            None => return Ok(None),
+        let Some(value) = value_under(alloc, &mut self.shelf, device, place, first, bytes)? else {
+            return Ok(None);
         };
+        let cached = read_entry(alloc, bytes, &value)?.1;
         // Without memory it is not kept, and read again.
-        let _kept = self.keep(alloc, key, &cached, cell_bytes);
+        let _kept = self.keep(alloc, key, &cached, value.len());
         Ok(Some(cached))
     }
 
@@ -269,6 +282,10 @@ impl ObjectCache {
         ensures steady { OnOk result (D.disk.failures device.new ≡ D.disk.failures device.old) }
         ensures memory { IsErrOf result ObjectCacheFault.Memory → D.disk.failures device.new ≡ D.disk.failures device.old }
     {
+        // No namespace has a zero byte, and behind one the pages have more than keys.
+        if has_zero(namespace) {
+            return Ok(Vec::new(alloc));
+        }
         let prefix = prefix_of(alloc, resource, namespace)?;
         objects_with(alloc, &mut self.shelf, device, &prefix)
     }
@@ -298,6 +315,10 @@ impl ObjectCache {
         ensures steady { OnOk result (D.disk.failures device.new ≡ D.disk.failures device.old) }
         ensures memory { IsErrOf result ObjectCacheFault.Memory → D.disk.failures device.new ≡ D.disk.failures device.old }
     {
+        // No namespace has a zero byte, and behind one the pages have more than keys.
+        if has_zero(Some(namespace)) {
+            return Ok(false);
+        }
         let prefix = prefix_of(alloc, resource, Some(namespace))?;
         has_unchanged_with(alloc, &mut self.shelf, device, &prefix, changes)
     }
@@ -316,7 +337,7 @@ impl ObjectCache {
         ensures found { (objects : List (KeyData × CachedObjectData)) → ObjectCaches D.disk device.old self.old objects
             → IfOk result (λ listed. listed.items ≡ objects) }
         ensures are { (entries : List EntryData) → HasEntries D.disk device.old self.old entries
-            → IfOk result (λ listed. AreOf (beginning (1 ∷ []) entries) listed.items) }
+            → IfOk result (λ listed. AreCutOf (has_chunks (root_of self.old).label.format) (beginning (1 ∷ []) entries) listed.items) }
         ensures kept { (objects : List (KeyData × CachedObjectData)) → ObjectCaches D.disk device.old self.old objects → ObjectCaches D.disk device.new self.new objects }
         ensures root { root_of self.new ≡ root_of self.old }
         ensures damaged { (objects : List (KeyData × CachedObjectData)) → ObjectCaches D.disk device.old self.old objects → IsErrOf result ObjectCacheFault.Damaged → ⊥ }

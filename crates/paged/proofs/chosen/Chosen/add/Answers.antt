@@ -3,7 +3,7 @@ use Rattle.std.proofs.lemmas.List.{take_more, take_all}
 use Rattle.std.proofs.lemmas.List.Elements.{Contains-push_cases}
 use Rattle.names.specs.Key.{Key, key_bytes}
 use Rattle.paged.specs.Chosen.{is_rule_key}
-use Rattle.paged.proofs.Choosing.{has_inserted, has_still, or_second, or_more}
+use Rattle.paged.proofs.Choosing.{has_inserted, has_still, or_second}
 use Rattle.paged.proofs.chosen.Chosen.add.Goals as goal
 
 pub loop-key-preserved : goal.loop-key-preserved

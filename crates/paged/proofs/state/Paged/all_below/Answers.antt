@@ -1,10 +1,12 @@
-use Rattle.std.proofs.Common.{rules, refl, ap, ◌∙◌, []}
+use Rattle.std.proofs.Common.{rules, refl, ap, subst, ◌∙◌, []}
+use Rattle.std.specs.Prelude.{OnOk}
 use Rattle.std.proofs.lemmas.Result.{on_ok_weaker}
 use Rattle.device.specs.Step.{Same}
 use Rattle.device.proofs.Runs.{not_yet}
 use Rattle.snapshots.specs.Base.{holds_nothing}
 use Rattle.snapshots.specs.declared.object_cache.ObjectCache.{ObjectCache}
 use Rattle.snapshots.specs.ObjectCache as cache
+use Rattle.snapshots.specs.ObjectCache.{AreObjects}
 use Rattle.paged.specs.Lying.{made_bare, held_bare}
 use Rattle.paged.proofs.Going.{holds_below, has_entries, below_goes, ran_by, failed_by, unfailed_by}
 use Rattle.paged.proofs.state.Paged.all_below.Goals as goal
@@ -18,7 +20,8 @@ returns g c =
     let end = c.all.new.self in
     record {
       all = λ base below. listing.listed base (holds_below start device c.args.self.now.cache before.device before.cache base before.whole below);
-      are = λ entries has. listing.are entries (has_entries start device c.args.self.now.cache before.device before.cache [] entries has);
+      are = λ entries has. subst (λ (s : ObjectCache). OnOk c.all.result (AreObjects (cache.root_of s).label.format entries)) before.cache
+          (listing.are entries (has_entries start device c.args.self.now.cache before.device before.cache [] entries has));
       damaged = λ part told base below.
           let holds = holds_below start device c.args.self.now.cache before.device before.cache base before.whole below in
           holds_nothing made_bare held_bare end base (listing.kept base holds) (listing.damaged part told);

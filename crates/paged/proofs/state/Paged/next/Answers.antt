@@ -2,6 +2,7 @@ use Rattle.std.proofs.Common.{◌≡◌, ◌∙◌, sym, ap, subst}
 use Rattle.names.specs.declared.format.Rules.{Rules}
 use Rattle.histories.specs.View as seen
 use Rattle.holdings.specs.Holdings.{State, Shows}
+use Rattle.chunks.specs.Chunks.{cut}
 use Rattle.snapshots.specs.Keeping.{IsHeld, held_entries}
 use Rattle.paged.specs.Lying.{base_of}
 use Rattle.paged.specs.Paged.{Holds}
@@ -95,7 +96,7 @@ returns-in_err-core g c =
           let lent = c.in_ok-view.ensures held
           (shows_still old new holds.base c.deref.result.now held all.core (c.deref.ensures.value ∙ c.in_ok-below.ensures.all holds.base holds.below) holds.shows) in
           c.renewed_core.ensures.damaged part (same_fault handed.ensures.1 was told)
-          (held_still old.rules _ _ held (c.rules.ensures ∙ ap (λ (core : State Decoded). core.rules) all.core) lent is);
+          (held_still old.rules _ _ held (c.rules-rules.ensures ∙ ap (λ (core : State Decoded). core.rules) all.core) lent is);
       core = all.core;
       root = all.root;
       below = all.below;
@@ -110,13 +111,13 @@ returns g c =
     let all = c.all_below.ensures in
     let old = c.args.self.now.core in
     let new = c.all_below.new.self.core in
-    let rules_are = c.rules.ensures ∙ ap (λ (core : State Decoded). core.rules) all.core in
+    let rules_are = c.rules-rules.ensures ∙ ap (λ (core : State Decoded). core.rules) all.core in
     let lent : (held : seen.View Decoded) → Holds g.D.Device.disk c.args.device.now c.args.self.now held → c.in_ok-view.view ≡ held =
     λ held holds. c.in_ok-view.ensures held
     (shows_still old new holds.base c.deref.result.now held all.core (c.deref.ensures.value ∙ c.in_ok-below.ensures.all holds.base holds.below) holds.shows)
     in
     record {
-      entries = λ held holds. c.in_ok-entries.ensures.held ∙ ap held_entries (lent held holds);
+      entries = λ held holds. c.in_ok-entries.ensures.held ∙ (λ i. cut (rules_are i).format (held_entries (lent held holds i)));
       rules = c.in_ok-core.ensures.rules ∙ rules_are;
       held = λ held holds is.
           let Shown : seen.View Decoded → Type 0 = λ v. Shows c.in_ok-core.core (base_of v) v in

@@ -1,9 +1,12 @@
-use Rattle.std.proofs.Common.{◌∙◌, subst, ⊎_elim}
+use Rattle.std.proofs.Common.{◌≡◌, ◌∙◌, sym, ap, subst, ⊎_elim}
 use Rattle.std.proofs.lemmas.Result.{IfOk-from_err, IfOk-weaker}
+use Rattle.names.specs.declared.format.Rules.{Rules}
 use Rattle.objects.specs.declared.fault.LookupFault.{LookupFault}
 use Rattle.objects.specs.declared.fault.LookupFault.TheVariants as lookup
 use Rattle.histories.specs.View as seen
+use Rattle.holdings.specs.Holdings.{State}
 use Rattle.decoded.specs.Decoded.{Decoded}
+use Rattle.decoded.specs.Upgraded.{upgraded_rules}
 use Rattle.paged.specs.Paged.{Holds}
 use Rattle.paged.specs.Upgrading.{IsNextUpgraded, IsUpgradeOf}
 use Rattle.paged.proofs.Showing.{shows_still}
@@ -72,20 +75,24 @@ returns g c =
     let all = c.all_below.ensures in
     let old = c.args.self.now.core in
     let new = c.all_below.new.self.core in
-    let tells : (held : seen.View Decoded) → Holds g.D.Device.disk c.args.device.now c.args.self.now held → IsUpgradeOf held r =
+    let rules_are : c.rules.result ≡ old.rules = c.rules.ensures ∙ ap (λ (core : State Decoded). core.rules) all.core in
+    let revision_is : c.revision.result ≡ old.revision = c.revision.ensures ∙ ap (λ (core : State Decoded). core.revision) all.core in
+    let tells : (held : seen.View Decoded) → Holds g.D.Device.disk c.args.device.now c.args.self.now held → IsUpgradeOf old.rules held r =
     λ held holds.
     let lent = c.in_ok-view.ensures held
     (shows_still old new holds.base c.deref.result.now held all.core (c.deref.ensures.value ∙ c.in_ok-below.ensures.all holds.base holds.below) holds.shows) in
-    subst (λ (v : seen.View Decoded). IsUpgradeOf v r) lent c.upgraded.ensures
+    let same = ap (λ (v : seen.View Decoded). v.revision) lent ∙ sym holds.shows.revision ∙ sym revision_is in
+    let Of : Rules × seen.View Decoded → Type 0 = λ x. IsUpgradeOf x.0 x.1 r in
+    subst Of {x = (c.rules.result, c.in_ok-view.view)} {y = (old.rules, held)} (λ i. (rules_are i, lent i)) (c.upgraded.ensures.next same)
     in
     record {
-      entries = λ held holds older. IfOk-weaker r (IsNextUpgraded held) _ (λ n is. is.entries older) (tells held holds).next;
-      rules = IfOk-weaker r (IsNextUpgraded c.in_ok-view.view) _ (λ n is. is.rules) c.upgraded.ensures.next;
-      revision = λ held holds. IfOk-weaker r (IsNextUpgraded held) _ (λ n is. is.revision) (tells held holds).next;
-      namespaces = λ held holds. IfOk-weaker r (IsNextUpgraded held) _ (λ n is. is.namespaces) (tells held holds).next;
-      held = λ held holds older may. IfOk-weaker r (IsNextUpgraded held) _ (λ n is. is.held older may) (tells held holds).next;
-      form = λ held holds. IfOk-weaker r (IsNextUpgraded held) _ (λ n is. is.form) (tells held holds).next;
-      room = λ held holds. IfOk-weaker r (IsNextUpgraded held) _ (λ n is. is.room) (tells held holds).next;
+      entries = λ held holds older. IfOk-weaker r (IsNextUpgraded old.rules held) _ (λ n is. is.entries older) (tells held holds).next;
+      rules = IfOk-weaker r _ _ (λ n is. is ∙ (λ i. upgraded_rules (rules_are i) (revision_is i))) c.upgraded.ensures.rules;
+      revision = λ held holds. IfOk-weaker r (IsNextUpgraded old.rules held) _ (λ n is. is.revision) (tells held holds).next;
+      namespaces = λ held holds. IfOk-weaker r (IsNextUpgraded old.rules held) _ (λ n is. is.namespaces) (tells held holds).next;
+      held = λ held holds older may. IfOk-weaker r (IsNextUpgraded old.rules held) _ (λ n is. is.held older may) (tells held holds).next;
+      form = λ held holds. IfOk-weaker r (IsNextUpgraded old.rules held) _ (λ n is. is.form) (tells held holds).next;
+      room = λ held holds. IfOk-weaker r (IsNextUpgraded old.rules held) _ (λ n is. is.room) (tells held holds).next;
       too_many = λ held holds. (tells held holds).too_many;
       exhausted = λ held holds. (tells held holds).exhausted;
       damaged = λ part told held holds. (tells held holds).damaged part told;

@@ -6,12 +6,13 @@ use Rattle.snapshots.specs.declared.kept_entries.KeptEntries.{KeptEntries}
 use Rattle.pages.specs.Page.{Entry}
 use Rattle.checkpoint.specs.Pages.{joined, pages_of_root, HoldsEntries, IsIndex}
 use Rattle.checkpoint.specs.Index.{keys_of}
+use Rattle.chunks.specs.Chunks.{cut}
 use Rattle.snapshots.specs.KeptEntries.{kept_of}
 use Rattle.snapshots.specs.Keeping.{held_entries}
 use Rattle.paged.specs.declared.chosen.Chosen.{Chosen}
 use Rattle.paged.specs.Chosen.{is_chosen}
 use Rattle.paged.proofs.Choosing.{chooses_rules}
-use Rattle.paged.proofs.Lying.{lying, none_lying}
+use Rattle.paged.proofs.Lying.{wholes_of, wholes_of_none, lying, none_lying}
 use Rattle.paged.proofs.Pages.{IsBad, kept_of_them, pages_hold, count_keys, index_of_none, holds_none, knows_all, none_or_some, scan_bad, scan_memory, snapshot_bad}
 use Rattle.paged.proofs.state.Paged.read.Goals as goal
 
@@ -19,17 +20,17 @@ pub returns-in_err-first_keys-clause-damaged : goal.returns-in_err-first_keys-cl
 returns-in_err-first_keys-clause-damaged g c keeps told held is holds revision =
     let content = g.D.Device.disk.content c.args.device.now in
     ⊎_elim
-    (λ bad. c.scan.ensures.page keeps (c.in_err-first_keys.was ∙ ap Err bad) (pages_hold c.args.rules held c.args.root.now content is holds))
-    (λ bad. let refused = c.scan.ensures.refused keeps (c.in_err-first_keys.was ∙ ap Err bad) in refused.refused)
+    (λ bad. c.scan_whole.ensures.page keeps (c.in_err-first_keys.was ∙ ap Err bad) (pages_hold c.args.rules held c.args.root.now content is holds))
+    (λ bad. c.scan_whole.ensures.refused keeps (c.in_err-first_keys.was ∙ ap Err bad) (held_entries held) holds.can (sym holds.pages.are) (λ refused. refused.refused))
     (scan_bad c.from_residual.result c.in_err-first_keys.field-0.0 c.from_residual.ensures.1 told)
 
 pub returns-in_err-core-clause-damaged : goal.returns-in_err-core-clause-damaged
 returns-in_err-core-clause-damaged g c keeps told held is holds revision =
     let content = g.D.Device.disk.content c.args.device.now in
     let chosen : Chosen = c.args.chosen in
-    let made = c.new-kept_entries.ensures in
+    let made = c.new-none.ensures in
     let read =
-    kept_of_them c.args.rules held c.args.root.now content chosen c.new-kept_entries.result c.scan.new.reader made.choice made.kept made.objects c.requires.small holds
+    kept_of_them c.args.rules held c.args.root.now content chosen c.new-none.result c.in_ok-first_keys.kept_entries made.choice made.kept made.objects c.requires.small holds
     (c.in_ok-first_keys.ensures.told keeps)
     in
     let kept = c.kept.ensures ∙ read.0 in
@@ -54,23 +55,25 @@ returns-clause-held g c keeps held is holds revision =
     let content = disk.content c.args.device.now in
     let root = c.args.root.now in
     let chosen : Chosen = c.args.chosen in
-    let made = c.new-kept_entries.ensures in
+    let made = c.new-none.ensures in
     let read =
-    kept_of_them c.args.rules held root content chosen c.new-kept_entries.result c.scan.new.reader made.choice made.kept made.objects c.requires.small holds
+    kept_of_them c.args.rules held root content chosen c.new-none.result c.in_ok-first_keys.kept_entries made.choice made.kept made.objects c.requires.small holds
     (c.in_ok-first_keys.ensures.told keeps)
     in
     let shown =
     c.in_ok-core.ensures.shows held (is_chosen chosen) is (chooses_rules chosen) (c.kept.ensures ∙ read.0) (c.objects.ensures ∙ read.1) (sym revision)
     in
-    let same = sym (c.scan.ensures.ran.seen keeps) in
+    let same = sym (c.scan_whole.ensures.ran.seen keeps) in
     let keys = keys_of c.in_ok-first_keys.first_keys.items in
     let Index : List ℕ → Type 0 = λ x. IsIndex keys (pages_of_root root x) in
-    let Holds : List ℕ → Type 0 = λ x. HoldsEntries x root (held_entries held) in
+    let entries : List Entry = cut root.label.format (held_entries held) in
+    let Holds : List ℕ → Type 0 = λ x. HoldsEntries x root entries in
     let shelves =
-    c.in_ok-cache.ensures.shelves (held_entries held) (subst Index same (c.in_ok-first_keys.ensures.index keeps)) (λ some. c.scan.ensures.ran.kept keeps)
-    (subst Holds same holds)
+    c.in_ok-cache.ensures.shelves entries (subst Index same (c.in_ok-first_keys.ensures.index keeps)) (λ some. c.scan_whole.ensures.ran.kept keeps)
+    (subst Holds same holds.pages)
     in (
-      lying disk c.scan.new.device c.in_ok-cache.cache c.args.rules held is c.in_ok-cache.ensures.found shelves,
+      lying disk c.scan_whole.new.device c.in_ok-cache.cache c.args.rules held is c.in_ok-cache.ensures.found
+          (wholes_of disk c.scan_whole.new.device c.in_ok-cache.cache.shelf root (held_entries held) c.in_ok-cache.ensures.root holds.can shelves),
       shown.0,
       λ k has.
           ⊎_elim (λ none. knows_all root content held c.in_ok-core.core k none holds) (λ some. shown.1 k (has some)) (none_or_some root.pages),
@@ -79,19 +82,20 @@ returns-clause-held g c keeps held is holds revision =
 pub returns-clause-no_pages : goal.returns-clause-no_pages
 returns-clause-no_pages g c none =
     let disk = g.D.Device.disk in
-    let content = disk.content c.scan.new.device in
+    let content = disk.content c.scan_whole.new.device in
     let root = c.args.root.now in
-    let untold = c.scan.ensures.no_pages none in
-    let made = c.new-kept_entries.ensures in
+    let untold = c.in_ok-first_keys.ensures.none none in
+    let made = c.new-none.ensures in
     let keys = keys_of c.in_ok-first_keys.first_keys.items in
     let index =
     index_of_none keys root content none
     (length-map c.in_ok-first_keys.first_keys.items (λ key. key.items) ∙ c.in_ok-cache.ensures.counted)
     in
     let shelves = c.in_ok-cache.ensures.shelves [] index (λ some. absurd (omega (arith, some, none))) (holds_none root content none) in (
-      none_lying disk c.scan.new.device c.in_ok-cache.cache c.in_ok-cache.ensures.found shelves,
-      c.in_ok-core.ensures.none (c.kept.ensures ∙ ap (λ (s : KeptEntries Chosen). s.kept.items) untold.2 ∙ made.kept)
-          (c.objects.ensures ∙ ap (λ (s : KeptEntries Chosen). s.objects) untold.2 ∙ made.objects),
+      none_lying disk c.scan_whole.new.device c.in_ok-cache.cache c.in_ok-cache.ensures.found
+          (wholes_of_none disk c.scan_whole.new.device c.in_ok-cache.cache.shelf shelves),
+      c.in_ok-core.ensures.none (c.kept.ensures ∙ ap (λ (s : KeptEntries Chosen). s.kept.items) untold ∙ made.kept)
+          (c.objects.ensures ∙ ap (λ (s : KeptEntries Chosen). s.objects) untold ∙ made.objects),
     )
 
 pub returns-in_err-first_keys-clause-rules : goal.returns-in_err-first_keys-clause-rules
@@ -107,7 +111,7 @@ pub returns-in_err-first_keys-clause-no_pages : goal.returns-in_err-first_keys-c
 returns-in_err-first_keys-clause-no_pages g c none = IfOk-from_err c.from_residual.result _ c.from_residual.ensures.0
 
 pub returns-in_err-first_keys-clause-ran : goal.returns-in_err-first_keys-clause-ran
-returns-in_err-first_keys-clause-ran g c = c.scan.ensures.ran
+returns-in_err-first_keys-clause-ran g c = c.scan_whole.ensures.ran
 
 pub returns-in_err-core-clause-rules : goal.returns-in_err-core-clause-rules
 returns-in_err-core-clause-rules g c = IfOk-from_err c.from_residual-in_err-core.result _ c.from_residual-in_err-core.ensures.0
@@ -122,7 +126,7 @@ pub returns-in_err-core-clause-no_pages : goal.returns-in_err-core-clause-no_pag
 returns-in_err-core-clause-no_pages g c none = IfOk-from_err c.from_residual-in_err-core.result _ c.from_residual-in_err-core.ensures.0
 
 pub returns-in_err-core-clause-ran : goal.returns-in_err-core-clause-ran
-returns-in_err-core-clause-ran g c = c.scan.ensures.ran
+returns-in_err-core-clause-ran g c = c.scan_whole.ensures.ran
 
 pub returns-in_err-cache-clause-rules : goal.returns-in_err-cache-clause-rules
 returns-in_err-cache-clause-rules g c = IfOk-from_err c.from_residual-in_err-cache.result _ c.from_residual-in_err-cache.ensures.0
@@ -137,7 +141,7 @@ pub returns-in_err-cache-clause-no_pages : goal.returns-in_err-cache-clause-no_p
 returns-in_err-cache-clause-no_pages g c none = IfOk-from_err c.from_residual-in_err-cache.result _ c.from_residual-in_err-cache.ensures.0
 
 pub returns-in_err-cache-clause-ran : goal.returns-in_err-cache-clause-ran
-returns-in_err-cache-clause-ran g c = c.scan.ensures.ran
+returns-in_err-cache-clause-ran g c = c.scan_whole.ensures.ran
 
 pub returns-clause-rules : goal.returns-clause-rules
 returns-clause-rules g c = c.in_ok-core.ensures.rules
@@ -149,7 +153,7 @@ pub returns-clause-damaged : goal.returns-clause-damaged
 returns-clause-damaged g c keeps told held is holds revision = ⊎_elim no_fault (λ other. ⊎_elim no_fault no_fault other) told
 
 pub returns-clause-ran : goal.returns-clause-ran
-returns-clause-ran g c = c.scan.ensures.ran
+returns-clause-ran g c = c.scan_whole.ensures.ran
 
 pub returns-clause-cause : goal.returns-clause-cause
 returns-clause-cause g c told = absurd (no_fault told)
@@ -165,7 +169,7 @@ returns-in_err-cache-clause-steady g c = IfOk-from_err c.from_residual-in_err-ca
 
 pub returns-in_err-first_keys-clause-memory : goal.returns-in_err-first_keys-clause-memory
 returns-in_err-first_keys-clause-memory g c told =
-    c.scan.ensures.unfailed (c.in_err-first_keys.was ∙ ap Err
+    c.scan_whole.ensures.unfailed (c.in_err-first_keys.was ∙ ap Err
     (scan_memory c.from_residual.result c.in_err-first_keys.field-0.0 c.from_residual.ensures.1 told))
 
 pub returns-in_err-core-clause-memory : goal.returns-in_err-core-clause-memory
@@ -206,10 +210,10 @@ returns-clause-entries g c keeps =
     let content = g.D.Device.disk.content c.args.device.now in
     let root = c.args.root.now in
     let entries : List Entry = joined (pages_of_root root content) in
-    let same = sym (c.scan.ensures.ran.seen keeps) in
+    let same = sym (c.scan_whole.ensures.ran.seen keeps) in
     let Index : List ℕ → Type 0 = λ x. IsIndex (keys_of c.in_ok-first_keys.first_keys.items) (pages_of_root root x) in
     let Holds : List ℕ → Type 0 = λ x. HoldsEntries x root entries in
-    c.in_ok-cache.ensures.shelves entries (subst Index same (c.in_ok-first_keys.ensures.index keeps)) (λ some. c.scan.ensures.ran.kept keeps)
+    c.in_ok-cache.ensures.shelves entries (subst Index same (c.in_ok-first_keys.ensures.index keeps)) (λ some. c.scan_whole.ensures.ran.kept keeps)
     (subst Holds same (record { sound = (c.in_ok-first_keys.ensures.whole keeps).sound; are = refl }))
 
 pub returns-in_err-first_keys-clause-kept : goal.returns-in_err-first_keys-clause-kept
@@ -224,14 +228,17 @@ returns-in_err-cache-clause-kept g c keeps = IfOk-from_err c.from_residual-in_er
 pub returns-clause-kept : goal.returns-clause-kept
 returns-clause-kept g c keeps =
     let chosen : Chosen = c.args.chosen in
-    let made = c.new-kept_entries.ensures in
-    let entries : List Entry = joined (pages_of_root c.args.root.now (g.D.Device.disk.content c.args.device.now)) in
+    let made = c.new-none.ensures in
+    let heard = c.in_ok-first_keys.ensures.told keeps in
     let held = c.in_ok-core.ensures.kept in
     record {
+      whole = heard.whole;
+      can = heard.can;
+      cut_are = heard.are;
       chosen = is_chosen chosen;
       choice = chooses_rules chosen;
       held = held.0;
       is_held = held.1;
       counted = held.2;
-      are = sym (held.3 ∙ c.kept.ensures ∙ (c.in_ok-first_keys.ensures.told keeps).kept ∙ (λ i. made.kept i ++ kept_of (is_chosen (made.choice i)) entries));
+      are = sym (held.3 ∙ c.kept.ensures ∙ heard.told_on.kept ∙ (λ i. made.kept i ++ kept_of (is_chosen (made.choice i)) heard.whole));
     }
