@@ -9,11 +9,13 @@ use Rattle.serde_json.specs.Data.{Data}
 use Rattle.celtree.specs.Tree.{Expr}
 use Rattle.documents.specs.Document.{Document}
 use Rattle.jsondoc.specs.Json.{text}
-use Rattle.names.specs.Format.{has_resource, rules_of}
+use Rattle.names.specs.declared.format.Format.TheVariants.{First, Second, Third}
+use Rattle.names.specs.Format.{has_namespaces, has_resource, rules_of}
 use Rattle.names.specs.Key.{Key, key_of, key_cmp}
 use Rattle.names.specs.Name.{is_label, is_namespace}
 use Rattle.names.specs.Resource.{row}
 use Rattle.names.specs.declared.format.Format.{Format}
+use Rattle.names.specs.declared.format.Format.TheVariants.{First, Second, Third}
 use Rattle.names.specs.declared.format.Rules.{Rules}
 use Rattle.names.specs.declared.resource.Resource.TheVariants.{Namespace}
 use Rattle.objects.specs.Objects.{with_value}
@@ -25,65 +27,76 @@ use Rattle.histories.specs.Mapped.{each, mapped, mapped_write}
 use Rattle.requests.specs.Namespaces.{namespace_document, and_name, names_among, namespaces_in_use, namespace_puts}
 use Rattle.histories.specs.View as seen
 use Rattle.histories.specs.View.{after, after_all, empty, view, MayPut}
-use Rattle.histories.specs.Wider.{AreWider}
+use Rattle.histories.specs.Wider.{AreWider, floor_at}
 use Rattle.histories.proofs.Mapping.{all_mapped}
 use Rattle.histories.proofs.ViewLemmas.{after_all-append, revision-after_all}
-use Rattle.histories.proofs.Wider.{views_stay}
+use Rattle.histories.proofs.Wider.{views_stay_above_floor}
 use Rattle.expressions.specs.Specification.{these}
 use Rattle.expressions.proofs.Standing.{no_plans}
 use Rattle.decoded.specs.Decoded.{decoded_of}
 use Rattle.decoded.specs.Laws.{TreesStay, UpgradesFollow, UpgradesShow}
 use Rattle.decoded.specs.Standing.{Write, History, View, HasTrees, IsHistory, AllMayFollow, with_plans, plans_beside}
-use Rattle.decoded.specs.Upgraded.{upgraded_rules, upgrade_writes, upgraded_history, upgraded_revision, HaveForm, HasRoomForUpgrade}
+use Rattle.decoded.specs.Upgraded.{newest, upgraded_rules, unless_objects, new_names, upgrade_writes, rules_behind, upgraded_history, upgraded_revision, HaveForm, HasRoomForUpgrade}
 use Rattle.decoded.proofs.Following.{AllMayFollow-append}
 
 -- ---- the rules
 
-wider_of : (f : Format) → AreWider (rules_of f 0) upgraded_rules
+wider_of : (f : Format) (floor : ℕ) → AreWider (rules_of f 0) (rules_of newest floor)
 unfolding rules_of
-wider_of f = record { texts = omega arith; objects = omega arith; revisions = omega arith; namespaces = λ has. refl }
+wider_of First floor = record { texts = omega arith; objects = omega arith; revisions = omega arith; namespaces = λ has. refl }
+wider_of Second floor = record { texts = omega arith; objects = omega arith; revisions = omega arith; namespaces = λ has. refl }
+wider_of Third floor = record { texts = omega arith; objects = omega arith; revisions = omega arith; namespaces = λ has. refl }
 
-window_of : (f : Format) → upgraded_rules.window_events ≡ (rules_of f 0).window_events
+window_of : (f : Format) (floor : ℕ) → (rules_of f 0).window_events ≤ (rules_of newest floor).window_events
 unfolding rules_of
-window_of f = refl
+window_of First floor = omega arith
+window_of Second floor = omega arith
+window_of Third floor = omega arith
 
-floor_of : (f : Format) → upgraded_rules.floor ≡ (rules_of f 0).floor
+none_below : (f : Format) → (rules_of f 0).floor ≡ 0
 unfolding rules_of
-floor_of f = refl
+none_below f = refl
 
-has_namespace_objects : has_resource upgraded_rules.format Namespace ≡ true
+floor_is : (floor : ℕ) → (rules_of newest floor).floor ≡ floor
 unfolding rules_of
-has_namespace_objects = refl
+floor_is floor = refl
 
-has_long_texts : 512 ≤ upgraded_rules.text_limit_bytes
+has_namespace_objects : (floor : ℕ) → has_resource (rules_of newest floor).format Namespace ≡ true
 unfolding rules_of
-has_long_texts = omega arith
+has_namespace_objects floor = refl
+
+has_long_texts : (floor : ℕ) → 512 ≤ (rules_of newest floor).text_limit_bytes
+unfolding rules_of
+has_long_texts floor = omega arith
 
 -- those of a format are no wider than those behind an upgrade
-pub upgraded-AreWider : (rules : Rules) → rules ≡ rules_of rules.format 0 → AreWider rules upgraded_rules
-upgraded-AreWider rules is = subst (λ (r : Rules). AreWider r upgraded_rules) (sym is) (wider_of rules.format)
+pub upgraded-AreWider : (rules : Rules) (revision : ℕ) → rules ≡ rules_of rules.format 0 → AreWider rules (upgraded_rules rules revision)
+upgraded-AreWider rules revision is = subst (λ (r : Rules). AreWider r (upgraded_rules rules revision)) (sym is) (wider_of rules.format (floor_at rules.window_events revision))
 
 -- a history is seen under them as it was
-pub seen_still : (rules : Rules) (h : History) → rules ≡ rules_of rules.format 0 → view upgraded_rules h ≡ view rules h
+pub seen_still : (rules : Rules) (h : History) → rules ≡ rules_of rules.format 0 → view (rules_behind rules h) h ≡ view rules h
 seen_still rules h is =
-    views_stay (List Expr) rules upgraded_rules h (window_of rules.format ∙ ap (λ (r : Rules). r.window_events) (sym is))
-    (floor_of rules.format ∙ ap (λ (r : Rules). r.floor) (sym is))
+    let floor : ℕ = floor_at rules.window_events (view rules h).revision in
+    views_stay_above_floor (List Expr) rules (rules_behind rules h) h (ap (λ (r : Rules). r.floor) is ∙ none_below rules.format)
+    (subst (λ n. n ≤ (rules_of newest floor).window_events) (sym (ap (λ (r : Rules). r.window_events) is)) (window_of rules.format floor))
+    (floor_is floor)
 
 -- ---- what is seen
 
 pub upgraded-view : (rules : Rules) (h : History) → rules ≡ rules_of rules.format 0
-    → view upgraded_rules (upgraded_history rules h) ≡ after_all upgraded_rules (view rules h) (upgrade_writes (view rules h))
+    → view (rules_behind rules h) (upgraded_history rules h) ≡ after_all (rules_behind rules h) (view rules h) (upgrade_writes rules (view rules h))
 upgraded-view rules h is =
-    after_all-append upgraded_rules empty h (upgrade_writes (view rules h))
-    ∙ ap (λ (v : View). after_all upgraded_rules v (upgrade_writes (view rules h))) (seen_still rules h is)
+    after_all-append (rules_behind rules h) empty h (upgrade_writes rules (view rules h))
+    ∙ ap (λ (v : View). after_all (rules_behind rules h) v (upgrade_writes rules (view rules h))) (seen_still rules h is)
 
-pub upgraded-revision : (rules : Rules) (h : History) → (view upgraded_rules (upgraded_history rules h)).revision ≡ upgraded_revision (view rules h)
+pub upgraded-revision : (rules : Rules) (h : History) → (view (rules_behind rules h) (upgraded_history rules h)).revision ≡ upgraded_revision rules (view rules h)
 upgraded-revision rules h =
     let v : View = view rules h in
     let before : v.revision ≡ 1 + length h = revision-after_all rules empty h in
-    let behind : (view upgraded_rules (upgraded_history rules h)).revision ≡ 1 + length (h ++ upgrade_writes v) = revision-after_all upgraded_rules empty (h ++ upgrade_writes v) in
-    let count : length (upgrade_writes v) ≡ length (namespaces_in_use v) = length-map (namespaces_in_use v) _ in
-    omega (arith, before, behind, count, length-append h (upgrade_writes v))
+    let behind : (view (rules_behind rules h) (upgraded_history rules h)).revision ≡ 1 + length (h ++ upgrade_writes rules v) =
+    revision-after_all (rules_behind rules h) empty (h ++ upgrade_writes rules v) in
+    let count : length (upgrade_writes rules v) ≡ length (new_names rules v) = length-map (new_names rules v) _ in
+    omega (arith, before, behind, count, length-append h (upgrade_writes rules v))
 
 -- with something else beside each document
 module _ {A B : Type 0} (f : Document → A → B) where
@@ -100,13 +113,16 @@ module _ {A B : Type 0} (f : Document → A → B) where
       let d : Document = namespace_document n in
       ap (λ (ws : List (plain.Write B)). put (key_of Namespace [] n) d (f d (beside d)) ∷ ws) (puts_mapped beside names)
 
+pub new_mapped : {A B : Type 0} (f : Document → A → B) (old : Rules) (v : seen.View A) → new_names old (mapped f v) ≡ new_names old v
+new_mapped f old v = ap (unless_objects (has_namespaces old.format)) (in_use_mapped f v)
+
 pub upgrades_show : UpgradesShow
 upgrades_show rules h is =
     let v : View = view rules h in
     ap with_plans (upgraded-view rules h is)
-    ∙ all_mapped plans_beside upgraded_rules v (upgrade_writes v)
-    ∙ ap (after_all upgraded_rules (with_plans v))
-    (puts_mapped plans_beside (λ d. []) (namespaces_in_use v) ∙ ap (namespace_puts (λ d. decoded_of d.json [])) (sym (in_use_mapped plans_beside v)))
+    ∙ all_mapped plans_beside (rules_behind rules h) v (upgrade_writes rules v)
+    ∙ ap (after_all (rules_behind rules h) (with_plans v))
+    (puts_mapped plans_beside (λ d. []) (new_names rules v) ∙ ap (namespace_puts (λ d. decoded_of d.json [])) (sym (new_mapped plans_beside rules v)))
 
 -- ---- the document of a Namespace has few bytes
 
@@ -140,8 +156,8 @@ text_of_namespace n = omega (arith, name_at_end n)
 short_name : (n : List ℕ) → is_namespace n ≡ true → length n ≤ 63
 short_name n is = let short : nat_le (length n) 63 ≡ true = (and_parts (nat_le (length n) 63) (is_label n) is).0 in grind (arith, nat_tests)
 
-short_text : (n : List ℕ) → is_namespace n ≡ true → length (text (namespace_document n).json) ≤ upgraded_rules.text_limit_bytes
-short_text n is = omega (arith, text_of_namespace n, short_name n is, has_long_texts)
+short_text : (floor : ℕ) (n : List ℕ) → is_namespace n ≡ true → length (text (namespace_document n).json) ≤ (rules_of newest floor).text_limit_bytes
+short_text floor n is = omega (arith, text_of_namespace n, short_name n is, has_long_texts floor)
 
 -- ---- it has no expressions
 
@@ -163,33 +179,38 @@ module _ {X : Type 0} where
 abbrev put_of : List ℕ → Write
 put_of n = put (key_of Namespace [] n) (namespace_document n) []
 
-may_put : (v : View) (n : List ℕ) → HasForm (key_of Namespace [] n) (namespace_document n) → length v.objects + 1 ≤ upgraded_rules.object_limit
-    → v.revision + 1 ≤ upgraded_rules.greatest_revision → MayPut upgraded_rules v (key_of Namespace [] n) (namespace_document n)
-may_put v n form objects revisions = record {
-  served = has_namespace_objects;
-  form = form;
-  size = short_text n form.key;
-  room = inr (omega arith);
-  revision = omega arith;
-}
+module _ (floor : ℕ) where
+  abbrev behind : Rules
+  behind = rules_of newest floor
 
-puts_follow : (v : View) (names : List (List ℕ)) → HaveForm names → length v.objects + length names ≤ upgraded_rules.object_limit
-    → v.revision + length names ≤ upgraded_rules.greatest_revision → AllMayFollow upgraded_rules v (namespace_puts (λ d. []) names)
-puts_follow v [] form objects revisions = tt
-puts_follow v (n ∷ names) form objects revisions =
-    let more : length (after upgraded_rules v (put_of n)).objects ≤ length v.objects + 1 = one_more (key_of Namespace [] n) _ v.objects in (
-      (may_put v n form.0 (omega arith) (omega arith), has_no_trees upgraded_rules.format (namespace_document n).json),
-      puts_follow (after upgraded_rules v (put_of n)) names form.1 (omega (arith, more)) (omega arith),
-    )
+  may_put : (v : View) (n : List ℕ) → HasForm (key_of Namespace [] n) (namespace_document n) → length v.objects + 1 ≤ behind.object_limit
+      → v.revision + 1 ≤ behind.greatest_revision → MayPut behind v (key_of Namespace [] n) (namespace_document n)
+  may_put v n form objects revisions = record {
+    served = has_namespace_objects floor;
+    form = form;
+    size = short_text floor n form.key;
+    room = inr (omega arith);
+    revision = omega arith;
+  }
+
+  puts_follow : (v : View) (names : List (List ℕ)) → HaveForm names → length v.objects + length names ≤ behind.object_limit
+      → v.revision + length names ≤ behind.greatest_revision → AllMayFollow behind v (namespace_puts (λ d. []) names)
+  puts_follow v [] form objects revisions = tt
+  puts_follow v (n ∷ names) form objects revisions =
+      let more : length (after behind v (put_of n)).objects ≤ length v.objects + 1 = one_more (key_of Namespace [] n) _ v.objects in (
+        (may_put v n form.0 (omega arith) (omega arith), has_no_trees behind.format (namespace_document n).json),
+        puts_follow (after behind v (put_of n)) names form.1 (omega (arith, more)) (omega arith),
+      )
 
 -- where the history is one under the new rules
-pub upgrade_follows : (rules : Rules) (h : History) → rules ≡ rules_of rules.format 0 → IsHistory upgraded_rules h → HaveForm (namespaces_in_use (view rules h))
-    → HasRoomForUpgrade (view rules h) → IsHistory upgraded_rules (upgraded_history rules h)
+pub upgrade_follows : (rules : Rules) (h : History) → rules ≡ rules_of rules.format 0 → IsHistory (rules_behind rules h) h → HaveForm (new_names rules (view rules h))
+    → HasRoomForUpgrade rules (view rules h) → IsHistory (rules_behind rules h) (upgraded_history rules h)
 upgrade_follows rules h is history form room =
     let v : View = view rules h in
-    let Follow : View → Type 0 = λ u. AllMayFollow upgraded_rules u (upgrade_writes v) in
-    let follow : Follow v = puts_follow v (namespaces_in_use v) form room.objects room.revisions in
-    AllMayFollow-append upgraded_rules empty h (upgrade_writes v) history (subst Follow (sym (seen_still rules h is)) follow)
+    let Follow : View → Type 0 = λ u. AllMayFollow (rules_behind rules h) u (upgrade_writes rules v) in
+    let follow : Follow v = puts_follow (floor_at rules.window_events v.revision) v (new_names rules v) form room.objects room.revisions in
+    AllMayFollow-append (rules_behind rules h) empty h (upgrade_writes rules v) history (subst Follow (sym (seen_still rules h is)) follow)
 
 pub upgrades_follow : TreesStay → UpgradesFollow
-upgrades_follow stay rules h is history form room = upgrade_follows rules h is (stay rules upgraded_rules h (upgraded-AreWider rules is) history) form room
+upgrades_follow stay rules h is history form room =
+    upgrade_follows rules h is (stay rules (rules_behind rules h) h (upgraded-AreWider rules (view rules h).revision is) history) form room

@@ -23,4 +23,4 @@ pub use laws::{
     revision_counts, trees_stay, upgrades_follow, upgrades_show, views_stay,
     views_stay_above_floor,
 };
-pub use upgrade::{is_newest, newest_format};
+pub use upgrade::{is_newest, newest_format, upgraded_rules};

@@ -120,6 +120,7 @@ module _ {D : Type 0} (disk : Disk D) where
         → (disk.keeps old → (damage : Damage) → f ≡ fault.Damaged damage → IsDamageOf (disk.content old) damage) → HasRead disk old new (Err f)
     found_none f failed exhausted cause damaged told = record {
       rules = tt;
+      floor = tt;
       works = tt;
       in_data = tt;
       found = λ keeps rules h stands. tt;

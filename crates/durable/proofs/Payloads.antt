@@ -1,5 +1,5 @@
 -- The payloads of a log that are read one after the other.
-use Rattle.std.proofs.Common.{◌≡◌, ◌∙◌, ap, refl, sym, subst, ℕ, List, [], ◌∷◌, ◌++◌, Option, None, Some, Vec, Global, length}
+use Rattle.std.proofs.Common.{◌≡◌, ◌∙◌, ap, refl, sym, subst, ℕ, List, [], ◌∷◌, ◌++◌, Option, None, Some, Vec, Global}
 use Rattle.std.proofs.lemmas.List.{append-nil}
 use Rattle.gatelog.specs.declared.gate_log.Log.{Log}
 use Rattle.gatelog.specs.Log.{HoldsLog}

@@ -1,5 +1,5 @@
 -- What is read of a device in pieces is read of the device inside.
-use Rattle.std.proofs.Common.{◌≡◌, ◌<◌, sym, subst, ℕ, List, Result, Ok, Err, IfOk}
+use Rattle.std.proofs.Common.{◌≡◌, sym, subst, ℕ, List, Result, Ok, Err, IfOk}
 use Rattle.device.specs.declared.device.Device.{Ghosts}
 use Rattle.device.specs.Disk.{LeavesOnly}
 use Rattle.device.specs.Run.{Ran}
@@ -8,6 +8,7 @@ use Rattle.gatelog.specs.ReadAhead.{ahead_disk}
 use Rattle.pages.specs.Page.{Entry}
 use Rattle.shelf.specs.declared.shelf.Shelf.{Shelf}
 use Rattle.shelf.specs.Shelf.{Shelves}
+use Rattle.chunks.specs.Whole.{Wholes}
 use Rattle.names.specs.Key.{Key}
 use Rattle.histories.specs.declared.stored.Stored.{Stored}
 use Rattle.histories.specs.View as seen
@@ -46,10 +47,13 @@ module _ {D : Type 0} {g : Ghosts D} where
       are = shelves.are;
     }
 
+    wholes_inside : (shelf : Shelf) (entries : List Entry) → Wholes ahead_disk a shelf entries → Wholes g.disk a.device shelf entries
+    wholes_inside shelf entries wholes = record { can = wholes.can; shelves = shelves_inside shelf _ wholes.shelves }
+
     caches_inside : (cache : ObjectCache) (objects : List (Key × CachedObject)) → ObjectCaches ahead_disk a cache objects → ObjectCaches g.disk a.device cache objects
     caches_inside cache objects caches = record {
       entries = caches.entries;
-      shelves = shelves_inside cache.shelf caches.entries caches.shelves;
+      shelves = wholes_inside cache.shelf caches.entries caches.shelves;
       hold = caches.hold;
       found = caches.found;
     }
@@ -75,6 +79,7 @@ module _ {D : Type 0} {g : Ghosts D} where
   pub read_inside : (old new : ReadAhead D g) (result : Result Opened Fault) → HasRead ahead_disk old new result → HasRead g.disk old.device new.device result
   read_inside old new (Ok opened) read = record {
     rules = read.rules;
+    floor = read.floor;
     works = read.works;
     in_data = read.in_data;
     found = λ keeps rules h stands. let found = read.found keeps rules h stands in (found.0, shown_inside new opened.paged _ found.1);
@@ -88,6 +93,7 @@ module _ {D : Type 0} {g : Ghosts D} where
   }
   read_inside old new (Err fault) read = record {
     rules = read.rules;
+    floor = read.floor;
     works = read.works;
     in_data = read.in_data;
     found = read.found;

@@ -13,7 +13,7 @@ use Rattle.histories.specs.View.{view}
 use Rattle.holdings.specs.Holdings.{State, Shows}
 use Rattle.decoded.specs.Decoded.{Decoded}
 use Rattle.decoded.specs.Standing.{History, View, with_plans}
-use Rattle.decoded.specs.Upgraded.{upgraded_rules, upgraded_history}
+use Rattle.decoded.specs.Upgraded.{rules_behind, upgraded_history}
 use Rattle.paged.specs.declared.compacting.NextCheckpoint.{NextCheckpoint}
 use Rattle.paged.specs.Lying.{base_of}
 use Rattle.durable.specs.declared.fault.Damage.{Damage}
@@ -58,13 +58,13 @@ module _ {D : Type 0} {g : Ghosts D} (old mid new : Store D g) (run : Ran g.disk
   left_either stands stopped = record { stopped = stopped; keeps = stands.kept; read = stands.seen; left = stands.crash }
 
   -- Where all was written it is settled at the upgraded history.
-  pub settled_upgraded : (next : NextCheckpoint) → next.core.rules ≡ upgraded_rules
-      → Shows next.core (base_of (with_plans (view upgraded_rules (upgraded_history rules h)))) (with_plans (view upgraded_rules (upgraded_history rules h)))
-      → Stands g.disk (device_of mid) (device_of new) Either (λ c. StandsFor upgraded_rules c (upgraded_history rules h))
-      → LiesUnder new (base_of (with_plans (view upgraded_rules (upgraded_history rules h)))) → new.paged.core ≡ next.core → serves new ≡ true
-      → IsSettledAt upgraded_rules new (upgraded_history rules h)
+  pub settled_upgraded : (next : NextCheckpoint) → next.core.rules ≡ rules_behind rules h
+      → Shows next.core (base_of (with_plans (view (rules_behind rules h) (upgraded_history rules h)))) (with_plans (view (rules_behind rules h) (upgraded_history rules h)))
+      → Stands g.disk (device_of mid) (device_of new) Either (λ c. StandsFor (rules_behind rules h) c (upgraded_history rules h))
+      → LiesUnder new (base_of (with_plans (view (rules_behind rules h) (upgraded_history rules h)))) → new.paged.core ≡ next.core → serves new ≡ true
+      → IsSettledAt (rules_behind rules h) new (upgraded_history rules h)
   settled_upgraded next numbers shows stands lies is working =
-      let v : View = view upgraded_rules (upgraded_history rules h) in
+      let v : View = view (rules_behind rules h) (upgraded_history rules h) in
       let Held : State Decoded → Type 0 = λ s. Shows s (base_of (with_plans v)) (with_plans v) in
       record {
         working = working;

@@ -4,6 +4,7 @@ use Rattle.names.specs.declared.format.Rules.{Rules}
 use Rattle.roots.specs.declared.root.Label.{Label}
 use Rattle.roots.specs.declared.root.Root.{Root}
 use Rattle.checkpoint.specs.EntryList.{entries_of as in_list}
+use Rattle.chunks.specs.Chunks.{cut}
 use Rattle.histories.specs.View.{View, view}
 use Rattle.snapshots.specs.Keeping.{entries_of}
 use Rattle.holdings.specs.Holdings.{State}
@@ -29,11 +30,11 @@ pub record IsCheckOf {B : Type 0} (root : Root) (held : View B) (c : Checked) : 
 
 -- the label of the root over whose pages this is held
 abbrev pub label_of : State Decoded → Label
-label_of core = record { format = core.rules.format; revision = core.revision }
+label_of core = record { format = core.rules.format; revision = core.revision; floor = core.rules.floor }
 
--- The next generation keeps this history, by the rules of the format that its root is to tell.
+-- The next generation keeps this history, by the rules of the format and of the floor that its root is to tell. Its entries are as that format has them.
 pub record Keeps (next : NextCheckpoint) (rules : Rules) (h : History) : Type 0 where
   pub numbers : rules ≡ rules_by (label_of next.core)
   pub history : IsHistory rules h
   pub revision : next.core.revision ≡ (view rules h).revision
-  pub entries : in_list next.entries ≡ entries_of (view rules h)
+  pub entries : in_list next.entries ≡ cut rules.format (entries_of (view rules h))

@@ -22,7 +22,7 @@ use Rattle.durable.specs.Stands.{HoldsBase, StandsFor}
 use Rattle.gatelog.specs.Record.{part}
 use Rattle.gatelog.specs.declared.gate_log.Log.{Log}
 use Rattle.roots.specs.declared.root.Root.{Root}
-use Rattle.roots.specs.Root.{IsHeader, log_sector, HoldsRoot}
+use Rattle.roots.specs.Root.{IsHeader, log_sector, HoldsRoot, MayHaveFloor}
 use Rattle.gatelog.specs.Log.{HoldsLog}
 use Rattle.durable.specs.declared.content.Opened.{Opened}
 
@@ -66,6 +66,7 @@ pub record IsRedone (rules : Rules) (held : seen.View Decoded) : Type 0 where
 -- damage is found only where it stands for none, and is what is told.
 pub record HasRead {D : Type 0} (disk : Disk D) (old new : D) (result : Result Opened Fault) : Type 0 where
   pub rules : IfOk result (λ opened. opened.paged.core.rules ≡ rules_at (root_of opened.paged))
+  pub floor : IfOk result (λ opened. MayHaveFloor (root_of opened.paged).label.format (root_of opened.paged).label.floor)
   pub works : IfOk result (λ opened. opened.log.failed ≡ false)
   pub in_data : IfOk result (λ opened. 8 ≤ opened.log.first_gate_sector)
   pub found : disk.keeps old → (rules : Rules) (h : History) → StandsFor rules (disk.content old) h

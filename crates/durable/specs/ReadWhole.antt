@@ -31,15 +31,15 @@ pub record IsReadWhole {D : Type 0} (content : List ℕ) (disk : Disk D) (device
   pub counts : HoldsRoot content (root_of p)
   pub pages : HoldsPages content (root_of p)
   pub entries : HasEntries disk device p (entries_under (root_of p) content)
-  pub kept : HasHeldEntries (rules_at (root_of p)) (root_of p).label.revision (entries_under (root_of p) content)
+  pub kept : HasHeldEntries (rules_at (root_of p)) (root_of p).label (entries_under (root_of p) content)
   pub log : HoldsGroups (log_sector (root_of p)) content
 
--- The pages of the root that counts are whole. Each of their entries that has an object's key is that of an object, and each other one that of plans or of an
--- event. Each record of the log behind them is that of a group of well-formed writes.
+-- The pages of the root that counts are whole, and hold entries as its format has them. Each of these that has an object's key is that of an object, and each
+-- other one that of plans or of an event. Each record of the log behind them is that of a group of well-formed writes.
 pub record HoldsWellFormed (content : List ℕ) : Type 0 where
   pub root : Root
   pub counts : HoldsRoot content root
   pub pages : HoldsPages content root
-  pub objects : AreObjects (entries_under root content)
-  pub kept : HasHeldEntries (rules_at root) root.label.revision (entries_under root content)
+  pub objects : AreObjects root.label.format (entries_under root content)
+  pub kept : HasHeldEntries (rules_at root) root.label (entries_under root content)
   pub log : HoldsGroups (log_sector root) content

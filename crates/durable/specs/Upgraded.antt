@@ -3,9 +3,8 @@ use Rattle.std.specs.Prelude.{◌≡◌, ◌-◌, ◌^◌, ◌⊎◌, ℕ, Bool,
 use Rattle.device.specs.declared.device.Device.{Ghosts}
 use Rattle.names.specs.declared.format.Rules.{Rules}
 use Rattle.roots.specs.declared.root.Root.{Root}
-use Rattle.requests.specs.Namespaces.{namespaces_in_use}
 use Rattle.decoded.specs.Standing.{History, View}
-use Rattle.decoded.specs.Upgraded.{is_newest, upgraded_rules, upgraded_history, upgraded_count, upgraded_revision}
+use Rattle.decoded.specs.Upgraded.{is_newest, upgraded_rules, new_names, rules_behind, upgraded_history, upgraded_count, upgraded_revision}
 use Rattle.durable.specs.declared.fault.Fault.{Fault}
 use Rattle.durable.specs.declared.fault.Fault.TheVariants as fault
 use Rattle.durable.specs.declared.upgraded.Upgraded.{Upgraded}
@@ -18,7 +17,7 @@ use Rattle.durable.specs.Stands.{StandsFor}
 
 -- The content stands for the history as it was, or as it is upgraded.
 abbrev pub StandsForEither : Rules → History → (content : List ℕ) → Type 0
-StandsForEither rules h content = StandsFor rules content h ⊎ StandsFor upgraded_rules content (upgraded_history rules h)
+StandsForEither rules h content = StandsFor rules content h ⊎ StandsFor (rules_behind rules h) content (upgraded_history rules h)
 
 -- The device failed: the store has stopped. A reader, and a crash, find one of the two.
 pub record IsLeftEither {D : Type 0} {g : Ghosts D} (rules : Rules) (store : Store D g) (h : History) : Type 0 where
@@ -27,24 +26,24 @@ pub record IsLeftEither {D : Type 0} {g : Ghosts D} (rules : Rules) (store : Sto
   pub read : StandsForEither rules h (g.disk.content (device_of store))
   pub left : (c : List ℕ) → g.disk.left (device_of store) c → StandsForEither rules h c
 
--- This is told of an upgrade of what was seen, in the generation of a root.
-pub record IsToldOfUpgrade (v : View) (root : Root) (u : Upgraded) : Type 0 where
+-- This is told of an upgrade of what was seen by these rules, in the generation of a root.
+pub record IsToldOfUpgrade (rules : Rules) (v : View) (root : Root) (u : Upgraded) : Type 0 where
   pub format : u.format ≡ root.label.format
   pub generation : u.generation ≡ root.generation
-  pub revision : u.revision ≡ upgraded_revision v
-  pub namespaces : u.namespaces ≡ length (namespaces_in_use v)
+  pub revision : u.revision ≡ upgraded_revision rules v
+  pub namespaces : u.namespaces ≡ length (new_names rules v)
 
 -- ---- what refuses it
 
 abbrev pub Condition : Type 0
 Condition = UpgradeFault × Bool
 
--- what refuses an upgrade of what is seen under the root that counts, in this order, and whether it does
-abbrev pub refusals : View → (current : Root) → List Condition
-refusals v current =
+-- what refuses an upgrade of what is seen by these rules under the root that counts, in this order, and whether it does
+abbrev pub refusals : Rules → View → (current : Root) → List Condition
+refusals rules v current =
     (upgrade.NotOld, is_newest current.label.format)
-    ∷ (upgrade.TooManyObjects, nat_lt upgraded_rules.object_limit (upgraded_count v))
-    ∷ (upgrade.RevisionExhausted, nat_lt upgraded_rules.greatest_revision (upgraded_revision v) || nat_eq current.generation (2 ^ 64 - 1))
+    ∷ (upgrade.TooManyObjects, nat_lt (upgraded_rules rules v.revision).object_limit (upgraded_count rules v))
+    ∷ (upgrade.RevisionExhausted, nat_lt (upgraded_rules rules v.revision).greatest_revision (upgraded_revision rules v) || nat_eq current.generation (2 ^ 64 - 1))
     ∷ []
 
 abbrev pub first_of : List Condition → Option UpgradeFault

@@ -51,11 +51,11 @@ pub(crate) struct Opened {
     pub(crate) log: Log,
 }
 
-// The rules of the format that a root tells.
+// The rules of the format and of the floor that a root tells.
 fn rules(root: &Root) -> Rules
     ensures { result ≡ rules_at root.now }
 {
-    root.label.format.rules(0)
+    root.label.format.rules(root.label.floor)
 }
 
 // The keys that a payload writes. Where it is that of no writes there may be none: it is told where the writes are taken.
@@ -193,7 +193,7 @@ fn read_objects<D: Device>(
         × ((held : seen.View DecodedData) × holdings.Shows p.core [] held × IsRedone (rules_at root.now) held)) }
     ensures whole { D.disk.keeps device.old → OnOk result (HoldsPages (D.disk.content device.old) root.now) }
     ensures entries { D.disk.keeps device.old → IfOk result (λ p. HasEntries D.disk device.new p (entries_under root.now (D.disk.content device.old))) }
-    ensures kept { D.disk.keeps device.old → OnOk result (HasHeldEntries (rules_at root.now) root.now.label.revision (entries_under root.now (D.disk.content device.old))) }
+    ensures kept { D.disk.keeps device.old → OnOk result (HasHeldEntries (rules_at root.now) root.now.label (entries_under root.now (D.disk.content device.old))) }
     ensures groups { D.disk.keeps device.old → (payloads : List (List ℕ)) → HoldsLog log.old.first_gate_sector payloads log.old.last_gate_sector (D.disk.content device.old)
         → OnOk result (AllByRecursion IsOfGroup payloads) }
     ensures log { IsLogStill log.old log.new }

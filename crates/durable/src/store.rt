@@ -11,6 +11,7 @@ ghost use Rattle.std.specs.Prelude.{◌≡◌, ◌≤◌, ◌-◌, true, false, 
 ghost use Rattle.durable.specs.Ready.{IsReady};
 ghost use Rattle.durable.specs.Rules.{rules_at};
 ghost use Rattle.paged.specs.Paged.{root_of as paged_root};
+ghost use Rattle.roots.specs.Root.{MayHaveFloor};
 
 use crate::fault::{Damage, Fault};
 use device::{Device, MemDevice};
@@ -27,6 +28,7 @@ pub struct Store<D: Device> {
     log: Log,
     serves: bool,
     ghost numbers: { paged.core.rules ≡ rules_at (paged_root paged) },
+    ghost floor: { MayHaveFloor (paged_root paged).label.format (paged_root paged).label.floor },
     ghost in_data: { 8 ≤ log.first_gate_sector },
     ghost works: { serves ≡ true → log.failed ≡ false },
     ghost ready: { serves ≡ true → D.disk.keeps device → ∥ IsReady D.disk device (paged_root paged) log ∥₁ },

@@ -27,9 +27,11 @@ fn changed_nothing(fault: WriteFault) -> bool
 fn label_of(core: &Core) -> Label
     ensures { result ≡ label_of core.now }
 {
+    let rules = core.rules();
     Label {
-        format: core.rules().format,
+        format: rules.format,
         revision: core.revision(),
+        floor: rules.floor,
     }
 }
 
@@ -41,11 +43,12 @@ impl<D: Device> Store<D> {
     ghost use Rattle.pages.specs.Page.{Entry, bytes_cmp};
     ghost use Rattle.checkpoint.specs.EntryList.{entries_of as in_list};
     ghost use Rattle.checkpoint.specs.Index.{keys_of};
-    ghost use Rattle.checkpoint.specs.Pages.{HoldsEntries, IsIndex, pages_of_root};
+    ghost use Rattle.checkpoint.specs.Pages.{IsIndex, pages_of_root};
+    ghost use Rattle.chunks.specs.Chunks.{cut, HoldsWhole};
     ghost use Rattle.snapshots.specs.Keeping.{entries_of, held_entries, IsHeld, IsKeepable};
     ghost use Rattle.snapshots.specs.ObjectCache.{AreObjects};
     ghost use Rattle.gatelog.specs.Log.{HoldsLog};
-    ghost use Rattle.roots.specs.Root.{log_sector, HoldsRoot};
+    ghost use Rattle.roots.specs.Root.{log_sector, HoldsRoot, MayHaveFloor};
     ghost use Rattle.names.specs.declared.format.Rules.{Rules};
     ghost use Rattle.histories.specs.View as seen;
     ghost use Rattle.holdings.specs.Holdings.{Shows};
@@ -122,12 +125,12 @@ impl<D: Device> Store<D> {
     /// What the next generation has. Where the device fails, or what is read of it is damaged, the store serves no more.
     pub(super) fn next(&mut self, alloc: Global) -> Result<NextCheckpoint, Fault>
         requires serves { serves self.old ≡ true }
-        ensures entries { (v : View) → IsShown self.old v → IfOk result (λ n. in_list n.entries ≡ entries_of v) }
+        ensures entries { (v : View) → IsShown self.old v → IfOk result (λ n. in_list n.entries ≡ cut (kept_rules self.old).format (entries_of v)) }
         ensures ascending { IfOk result (λ n. IsTrue (is_sorted bytes_cmp (in_list n.entries))) }
         ensures rules { IfOk result (λ n. n.core.rules ≡ kept_rules self.old) }
         ensures held { (v : View) → IsShown self.old v → IsKeepable (kept_rules self.old) v
             → IfOk result (λ n. Shows n.core (base_of (with_plans v)) (with_plans v)) }
-        ensures are { (entries : List Entry) → HasEntries D.disk (device_of self.old) (paged_of self.old) entries → OnOk result (AreObjects entries) }
+        ensures are { (entries : List Entry) → HasEntries D.disk (device_of self.old) (paged_of self.old) entries → OnOk result (AreObjects (root_of self.old).label.format entries) }
         ensures damaged { (damage : Damage) → IsErrOf result (Fault.Damaged damage) → (v : View) → IsShown self.old v → IsKeepable (kept_rules self.old) v → ⊥ }
         ensures core { self.new.paged.core ≡ self.old.paged.core }
         ensures root { root_of self.new ≡ root_of self.old }
@@ -156,9 +159,10 @@ impl<D: Device> Store<D> {
         requires serves { serves self.old ≡ true }
         requires ascending { IsTrue (is_sorted bytes_cmp (in_list next.entries)) }
         requires numbers { next.core.rules ≡ rules_by (label_of next.core) }
+        requires floor { MayHaveFloor (label_of next.core).format (label_of next.core).floor }
         ensures core { OnOk result (self.new.paged.core ≡ next.core) }
         ensures label { OnOk result ((root_of self.new).label ≡ label_of next.core) }
-        ensures lies { (rules : Rules) (v : View) → IsKeepable rules v → D.disk.keeps (device_of self.old) → in_list next.entries ≡ entries_of v
+        ensures lies { (rules : Rules) (v : View) → IsKeepable rules v → D.disk.keeps (device_of self.old) → in_list next.entries ≡ cut next.core.rules.format (entries_of v)
             → OnOk result (LiesUnder self.new (base_of (with_plans v))) }
         ensures paged { OnErr result (self.new.paged ≡ self.old.paged) }
         ensures stands { (rules next_rules : Rules) (h next_h : History) → HoldsHistory rules D.disk (device_of self.old) h → Keeps next next_rules next_h
@@ -216,11 +220,12 @@ impl<D: Device> Store<D> {
         requires room { log_sector written.root < 2 ^ 54 }
         requires counted { length written.first_keys.items ≡ written.root.pages }
         requires numbers { core.rules ≡ rules_at written.root }
+        requires floor { MayHaveFloor written.root.label.format written.root.label.floor }
         requires in_use { D.disk.keeps (device_of self.old) → ∥ IsReadyAt D.disk (device_of self.old) written.root ∥₁ }
         ensures core { self.new.paged.core ≡ core }
         ensures lies { (rules : Rules) (held : seen.View Decoded) → IsHeld rules held
             → IsIndex (keys_of written.first_keys.items) (pages_of_root written.root (D.disk.content (device_of self.old))) → D.disk.keeps (device_of self.old)
-            → HoldsEntries (D.disk.content (device_of self.old)) written.root (held_entries held) → LiesUnder self.new (base_of held) }
+            → HoldsWhole (D.disk.content (device_of self.old)) written.root (held_entries held) → LiesUnder self.new (base_of held) }
         ensures device { device_of self.new ≡ device_of self.old }
         ensures root { root_of self.new ≡ written.root }
         ensures empty { ((log_of self.new).first_gate_sector ≡ log_sector written.root) × ((log_of self.new).last_gate_sector ≡ log_sector written.root) }

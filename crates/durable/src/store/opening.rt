@@ -4,6 +4,7 @@ ghost use Rattle.std.specs.Prelude.{◌≡◌, ◌≢◌, ◌≤◌, List, ℕ, 
 ghost use Rattle.durable.specs.Ready.{IsReady};
 ghost use Rattle.durable.specs.Rules.{rules_at};
 ghost use Rattle.paged.specs.Paged.{root_of as paged_root};
+ghost use Rattle.roots.specs.Root.{MayHaveFloor};
 
 use crate::content::opened_store;
 use crate::fault::Fault;
@@ -39,8 +40,8 @@ impl<D: Device> Store<D> {
             → IfOk result (λ store. IsSettledAt rules store h) }
         ensures serves { IfOk result (λ store. serves store ≡ true) }
 
-        // Whatever the device: it keeps to the rules of the format that its root tells, and where the root that counts has no pages, it shows what the writes
-        // that were read left, with their plans.
+        // Whatever the device: it keeps to the rules of the format and of the floor that its root tells, and where the root that counts has no pages, it shows
+        // what the writes that were read left, with their plans.
         ensures rules { IfOk result (λ store. kept_rules store ≡ rules_at (root_of store)) }
         ensures redone { IfOk result (λ store. (root_of store).pages ≡ 0 → (held : seen.View Decoded) × Holds store held × IsRedone (kept_rules store) held) }
 
@@ -76,6 +77,7 @@ impl<D: Device> Store<D> {
     // The store of what an opening found on a device: what is shown over the pages of the root that counts, and the log behind them. It serves.
     fn serving(device: D, paged: Paged, log: Log) -> Store<D>
         requires numbers { paged.core.rules ≡ rules_at (paged_root paged) }
+        requires floor { MayHaveFloor (paged_root paged).label.format (paged_root paged).label.floor }
         requires in_data { 8 ≤ log.first_gate_sector }
         requires works { log.failed ≡ false }
         requires ready { D.disk.keeps device → ∥ IsReady D.disk device (paged_root paged) log ∥₁ }

@@ -20,11 +20,10 @@ impl<D: Device> Store<D> {
     ghost use Rattle.gatelog.specs.Log.{HoldsLog};
     ghost use Rattle.roots.specs.Root.{log_sector, HoldsRoot};
     ghost use Rattle.names.specs.declared.format.Rules.{Rules};
-    ghost use Rattle.requests.specs.Namespaces.{namespaces_in_use};
     ghost use Rattle.histories.specs.View.{view};
     ghost use Rattle.holdings.specs.Holdings.{Shows};
     ghost use Rattle.decoded.specs.Standing.{History, View, with_plans};
-    ghost use Rattle.decoded.specs.Upgraded.{is_newest, upgraded_rules, upgraded_history, upgraded_revision, HasRoomForUpgrade};
+    ghost use Rattle.decoded.specs.Upgraded.{is_newest, upgraded_rules, new_names, rules_behind, upgraded_history, upgraded_revision, HasRoomForUpgrade};
     ghost use Rattle.paged.specs.Lying.{base_of};
     ghost use Rattle.durable.specs.declared.fault.Damage.{Damage};
     ghost use Rattle.durable.specs.declared.upgraded.UpgradeFault.{UpgradeFault as UpgradeFaultData};
@@ -32,9 +31,10 @@ impl<D: Device> Store<D> {
     ghost use Rattle.durable.specs.Upgraded.{StandsForEither, IsLeftEither, IsToldOfUpgrade, refusals, first_of, IsRefusal, IsUnchanged};
     ghost use Rattle.durable.specs.Called.{IsSteady};
     ghost use Rattle.durable.specs.Compacted.{Keeps};
-    ghost use Rattle.durable.specs.Settled.{device_of, root_of, format_of, log_of, serves, LiesStill, ServesAt, IsSettledAt};
+    ghost use Rattle.durable.specs.Settled.{device_of, root_of, format_of, log_of, serves, kept_rules, revision_of, LiesStill, ServesAt, IsSettledAt};
 
-    /// Writes what the store shows as its next generation in the newest format, with an empty log, and with a Namespace for each that objects stand in.
+    /// Writes what the store shows as its next generation in the newest format, with an empty log. Where namespaces were no objects it has a Namespace for each
+    /// that objects stand in.
     ///
     /// # Errors
     ///
@@ -42,7 +42,7 @@ impl<D: Device> Store<D> {
     /// in this call: the store stands as it was, or upgraded. `Damaged` where what was read of the device is damaged, and never from a store that shows the
     /// view of a history. From both on the store answers `Failed`. `Failed` after a failure, with no call of the device.
     pub fn upgrade(&mut self, alloc: Global) -> Result<Upgraded, UpgradeFault>
-        ensures settled { (rules : Rules) (h : History) → IsSettledAt rules self.old h → OnOk result (IsSettledAt upgraded_rules self.new (upgraded_history rules h)) }
+        ensures settled { (rules : Rules) (h : History) → IsSettledAt rules self.old h → OnOk result (IsSettledAt (rules_behind rules h) self.new (upgraded_history rules h)) }
 
         // At every moment a crash leaves the history as it was, or as it is upgraded.
         ensures any_moment { (rules : Rules) (h : History) → IsSettledAt rules self.old h
@@ -50,10 +50,10 @@ impl<D: Device> Store<D> {
         ensures device { (rules : Rules) (h : History) → IsSettledAt rules self.old h → IsErrOf result UpgradeFault.Device → IsLeftEither rules self.new h }
 
         // What is told, and refused.
-        ensures told { (rules : Rules) (v : View) → ServesAt rules self.old v → IfOk result (IsToldOfUpgrade v (root_of self.new)) }
+        ensures told { (rules : Rules) (v : View) → ServesAt rules self.old v → IfOk result (IsToldOfUpgrade rules v (root_of self.new)) }
         ensures refused { (rules : Rules) (v : View) → ServesAt rules self.old v → (f : UpgradeFaultData) → IsRefusal f → IsErrOf result f
-            → first_of (refusals v (root_of self.old)) ≡ Some f }
-        ensures unrefused { (rules : Rules) (v : View) → ServesAt rules self.old v → OnOk result (first_of (refusals v (root_of self.old)) ≡ None) }
+            → first_of (refusals rules v (root_of self.old)) ≡ Some f }
+        ensures unrefused { (rules : Rules) (v : View) → ServesAt rules self.old v → OnOk result (first_of (refusals rules v (root_of self.old)) ≡ None) }
         ensures newest { serves self.old ≡ true → is_newest (format_of self.old) ≡ true → (result ≡ Err UpgradeFault.NotOld) × (self.new ≡ self.old) }
 
         // The root that counts is the next one, of the newest format, and no record stands behind it.
@@ -110,16 +110,16 @@ impl<D: Device> Store<D> {
     fn next_upgraded(&mut self, alloc: Global) -> Result<NextUpgraded, UpgradeFault>
         requires serves { serves self.old ≡ true }
         requires old { is_newest (format_of self.old) ≡ false }
-        ensures keeps { (rules : Rules) (h : History) → IsSettledAt rules self.old h → IfOk result (λ n. Keeps n.next upgraded_rules (upgraded_history rules h)) }
+        ensures keeps { (rules : Rules) (h : History) → IsSettledAt rules self.old h → IfOk result (λ n. Keeps n.next (rules_behind rules h) (upgraded_history rules h)) }
         ensures held { (rules : Rules) (h : History) → IsSettledAt rules self.old h
-            → IfOk result (λ n. let v = view upgraded_rules (upgraded_history rules h) in Shows n.next.core (base_of (with_plans v)) (with_plans v)) }
+            → IfOk result (λ n. let v = view (rules_behind rules h) (upgraded_history rules h) in Shows n.next.core (base_of (with_plans v)) (with_plans v)) }
         ensures seen { (rules : Rules) (v : View) → ServesAt rules self.old v
-            → IfOk result (λ n. (n.revision ≡ upgraded_revision v) × (n.namespaces ≡ length (namespaces_in_use v))) }
+            → IfOk result (λ n. (n.revision ≡ upgraded_revision rules v) × (n.namespaces ≡ length (new_names rules v))) }
         ensures ascending { IfOk result (λ n. IsTrue (is_sorted bytes_cmp (in_list n.next.entries))) }
-        ensures rules { IfOk result (λ n. n.next.core.rules ≡ upgraded_rules) }
+        ensures rules { IfOk result (λ n. n.next.core.rules ≡ upgraded_rules (kept_rules self.old) (revision_of self.old)) }
         ensures refused { (rules : Rules) (v : View) → ServesAt rules self.old v → (f : UpgradeFaultData) → IsRefusal f → IsErrOf result f
-            → first_of (refusals v (root_of self.old)) ≡ Some f }
-        ensures room { (rules : Rules) (v : View) → ServesAt rules self.old v → OnOk result (HasRoomForUpgrade v) }
+            → first_of (refusals rules v (root_of self.old)) ≡ Some f }
+        ensures room { (rules : Rules) (v : View) → ServesAt rules self.old v → OnOk result (HasRoomForUpgrade rules v) }
         ensures damaged { (damage : Damage) → IsErrOf result (UpgradeFault.Damaged damage) → (rules : Rules) (h : History) → IsSettledAt rules self.old h → ⊥ }
         ensures core { self.new.paged.core ≡ self.old.paged.core }
         ensures root { root_of self.new ≡ root_of self.old }

@@ -1,6 +1,5 @@
 use Rattle.std.proofs.Common.{rules, arith, ◌≡◌, ⊎_elim, subst, ℕ, List, [], ◌∷◌, Contains, IsErrOf}
 use Rattle.std.proofs.lemmas.List.Elements.{Contains-push_cases}
-use Rattle.names.specs.Key.{Key}
 use Rattle.recovery.specs.Known.{Writes, IsOfGroup}
 use Rattle.recovery.proofs.Knowing.{contains_first}
 use Rattle.recovery.proofs.Written.{writes_framed}

@@ -1,4 +1,4 @@
-use Rattle.std.proofs.Common.{arith, ◌≡◌, ◌∙◌, refl, sym, ap, subst, inl, inr, ⊎_elim, ℕ, List, [], ◌∷◌, ◌++◌, Contains, Option, Vec, Global, Err}
+use Rattle.std.proofs.Common.{arith, ◌∙◌, refl, sym, ap, subst, inl, ⊎_elim, ℕ, List, [], ◌∷◌, ◌++◌, Contains, Err}
 use Rattle.std.proofs.lemmas.List.Elements.{Contains-push_cases}
 use Rattle.gatelog.specs.Walk.{Passes}
 use Rattle.gatelog.proofs.Walking.{same_then, passes-here}
@@ -8,7 +8,6 @@ use Rattle.recovery.specs.Known.{Writes}
 use Rattle.durable.specs.declared.fault.Fault.TheVariants as Fault
 use Rattle.durable.proofs.FoundFaults.{long_or_memory, only_damaged}
 use Rattle.durable.proofs.Payloads.{one_more, all_read, none_left}
-use Rattle.durable.proofs.Renewing.{failed_then}
 use Rattle.durable.proofs.Unwritten.{idle}
 use Rattle.durable.proofs.content.keys_of_log.Goals as goal
 

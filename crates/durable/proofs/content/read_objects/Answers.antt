@@ -1,6 +1,4 @@
 use Rattle.std.proofs.Common.{◌≡◌, ◌∙◌, refl, sym, ap, subst, ⊎_elim, inl, inr, ℕ, List, [], Err}
-use Rattle.device.specs.Run.{Ran}
-use Rattle.device.specs.Step.{Same}
 use Rattle.names.specs.declared.format.Rules.{Rules}
 use Rattle.names.specs.Key.{Key}
 use Rattle.histories.specs.Mapped.{mapped}
@@ -30,10 +28,8 @@ use Rattle.durable.specs.declared.fault.Fault.TheVariants as Fault
 use Rattle.checkpoint.proofs.Faults.{err_is}
 use Rattle.durable.proofs.Bases.{base_held, base_entries, page_entry_or_plans, read_thrice}
 use Rattle.durable.proofs.FoundFaults.{behind_pages, behind_log, only_read_memory}
-use Rattle.durable.proofs.Payloads.{log_still, still_then}
+use Rattle.durable.proofs.Payloads.{log_still}
 use Rattle.durable.proofs.Reading.{redone_holds}
-use Rattle.durable.proofs.Renewing.{failed_then}
-use Rattle.durable.proofs.Unwritten.{read_then}
 use Rattle.durable.proofs.content.read_objects.Goals as goal
 
 pub returns-in_err-chosen-clause-damaged : goal.returns-in_err-chosen-clause-damaged
@@ -170,7 +166,7 @@ returns-clause-entries g c keeps =
 pub returns-clause-kept : goal.returns-clause-kept
 returns-clause-kept g c keeps =
     let root = c.args.root.now in
-    let By : Rules → List ℕ → Type 0 = λ r x. HasHeldEntries r root.label.revision (entries_under root x) in
+    let By : Rules → List ℕ → Type 0 = λ r x. HasHeldEntries r root.label (entries_under root x) in
     let content = g.D.Device.disk.content c.args.device.now in
     subst (λ r. By r content) c.rules.ensures
     (subst (By c.rules.result) (c.chosen_of.ensures.ran.seen keeps) (c.in_ok-paged.ensures.kept (c.chosen_of.ensures.ran.kept keeps)))

@@ -1,20 +1,16 @@
-use Rattle.std.proofs.Common.{arith, ◌≡◌, ◌∙◌, refl, sym, ap, subst, inl, inr, ⊎_elim, ℕ, List, [], ◌∷◌, ◌++◌, Contains, Err}
+use Rattle.std.proofs.Common.{◌∙◌, refl, sym, ap, subst, inl, inr, ⊎_elim, ℕ, List, [], ◌∷◌, ◌++◌, Err}
 use Rattle.std.specs.List.{AllByRecursion}
 use Rattle.gatelog.specs.Walk.{Passes}
 use Rattle.gatelog.proofs.Walking.{same_then, passes-here}
-use Rattle.histories.specs.Mapped.{mapped}
 use Rattle.checkpoint.proofs.Faults.{err_is}
 use Rattle.records.proofs.Groups.{all-push}
-use Rattle.decoded.specs.Shown.{plans_held}
 use Rattle.recovery.specs.Known.{AllKnown, IsOfGroup}
 use Rattle.recovery.specs.Taken.{HasRedone}
-use Rattle.recovery.specs.Written.{Write, IsWritten}
 use Rattle.recovery.proofs.Joining.{known_front, known_rest, redone_none, redone_more, none_redone}
 use Rattle.durable.specs.declared.fault.Fault.TheVariants as Fault
 use Rattle.durable.proofs.Bases.{log_or_plans}
 use Rattle.durable.proofs.FoundFaults.{long_or_memory, only_damaged, of_payloads, of_records}
 use Rattle.durable.proofs.Payloads.{one_more, next_one, all_read, none_left}
-use Rattle.durable.proofs.Renewing.{failed_then}
 use Rattle.durable.proofs.Unwritten.{idle}
 use Rattle.durable.proofs.content.redo_log.Goals as goal
 

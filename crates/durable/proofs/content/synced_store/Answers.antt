@@ -1,10 +1,9 @@
-use Rattle.std.proofs.Common.{arith, rules as common, ◌≡◌, ◌∙◌, refl, sym, ap, subst, List, [], ℕ, map, Result, Err, IsErrOf, Vec, Global}
-use Rattle.std.specs.List.{AllByRecursion}
+use Rattle.std.proofs.Common.{arith, rules as common, ◌≡◌, ◌∙◌, refl, sym, ap, subst, List, [], ℕ, map, Result, Err, IsErrOf}
 use Rattle.device.specs.Run.{Ran}
 use Rattle.device.specs.Step.{Same}
 use Rattle.names.specs.declared.format.Rules.{Rules}
 use Rattle.gatelog.specs.Log.{HoldsLog}
-use Rattle.roots.specs.Root.{log_sector, HoldsRoot}
+use Rattle.roots.specs.Root.{log_sector, HoldsRoot, MayHaveFloor}
 use Rattle.histories.specs.View as seen
 use Rattle.histories.specs.View.{view}
 use Rattle.records.specs.Payload.{writes_in}
@@ -13,9 +12,7 @@ use Rattle.roots.proofs.Syncing.{only_after}
 use Rattle.snapshots.proofs.Showing.{held_as_it_is}
 use Rattle.decoded.specs.Decoded.{Decoded}
 use Rattle.decoded.specs.Standing.{write_with_plans, with_plans}
-use Rattle.recovery.specs.Known.{IsOfGroup}
-use Rattle.recovery.specs.Taken.{HasRedone}
-use Rattle.recovery.specs.Written.{Write, IsWritten}
+use Rattle.recovery.specs.Written.{Write}
 use Rattle.checkpoint.specs.Pages.{HoldsPages}
 use Rattle.paged.specs.Chosen.{HasHeldEntries}
 use Rattle.paged.specs.Lying.{base_of}
@@ -94,8 +91,10 @@ returns-in_ok-paged-in-Ok-clause-read g c =
     let log = c.in-Ok.found in
     let paged = c.in_ok-paged-in-Ok.paged in
     let read = c.in_ok-paged-in-Ok.ensures in
+    let May : Root → Type 0 = λ r. MayHaveFloor r.label.format r.label.floor in
     record {
       rules = read.rules ∙ ap (λ (r : Root). rules_by r.label) (sym read.root);
+      floor = subst May (sym read.root) c.in_ok-root.ensures.floor;
       works = read.works;
       in_data = omega (arith, read.log.first, c.in-Ok.ensures.place.0, c.log_sector.ensures.place, c.in_ok-root.ensures.in_data);
       found = λ keeps rules h stands.
@@ -202,7 +201,7 @@ returns-in_ok-paged-in-Ok-clause-whole g c keeps =
     let Log : ℕ → List ℕ → Type 0 = λ at x. HoldsLog at opened.0 log.last_gate_sector x in
     let given : HoldsLog log.first_gate_sector opened.0 log.last_gate_sector (disk.content c.open_log.new.device) =
     subst (λ at. Log at (disk.content c.open_log.new.device)) (sym c.in-Ok.ensures.place.0) (subst (Log c.log_sector.result) (sym (c.open_log.ensures.ran.seen kept)) opened.2) in
-    let Kept : List ℕ → Root → Type 0 = λ x r. HasHeldEntries (rules_at r) r.label.revision (entries_under r x) in
+    let Kept : List ℕ → Root → Type 0 = λ x r. HasHeldEntries (rules_at r) r.label (entries_under r x) in
     let In : List ℕ → Root → Type 0 = λ x r. HoldsPages x r in
     let Has : List ℕ → Root → Type 0 = λ x r. HasEntries disk c.read_objects.new.device paged (entries_under r x) in
     record {

@@ -3,6 +3,7 @@ use Rattle.std.proofs.lemmas.Result.{IfOk-from_err}
 use Rattle.roots.specs.declared.root.Root.{Root}
 use Rattle.checkpoint.specs.EntryList.{entries_of as in_list}
 use Rattle.names.specs.declared.format.Rules.{Rules}
+use Rattle.chunks.specs.Chunks.{cut}
 use Rattle.snapshots.specs.Keeping.{entries_of, IsKeepable}
 use Rattle.histories.specs.View.{view}
 use Rattle.recovery.proofs.Histories.{on_ok_to}
@@ -22,7 +23,7 @@ use Rattle.durable.specs.Rules.{rules_by}
 use Rattle.durable.specs.Stands.{StandsFor}
 use Rattle.durable.specs.declared.store.Store.{Store}
 use Rattle.durable.proofs.Compacting.{one_stands}
-use Rattle.durable.proofs.Numbers.{history_kept, by_own_format, format_of}
+use Rattle.durable.proofs.Numbers.{history_kept, by_own_format, may_of, format_of}
 use Rattle.durable.proofs.Renewing.{on_ok_three, at_either, failed_then, serves_between, settled_between, serves_unchanged, settled_unchanged, keepable_here, moments_renewed, settled_renewed, serves_renewed, left_renewed}
 use Rattle.durable.proofs.Unwritten.{held_after, left_read, moments_read, read_then}
 use Rattle.durable.proofs.store.Store.compact.Goals as goal
@@ -106,15 +107,15 @@ returns-in_err-next g c =
 -- the next generation keeps the history at which the store is settled
 keeps_here : {D : Type 0} {g : Ghosts D} (store : Store D g) (next : NextCheckpoint) (rules : Rules) (h : History) → IsSettledAt rules store h
     → next.core.rules ≡ rules_by (label_of next.core) → next.core.rules ≡ kept_rules store → Shows next.core (base_of (with_plans (view rules h))) (with_plans (view rules h))
-    → in_list next.entries ≡ entries_of (view rules h) → Keeps next rules h
+    → in_list next.entries ≡ cut (kept_rules store).format (entries_of (view rules h)) → Keeps next rules h
 keeps_here store next rules h settled numbers same shows entries = record {
   numbers = sym settled.rules_are ∙ sym same ∙ numbers;
   history = settled.read.history;
   revision = shows.revision;
-  entries = entries;
+  entries = entries ∙ ap (λ (r : Rules). cut r.format (entries_of (view rules h))) settled.rules_are;
 }
 
--- the rules of a store are those of the format that they name
+-- the rules of a store are those of the format and of the floor that they name
 numbers_here : {D : Type 0} {g : Ghosts D} (store : Store D g) (next : NextCheckpoint) → next.core.rules ≡ kept_rules store → next.core.rules ≡ rules_by (label_of next.core)
 numbers_here store next same =
     let numbers : next.core.rules ≡ rules_by (root_of store).label = same ∙ store.numbers in
@@ -139,7 +140,8 @@ returns g c =
           settled_renewed store mid new run core still rules h settled c.in_ok-next.next.core c.in_ok-next.ensures.rules
           (c.in_ok-next.ensures.held (view rules h) settled.shows (keepable_here store mid mid run core still rules h settled))
           (one_stands g.D.Device.disk mid.device new.device (λ x. StandsFor rules x h) (c.write_next.ensures.stands rules rules h h holds keeps)) lies is serves)
-          (c.write_next.ensures.lies rules (view rules h) (history_kept rules settled.read.root.label h settled.read.checkpoint.numbers settled.read.history) holds.keeps keeps.entries) c.write_next.ensures.core
+          (c.write_next.ensures.lies rules (view rules h) (history_kept rules settled.read.root.label h settled.read.checkpoint.numbers settled.read.history) holds.keeps
+          (c.in_ok-next.ensures.entries (view rules h) settled.shows ∙ ap (λ (r : Rules). cut r.format (entries_of (view rules h))) (sym c.in_ok-next.ensures.rules))) c.write_next.ensures.core
           c.write_next.ensures.serves;
       counts = λ rules h settled.
           let keeps = keeps_here store c.in_ok-next.next rules h settled (numbers_here store c.in_ok-next.next c.in_ok-next.ensures.rules) c.in_ok-next.ensures.rules
@@ -188,7 +190,8 @@ returns g c =
           (λ lies is working.
           serves_renewed store mid new run core still rules v serving c.in_ok-next.next.core c.in_ok-next.ensures.rules
           (c.in_ok-next.ensures.held v serving.shows (subst Keeps (sym serving.rules_are) keepable)) lies is working)
-          (c.write_next.ensures.lies rules v keepable (run.kept keeps) (c.in_ok-next.ensures.entries v serving.shows)) c.write_next.ensures.core c.write_next.ensures.serves;
+          (c.write_next.ensures.lies rules v keepable (run.kept keeps)
+          (c.in_ok-next.ensures.entries v serving.shows ∙ ap (λ (r : Rules). cut r.format (entries_of v)) (sym c.in_ok-next.ensures.rules))) c.write_next.ensures.core c.write_next.ensures.serves;
       next = on_ok_to c.write_next.result _ _ (λ next. next ∙ ap (λ (r : Root). r.generation + 1) c.next.ensures.root) c.write_next.ensures.next;
       empty = c.write_next.ensures.empty;
       told = c.write_next.ensures.told;
@@ -207,3 +210,8 @@ returns g c =
 
 pub write_next-requires-clause-numbers : goal.write_next-requires-clause-numbers
 write_next-requires-clause-numbers g c = numbers_here c.args.self.now c.in_ok-next.next c.in_ok-next.ensures.rules
+
+pub write_next-requires-clause-floor : goal.write_next-requires-clause-floor
+write_next-requires-clause-floor g c =
+    let store = c.args.self.now in
+    may_of c.in_ok-next.next.core.rules (root_of store).label (c.in_ok-next.ensures.rules ∙ store.numbers) store.floor

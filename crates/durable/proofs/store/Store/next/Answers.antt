@@ -5,6 +5,7 @@ use Rattle.pages.specs.Page.{Entry, bytes_cmp}
 use Rattle.objects.specs.declared.fault.Part.TheVariants as Parts
 use Rattle.holdings.specs.Holdings.{State}
 use Rattle.checkpoint.specs.EntryList.{entries_of as in_list}
+use Rattle.chunks.specs.Chunks.{cut}
 use Rattle.snapshots.specs.Keeping.{entries_of}
 use Rattle.snapshots.proofs.Alone.{kept_held}
 use Rattle.snapshots.proofs.Kept.{entries_ascend}
@@ -18,6 +19,7 @@ use Rattle.durable.proofs.Answering.{holds_shown}
 use Rattle.durable.proofs.Called.{err_same, serves_value, serves_met, serves_spoiled, look_damaged, lies_met, ran_met, failed_met, steady_met}
 use Rattle.durable.proofs.Compacting.{still_ready}
 use Rattle.durable.proofs.Keeping.{pages_inside}
+use Rattle.durable.proofs.Numbers.{may_still}
 use Rattle.roots.specs.declared.root.Root.{Root}
 use Rattle.durable.specs.Rules.{rules_by}
 use Rattle.durable.proofs.store.Store.next.Goals as goal
@@ -32,6 +34,7 @@ invariant_of-self g c =
     let store = c.args.self.now in
     record {
       numbers = ap (λ (core : State Decoded). core.rules) c.next.ensures.core ∙ store.numbers ∙ sym (ap (λ (r : Root). rules_by r.label) c.next.ensures.root);
+      floor = may_still (root_of store) _ c.next.ensures.root store.floor;
       in_data = store.in_data;
       works = store.works;
       ready = λ serves. still_ready g.D.Device.disk store.device c.next.new.device (root_of store) _ store.log c.next.ensures.root c.next.ensures.ran (store.ready serves);
@@ -64,7 +67,7 @@ pub returns-then-ascends : goal.returns-then-ascends
 returns-then-ascends g c =
     let store = c.args.self.now in
     record {
-      entries = λ v shown. c.in-Ok.ensures.entries (with_plans v) (holds_shown store v shown) ∙ entries_shown (with_plans v) v (held_as_it_is (with_plans v));
+      entries = λ v shown. c.in-Ok.ensures.entries (with_plans v) (holds_shown store v shown) ∙ ap (cut (kept_rules store).format) (entries_shown (with_plans v) v (held_as_it_is (with_plans v)));
       ascending = c.ascends.ensures.0 c.if-ascends.true;
       rules = c.in-Ok.ensures.rules;
       held = λ v shown keepable. c.in-Ok.ensures.held (with_plans v) (holds_shown store v shown) (kept_held (kept_rules store) v keepable);
@@ -90,9 +93,9 @@ returns g c =
       are = λ entries has. tt;
       damaged = λ damage is v shown keepable.
           let Sorted : List Entry → Type 0 = λ es. is_sorted bytes_cmp es ≡ true in
-          let entries : in_list c.in-Ok.next.entries ≡ entries_of v =
-          c.in-Ok.ensures.entries (with_plans v) (holds_shown store v shown) ∙ entries_shown (with_plans v) v (held_as_it_is (with_plans v)) in
-          let ascends = c.ascends.ensures.1 (subst Sorted (sym entries) (entries_ascend (kept_rules store) v keepable)) in
+          let entries : in_list c.in-Ok.next.entries ≡ cut (kept_rules store).format (entries_of v) =
+          c.in-Ok.ensures.entries (with_plans v) (holds_shown store v shown) ∙ ap (cut (kept_rules store).format) (entries_shown (with_plans v) v (held_as_it_is (with_plans v))) in
+          let ascends = c.ascends.ensures.1 (subst Sorted (sym entries) (entries_ascend (kept_rules store) (kept_rules store).format v keepable)) in
           true≢false (sym ascends ∙ c.if-ascends.false);
       core = ap (λ (p : Paged). p.core) c.stop_for.ensures.paged ∙ c.next.ensures.core;
       root = ap (λ (p : Paged). paged.root_of p) c.stop_for.ensures.paged ∙ c.next.ensures.root;

@@ -6,7 +6,7 @@ use Rattle.apicore.specs.Prepared.{IsReadOf}
 use Rattle.paged.specs.Paged as paged
 use Rattle.holdings.specs.Holdings.{ShowsSame}
 use Rattle.paged.specs.declared.state.Paged.{Paged}
-use Rattle.durable.proofs.Numbers.{kept_format}
+use Rattle.durable.proofs.Numbers.{kept_format, may_still}
 use Rattle.durable.specs.Settled.{root_of}
 use Rattle.durable.proofs.Called.{err_same, serves_value, serves_met, look_device, look_damaged, lies_met, ran_met, failed_met, steady_met}
 use Rattle.durable.proofs.Compacting.{still_ready}
@@ -25,6 +25,7 @@ invariant_of-self g c =
     let store = c.args.self.now in
     record {
       numbers = c.prepare.ensures.rules ∙ store.numbers ∙ sym (ap (λ (r : Root). rules_by r.label) c.prepare.ensures.root);
+      floor = may_still (root_of store) _ c.prepare.ensures.root store.floor;
       in_data = store.in_data;
       works = store.works;
       ready = λ serves. still_ready g.D.Device.disk store.device c.prepare.new.device (root_of store) _ store.log c.prepare.ensures.root c.prepare.ensures.ran (store.ready serves);

@@ -4,9 +4,12 @@ use Rattle.std.specs.Result.{IsErrAnd}
 use Rattle.checkpoint.proofs.Faults.{err_is, was_err, no_fault}
 use Rattle.roots.specs.declared.root.Label.{Label}
 use Rattle.roots.specs.declared.root.Root.{Root}
+use Rattle.names.specs.declared.format.Rules.{Rules}
+use Rattle.chunks.specs.Chunks.{cut}
+use Rattle.snapshots.specs.Keeping.{entries_of}
 use Rattle.histories.specs.View.{view}
 use Rattle.decoded.specs.Standing.{History}
-use Rattle.decoded.specs.Upgraded.{is_newest, upgraded_rules, upgraded_history}
+use Rattle.decoded.specs.Upgraded.{is_newest, rules_behind, upgraded_history}
 use Rattle.durable.specs.declared.fault.Fault.{Fault}
 use Rattle.durable.specs.declared.fault.Fault.TheVariants as fault
 use Rattle.durable.specs.declared.upgraded.UpgradeFault.{UpgradeFault}
@@ -16,7 +19,7 @@ use Rattle.durable.specs.Upgraded.{IsUnchanged, IsRefusal, of_fault}
 use Rattle.durable.proofs.Answering.{held}
 use Rattle.durable.proofs.Called.{err_same}
 use Rattle.durable.proofs.Numbers.{history_kept}
-use Rattle.durable.proofs.Older.{newest_label, numbers_upgraded, format_upgraded, newest_refuses, greatest_refuses, none_refuses}
+use Rattle.durable.proofs.Older.{label_then, rules_then, floor_here, numbers_upgraded, format_upgraded, floor_upgraded, newest_refuses, greatest_refuses, none_refuses}
 use Rattle.durable.proofs.Renewing.{at_either, failed_then, serves_between, settled_between, serves_unchanged, settled_unchanged}
 use Rattle.durable.proofs.Unwritten.{idle, held_after, read_then}
 use Rattle.durable.proofs.Upgrading.{either_read, either_written, left_before, left_either, settled_upgraded, only_device_is, only_damage_is, only_failed_is, refusal_is, unchanged_is, never_unchanged, failed_unchanged}
@@ -83,7 +86,7 @@ returns-then-is_newest g c =
       any_moment = λ rules h settled. either_read store store store still rules h settled;
       device = λ rules h settled is. cc;
       told = λ rules v serving. tt;
-      refused = λ rules v serving f refusal is. newest_refuses v (root_of store) young ∙ ap (λ (x : UpgradeFault). Some x) (err_same is);
+      refused = λ rules v serving f refusal is. newest_refuses rules v (root_of store) young ∙ ap (λ (x : UpgradeFault). Some x) (err_same is);
       unrefused = λ rules v serving. tt;
       newest = λ serves same. (refl, refl);
       counts = λ rules h settled. tt;
@@ -158,16 +161,19 @@ returns-in-Ok g c =
     record {
       settled = λ rules h settled.
           let last : History = upgraded_history rules h in
+          let then : Rules = rules_behind rules h in
           let keeps = c.in_ok-next.ensures.keeps rules h settled in
           let holds = held_after disk rules h store.device mid.device run (held rules store h settled) in
-          settled_upgraded store mid new run rules h settled next c.in_ok-next.ensures.rules (c.in_ok-next.ensures.held rules h settled)
-          (c.in-Ok.ensures.written rules upgraded_rules h last holds keeps)
-          (c.in-Ok.ensures.lies upgraded_rules (view upgraded_rules last) (history_kept upgraded_rules newest_label last refl keeps.history) holds.keeps keeps.entries)
+          let is : next.core.rules ≡ then = c.in_ok-next.ensures.rules ∙ rules_then store rules h settled in
+          settled_upgraded store mid new run rules h settled next is (c.in_ok-next.ensures.held rules h settled)
+          (c.in-Ok.ensures.written rules then h last holds keeps)
+          (c.in-Ok.ensures.lies then (view then last) (history_kept then (label_then store rules h settled) last refl keeps.history) holds.keeps
+          (keeps.entries ∙ ap (λ (r : Rules). cut r.format (entries_of (view then last))) (sym is)))
           c.in-Ok.ensures.core c.in-Ok.ensures.serves;
       any_moment = λ rules h settled.
           let holds = held_after disk rules h store.device mid.device run (held rules store h settled) in
           either_written store mid new run rules h settled
-          (c.write_next.ensures.stands rules upgraded_rules h (upgraded_history rules h) holds (c.in_ok-next.ensures.keeps rules h settled));
+          (c.write_next.ensures.stands rules (rules_behind rules h) h (upgraded_history rules h) holds (c.in_ok-next.ensures.keeps rules h settled));
       device = λ rules h settled is. absurd (no_fault is);
       told = λ rules v serving.
           let seen = c.in_ok-next.ensures.seen rules v serving in
@@ -179,14 +185,14 @@ returns-in-Ok g c =
           };
       refused = λ rules v serving f refusal is. absurd (no_fault is);
       unrefused = λ rules v serving.
-          none_refuses v (root_of store) old (c.in_ok-next.ensures.room rules v serving)
+          none_refuses rules v (root_of store) old (c.in_ok-next.ensures.room rules v serving)
           (λ greatest. omega (arith, greatest, c.in-Ok.ensures.next, ap (λ (r : Root). r.generation) c.next_upgraded.ensures.root, c.generation.ensures, c.generation.type_inv));
       newest = λ serves young. absurd (true≢false (sym young ∙ old));
       counts = λ rules h settled.
           let holds = held_after disk rules h store.device mid.device run (held rules store h settled) in
-          c.in-Ok.ensures.counts rules upgraded_rules h (upgraded_history rules h) holds (c.in_ok-next.ensures.keeps rules h settled);
+          c.in-Ok.ensures.counts rules (rules_behind rules h) h (upgraded_history rules h) holds (c.in_ok-next.ensures.keeps rules h settled);
       next = c.in-Ok.ensures.next ∙ ap (λ (r : Root). r.generation + 1) c.next_upgraded.ensures.root;
-      format = ap is_newest (ap (λ (l : Label). l.format) c.in-Ok.ensures.label ∙ format_upgraded next.core c.in_ok-next.ensures.rules);
+      format = ap is_newest (ap (λ (l : Label). l.format) c.in-Ok.ensures.label ∙ format_upgraded next.core (floor_here store) c.in_ok-next.ensures.rules);
       empty = c.in-Ok.ensures.empty;
       unchanged = λ is. never_unchanged _ is;
       unchanged_serving = λ rules v serving is. never_unchanged _ is;
@@ -222,17 +228,17 @@ returns-in-Err g c =
       any_moment = λ rules h settled.
           let holds = held_after disk rules h store.device mid.device run (held rules store h settled) in
           either_written store mid new run rules h settled
-          (c.write_next.ensures.stands rules upgraded_rules h (upgraded_history rules h) holds (c.in_ok-next.ensures.keeps rules h settled));
+          (c.write_next.ensures.stands rules (rules_behind rules h) h (upgraded_history rules h) holds (c.in_ok-next.ensures.keeps rules h settled));
       device = λ rules h settled told.
           let holds = held_after disk rules h store.device mid.device run (held rules store h settled) in
           left_either store mid new run rules h settled
-          (c.write_next.ensures.stands rules upgraded_rules h (upgraded_history rules h) holds (c.in_ok-next.ensures.keeps rules h settled))
+          (c.write_next.ensures.stands rules (rules_behind rules h) h (upgraded_history rules h) holds (c.in_ok-next.ensures.keeps rules h settled))
           (c.write_next.ensures.stops (c.in-Err.is ∙ ap (λ (x : Fault). Err x) (only_device_is met (sym of ∙ err_same told))));
       told = λ rules v serving. tt;
       refused = λ rules v serving f refusal is.
           let greatest = refused_by met said f of refusal (err_same is) in
           let room = c.in_ok-next.ensures.room rules v serving in
-          greatest_refuses v (root_of store) old room.objects
+          greatest_refuses rules v (root_of store) old room.objects
           (sym (ap (λ (r : Root). r.generation) c.next_upgraded.ensures.root) ∙ c.write_next.ensures.greatest (c.in-Err.is ∙ ap (λ (x : Fault). Err x) greatest))
           ∙ ap (λ (x : UpgradeFault). Some x) (sym (ap of_fault greatest) ∙ sym of ∙ err_same is);
       unrefused = λ rules v serving. tt;
@@ -256,7 +262,7 @@ returns-in-Err g c =
           settled_unchanged store mid new run core still c.in_ok-next.ensures.goes_on same stays.0 stays.1 rules h settled;
       damaged = λ damage told rules h settled.
           let holds = held_after disk rules h store.device mid.device run (held rules store h settled) in
-          c.write_next.ensures.damaged rules upgraded_rules h (upgraded_history rules h) damage holds (c.in_ok-next.ensures.keeps rules h settled)
+          c.write_next.ensures.damaged rules (rules_behind rules h) h (upgraded_history rules h) damage holds (c.in_ok-next.ensures.keeps rules h settled)
           (c.in-Err.is ∙ ap (λ (x : Fault). Err x) (only_damage_is met damage (sym of ∙ err_same told)));
       damaged_ran = λ damage told keeps.
           read_then disk store.device mid.device new.device run
@@ -279,4 +285,7 @@ pub next_upgraded-requires-clause-old : goal.next_upgraded-requires-clause-old
 next_upgraded-requires-clause-old g c = sym (ap is_newest c.format.ensures.told) ∙ sym c.is_newest.ensures ∙ c.if-is_newest.false
 
 pub write_next-requires-clause-numbers : goal.write_next-requires-clause-numbers
-write_next-requires-clause-numbers g c = numbers_upgraded c.in_ok-next.field-0.next.core c.in_ok-next.ensures.rules
+write_next-requires-clause-numbers g c = numbers_upgraded c.in_ok-next.field-0.next.core (floor_here c.args.self.now) c.in_ok-next.ensures.rules
+
+pub write_next-requires-clause-floor : goal.write_next-requires-clause-floor
+write_next-requires-clause-floor g c = floor_upgraded c.in_ok-next.field-0.next.core (floor_here c.args.self.now) c.in_ok-next.ensures.rules
