@@ -59,7 +59,7 @@ front_more bytes more view len (inside, (h, begins, is)) =
 
 -- a head without its whole body: its message is awaited
 pub awaits_body : (bytes : List ℕ) (view : Head) (len : ℕ) → IsFront bytes (Whole view len) → fault_of view ≡ None
-    → content_length view ≤ 16384 → length bytes < len + content_length view → Awaits bytes (len + content_length view)
+    → content_length view ≤ 65536 → length bytes < len + content_length view → Awaits bytes (len + content_length view)
 awaits_body bytes view len (inside, (h, begins, is)) sound small short = record {
   short = short;
   few = omega (arith, (head_length bytes h len inside begins).0, small);

@@ -18,7 +18,7 @@ IsLeast bytes need =
 -- these bytes, and all that go on from them and are fewer than this many, give no message and no fault
 pub record Awaits (bytes : List ℕ) (need : ℕ) : Type 0 where
   pub short : length bytes < need
-  pub few : need ≤ 24576
+  pub few : need ≤ 73728
   pub stays : (more : List ℕ) → length (bytes ++ more) < need → Waits (bytes ++ more) × IsUnfinished (bytes ++ more)
   pub least : IsLeast bytes need
 

@@ -90,7 +90,7 @@ fault_rows h =
     ∷ (Fault.TransferCoding, has_field (codes "transfer-encoding") h)
     ∷ (Fault.Host, not (length (values (codes "host") h.fields) == 1))
     ∷ (Fault.ContentLength, not (is_length (values (codes "content-length") h.fields)))
-    ∷ (Fault.BodyTooLarge, nat_lt 16384 (content_length h))
+    ∷ (Fault.BodyTooLarge, nat_lt 65536 (content_length h))
     ∷ (Fault.Expectation, has_field (codes "expect") h)
     ∷ (Fault.Target, not (starts_with (λ a b. a == b) h.target (codes "/")))
     ∷ []

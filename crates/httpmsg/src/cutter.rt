@@ -181,7 +181,7 @@ impl Cutter {
             → (b : BrokenMessage) → result ≡ Err (CutFault.Broken b)
             → IsCut (all ++ bytes.now) ms self.new × (self.new.end ≡ Some (End.Broken b)) }
         ensures told { IfOk result (λ more. more.items ≡ [] → (b : BrokenMessage) → self.new.end ≡ Some (End.Broken b) → ⊥) }
-        ensures bounded { self.new.end ≡ None → length self.new.pending < 24576 }
+        ensures bounded { self.new.end ≡ None → length self.new.pending < 73728 }
 
         // A fault is told as soon as the parse fails, or as many bytes as a head may have hold none: else more bytes may help.
         ensures waits { OnOk result (self.new.end ≡ None → Waits self.new.pending) }

@@ -17,7 +17,7 @@ use std::marker::Model;
 pub const HEAD_LIMIT: usize = 8192;
 
 /// The most bytes that a body may have.
-pub const BODY_LIMIT: u64 = 16384;
+pub const BODY_LIMIT: u64 = 65536;
 
 /// The most fields that a head may have.
 pub const FIELD_LIMIT: usize = 32;

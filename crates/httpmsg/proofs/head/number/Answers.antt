@@ -13,6 +13,6 @@ loop-digit-preserved c =
       omega arith,
       list_all_more is_ascii_digit c.args.value.now c.loop-digit.digit-index 0 below
           ∙ rw (c.loop-digit.invariant.1, digit) refl,
-      digit_step 16385 c.args.value.now c.loop-digit.digit-index c.loop-digit.number _ below (digit_above _ digit) (omega arith)
+      digit_step 65537 c.args.value.now c.loop-digit.digit-index c.loop-digit.number _ below (digit_above _ digit) (omega arith)
           ∙ c.loop-digit.invariant.2,
     )

@@ -6,6 +6,6 @@ use Rattle.httpmsg.proofs.head.number.Given as goal
 
 abbrev pub invariant-loop-digit : goal.invariant-loop-digit
 invariant-loop-digit l =
-    (l.number ≤ 16385)
+    (l.number ≤ 65537)
     × (list_all is_ascii_digit (take l.digit-index l.value) ≡ true)
-    × (min (digits_value_after 10 l.number (drop l.digit-index l.value)) 16385 ≡ min (digits_value 10 l.value) 16385)
+    × (min (digits_value_after 10 l.number (drop l.digit-index l.value)) 65537 ≡ min (digits_value 10 l.value) 65537)
