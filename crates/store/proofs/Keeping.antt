@@ -1,5 +1,5 @@
 -- The history that a device holds stays where its store is written anew or checked.
-use Rattle.std.proofs.Common.{◌≡◌, ◌∙◌, ap, sym, subst, refl, ◌++◌, ◌+◌, ℕ, suc, List, [], ◌∷◌, length, inl, inr, Result, Err, IsErrOf, ◌⊎◌}
+use Rattle.std.proofs.Common.{◌≡◌, ◌∙◌, ap, sym, subst, refl, ◌++◌, ℕ, suc, List, [], ◌∷◌, length, inl, inr, Result, Err, IsErrOf, ◌⊎◌}
 use Rattle.std.proofs.lemmas.List.{append-nil}
 use Rattle.device.specs.Disk.{Disk, LeavesOnly}
 use Rattle.device.specs.Run.{Ran}

@@ -7,7 +7,7 @@ use Rattle.device.specs.declared.device.Device.{Ghosts}
 use Rattle.device.proofs.Moments.{weaker, followed_by}
 use Rattle.names.specs.declared.format.Rules.{Rules}
 use Rattle.decoded.specs.Standing.{History}
-use Rattle.decoded.specs.Upgraded.{upgraded_rules, upgraded_history}
+use Rattle.decoded.specs.Upgraded.{rules_behind, upgraded_history}
 use Rattle.durable.specs.declared.fault.Damage.{Damage}
 use Rattle.durable.specs.declared.fault.Fault.{Fault}
 use Rattle.durable.specs.declared.fault.Fault.TheVariants as fault
@@ -89,11 +89,11 @@ module _ {D : Type 0} {g : Ghosts D} (rules : Rules) (old : D) (opened new : Sto
       (λ c left. inl (holds.left c left)) (λ c either. either)
 
   -- it is settled at the upgraded history
-  pub upgraded_settled : LeavesOnly g.disk (device_of opened) (device_of new) (StandsForEither rules h) → IsSettledAt upgraded_rules new (upgraded_history rules h)
+  pub upgraded_settled : LeavesOnly g.disk (device_of opened) (device_of new) (StandsForEither rules h) → IsSettledAt (rules_behind rules h) new (upgraded_history rules h)
       → (left : D) → left ≡ device_of new → IsUpgraded rules g.disk old left h
   upgraded_settled calling settled left is =
       let At : D → Type 0 = λ d. IsUpgraded rules g.disk old d h in
-      subst At (sym is) (record { holds = held upgraded_rules new (upgraded_history rules h) settled; any_moment = either_since calling })
+      subst At (sym is) (record { holds = held (rules_behind rules h) new (upgraded_history rules h) settled; any_moment = either_since calling })
 
   -- its device failed
   either_left : LeavesOnly g.disk (device_of opened) (device_of new) (StandsForEither rules h) → IsLeftEither rules new h

@@ -6,7 +6,7 @@ use Rattle.histories.specs.View.{view}
 use Rattle.roots.specs.declared.root.Root.{Root}
 use Rattle.roots.specs.Root.{HoldsRoot}
 use Rattle.decoded.specs.Standing.{History}
-use Rattle.decoded.specs.Upgraded.{is_newest, upgraded_rules, upgraded_history}
+use Rattle.decoded.specs.Upgraded.{is_newest, rules_behind, upgraded_history}
 use Rattle.durable.specs.declared.compacted.Checked.{Checked}
 use Rattle.durable.specs.declared.compacted.Compacted.{Compacted}
 use Rattle.durable.specs.declared.upgraded.Upgraded.{Upgraded}
@@ -31,7 +31,7 @@ pub record IsWrittenAnew (content : List ℕ) (before : Root) (c : Compacted) : 
 -- A reader of the device finds the history as an upgrade leaves it, after a crash and without one. A reader after a crash at each moment since old found it so, or as
 -- it was.
 pub record IsUpgraded {D : Type 0} (rules : Rules) (disk : Disk D) (old new : D) (h : History) : Type 0 where
-  pub holds : HoldsHistory upgraded_rules disk new (upgraded_history rules h)
+  pub holds : HoldsHistory (rules_behind rules h) disk new (upgraded_history rules h)
   pub any_moment : LeavesOnly disk old new (StandsForEither rules h)
 
 -- A reader of the device finds the history as it was, or as an upgrade leaves it, after a crash and without one, and so did a reader after a crash at each moment
@@ -48,7 +48,7 @@ pub record IsToldUpgraded (rules : Rules) (h : History) (content : List ℕ) (be
   pub counts : HoldsRoot content root
   pub next : root.generation ≡ before.generation + 1
   pub newest : is_newest root.label.format ≡ true
-  pub told : IsToldOfUpgrade (view rules h) root u
+  pub told : IsToldOfUpgrade rules (view rules h) root u
 
 -- This is told of a store that shows the view of the history, in the generation of a root.
 pub record IsToldOfHistory (rules : Rules) (h : History) (root : Root) (c : Checked) : Type 0 where

@@ -6,7 +6,7 @@
 //!         Ok(device) => device,
 //!         Err(fault) => return failed(&rt, fault),
 //!     };
-//!     if let Err(fault) = create(&mut device, Format::Second) {
+//!     if let Err(fault) = create(&mut device, Format::Third) {
 //!         return failed(&rt, fault);
 //!     }
 //!     let mut requests = Std::new(rt.stdin());
@@ -31,22 +31,26 @@
 //! [`answer`] has the theorem of this project. From a device that holds a history, the bytes that are written are the model's replies to the messages that
 //! were read. Each write that was accepted was admitted by the policies just before it. The device then holds the history followed by these writes, and a
 //! crash at any moment leaves the history followed by some first ones of them. [`compact`] and [`check`] leave the history as it is, at every moment. [`upgrade`]
-//! leaves it as it is or with a Namespace for each that objects stand in, at every moment one of the two.
+//! leaves it as it is or in the newest format, at every moment one of the two. There it has the same writes, and behind those of the first format a Namespace
+//! for each that objects stand in.
 //! All of them are generic over the device, so they hold of each device that keeps the disk model.
 #![tactic(auto)]
 
 mod answering;
 mod cause;
+mod damaged;
 mod fault;
 mod storage;
 mod upkeep;
 
 pub use crate::answering::answer;
 pub use crate::cause::Cause;
+pub use crate::damaged::damaged_place;
 pub use crate::fault::AnswerFault;
 pub use crate::storage::{FileStorage, Storage};
 pub use crate::upkeep::{check, compact, upgrade};
 pub use api::{ServeFault, serve};
+pub use damage::Place;
 pub use device::{CreateFault as FileCreateFault, Device, DeviceFault, FileDevice, OpenFault};
 pub use durable::{
     Checked, Compacted, CreateFault, Damage, Fault, Store, UpgradeFault, Upgraded, create,

@@ -45,8 +45,8 @@ pub fn compact<D: Device>(alloc: Global, device: D) -> Result<(Compacted, D), (F
     }
 }
 
-/// Opens the store on a device, writes what it shows as the next generation in the newest format, with a Namespace for each that objects stand in, and gives the
-/// device back.
+/// Opens the store on a device, writes what it shows as the next generation in the newest format, and gives the device back. Where namespaces were no objects the
+/// next generation has a Namespace for each that objects stand in.
 ///
 /// # Errors
 ///
@@ -60,7 +60,7 @@ pub fn upgrade<D: Device>(alloc: Global, device: D) -> Result<(Upgraded, D), (Up
     ensures kept { (rules : Rules) (h : History) → HoldsHistory rules D.disk device h
         → IfErr result (λ e. e.0 ≢ UpgradeFaultData.Device → KeepsHistory rules D.disk device e.1 h) }
     ensures refused { (rules : Rules) (h : History) (holds : HoldsHistory rules D.disk device h)
-        → IfErr result (λ e. IsRefusal e.0 → first_of (refusals (view rules h) holds.read.root) ≡ Some e.0) }
+        → IfErr result (λ e. IsRefusal e.0 → first_of (refusals rules (view rules h) holds.read.root) ≡ Some e.0) }
     ensures undamaged { (rules : Rules) (h : History) → HoldsHistory rules D.disk device h
         → IfErr result (λ e. (damage : DamageData) → e.0 ≢ UpgradeFaultData.Damaged damage) }
     ensures never_failed { IfErr result (λ e. e.0 ≢ UpgradeFaultData.Failed) }

@@ -99,7 +99,7 @@ returns-in-Err-upgrade g c =
           let counts = same_root (disk.content c.args.device) (disk.content opened.device) holds.read.root settled.read.root (c.in-Ok.ensures.content holds.keeps)
           holds.read.counts settled.read.counts
           in
-          let Refuses : Root → Type 0 = λ r. first_of (refusals (view rules h) r) ≡ Some told in
+          let Refuses : Root → Type 0 = λ r. first_of (refusals rules (view rules h) r) ≡ Some told in
           subst Refuses (root_here opened rules h settled ∙ counts)
           (c.upgrade.ensures.refused rules (view rules h) (settled_serves rules opened h settled) told refusal is);
       undamaged = λ rules h holds damage damaged.
