@@ -1,0 +1,4 @@
+pub mod Pages
+pub mod Gathering
+pub mod Entries
+pub mod Place
