@@ -40,15 +40,15 @@ module _ {D : Type 0} {g : Ghosts D} (rules : Rules) where
       record { answered = before.answered ++ after.answered; store = applied_then rules old mid new v before.answered after.answered before.store after.store }
 
   -- what came of a group that was gathered
-  pub group_outcome : {T : Type 0} (old new : Store D g) (v : View) (places : List ℕ) (ms : List Message) (a b c : List State) (r : Result T ServeFault)
-      → Gathers places ms a b → MatchResult r (λ _. Turned rules old new v places ms b c) (TurnStops rules old new v places ms b c)
-      → MatchResult r (λ _. AnswersGroup rules old new v a c) (StopsAtGroup rules old new v a c)
-  group_outcome old new v places ms a b c (Ok x) gathers turned = record { places = places; messages = ms; between = b; gathers = gathers; turned = turned }
-  group_outcome old new v places ms a b c (Err fault) gathers stops = record { places = places; messages = ms; between = b; gathers = gathers; stops = stops }
+  pub group_outcome : {T : Type 0} (first next : ℕ) (old new : Store D g) (v : View) (places : List ℕ) (ms : List Message) (a b c : List State) (r : Result T ServeFault)
+      → Gathers first next places ms a b → MatchResult r (λ _. Turned rules old new v places ms b c) (TurnStops rules old new v places ms b c)
+      → MatchResult r (λ _. AnswersGroup rules first next old new v a c) (StopsAtGroup rules first next old new v a c)
+  group_outcome first next old new v places ms a b c (Ok x) gathers turned = record { places = places; messages = ms; between = b; gathers = gathers; turned = turned }
+  group_outcome first next old new v places ms a b c (Err fault) gathers stops = record { places = places; messages = ms; between = b; gathers = gathers; stops = stops }
 
   -- a group that was answered
-  pub group_served : (old new : Store D g) (v : View) (a b : List State) → AnswersGroup rules old new v a b → HasServedSome rules old new v
-  group_served old new v a b group = record { answered = group.turned.answered; store = group.turned.store }
+  pub group_served : (first next : ℕ) (old new : Store D g) (v : View) (a b : List State) → AnswersGroup rules first next old new v a b → HasServedSome rules old new v
+  group_served first next old new v a b group = record { answered = group.turned.answered; store = group.turned.store }
 
   -- one that the store stopped at
   group_stops : (old new : Store D g) (v : View) (places : List ℕ) (ms : List Message) (a b : List State) (fault : ServeFault) → TurnStops rules old new v places ms a b fault
@@ -60,8 +60,8 @@ module _ {D : Type 0} {g : Ghosts D} (rules : Rules) where
   group_stops old new v places ms a b (Damaged damage) stops = stops
   group_stops old new v places ms a b Failed stops = record { answered = stops.answered; failing = stops.failing; store = stops.store }
 
-  pub group_stopped : (old new : Store D g) (v : View) (a b : List State) (fault : ServeFault) → StopsAtGroup rules old new v a b fault → StopsServing rules old new v fault
-  group_stopped old new v a b fault group = group_stops old new v group.places group.messages group.between b fault group.stops
+  pub group_stopped : (first next : ℕ) (old new : Store D g) (v : View) (a b : List State) (fault : ServeFault) → StopsAtGroup rules first next old new v a b fault → StopsServing rules old new v fault
+  group_stopped first next old new v a b fault group = group_stops old new v group.places group.messages group.between b fault group.stops
 
   -- turns, and then the device fails
   failed_after : (old mid new : Store D g) (v : View) (before : HasServedSome rules old mid v)

@@ -1,5 +1,5 @@
 -- What serving clients does to the store.
-use Rattle.std.specs.Prelude.{◌≡◌, ℕ, ◌<◌, List, [], length, slice_index_or, false}
+use Rattle.std.specs.Prelude.{◌≡◌, ℕ, ◌<◌, ◌+◌, min, List, [], length, slice_index_or, false, MatchOption}
 use Rattle.device.specs.declared.device.Device.{Ghosts}
 use Rattle.names.specs.declared.format.Rules.{Rules}
 use Rattle.decoded.specs.Standing.{View}
@@ -11,7 +11,7 @@ use Rattle.apicore.specs.Admitted.{AreAdmitted}
 use Rattle.durable.specs.Settled.{serves, IsLeftAt, LeavesSome}
 use Rattle.api.specs.Answers.{Answered, AreRead, WhereSettled, all_writes, HasApplied, HasFailedIn}
 use Rattle.sessions.specs.declared.batch.Batch.{Batch}
-use Rattle.sessions.specs.Batch.{AllKept, IsPassedOver, held, places_of}
+use Rattle.sessions.specs.Batch.{AllKept, IsPassedOver, BeginsAt, held, places_of, last_place}
 use Rattle.sessions.specs.State.{State}
 use Rattle.sessions.specs.Turn.{Turned}
 use Rattle.sessions.specs.Stops.{TurnStops}
@@ -21,8 +21,9 @@ use Rattle.clients.specs.declared.fault.ClientsFault.TheVariants as clients_faul
 -- ---- one group
 
 -- Messages that waited in sessions were taken, those of each session in their order: none is lost, all else of the sessions stays, and none is
--- taken only where each session was passed over: none of it waited, or its client has not taken the replies that it has.
-pub record Gathers (places : List ℕ) (ms : List Message) (before after : List State) : Type 0 where
+-- taken only where each session was passed over: none of it waited, or its client has not taken the replies that it has. The sessions from one
+-- place on are asked first, and then those before it. The next group begins behind the last place that was asked.
+pub record Gathers (first next : ℕ) (places : List ℕ) (ms : List Message) (before after : List State) : Type 0 where
   pub empty : Batch
   pub full : Batch
   pub none : held empty ≡ []
@@ -30,21 +31,23 @@ pub record Gathers (places : List ℕ) (ms : List Message) (before after : List 
   pub at : places_of full ≡ places
   pub kept : AllKept empty full before after
   pub some : ms ≡ [] → (i : ℕ) (d : State) → i < length before → IsPassedOver (slice_index_or before i d)
+  pub begins : BeginsAt first before places
+  pub behind : MatchOption (last_place places) (next ≡ min first (length before)) (λ p. next ≡ p + 1)
 
 -- They were answered together, and each session gains the answers to its own.
-pub record AnswersGroup {D : Type 0} {g : Ghosts D} (rules : Rules) (old new : Store D g) (v : View) (before after : List State) : Type 0 where
+pub record AnswersGroup {D : Type 0} {g : Ghosts D} (rules : Rules) (first next : ℕ) (old new : Store D g) (v : View) (before after : List State) : Type 0 where
   pub places : List ℕ
   pub messages : List Message
   pub between : List State
-  pub gathers : Gathers places messages before between
+  pub gathers : Gathers first next places messages before between
   pub turned : Turned rules old new v places messages between after
 
 -- The store stopped at them.
-pub record StopsAtGroup {D : Type 0} {g : Ghosts D} (rules : Rules) (old new : Store D g) (v : View) (before after : List State) (fault : ServeFault) : Type 0 where
+pub record StopsAtGroup {D : Type 0} {g : Ghosts D} (rules : Rules) (first next : ℕ) (old new : Store D g) (v : View) (before after : List State) (fault : ServeFault) : Type 0 where
   pub places : List ℕ
   pub messages : List Message
   pub between : List State
-  pub gathers : Gathers places messages before between
+  pub gathers : Gathers first next places messages before between
   pub stops : TurnStops rules old new v places messages between after fault
 
 -- ---- all of them

@@ -68,6 +68,11 @@ impl Desk {
         self.answered.get(index).copied()
     }
 
+    /// How many messages were answered last.
+    pub(crate) fn answered_count(&self) -> usize {
+        self.answered.len()
+    }
+
     /// Whether there were such messages.
     pub(crate) fn has_answered(&self) -> bool {
         !self.answered.is_empty()
@@ -75,7 +80,9 @@ impl Desk {
 
     // What is told of the reply to one of the messages that were answered last. Where the store failed, a session is told so once, at the first
     // of its messages that it failed to.
-    fn note_at(&mut self, index: usize, place: usize) -> Option<Note> {
+    fn note_at(&mut self, index: usize, place: usize) -> Option<Note>
+        ensures first { self.new.first ≡ self.old.first }
+    {
         let answered = self.tools.notes().len();
         if index < answered {
             return self.tools.notes().get(index).copied();
@@ -90,7 +97,9 @@ impl Desk {
 
     /// Tells in the log of one of the messages that were answered last, and of its reply, which stands in what its session sends since this
     /// many microseconds after the message was read.
-    pub(crate) fn tell(&mut self, alloc: Global, index: usize, peer: &str, microseconds: u64) {
+    pub(crate) fn tell(&mut self, alloc: Global, index: usize, peer: &str, microseconds: u64)
+        ensures first { self.new.first ≡ self.old.first }
+    {
         let Some(place) = self.answered_at(index) else {
             return;
         };
@@ -104,7 +113,9 @@ impl Desk {
     }
 
     /// Forgets the messages that were answered last.
-    pub(crate) fn forget(&mut self) {
+    pub(crate) fn forget(&mut self)
+        ensures first { self.new.first ≡ self.old.first }
+    {
         self.batch.forget();
     }
 
@@ -116,8 +127,8 @@ impl Desk {
         store: &mut Store<D>,
     ) -> Result<(), ServeFault>
         ensures outcome { (rules : Rules) (v : View) → ShowsAt rules store.old v → MatchResult result
-            (λ _. AnswersGroup rules store.old store.new v sessions.old sessions.new)
-            (StopsAtGroup rules store.old store.new v sessions.old sessions.new) }
+            (λ _. AnswersGroup rules self.old.first self.new.first store.old store.new v sessions.old sessions.new)
+            (StopsAtGroup rules self.old.first self.new.first store.old store.new v sessions.old sessions.new) }
         ensures causes { HasCauses 0 0 (D.disk.failures (device_of store.old)) (D.disk.failures (device_of store.new))
             (serves store.old) (serves store.new) result }
     {

@@ -153,7 +153,7 @@ impl Places {
 
     /// Tells in the log of the messages that were answered last, whose replies stand in what their sessions send now.
     pub(crate) fn tell_answered(&self, alloc: Global, desk: &mut Desk, now: Instant) {
-        for index in 0..self.lines.len() {
+        for index in 0..desk.answered_count() {
             let Some(place) = desk.answered_at(index) else {
                 return;
             };

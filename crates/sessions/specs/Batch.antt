@@ -1,5 +1,5 @@
 -- What a batch takes of sessions.
-use Rattle.std.specs.Prelude.{◌≡◌, ℕ, ◌<◌, ◌≤◌, ◌-◌, ◌⊎◌, List, [], ◌∷◌, ◌++◌, Option, length, ◌==◌, if◌then◌else◌, slice_index_or}
+use Rattle.std.specs.Prelude.{◌≡◌, ℕ, ◌<◌, ◌≤◌, ◌+◌, ◌-◌, ◌⊎◌, Bool, ◌&&◌, nat_lt, List, [], ◌∷◌, ◌++◌, Option, length, take, drop, ◌==◌, if◌then◌else◌, slice_index_or}
 use Rattle.std.specs.List.{slice_get}
 use Rattle.httpmsg.specs.Stream.{Message}
 use Rattle.records.specs.Payload.{group_limit}
@@ -34,16 +34,17 @@ pub record StaysBut (old new : State) : Type 0 where
   pub progress : new.progress ≡ old.progress
   pub phase : new.phase ≡ old.phase
 
--- the first message that waited in the session at this place is the last of the batch
-pub record TakesOne (place : ℕ) (old new : Batch) (before after : State) : Type 0 where
-  pub message : Message
-  pub waited : before.waiting ≡ message ∷ after.waiting
-  pub held : held new ≡ held old ++ message ∷ []
-  pub places : places_of new ≡ places_of old ++ place ∷ []
-
 -- A client with this many bytes that wait to be sent gets no further message answered until it takes some.
 abbrev pub unsent_limit : ℕ
 unsent_limit = 65536
+
+-- the first message that waited in the session at this place is the last of the batch
+pub record TakesOne (place : ℕ) (old new : Batch) (before after : State) : Type 0 where
+  pub message : Message
+  pub unread : length before.unsent < unsent_limit
+  pub waited : before.waiting ≡ message ∷ after.waiting
+  pub held : held new ≡ held old ++ message ∷ []
+  pub places : places_of new ≡ places_of old ++ place ∷ []
 
 -- A session is passed over where no message of it waits, and where its client has not taken the replies that it has.
 abbrev pub IsPassedOver : State → Type 0
@@ -74,3 +75,23 @@ abbrev pub AllKept : (old new : Batch) → (before after : List State) → Type 
 AllKept old new before after = (i : ℕ) (d : State) → i < length before
     → (taken_and_waiting i new (slice_index_or after i d) ≡ taken_and_waiting i old (slice_index_or before i d))
     × StaysBut (slice_index_or before i d) (slice_index_or after i d)
+
+-- ---- whose turn it is
+
+-- A session has a turn where a message of it waits, and its client does not leave too much unread.
+abbrev pub has_turn : State → Bool
+has_turn s = nat_lt 0 (length s.waiting) && nat_lt (length s.unsent) unsent_limit
+
+-- the places of the sessions that have a turn, where the first of all has this place
+abbrev pub with_turn : (place : ℕ) → List State → List ℕ
+with_turn place [] = []
+with_turn place (s ∷ sessions) = (if has_turn s then place ∷ [] else []) ++ with_turn (place + 1) sessions
+
+-- those from one place on, and then those before it
+abbrev pub by_turns : (first : ℕ) → List State → List ℕ
+by_turns first sessions = with_turn first (drop first sessions) ++ with_turn 0 (take first sessions)
+
+-- The places begin with one of each session that has a turn, from one place on, as many as there is room for.
+pub record BeginsAt (first : ℕ) (sessions : List State) (places : List ℕ) : Type 0 where
+  pub more : List ℕ
+  pub turns : places ≡ take group_limit (by_turns first sessions) ++ more

@@ -1,6 +1,6 @@
 //! The messages of sessions that are answered together.
 
-ghost use Rattle.std.specs.Prelude.{◌≡◌, ◌<◌, ◌≤◌, ◌+◌, ℕ, All, [], length, min, slice_index_or, IfOk, MatchOption, MatchResult};
+ghost use Rattle.std.specs.Prelude.{◌≡◌, ◌<◌, ◌≤◌, ◌+◌, ◌-◌, ◌++◌, ℕ, All, [], length, take, min, slice_index_or, slice_range, IfOk, MatchOption, MatchResult};
 ghost use Rattle.std.specs.Vec.{vec_capacity};
 ghost use Rattle.names.specs.declared.format.Rules.{Rules};
 ghost use Rattle.records.specs.Payload.{group_limit};
@@ -40,7 +40,7 @@ pub struct Batch {
 
 impl Batch {
     ghost use Rattle.sessions.specs.State.{State};
-    ghost use Rattle.sessions.specs.Batch.{Takes, AllKept, IsPassedOver, places_of, last_place, held, last_answered};
+    ghost use Rattle.sessions.specs.Batch.{Takes, AllKept, IsPassedOver, places_of, last_place, held, last_answered, with_turn, by_turns, BeginsAt};
 
     /// An empty one. All its memory is taken here.
     pub fn new(alloc: Global) -> Result<Batch, AllocError>
@@ -101,6 +101,9 @@ impl Batch {
         ensures known { All (λ p. p < length sessions.old) (places_of self.old) → All (λ p. p < length sessions.old) (places_of self.new) }
         ensures more { length (held self.old) ≤ length (held self.new) }
         ensures none { held self.new ≡ [] → (i : ℕ) (d : State) → from ≤ i → i < to → IsPassedOver (slice_index_or sessions.old i d) }
+        ensures before { take from sessions.new ≡ take from sessions.old }
+        ensures turns { places_of self.new ≡ places_of self.old
+            ++ take (group_limit - length (places_of self.old)) (with_turn from (slice_range sessions.old from to)) }
     {
         for place in from..to {
             self.take_from(place, &mut sessions[place]);
@@ -114,6 +117,8 @@ impl Batch {
         ensures known { All (λ p. p < length sessions.old) (places_of self.old) → All (λ p. p < length sessions.old) (places_of self.new) }
         ensures more { length (held self.old) ≤ length (held self.new) }
         ensures none { held self.new ≡ [] → (i : ℕ) (d : State) → i < length sessions.old → IsPassedOver (slice_index_or sessions.old i d) }
+        ensures turns { places_of self.new ≡ places_of self.old
+            ++ take (group_limit - length (places_of self.old)) (by_turns first sessions.old) }
     {
         let end = sessions.len();
         self.pass(sessions, first, end);
@@ -127,6 +132,7 @@ impl Batch {
         requires empty { held self.old ≡ [] }
         ensures kept { AllKept self.old self.new sessions.old sessions.new }
         ensures known { All (λ p. p < length sessions.old) (places_of self.new) }
+        ensures begins { BeginsAt first sessions.old (places_of self.new) }
         ensures next { MatchOption (last_place (places_of self.new)) (result ≡ min first (length sessions.old)) (λ p. result ≡ p + 1) }
         ensures some { held self.new ≡ [] → (i : ℕ) (d : State) → i < length sessions.old → IsPassedOver (slice_index_or sessions.old i d) }
     {

@@ -6,7 +6,7 @@ use Rattle.clients.proofs.desk.Desk.answer.Goals as goal
 pub returns-clause-outcome : goal.returns-clause-outcome
 returns-clause-outcome g c rules v shows =
     let full = c.gather-self.new.self in
-    group_outcome rules c.args.store.now c.answer.new.store v (places_of full) (held full) c.args.sessions.now c.gather-self.new.sessions c.answer.new.sessions c.answer.result
+    group_outcome rules c.args.self.now.first c.gather-self.result c.args.store.now c.answer.new.store v (places_of full) (held full) c.args.sessions.now c.gather-self.new.sessions c.answer.new.sessions c.answer.result
     (record {
       empty = c.args.self.now.batch;
       full = full;
@@ -15,5 +15,7 @@ returns-clause-outcome g c rules v shows =
       at = refl;
       kept = c.gather-self.ensures.kept;
       some = c.gather-self.ensures.some;
+      begins = c.gather-self.ensures.begins;
+      behind = c.gather-self.ensures.next;
     })
     (c.answer.ensures.outcome rules v shows)

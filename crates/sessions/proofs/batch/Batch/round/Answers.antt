@@ -1,8 +1,8 @@
-use Rattle.std.proofs.Common.{arith, ◌≡◌, ◌<◌, ℕ, All, ap, subst, [], length, ⊎_elim}
+use Rattle.std.proofs.Common.{arith, ◌≡◌, ◌<◌, ℕ, All, ap, refl, subst, [], length, ⊎_elim}
 use Rattle.std.proofs.lemmas.List.{nil_from_length}
 use Rattle.std.proofs.lemmas.Bool.{cases_lt}
 use Rattle.sessions.specs.Batch.{held, places_of}
-use Rattle.sessions.proofs.Taking.{kept_then, passed_still}
+use Rattle.sessions.proofs.Taking.{kept_then, passed_still, round_turns}
 use Rattle.sessions.proofs.batch.Batch.round.Goals as goal
 
 pub returns-clause-kept : goal.returns-clause-kept
@@ -27,3 +27,8 @@ returns-clause-none c is i d below =
     (c.pass-2.ensures.none is i d (omega arith) before))
     (λ after. c.pass.ensures.none mid i d after (omega (arith, below)))
     (cases_lt i c.args.first)
+
+pub returns-clause-turns : goal.returns-clause-turns
+returns-clause-turns c =
+    round_turns c.args.first (length c.args.sessions.now) c.args.self.now c.pass.new.self c.pass-2.new.self c.args.sessions.now c.pass.new.sessions refl
+    c.pass.ensures.before c.pass.ensures.turns c.pass-2.ensures.turns
