@@ -1,5 +1,5 @@
 -- What a command that failed left of the device behind its file.
-use Rattle.std.proofs.Common.{arith, ◌≡◌, ◌≢◌, sym, subst, refl, ◌⊎◌, inl, inr, ⊎_elim, ℕ, List, [], ◌++◌, Result, Ok, Err, IfErr, OnOk, OnErr, IsErrOf}
+use Rattle.std.proofs.Common.{arith, ◌≡◌, ◌≢◌, sym, subst, refl, ◌⊎◌, inl, inr, ⊎_elim, ℕ, List, [], ◌++◌, Option, Result, Ok, Err, IfErr, OnOk, OnErr, IsErrOf}
 use Rattle.std.proofs.lemmas.List.{append-nil}
 use Rattle.device.specs.declared.device.Device.{Ghosts}
 use Rattle.device.specs.Disk.{Disk, LeavesOnly}
@@ -27,7 +27,8 @@ use Rattle.clients.specs.Serving.{HasServedSome, HasFailedAt, StopsClients}
 use Rattle.clients.proofs.Served.{served_none, served_then, stops_after}
 use Rattle.store.specs.Upkeep.{KeepsHistory, IsUpgraded, IsEither}
 use Rattle.store.proofs.Whole.{found_kept}
-use Rattle.gated.specs.Doing.{FoundWhole, HasServedAll, IsOpened, UpgradedStore, WroteAnew}
+use Rattle.damage.specs.declared.place.Place.{Place}
+use Rattle.gated.specs.Doing.{FoundDamaged, FoundWhole, HasServedAll, IsOpened, UpgradedStore, WroteAnew}
 use Rattle.gated.specs.Left.{HasLeft, HasServedPart, HasServedUpTo, HasServedUntil}
 use Rattle.gated.proofs.Served.{read_some, wrote_some, some_after}
 
@@ -175,6 +176,16 @@ module _ {S D : Type 0} (disk : Disk D) (missed : S → List ℕ → Type 0) (op
       was_opened = upgraded.was_opened;
       was_closed = upgraded.was_closed;
       is_so = λ rules h holds. upgraded_either rules disk upgraded.found upgraded.left h (upgraded.upgraded rules h holds);
+    })
+
+    pub damaged_left : (told : Option Place) → FoundDamaged disk made opened closed storage name told
+        → HasLeft disk missed opened closed storage name (λ rules old new h. KeepsHistory rules disk old new h)
+    damaged_left told damaged = inr (record {
+      found = damaged.found;
+      left = damaged.left;
+      was_opened = damaged.was_opened;
+      was_closed = damaged.was_closed;
+      is_so = λ rules h holds. absurd (damaged.none rules h holds);
     })
 
     pub whole_left : (c : Checked) → FoundWhole disk made opened closed storage name c → HasLeft disk missed opened closed storage name (λ rules old new h. KeepsHistory rules disk old new h)

@@ -45,9 +45,9 @@ log_rule = record (new_rule (codes "log")) { long = Some (codes "log"); action =
 abbrev pub compact_at_rule : Rule
 compact_at_rule = record (option_rule (codes "compact-at")) { parser = Some (parser.Unsigned 1 1000) }
 
--- `--format N`: 1 or 2, and 2 where it is left out
+-- `--format N`: 1 to 3, and 3 where it is left out
 abbrev pub format_rule : Rule
-format_rule = record (option_rule (codes "format")) { defaults = codes "2" ∷ []; parser = Some (parser.Unsigned 1 2) }
+format_rule = record (option_rule (codes "format")) { defaults = codes "3" ∷ []; parser = Some (parser.Unsigned 1 3) }
 
 -- a command of this name over a file
 abbrev pub over_file : Text → Shape

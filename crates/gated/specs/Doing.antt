@@ -1,10 +1,10 @@
 -- What a command does to the store behind its file: a device is made or opened under the file's name, and this is what becomes of it.
-use Rattle.std.specs.Prelude.{ℕ, List, [], ◌++◌}
+use Rattle.std.specs.Prelude.{ℕ, List, [], ◌++◌, Option, IfSome}
 use Rattle.device.specs.declared.device.Device.{Ghosts}
 use Rattle.device.specs.Disk.{Disk, LeavesOnly}
 use Rattle.names.specs.declared.format.Format.{Format}
 use Rattle.names.specs.declared.format.Rules.{Rules}
-use Rattle.names.specs.Format.{rules_of}
+use Rattle.roots.specs.NewStore.{first_label}
 use Rattle.histories.specs.View.{view}
 use Rattle.decoded.specs.Standing.{History}
 use Rattle.apicore.specs.Admitted.{AreAdmitted}
@@ -13,12 +13,17 @@ use Rattle.durable.specs.declared.compacted.Compacted.{Compacted}
 use Rattle.durable.specs.declared.store.Store.{Store}
 use Rattle.durable.specs.declared.upgraded.Upgraded.{Upgraded}
 use Rattle.durable.specs.ReadWhole.{HoldsWellFormed}
+use Rattle.durable.specs.Rules.{rules_by}
 use Rattle.durable.specs.Ready.{HoldsHistory}
 use Rattle.durable.specs.Settled.{device_of, IsFound, IsSettledAt}
 use Rattle.api.specs.Answers.{Answered, AreRead, all_writes}
 use Rattle.api.specs.Serving.{Exchanged}
 use Rattle.store.specs.Upkeep.{KeepsHistory, IsWrittenAnew, IsUpgraded, IsToldUpgraded, IsToldOfHistory}
 use Rattle.store.specs.Whole.{HasAnswered}
+use Rattle.damage.specs.declared.place.Place.{Place}
+use Rattle.damage.specs.Place.{IsDamagedAt}
+use Rattle.gated.specs.declared.checking.Looked.{Looked}
+use Rattle.gated.specs.declared.checking.Looked.TheVariants as looked
 
 -- Connections were served. Each write of theirs that was accepted was admitted by the policies just before it. The device holds the history with these writes
 -- after it, and at every moment a crash leaves the history followed by some first ones of them.
@@ -43,7 +48,7 @@ module _ {S D : Type 0} (disk : Disk D) (made opened closed : S → List ℕ →
     pub left : D
     pub was_made : made storage name empty
     pub was_closed : closed storage name left
-    pub holds : disk.keeps empty → HoldsHistory (rules_of format 0) disk left []
+    pub holds : disk.keeps empty → HoldsHistory (rules_by (first_label format)) disk left []
 
   -- What the store on the device under the name was asked was answered: what was read and written is as the whole theorem says.
   pub record AnsweredAll {I O : Type 0} (gave : I → I → List ℕ → Type 0) (took : O → O → List ℕ → Type 0) (ended : Type 0) (input_old input_new : I) (output_old output_new : O)
@@ -91,10 +96,16 @@ module _ {S D : Type 0} (disk : Disk D) (made opened closed : S → List ℕ →
     pub told : (rules : Rules) (h : History) (holds : HoldsHistory rules disk found h) → IsToldOfHistory rules h holds.read.root c
     pub whole : disk.keeps found → HoldsWellFormed (disk.content found)
 
-  -- The device under the name holds no history, and was given back.
-  pub record FoundDamaged : Type 0 where
+  -- The device under the name holds no history, and was given back. Where a place is told, the damage is there.
+  pub record FoundDamaged (told : Option Place) : Type 0 where
     pub found : D
     pub left : D
     pub was_opened : opened storage name found
     pub was_closed : closed storage name left
     pub none : (rules : Rules) (h : History) → HoldsHistory rules disk found h → ⊥
+    pub at : disk.keeps left → IfSome told (IsDamagedAt (disk.content left))
+
+  -- This was found of the store on the device under the name.
+  abbrev pub HasFound : Looked → Type 0
+  HasFound (looked.Whole c) = FoundWhole c
+  HasFound (looked.Damaged damage told) = FoundDamaged told

@@ -1,32 +1,45 @@
 -- What a server tells on standard error of the store that it opened.
-use Rattle.std.specs.Prelude.{◌≡◌, ◌⊎◌, ℕ, ◌/◌, ◌%◌, List, ◌++◌, codes, decimal}
-use Rattle.names.specs.declared.format.Format.{Format}
+use Rattle.std.specs.Prelude.{◌≡◌, ◌⊎◌, ℕ, ◌/◌, ◌%◌, List, ◌++◌, codes, decimal, length}
 use Rattle.names.specs.Format.{number_of}
+use Rattle.device.specs.declared.device.Device.{Ghosts}
+use Rattle.histories.specs.View as seen
+use Rattle.decoded.specs.Decoded.{Decoded}
+use Rattle.durable.specs.declared.store.Store.{Store}
+use Rattle.durable.specs.Settled.{kept_rules, log_of, revision_of, Holds}
 use Rattle.gated.specs.declared.command.Verb.{Verb}
+use Rattle.gated.specs.declared.opening.Found.{Found}
 use Rattle.gated.specs.declared.command.Verb.TheVariants as verb
 use Rattle.gated.specs.Problem.{TellsAll}
 
--- so many nanoseconds in seconds, with two places behind the point
+-- nanoseconds, told in seconds with two places behind the point
 abbrev pub seconds_shown : ℕ → List ℕ
 seconds_shown nanoseconds =
     decimal (nanoseconds / 1_000_000_000) ++ (codes "." ++ (decimal (nanoseconds / 100_000_000 % 10) ++ decimal (nanoseconds / 10_000_000 % 10)))
 
--- what was found in the file
-abbrev pub found_shown : (number revision : ℕ) → List ℕ
-found_shown number revision = codes "format " ++ (decimal number ++ (codes ", revision " ++ decimal revision))
+-- what was found in the file, as it is told
+abbrev pub found_shown : Found → List ℕ
+found_shown found =
+    codes "format " ++ (decimal (number_of found.format) ++ (codes ", revision " ++ (decimal found.revision
+    ++ (codes ", objects " ++ (decimal found.objects ++ (codes ", records " ++ decimal found.records))))))
 
--- The line of a store that was read in so many nanoseconds: the version, the file, what was found there, and the seconds.
-abbrev pub opened_line : (file : List ℕ) → Format → (revision nanoseconds : ℕ) → List ℕ
-opened_line file format revision nanoseconds =
-    codes "gated: 0.27.0, " ++ (file ++ (codes ": " ++ (found_shown (number_of format) revision ++ (codes ", read in " ++ (seconds_shown nanoseconds ++ codes " s\n")))))
+-- That was found in a store: its format, its revision, how many objects it holds, and how many records its log has.
+pub record IsFoundIn {D : Type 0} {g : Ghosts D} (store : Store D g) (found : Found) : Type 0 where
+  pub format : found.format ≡ (kept_rules store).format
+  pub revision : found.revision ≡ revision_of store
+  pub objects : (held : seen.View Decoded) → Holds store held → found.objects ≡ length held.objects
+  pub records : found.records ≡ (log_of store).record_count
+
+-- The line of a store that was read in this time: the version, the file, what was found there, and the seconds.
+abbrev pub opened_line : (file : List ℕ) → Found → (nanoseconds : ℕ) → List ℕ
+opened_line file found nanoseconds =
+    codes "gated: 0.28.0, " ++ (file ++ (codes ": " ++ (found_shown found ++ (codes ", read in " ++ (seconds_shown nanoseconds ++ codes " s\n")))))
 
 module _ {E : Type 0} (took : E → E → List ℕ → Type 0) (failures : E → ℕ) (old new : E) where
   -- It was told of a store in this file.
   pub record TellsOpened (file : List ℕ) : Type 0 where
-    pub format : Format
-    pub revision : ℕ
+    pub found : Found
     pub nanoseconds : ℕ
-    pub line : TellsAll took failures old new (opened_line file format revision nanoseconds)
+    pub line : TellsAll took failures old new (opened_line file found nanoseconds)
 
   -- What a verb that was done tells: a server that line, and no other verb anything.
   abbrev pub TellsDone : Verb → Type 0

@@ -1,7 +1,9 @@
 -- What the program tells on its output of a compaction, of an upgrade, and of a check.
-use Rattle.std.specs.Prelude.{◌≡◌, ℕ, List, ◌++◌, ◌⊎◌, true, codes, decimal}
+use Rattle.std.specs.Prelude.{◌≡◌, ℕ, List, ◌++◌, ◌⊎◌, Option, Some, None, true, codes, decimal}
 use Rattle.device.specs.Disk.{Disk}
 use Rattle.names.specs.Format.{number_of}
+use Rattle.damage.specs.declared.place.Place.{Place}
+use Rattle.damage.specs.Place.{place_text}
 use Rattle.durable.specs.declared.compacted.Checked.{Checked}
 use Rattle.durable.specs.declared.compacted.Compacted.{Compacted}
 use Rattle.durable.specs.declared.fault.Damage.{Damage}
@@ -30,17 +32,23 @@ abbrev pub checked_text : Checked → List ℕ
 checked_text c =
     codes "ok: format " ++ decimal (number_of c.format) ++ codes ", revision " ++ decimal c.revision ++ codes ", objects " ++ decimal c.objects ++ codes ", generation " ++ decimal c.generation
 
+-- of a store that is damaged, and where
+abbrev pub damaged_text : Damage → Option Place → List ℕ
+damaged_text damage None = text_of (problem.Damaged damage)
+damaged_text damage (Some place) = text_of (problem.Damaged damage) ++ (codes "\n" ++ place_text place)
+
 -- A line was written.
 abbrev pub HasLine : {O : Type 0} (took : O → O → List ℕ → Type 0) (old new : O) → List ℕ → Type 0
 HasLine took old new text = took old new (text ++ codes "\n")
 
 module _ {S D O : Type 0} (disk : Disk D) (made opened closed : S → List ℕ → D → Type 0) (took : O → O → List ℕ → Type 0) (storage : S) (output_old output_new : O) (file : List ℕ)
     (result : Status) where
-  -- Damage was found and told of, and the program ends so.
+  -- Damage was found and told of, with its place in a second line where that was found, and the program ends so.
   pub record FindsDamage : Type 0 where
     pub damage : Damage
-    pub found : FoundDamaged disk made opened closed storage file
-    pub line : HasLine took output_old output_new (text_of (problem.Damaged damage))
+    pub told : Option Place
+    pub found : FoundDamaged disk made opened closed storage file told
+    pub lines : HasLine took output_old output_new (damaged_text damage told)
     pub status : result ≡ status.NoStore
 
   -- So a check ends.

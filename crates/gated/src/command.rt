@@ -14,7 +14,7 @@ use std::convert::AsStr;
 use store::Format;
 
 /// The program's version.
-pub const VERSION: &str = "0.27.0";
+pub const VERSION: &str = "0.28.0";
 
 // How many connections are served at once where the words say neither this nor how many there are in all.
 const DEFAULT_AT_ONCE: u16 = 256;
@@ -228,10 +228,10 @@ fn create_line<'a>(alloc: Global) -> Result<Command<'a>, AllocError>
             alloc,
             "format",
             "N",
-            "The format of the file: 1, or 2, in which namespaces are objects",
+            "The format of the file: 1; 2, in which namespaces are objects; 3, with larger objects and a wider window",
         )
-        .default_value("2")
-        .value_parser(ValueParser::unsigned(1, 2)),
+        .default_value("3")
+        .value_parser(ValueParser::unsigned(1, 3)),
     )
 }
 
@@ -291,7 +291,7 @@ fn line<'a>(alloc: Global) -> Result<Command<'a>, AllocError>
         alloc,
         with_compact,
         "upgrade",
-        "Brings a store of format 1 to format 2, with an object for each namespace in use",
+        "Brings a store of an older format to format 3",
         "Example: gated upgrade store.db",
     )?;
     with_over_file(
@@ -378,6 +378,7 @@ fn format_of<'a>(matches: &ArgMatches<'a>) -> Option<Format>
     match matches.get_one::<u16>("format")? {
         1 => Some(Format::First),
         2 => Some(Format::Second),
+        3 => Some(Format::Third),
         _ => None,
     }
 }

@@ -11,8 +11,10 @@
 //! it is known.
 #![tactic(auto)]
 
+mod checking;
 mod command;
 mod listening;
+mod opening;
 mod places;
 mod problem;
 mod program;

@@ -1,10 +1,8 @@
 //! The commands of the program.
 
 ghost use Rattle.std.specs.Prelude.{◌≡◌, ◌≢◌, ◌⊎◌, ◌||◌, is_some, false, map, string_bytes, Err, IfOk, IfErr, OnOk, OnErr, IsErrOf};
-ghost use Rattle.std.specs.Duration.{as_nanos};
 ghost use Rattle.clap.specs.Words.{kind_of};
 ghost use Rattle.names.specs.declared.format.Rules.{Rules};
-ghost use Rattle.names.specs.Format.{number_of};
 ghost use Rattle.decoded.specs.Standing.{History};
 ghost use Rattle.histories.specs.View.{view};
 ghost use Rattle.durable.specs.declared.compacted.Compacted.{Compacted as CompactedData};
@@ -14,15 +12,17 @@ ghost use Rattle.store.specs.Upkeep.{KeepsHistory, IsEither};
 ghost use Rattle.gated.specs.declared.command.Verb.{Verb as VerbData};
 ghost use Rattle.gated.specs.CommandLine.{AskFor, compacted_at, is_logged};
 ghost use Rattle.clients.specs.Serving.{HasServedSome};
-ghost use Rattle.gated.specs.Doing.{AnsweredAll, FoundDamaged, FoundWhole, IsOpened, MadeStore, ServedAll, UpgradedStore, WroteAnew};
+ghost use Rattle.gated.specs.Doing.{AnsweredAll, IsOpened, MadeStore, ServedAll, UpgradedStore, WroteAnew};
 ghost use Rattle.gated.specs.Left.{HasAnsweredPart, HasLeft, HasLeftBy, HasMadeNone, HasServedPart, HasServedUntil, WasRefused};
-ghost use Rattle.durable.specs.Settled.{kept_rules, revision_of, IsSettledAt};
+ghost use Rattle.durable.specs.Settled.{IsSettledAt};
 ghost use Rattle.gated.specs.Problem.{SaysNoMore, SaysWhy, Tells, TellsAll, reason_line};
-ghost use Rattle.gated.specs.Opening.{MayTell, TellsDone, TellsFailed, TellsOpened, found_shown, opened_line, seconds_shown};
-ghost use Rattle.gated.specs.Telling.{HasLine, EndsCheck, IsDone, checked_text, compacted_text, upgraded_text};
+ghost use Rattle.gated.specs.Opening.{MayTell, TellsDone, TellsFailed, TellsOpened};
+ghost use Rattle.gated.specs.Telling.{HasLine, IsDone, compacted_text, upgraded_text};
 
-use crate::command::{Serving, VERSION, Verb, command};
+use crate::checking::check;
+use crate::command::{Serving, Verb, command};
 use crate::listening::{serve_at_once, serve_one_by_one};
+use crate::opening::{Found, passed_since, print_opened};
 use crate::problem::{Problem, Reason, print, tell};
 use crate::progress::{Progress, Watched};
 use crate::status::Status;
@@ -35,9 +35,8 @@ use std::io;
 use std::net::{Net, TcpListener, TcpStream};
 use std::time::{Clock, Duration, Instant};
 use store::{
-    Checked, Compacted, Device, Format, Input, Output, Storage, Store, StreamFault, Upgraded,
-    answer, check as check_store, compact as compact_store, create, upgrade as upgrade_store,
-    write_all,
+    Compacted, Device, Format, Input, Output, Storage, Store, StreamFault, Upgraded, answer,
+    compact as compact_store, create, upgrade as upgrade_store, write_all,
 };
 
 // Makes a store of a format in a new file. It allocates nothing, so it cannot run out of memory once there is a file. Where the store cannot be written, as on a
@@ -183,69 +182,6 @@ fn serve_store<
     }
 }
 
-// The time that passed since an instant; none where the clock fails.
-fn passed_since<C: Clock>(clock: &C, start: io::Result<Instant>) -> Duration {
-    match (start, Instant::now(clock)) {
-        (Ok(start), Ok(now)) => now.saturating_duration_since(start),
-        _ => Duration::ZERO,
-    }
-}
-
-// A time in seconds, with two places behind the point.
-fn seconds_text(alloc: Global, passed: Duration) -> Result<String, AllocError>
-    ensures { IfOk result (λ text. string_bytes text ≡ seconds_shown (as_nanos passed)) }
-{
-    let nanoseconds = passed.as_nanos();
-    let seconds = nanoseconds / 1_000_000_000;
-    let tenths = nanoseconds / 100_000_000 % 10;
-    let hundredths = nanoseconds / 10_000_000 % 10;
-    format!(in alloc; "{seconds}.{tenths}{hundredths}")
-}
-
-// What a store shows.
-fn found_text<D: Device>(alloc: Global, store: &Store<D>) -> Result<String, AllocError>
-    ensures { IfOk result (λ text. string_bytes text ≡ found_shown (number_of (kept_rules store.now).format) (revision_of store.now)) }
-{
-    let format = store.format().number();
-    let revision = store.revision();
-    format!(in alloc; "format {format}, revision {revision}")
-}
-
-// What is told of a store that was opened in this time.
-fn opened_text<D: Device>(
-    alloc: Global,
-    file: &str,
-    store: &Store<D>,
-    passed: Duration,
-) -> Result<String, AllocError>
-    ensures { IfOk result (λ text. string_bytes text ≡ opened_line file.now (kept_rules store.now).format (revision_of store.now) (as_nanos passed)) }
-{
-    let found = found_text(alloc, store)?;
-    let seconds = seconds_text(alloc, passed)?;
-    format!(in alloc; "gated: {VERSION}, {file}: {found}, read in {seconds} s\n")
-}
-
-// Tells of a store that was opened in this time.
-fn print_opened<D: Device, E: Output>(
-    alloc: Global,
-    file: &str,
-    store: &Store<D>,
-    passed: Duration,
-    errors: &mut E,
-) -> Result<(), Problem>
-    ensures line { OnOk result (TellsAll E.took E.failures errors.old errors.new (opened_line file.now (kept_rules store.now).format (revision_of store.now) (as_nanos passed))) }
-    ensures refusal { OnErr result ((result ≡ Err Problem.OutOfMemory) × (errors.new ≡ errors.old)) }
-{
-    match opened_text(alloc, file, store, passed) {
-        Ok(text) => {
-            // If standard error fails there is nowhere to report it.
-            let _ = write_all(errors, text.as_bytes());
-            Ok(())
-        }
-        Err(_) => Err(Problem::OutOfMemory),
-    }
-}
-
 // Tells of a store that was opened in this time, and serves connections against it.
 fn serve_opened<
     D: Device,
@@ -273,7 +209,8 @@ fn serve_opened<
     ensures served { (rules : Rules) (h : History) → IsSettledAt rules store.old h → OnOk result (HasServedSome rules store.old store.new (view rules h)) }
     ensures stopped { (rules : Rules) (h : History) → IsSettledAt rules store.old h → OnErr result (HasServedUntil rules store.old store.new (view rules h)) }
 {
-    print_opened(alloc, file, store, passed, errors)?;
+    let found = Found::of(store);
+    print_opened(alloc, file, &found, passed, errors)?;
     serve_store(
         net,
         alloc,
@@ -461,76 +398,6 @@ fn upgrade<D: Device, S: Storage<D>, O: Output, P: Output + Drop>(
 {
     let upgraded = upgrade_file(storage, alloc, file, progress)?;
     print_upgraded(alloc, &upgraded, output)
-}
-
-// What is found of the store in a file.
-fn look<D: Device, S: Storage<D>>(
-    storage: &S,
-    alloc: Global,
-    file: &str,
-) -> Result<Checked, Problem>
-    ensures whole { IfOk result (λ c. FoundWhole D.disk S.made S.opened S.closed storage.now file.now c) }
-    ensures damaged { (damage : Damage) → IsErrOf result (Problem.Damaged damage) → FoundDamaged D.disk S.made S.opened S.closed storage.now file.now }
-    ensures left { OnErr result (HasLeft D.disk S.missed S.opened S.closed storage.now file.now (λ rules old new h. KeepsHistory rules D.disk old new h)) }
-    ensures no_file_made { IsErrOf result Problem.FileExists → ⊥ }
-    ensures no_stream { IsErrOf result Problem.StreamFailed → ⊥ }
-{
-    let device = storage.open(file)?;
-    match check_store(alloc, device) {
-        Ok((checked, device)) => {
-            storage.close(file, device);
-            Ok(checked)
-        }
-        Err((fault, device)) => {
-            storage.close(file, device);
-            Err(Problem::from(fault))
-        }
-    }
-}
-
-// Tells of a store that is whole.
-fn print_checked<O: Output>(alloc: Global, checked: &Checked, output: &mut O) -> Result<(), Problem>
-    ensures line { OnOk result (HasLine O.took output.old output.new (checked_text checked.now)) }
-    ensures refusal { OnErr result (IsErrOf result Problem.StreamFailed ⊎ IsErrOf result Problem.OutOfMemory) }
-{
-    let Checked {
-        revision,
-        objects,
-        generation,
-        format,
-    } = *checked;
-    let number = format.number();
-    match format!(in alloc;
-        "ok: format {number}, revision {revision}, objects {objects}, generation {generation}"
-    ) {
-        Ok(line) => print(output, line.as_str()),
-        Err(_) => Err(Problem::OutOfMemory),
-    }
-}
-
-// Tells on the output whether the store in a file is whole, or what of it is damaged, and says how the program ends.
-fn check<D: Device, S: Storage<D>, O: Output>(
-    storage: &S,
-    alloc: Global,
-    file: &str,
-    output: &mut O,
-) -> Result<Status, Problem>
-    ensures ends { IfOk result (λ status. EndsCheck D.disk S.made S.opened S.closed O.took storage.now output.old output.new file.now status) }
-    ensures left { OnErr result (HasLeft D.disk S.missed S.opened S.closed storage.now file.now (λ rules old new h. KeepsHistory rules D.disk old new h)) }
-    ensures no_file_made { IsErrOf result Problem.FileExists → ⊥ }
-    ensures no_damage { (damage : Damage) → IsErrOf result (Problem.Damaged damage) → ⊥ }
-{
-    match look(storage, alloc, file) {
-        Ok(checked) => {
-            print_checked(alloc, &checked, output)?;
-            Ok(Status::Success)
-        }
-        Err(Problem::Damaged(damage)) => {
-            print(output, Problem::Damaged(damage).text())?;
-            Ok(Status::NoStore)
-        }
-        Err(problem) => Err(problem),
-    }
 }
 
 // Does what a verb asks for, and says how the program ends.

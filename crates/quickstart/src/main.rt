@@ -24,7 +24,7 @@ fn main(rt: HostRuntime) -> ExitCode {
         Ok(device) => device,
         Err(fault) => return failed(&rt, fault),
     };
-    if let Err(fault) = create(&mut device, Format::Second) {
+    if let Err(fault) = create(&mut device, Format::Third) {
         return failed(&rt, fault);
     }
     let mut requests = Std::new(rt.stdin());

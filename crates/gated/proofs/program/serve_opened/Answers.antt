@@ -1,6 +1,5 @@
 use Rattle.std.proofs.Common.{inl, inr}
 use Rattle.std.specs.Duration.{as_nanos}
-use Rattle.durable.specs.Settled.{kept_rules, revision_of}
 use Rattle.durable.proofs.Answering.{settled_serves}
 use Rattle.histories.specs.View.{view}
 use Rattle.clients.proofs.Served.{served_none}
@@ -19,8 +18,7 @@ returns-in_err-print_opened-clause-stopped g c rules h settled =
 pub returns-clause-told : goal.returns-clause-told
 returns-clause-told g c =
     on_ok c.serve_store.result (record {
-      format = (kept_rules c.args.store.now).format;
-      revision = revision_of c.args.store.now;
+      found = c.of-found.result;
       nanoseconds = as_nanos c.args.passed;
       line = c.in_ok-print_opened.ensures.line;
     })
@@ -28,8 +26,7 @@ returns-clause-told g c =
 pub returns-clause-told_err : goal.returns-clause-told_err
 returns-clause-told_err g c =
     on_err c.serve_store.result (inr (record {
-      format = (kept_rules c.args.store.now).format;
-      revision = revision_of c.args.store.now;
+      found = c.of-found.result;
       nanoseconds = as_nanos c.args.passed;
       line = c.in_ok-print_opened.ensures.line;
     }))

@@ -1,7 +1,7 @@
 use Rattle.std.proofs.Common.{◌∙◌, List, ℕ, subst}
 use Rattle.gated.specs.Problem.{TellsAll}
 use Rattle.api.proofs.Folds.{took_some_of, took_whole}
-use Rattle.gated.proofs.program.print_opened.Goals as goal
+use Rattle.gated.proofs.opening.print_opened.Goals as goal
 
 pub returns-in-Ok-clause-line : goal.returns-in-Ok-clause-line
 returns-in-Ok-clause-line g c =

@@ -3,7 +3,7 @@ use Rattle.std.specs.Prelude.{decimal}
 use Rattle.std.proofs.lemmas.Result.{on_ok_weaker}
 use Rattle.gated.specs.Telling.{checked_text}
 use Rattle.gated.proofs.Tellings.{eight_joined}
-use Rattle.gated.proofs.program.print_checked.Goals as goal
+use Rattle.gated.proofs.checking.print_checked.Goals as goal
 
 pub returns-in-Ok-clause-line : goal.returns-in-Ok-clause-line
 returns-in-Ok-clause-line g c =
