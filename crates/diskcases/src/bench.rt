@@ -1,5 +1,6 @@
 //! What the lines of a case work on, and the lines by their words.
 
+use crate::chunk_lines::{cut, whole, whole_list, whole_under};
 use crate::device_lines::{call, counts, crash, firsts, length, sector, tries};
 use crate::generation_lines::{install_next, next, place_of};
 use crate::line::Line;
@@ -80,6 +81,16 @@ impl Disk {
             "write" => write_entries(alloc, &mut self.device, line),
             "scan" => scan_pages(alloc, &mut self.device, line),
             "shelf" => shelf(alloc, &mut self.device, line),
+            _ => self.of_chunks(alloc, word, line),
+        }
+    }
+
+    fn of_chunks(&mut self, alloc: Global, word: &str, line: &mut Line<'_>) {
+        match word {
+            "cut" => cut(alloc, line),
+            "whole" => whole(alloc, &mut self.device, line),
+            "whole-list" => whole_list(alloc, &mut self.device, line),
+            "whole-under" => whole_under(alloc, &mut self.device, line),
             _ => self.of_the_log(alloc, word, line),
         }
     }

@@ -1,7 +1,7 @@
 //! Lines on the next generation of a store.
 
 ghost use Rattle.std.specs.Prelude.{◌<◌, ◌≤◌, ◌^◌, IfSome};
-ghost use Rattle.roots.specs.Root.{log_sector};
+ghost use Rattle.roots.specs.Root.{MayHaveFloor, log_sector};
 
 use crate::line::Line;
 use crate::root_lines::push_root;
@@ -31,10 +31,32 @@ fn last_gate_sector(line: &mut Line<'_>) -> Option<u64>
     Some(gate)
 }
 
-// `LAST PAGES REVISION FORMAT`: the root that counts, and the next one behind a log that ends with the gate `LAST`. Without a format it keeps that of the
-// root that counts. `exhausted` where there is no next generation.
+// The label of a root that follows one with this label: without a format it has that one's format and floor, and without a floor that of a new store.
+fn next_label(line: &mut Line<'_>, current: Label, revision: u64) -> Option<Label>
+    ensures { IfSome result (λ label. MayHaveFloor label.format label.floor) }
+{
+    let (format, floor) = if line.rest.is_empty() {
+        (current.format, current.floor)
+    } else {
+        let format = line.format(current.format);
+        (format, line.floor(format))
+    };
+    if !format.has_floor() && floor != 0 {
+        line.refuse("the format has no floor");
+        return None;
+    }
+    Some(Label {
+        format,
+        revision,
+        floor,
+    })
+}
+
+// `LAST PAGES REVISION FORMAT FLOOR`: the root that counts, and the next one behind a log that ends with the gate `LAST`. `exhausted` where there is no next
+// generation.
 fn next_of(device: &mut MemDevice, line: &mut Line<'_>) -> Option<(Root, Root)>
-    ensures { IfSome result (λ both. (8 ≤ both.1.first_sector) × (log_sector both.1 < 2 ^ 64)) }
+    ensures place { IfSome result (λ both. (8 ≤ both.1.first_sector) × (log_sector both.1 < 2 ^ 64)) }
+    ensures floor { IfSome result (λ both. MayHaveFloor both.1.label.format both.1.label.floor) }
 {
     let last_gate_sector = last_gate_sector(line)?;
     let (pages, revision) = (line.pages(), line.number());
@@ -42,8 +64,7 @@ fn next_of(device: &mut MemDevice, line: &mut Line<'_>) -> Option<(Root, Root)>
         line.refuse("no root counts");
         return None;
     };
-    let format = line.format(current.label.format);
-    let label = Label { format, revision };
+    let label = next_label(line, current.label, revision)?;
     match next_root(&current, last_gate_sector, pages, label) {
         Ok(next) => Some((current, next)),
         Err(_) => {
@@ -53,7 +74,7 @@ fn next_of(device: &mut MemDevice, line: &mut Line<'_>) -> Option<(Root, Root)>
     }
 }
 
-/// `next LAST PAGES REVISION FORMAT`: the root of the next generation, of this many pages, this revision and this format, or `exhausted`.
+/// `next LAST PAGES REVISION FORMAT FLOOR`: the root of the next generation, of this many pages, this revision, this format and this floor, or `exhausted`.
 pub fn next(device: &mut MemDevice, line: &mut Line<'_>) {
     if let Some((_, next)) = next_of(device, line) {
         push_root(line, &next);
@@ -68,7 +89,7 @@ fn clears(device: &mut MemDevice, current: &Root) -> bool {
     }
 }
 
-/// `install LAST PAGES REVISION FORMAT`: makes the slot of that root free, and installs it over what stands in its place.
+/// `install LAST PAGES REVISION FORMAT FLOOR`: makes the slot of that root free, and installs it over what stands in its place.
 pub fn install_next(device: &mut MemDevice, line: &mut Line<'_>) {
     let Some((current, next)) = next_of(device, line) else {
         return;

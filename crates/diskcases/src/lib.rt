@@ -5,6 +5,7 @@
 #![tactic(auto)]
 
 mod bench;
+mod chunk_lines;
 mod device_lines;
 mod file_devices;
 mod generation_lines;

@@ -83,10 +83,19 @@ impl<'a> Line<'a> {
             "" => unsaid,
             "1" => Format::First,
             "2" => Format::Second,
+            "3" => Format::Third,
             _ => {
                 self.refuse("no such format");
                 unsaid
             }
+        }
+    }
+
+    /// The floor that the next word says, or that of a new store of this format where there is none.
+    pub fn floor(&mut self, format: Format) -> u64 {
+        match self.word() {
+            "" => format.first_floor(),
+            word => self.number_of(word),
         }
     }
 

@@ -6,7 +6,8 @@ use names::Format;
 use roots::{Label, Root, RootFault, Slot, StartFault, counted_root, start};
 use std::alloc::Global;
 
-/// Adds the slot, the generation, the first sector, the pages and the revision of a root, and behind `format` its format where that is not the first.
+/// Adds the slot, the generation, the first sector, the pages and the revision of a root, behind `format` its format where that is not the first, and behind
+/// `floor` its floor where that is not 0.
 pub fn push_root(line: &mut Line<'_>, root: &Root) {
     line.answer.word(match root.slot {
         Slot::A => "A",
@@ -24,6 +25,10 @@ pub fn push_root(line: &mut Line<'_>, root: &Root) {
     if format != 1 {
         line.answer.word("format");
         line.show(&format);
+    }
+    if root.label.floor != 0 {
+        line.answer.word("floor");
+        line.show(&root.label.floor);
     }
 }
 
@@ -63,6 +68,7 @@ pub fn log_sector(line: &mut Line<'_>) {
         label: Label {
             format: Format::First,
             revision: 1,
+            floor: 0,
         },
     };
     line.show(&root.log_sector());

@@ -25,6 +25,16 @@ pub fn lay(alloc: Global, device: &mut MemDevice, page: &mut PageBuilder, line: 
     });
 }
 
+/// What is told of a fault.
+pub(crate) fn fault_text(fault: ScanFault) -> &'static str {
+    match fault {
+        ScanFault::Device => "device failed",
+        ScanFault::Page => "damaged page",
+        ScanFault::Entry => "refused entry",
+        ScanFault::Memory => "out of memory",
+    }
+}
+
 // A reader that keeps what it is told, and refuses one key.
 #[derive(Drop)]
 pub(crate) struct Listing<'a> {
@@ -81,6 +91,7 @@ pub(crate) fn root_at(
             label: Label {
                 format: Format::First,
                 revision: 1,
+                floor: 0,
             },
         }),
         _ => {
@@ -105,10 +116,7 @@ pub(crate) fn read_pages<R: Reader>(
     match scan(alloc, device, root, reader) {
         Ok(keys) if keys.len() as u64 == u64::from(root.pages) => Ok(keys),
         Ok(_) => Err("a page has no first key"),
-        Err(ScanFault::Device) => Err("device failed"),
-        Err(ScanFault::Page) => Err("damaged page"),
-        Err(ScanFault::Entry) => Err("refused entry"),
-        Err(ScanFault::Memory) => Err("out of memory"),
+        Err(fault) => Err(fault_text(fault)),
     }
 }
 

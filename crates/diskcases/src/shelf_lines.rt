@@ -1,6 +1,7 @@
 //! Lines on the shelf of a root's pages.
 
-ghost use Rattle.std.specs.Prelude.{IfSome};
+ghost use Rattle.std.specs.Prelude.{◌<◌, ◌^◌, IfSome};
+ghost use Rattle.roots.specs.Root.{log_sector};
 ghost use Rattle.shelf.specs.Shelf.{root_of};
 ghost use Rattle.diskcases.specs.Inside.{LiesInside};
 
@@ -8,10 +9,12 @@ use crate::line::Line;
 use crate::scan_lines::{Listing, push_entries, read_pages, root_at};
 use cases::Wrong;
 use device::MemDevice;
+use roots::Root;
 use shelf::{Reading, Shelf, ShelfFault};
 use std::alloc::Global;
 
-fn fault_text(fault: ShelfFault) -> &'static str {
+/// What is told of a fault.
+pub(crate) fn shelf_fault_text(fault: ShelfFault) -> &'static str {
     match fault {
         ShelfFault::Device => "device failed",
         ShelfFault::Page => "damaged page",
@@ -38,7 +41,7 @@ fn look(
             Some(_) => line.answer.word("yes"),
             None => line.answer.word("none"),
         },
-        Err(fault) => line.answer.word(fault_text(fault)),
+        Err(fault) => line.answer.word(shelf_fault_text(fault)),
     }
 }
 
@@ -59,7 +62,7 @@ fn tell(
     };
     match shelf.tell(alloc, device, line.rest.as_bytes(), reading, &mut listing) {
         Ok(()) => push_entries(line, &listing.entries),
-        Err(fault) => line.answer.word(fault_text(fault)),
+        Err(fault) => line.answer.word(shelf_fault_text(fault)),
     }
 }
 
@@ -77,17 +80,17 @@ fn ask(alloc: Global, shelf: &mut Shelf, device: &mut MemDevice, line: &mut Line
     }
 }
 
-// The shelf of this many pages from a sector on, which are read before, each once.
-fn shelf_at(
+/// The shelf of a root's pages, which are read before, each once.
+pub(crate) fn shelf_of(
     alloc: Global,
     device: &mut MemDevice,
-    first: u64,
-    pages: u32,
+    root: Root,
     line: &mut Line<'_>,
 ) -> Option<Shelf>
+    requires small { log_sector root < 2 ^ 54 }
+    requires inside { LiesInside root device.old }
     ensures inside { IfSome result (λ shelf. LiesInside (root_of shelf) device.new) }
 {
-    let root = root_at(device, first, pages, line)?;
     let mut all = Listing {
         entries: Vec::new(alloc),
         refused: b"",
@@ -103,6 +106,20 @@ fn shelf_at(
             None
         }
     }
+}
+
+// The shelf of this many pages from a sector on.
+fn shelf_at(
+    alloc: Global,
+    device: &mut MemDevice,
+    first: u64,
+    pages: u32,
+    line: &mut Line<'_>,
+) -> Option<Shelf>
+    ensures inside { IfSome result (λ shelf. LiesInside (root_of shelf) device.new) }
+{
+    let root = root_at(device, first, pages, line)?;
+    shelf_of(alloc, device, root, line)
 }
 
 /// `shelf FIRST PAGES QUESTION ; ..`: the answers of the shelf of this many pages from a sector on, which are read before, each once.

@@ -69,6 +69,7 @@ pub fn write_entries(alloc: Global, device: &mut MemDevice, line: &mut Line<'_>)
     let label = Label {
         format: current.label.format,
         revision,
+        floor: current.label.floor,
     };
     let written = write(
         alloc,

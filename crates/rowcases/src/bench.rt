@@ -78,7 +78,7 @@ fn of_values(alloc: Global, word: &str, rest: &str) -> Result<String, Wrong> {
         "told" => names_asked::told(alloc, rest),
         "numbered" => names_asked::numbered(alloc, rest),
         "plural" | "kind" => names_asked::number_of(alloc, word, rest),
-        "format" => names_asked::format(alloc),
+        "format" => names_asked::format(alloc, rest),
         "has" => names_asked::has(alloc, rest),
         "json" => documents_asked::read(alloc, rest.as_bytes()),
         "json-bytes" => documents_asked::read_hex(alloc, rest),

@@ -145,9 +145,20 @@ pub fn told(alloc: Global, text: &str) -> Result<String, Wrong> {
     }
 }
 
-/// `format`: the numbers of the first format: events, bytes of a text, objects, the greatest revision.
-pub fn format(alloc: Global) -> Result<String, Wrong> {
-    let rules = Format::First.rules(0);
+// The format of a number.
+fn format_of(number: &str) -> Result<Format, Wrong> {
+    match number {
+        "1" => Ok(Format::First),
+        "2" => Ok(Format::Second),
+        "3" => Ok(Format::Third),
+        _ => Err(Wrong::Told("no such format")),
+    }
+}
+
+/// `format N`: the numbers of a format: events, bytes of a text, objects, the greatest revision; and the floor of a new store.
+pub fn format(alloc: Global, text: &str) -> Result<String, Wrong> {
+    let format = format_of(text)?;
+    let rules = format.rules(format.first_floor());
     let mut line = TextBuilder::new(alloc);
     for limit in [
         rules.window_events,
@@ -158,17 +169,15 @@ pub fn format(alloc: Global) -> Result<String, Wrong> {
         line.push(" ");
     }
     line.show(&rules.greatest_revision);
+    line.push(" ");
+    line.show(&rules.floor);
     line.end()
 }
 
 /// `has FORMAT RESOURCE`: whether a store of the format may hold objects of the resource.
 pub fn has(alloc: Global, text: &str) -> Result<String, Wrong> {
     let (number, plural) = first_word(text);
-    let format = match number {
-        "1" => Format::First,
-        "2" => Format::Second,
-        _ => return Err(Wrong::Told("no such format")),
-    };
+    let format = format_of(number)?;
     match resource(plural) {
         Ok(resource) => yes_or_no(alloc, format.has(resource)),
         Err(wrong) => Err(wrong),

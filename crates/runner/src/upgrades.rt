@@ -13,7 +13,7 @@ const NEITHER: &str = "neither the store as it was nor the upgraded one is found
 // Upgrades the open store, which must be of an older format.
 fn upgrade(place: &mut StorePlace) {
     place.upgrade();
-    let is_upgraded = place.told().starts_with("format 2, ");
+    let is_upgraded = place.told().starts_with("format 3, ");
     place.note(is_upgraded, "the store is not upgraded");
 }
 
