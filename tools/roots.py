@@ -4,7 +4,7 @@ from typing import NamedTuple
 SECTOR, PAGE_SECTORS, DATA_SECTOR = 512, 64, 8
 OPEN = 0xA5
 # The mark of a root, by the format that it tells.
-FORMATS = {b"GATEROOT": 1, b"GATEROO2": 2}
+FORMATS = {b"GATEROOT": 1, b"GATEROO2": 2, b"GATEROO3": 3}
 
 
 class NoStore(Exception):

@@ -9,9 +9,11 @@ import socket
 
 ROOT = pathlib.Path(__file__).resolve().parent.parent
 BUILT = ROOT / "crates/gated/out/gated"
-# A new store of format 1, and one of format 2, which differ in the mark of their root.
+# A new store of format 1, as `gated create --format 1` makes one, and those of formats 2 and 3. They differ in their root: in its mark, and that of format 3 has the
+# floor 1 behind the revision.
 NEW_STORE = (ROOT / "examples/new-store.db").read_bytes()
 SECOND_STORE = NEW_STORE.replace(b"GATEROOT", b"GATEROO2")
+THIRD_STORE = NEW_STORE[:512] + b"GATEROO3" + NEW_STORE[520:548] + (1).to_bytes(8, "big") + NEW_STORE[556:]
 EXAMPLES = sorted((ROOT / "examples/policies").iterdir())
 SECONDS = 20
 
@@ -25,7 +27,7 @@ DEPLOYMENT_RULE = {"operations": ["CREATE", "UPDATE"], "apiGroups": ["apps"], "a
 
 
 # What a server tells on standard error before it listens.
-OPENED = re.compile(rb"gated: \d+\.\d+\.\d+, [^\n]*: format [12], revision \d+, [^\n]*read in \d+\.\d\d s\n")
+OPENED = re.compile(rb"gated: \d+\.\d+\.\d+, [^\n]*: format [123], revision \d+, [^\n]*read in \d+\.\d\d s\n")
 
 
 class Wrong(Exception):
