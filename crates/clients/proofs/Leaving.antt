@@ -5,11 +5,11 @@ use Rattle.clients.specs.declared.line.Gone.{Gone}
 use Rattle.clients.specs.declared.line.Gone.TheVariants as gone
 use Rattle.clients.specs.Waiting.{EndsAtRest, EndsFor}
 
-pub at_rest : (g : Gone) (old new : State) (late : Type 0) → EndsAtRest g new → EndsFor g old new late
-at_rest gone.Lost old new late ends = absurd ends
-at_rest gone.Failed old new late ends = tt
-at_rest gone.Done old new late ends = ends
-at_rest gone.Late old new late ends = absurd ends
+pub at_rest : (g : Gone) (old new : State) (failed later_failed late : Type 0) → (failed → later_failed) → EndsAtRest failed g new → EndsFor g old new later_failed late
+at_rest gone.Lost old new failed later_failed late later ends = absurd ends
+at_rest gone.Failed old new failed later_failed late later ends = later ends
+at_rest gone.Done old new failed later_failed late later ends = ends
+at_rest gone.Late old new failed later_failed late later ends = absurd ends
 
-pub has_failed : (g : Gone) (old new : State) (late : Type 0) → g ≡ gone.Failed → EndsFor g old new late
-has_failed g old new late is = subst (λ x. EndsFor x old new late) (sym is) tt
+pub has_failed : (g : Gone) (old new : State) (failed late : Type 0) → g ≡ gone.Failed → failed → EndsFor g old new failed late
+has_failed g old new failed late is fails = subst (λ x. EndsFor x old new failed late) (sym is) fails

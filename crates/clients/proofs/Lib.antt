@@ -4,3 +4,7 @@ pub mod Sending
 pub mod Turns
 pub mod Beginning
 pub mod Leaving
+pub mod Stories
+pub mod Clients
+pub mod Loops
+pub mod Runs

@@ -1,5 +1,5 @@
 -- What turns leave of a store, one after another.
-use Rattle.std.proofs.Common.{◌≡◌, ◌∙◌, ap, refl, sym, subst, true≢false, false, ◌++◌, ℕ, List, [], Option, None, Result, Ok, Err}
+use Rattle.std.proofs.Common.{◌≡◌, ◌∙◌, ap, refl, sym, subst, true≢false, false, ◌++◌, ℕ, List, [], length, Option, None, Result, Ok, Err}
 use Rattle.std.proofs.lemmas.List.{append-nil}
 use Rattle.std.specs.Prelude.{MatchResult, is_ok}
 use Rattle.device.specs.declared.device.Device.{Ghosts}
@@ -41,10 +41,10 @@ module _ {D : Type 0} {g : Ghosts D} (rules : Rules) where
 
   -- what came of a group that was gathered
   pub group_outcome : {T : Type 0} (first next : ℕ) (old new : Store D g) (v : View) (places : List ℕ) (ms : List Message) (a b c : List State) (r : Result T ServeFault)
-      → Gathers first next places ms a b → MatchResult r (λ _. Turned rules old new v places ms b c) (TurnStops rules old new v places ms b c)
+      → length c ≡ length a → Gathers first next places ms a b → MatchResult r (λ _. Turned rules old new v places ms b c) (TurnStops rules old new v places ms b c)
       → MatchResult r (λ _. AnswersGroup rules first next old new v a c) (StopsAtGroup rules first next old new v a c)
-  group_outcome first next old new v places ms a b c (Ok x) gathers turned = record { places = places; messages = ms; between = b; gathers = gathers; turned = turned }
-  group_outcome first next old new v places ms a b c (Err fault) gathers stops = record { places = places; messages = ms; between = b; gathers = gathers; stops = stops }
+  group_outcome first next old new v places ms a b c (Ok x) many gathers turned = record { places = places; messages = ms; between = b; many = many; gathers = gathers; turned = turned }
+  group_outcome first next old new v places ms a b c (Err fault) many gathers stops = record { places = places; messages = ms; between = b; many = many; gathers = gathers; stops = stops }
 
   -- a group that was answered
   pub group_served : (first next : ℕ) (old new : Store D g) (v : View) (a b : List State) → AnswersGroup rules first next old new v a b → HasServedSome rules old new v

@@ -1,6 +1,10 @@
+pub mod Stream
 pub mod Moving
+pub mod Story
 pub mod Journal
 pub mod Serving
 pub mod Compacting
 pub mod Waiting
 pub mod Places
+pub mod Network
+pub mod Clients

@@ -29,6 +29,8 @@ pub record Gathers (first next : ℕ) (places : List ℕ) (ms : List Message) (b
   pub none : held empty ≡ []
   pub messages : held full ≡ ms
   pub at : places_of full ≡ places
+  pub alike : length places ≡ length ms
+  pub many : length after ≡ length before
   pub kept : AllKept empty full before after
   pub some : ms ≡ [] → (i : ℕ) (d : State) → i < length before → IsPassedOver (slice_index_or before i d)
   pub begins : BeginsAt first before places
@@ -39,6 +41,7 @@ pub record AnswersGroup {D : Type 0} {g : Ghosts D} (rules : Rules) (first next 
   pub places : List ℕ
   pub messages : List Message
   pub between : List State
+  pub many : length after ≡ length before
   pub gathers : Gathers first next places messages before between
   pub turned : Turned rules old new v places messages between after
 
@@ -47,6 +50,7 @@ pub record StopsAtGroup {D : Type 0} {g : Ghosts D} (rules : Rules) (first next 
   pub places : List ℕ
   pub messages : List Message
   pub between : List State
+  pub many : length after ≡ length before
   pub gathers : Gathers first next places messages before between
   pub stops : TurnStops rules old new v places messages between after fault
 

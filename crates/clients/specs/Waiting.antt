@@ -17,24 +17,23 @@ abbrev pub IsLate : State → (since now : Instant) → Option Duration → Type
 IsLate s since now None = ⊥
 IsLate s since now (Some idle) = IsWaitedFor s × (as_nanos idle ≤ instant_nanos now - instant_nanos since)
 
--- the stream failed, or nothing more is taken of the client
-abbrev pub IsEnd : Gone → Type 0
-IsEnd gone.Lost = ⊥
-IsEnd gone.Failed = ⊤
-IsEnd gone.Done = ⊤
-IsEnd gone.Late = ⊥
+-- the stream failed, as the first type says, or nothing more is taken of the client
+abbrev pub IsEnd : (failed : Type 0) → Gone → Type 0
+IsEnd failed gone.Lost = ⊥
+IsEnd failed gone.Failed = failed
+IsEnd failed gone.Done = ⊤
+IsEnd failed gone.Late = ⊥
 
 -- the stream failed, or the session is over and all was sent
-abbrev pub EndsAtRest : Gone → State → Type 0
-EndsAtRest gone.Lost new = ⊥
-EndsAtRest gone.Failed new = ⊤
-EndsAtRest gone.Done new = (is_open new.phase ≡ false) × (new.unsent ≡ [])
-EndsAtRest gone.Late new = ⊥
+abbrev pub EndsAtRest : (failed : Type 0) → Gone → State → Type 0
+EndsAtRest failed gone.Lost new = ⊥
+EndsAtRest failed gone.Failed new = failed
+EndsAtRest failed gone.Done new = (is_open new.phase ≡ false) × (new.unsent ≡ [])
+EndsAtRest failed gone.Late new = ⊥
 
--- A turn lets a client go because its session was lost, because it is late, or because the session is over and all was sent. That a stream
--- failed, no contract of a socket says.
-abbrev pub EndsFor : Gone → (old new : State) → (late : Type 0) → Type 0
-EndsFor gone.Lost old new late = is_lost old.phase ≡ true
-EndsFor gone.Failed old new late = ⊤
-EndsFor gone.Done old new late = (is_open new.phase ≡ false) × (new.unsent ≡ [])
-EndsFor gone.Late old new late = late
+-- A turn lets a client go because memory was refused to what is to be sent to it, because its stream failed, because its session is over and all was sent, or because it is late.
+abbrev pub EndsFor : Gone → (old new : State) → (failed late : Type 0) → Type 0
+EndsFor gone.Lost old new failed late = (is_lost new.phase ≡ true) × (new ≡ old)
+EndsFor gone.Failed old new failed late = failed
+EndsFor gone.Done old new failed late = (is_open new.phase ≡ false) × (new.unsent ≡ [])
+EndsFor gone.Late old new failed late = late

@@ -16,14 +16,20 @@
 
 mod compacting;
 mod desk;
+mod event_loop;
 mod fault;
 mod journal;
 mod laws;
 mod line;
 mod moving;
+mod network;
 mod places;
 mod server;
+mod socket;
+mod sockets;
+mod stream;
 
 pub use crate::fault::{BindFault, ClientsFault};
 pub use crate::laws::texts_are_shown;
-pub use crate::server::{Limits, Server};
+pub use crate::event_loop::Limits;
+pub use crate::server::Server;

@@ -1,20 +1,19 @@
 //! The socket of one client.
 
-ghost use Rattle.std.specs.Prelude.{◌≡◌, ◌↔◌, ◌≤◌, ◌-◌, [], true, false, IfErr, IsTrue, MatchResult};
+ghost use Rattle.std.specs.Prelude.{◌≡◌, ◌↔◌, ◌≤◌, ◌<◌, ◌-◌, ℕ, List, [], true, false, length, IfErr, IsTrue, MatchResult};
 ghost use Rattle.std.specs.Duration.{as_nanos};
 ghost use Rattle.std.specs.Time.{instant_nanos};
+ghost use Rattle.objects.specs.Failing.{HasGrown};
 ghost use Rattle.sessions.specs.State.{is_open, is_lost};
-ghost use Rattle.clients.specs.Moving.{LosesFront};
+ghost use Rattle.clients.specs.Story.{GoesOn, SendsOn};
 ghost use Rattle.clients.specs.Waiting.{IsWaitedFor, IsLate, IsEnd, EndsAtRest, EndsFor};
 
 use crate::desk::Desk;
 use crate::journal::{Journal, status_in};
-use crate::moving::{Moved, failed, read_once, send_once};
-use mio::net::TcpStream;
+use crate::moving::{Moved, forget_once, read_once, send_once};
+use crate::stream::Stream;
 use sessions::{Note, Session};
 use std::alloc::Global;
-use std::io::Read;
-use std::net::Shutdown;
 use std::time::{Duration, Instant};
 
 // How often one turn writes to one client.
@@ -71,10 +70,10 @@ fn tell_closing(alloc: Global, journal: &mut Journal, peer: &str, session: &Sess
     }
 }
 
-/// A socket, what it is ready for, and how far its client is.
+/// A client's connection, what it is ready for, and how far its client is.
 #[derive(Drop)]
-pub(crate) struct Line {
-    stream: TcpStream,
+pub(crate) struct Line<S> {
+    stream: S,
     // The client's address, where it is told in a log.
     peer: Option<String>,
     // A read, or a write, did not yet have to wait since the system told of it.
@@ -94,9 +93,11 @@ pub(crate) struct Line {
     drained_since: Option<Instant>,
 }
 
-impl Line {
+impl<S> Line<S> {
     /// Of a connection that was accepted now.
-    pub(crate) fn new(stream: TcpStream, peer: Option<String>, now: Instant) -> Line {
+    pub(crate) fn new(stream: S, peer: Option<String>, now: Instant) -> Line<S>
+        ensures { result.stream ≡ stream }
+    {
         Line {
             stream,
             peer,
@@ -111,8 +112,10 @@ impl Line {
         }
     }
 
-    /// The system tells what the socket is ready for.
-    pub(crate) fn mark(&mut self, is_readable: bool, is_writable: bool) {
+    /// The system tells what the connection is ready for.
+    pub(crate) fn mark(&mut self, is_readable: bool, is_writable: bool)
+        ensures { self.new.stream ≡ self.old.stream }
+    {
         self.is_readable = self.is_readable || is_readable;
         self.is_writable = self.is_writable || is_writable;
     }
@@ -135,6 +138,7 @@ impl Line {
     fn note_sent(&mut self, moved: Moved, now: Instant) -> Result<(), Gone>
         ensures ends { MatchResult result (λ _. moved ≡ Moved.Failed → ⊥) (λ gone. (gone ≡ Gone.Failed) × (moved ≡ Moved.Failed)) }
         ensures since { moved ≡ Moved.Some → self.new.since ≡ now }
+        ensures stream { self.new.stream ≡ self.old.stream }
     {
         match moved {
             Moved::Some => self.since = now,
@@ -144,26 +148,30 @@ impl Line {
         }
         Ok(())
     }
+}
 
-    // Sends what waits, as far as the socket takes it now.
-    #[tactic(auto, using(crate::proofs::Sending::loses_none))]
+impl<S: Stream> Line<S> {
+    // Sends what waits, as far as the stream takes it now.
+    #[tactic(auto, using(crate::proofs::Sending::sends_none, crate::proofs::Sending::sends_then))]
     fn send(&mut self, alloc: Global, session: &mut Session, now: Instant) -> Result<(), Gone>
-        ensures sent { LosesFront session.old session.new }
-        ensures failed { IfErr result (λ gone. gone ≡ Gone.Failed) }
+        ensures sent { SendsOn S.moved self.old.stream self.new.stream session.old session.new }
+        ensures later { S.failures self.old.stream ≤ S.failures self.new.stream }
+        ensures failed { IfErr result (λ gone. (gone ≡ Gone.Failed) × HasGrown (S.failures self.old.stream) (S.failures self.new.stream)) }
     {
         for _ in 0..SENDS {
             if session.rest().is_empty() || !self.is_writable {
                 return Ok(());
             }
-            let mut stream = &self.stream;
-            let moved = send_once(alloc, &mut stream, session);
+            let moved = send_once(alloc, &mut self.stream, session);
             self.note_sent(moved, now)?;
         }
         Ok(())
     }
 
     // Takes note of a piece that the session took.
-    fn note_piece(&mut self, session: &Session, now: Instant) {
+    fn note_piece(&mut self, session: &Session, now: Instant)
+        ensures { self.new.stream ≡ self.old.stream }
+    {
         let begins = session.has_begun() && !self.has_begun;
         if begins || !session.is_idle() {
             self.since = now;
@@ -184,16 +192,12 @@ impl Line {
         requires opened { is_open session.old.phase ≡ true }
         requires idle { session.old.waiting ≡ [] }
         requires sent { session.old.unsent ≡ [] }
-        ensures failed { IfErr result (λ gone. gone ≡ Gone.Failed) }
+        ensures goes_on { GoesOn S.moved S.has_ended self.old.stream self.new.stream session.old session.new }
+        ensures later { S.failures self.old.stream ≤ S.failures self.new.stream }
+        ensures failed { IfErr result (λ gone. (gone ≡ Gone.Failed) × HasGrown (S.failures self.old.stream) (S.failures self.new.stream)) }
     {
-        let mut stream = &self.stream;
-        match read_once(
-            alloc,
-            &mut desk.tools,
-            &mut desk.buffer,
-            &mut stream,
-            session,
-        ) {
+        let stream = &mut self.stream;
+        match read_once(alloc, &mut desk.tools, &mut desk.buffer, stream, session) {
             Moved::Some => self.note_piece(session, now),
             Moved::Again => {}
             Moved::Waits => self.is_readable = false,
@@ -207,7 +211,10 @@ impl Line {
     // Reads on and forgets: a socket that is closed with bytes that nobody read resets the connection, and the client may then lose the last
     // reply. So a refused upload is taken to its end, within bounds.
     fn drain(&mut self, buffer: &mut [u8], now: Instant) -> Result<(), Gone>
-        ensures { IfErr result IsEnd }
+        requires room { 0 < length buffer.old }
+        ensures forgets { (read : List ℕ) × S.moved self.old.stream self.new.stream read [] }
+        ensures later { S.failures self.old.stream ≤ S.failures self.new.stream }
+        ensures ends { IfErr result (IsEnd (HasGrown (S.failures self.old.stream) (S.failures self.new.stream))) }
     {
         if self.has_ended {
             return Err(Gone::Done);
@@ -215,8 +222,7 @@ impl Line {
         let since = match self.drained_since {
             Some(since) => since,
             None => {
-                // The connection ends in any case, so a failure is ignored.
-                let _ = self.stream.shutdown(Shutdown::Write);
+                self.stream.end();
                 self.drained_since = Some(now);
                 now
             }
@@ -229,23 +235,22 @@ impl Line {
 
     // One read of what is forgotten.
     fn forget(&mut self, buffer: &mut [u8]) -> Result<(), Gone>
-        ensures { IfErr result IsEnd }
+        requires room { 0 < length buffer.old }
+        ensures forgets { (read : List ℕ) × S.moved self.old.stream self.new.stream read [] }
+        ensures later { S.failures self.old.stream ≤ S.failures self.new.stream }
+        ensures ends { IfErr result (IsEnd (HasGrown (S.failures self.old.stream) (S.failures self.new.stream))) }
     {
         if !self.is_readable {
             return Ok(());
         }
-        let mut stream = &self.stream;
-        match stream.read(buffer) {
-            Ok(0) => Err(Gone::Done),
-            Ok(_) => Ok(()),
-            Err(error) => match failed(error.kind()) {
-                Moved::Waits => {
-                    self.is_readable = false;
-                    Ok(())
-                }
-                Moved::Again => Ok(()),
-                Moved::Some | Moved::Ended | Moved::Failed => Err(Gone::Failed),
-            },
+        match forget_once(buffer, &mut self.stream) {
+            Moved::Some | Moved::Again => Ok(()),
+            Moved::Waits => {
+                self.is_readable = false;
+                Ok(())
+            }
+            Moved::Ended => Err(Gone::Done),
+            Moved::Failed => Err(Gone::Failed),
         }
     }
 
@@ -257,7 +262,9 @@ impl Line {
         session: &mut Session,
         now: Instant,
     ) -> Result<(), Gone>
-        ensures failed { IfErr result (λ gone. gone ≡ Gone.Failed) }
+        ensures goes_on { GoesOn S.moved S.has_ended self.old.stream self.new.stream session.old session.new }
+        ensures later { S.failures self.old.stream ≤ S.failures self.new.stream }
+        ensures failed { IfErr result (λ gone. (gone ≡ Gone.Failed) × HasGrown (S.failures self.old.stream) (S.failures self.new.stream)) }
     {
         if !self.looks_on || !is_quiet(session) {
             return Ok(());
@@ -276,7 +283,9 @@ impl Line {
         session: &mut Session,
         now: Instant,
     ) -> Result<(), Gone>
-        ensures { IfErr result (λ gone. EndsAtRest gone session.new) }
+        ensures goes_on { GoesOn S.moved S.has_ended self.old.stream self.new.stream session.old session.new }
+        ensures later { S.failures self.old.stream ≤ S.failures self.new.stream }
+        ensures ends { IfErr result (λ gone. EndsAtRest (HasGrown (S.failures self.old.stream) (S.failures self.new.stream)) gone session.new) }
     {
         if !is_quiet(session) {
             return Ok(());
@@ -319,9 +328,11 @@ impl Line {
         now: Instant,
         idle: Option<Duration>,
     ) -> Result<bool, Gone>
-        ensures { MatchResult result
+        ensures ends { MatchResult result
             (λ _. (is_lost session.old.phase ≡ false) × (IsLate session.new self.new.since now idle → ⊥))
-            (λ gone. EndsFor gone session.old session.new (IsLate session.new self.new.since now idle)) }
+            (λ gone. EndsFor gone session.old session.new (HasGrown (S.failures self.old.stream) (S.failures self.new.stream)) (IsLate session.new self.new.since now idle)) }
+        ensures goes_on { GoesOn S.moved S.has_ended self.old.stream self.new.stream session.old session.new }
+        ensures later { S.failures self.old.stream ≤ S.failures self.new.stream }
     {
         if session.is_lost() {
             return Err(Gone::Lost);
@@ -343,7 +354,8 @@ impl Line {
         session: &mut Session,
         now: Instant,
     ) -> Result<(), Gone>
-        ensures sent { LosesFront session.old session.new }
+        ensures sent { SendsOn S.moved self.old.stream self.new.stream session.old session.new }
+        ensures later { S.failures self.old.stream ≤ S.failures self.new.stream }
         ensures ends { IfErr result (λ gone. (gone ≡ Gone.Done) → session.new.unsent ≡ []) }
     {
         if session.is_lost() {

@@ -3,11 +3,11 @@
 ghost use Rattle.std.specs.Prelude.{◌≡◌, ◌<◌, ℕ, List, [], true, length};
 ghost use Rattle.httpmsg.specs.Stream.{Message as MessageData, IsCut};
 ghost use Rattle.sessions.specs.State.{is_open};
-ghost use Rattle.clients.specs.Moving.{IsFailure, Sends, Reads};
+ghost use Rattle.clients.specs.Moving.{Sends, Reads, CountsMoved, IsStopped};
 
+use crate::stream::{Stop, Stream};
 use sessions::{Session, Tools};
 use std::alloc::Global;
-use std::io::{ErrorKind, Read, Write};
 
 /// What came of one call of a stream.
 #[derive(Clone, Copy)]
@@ -24,45 +24,47 @@ pub(crate) enum Moved {
     Failed,
 }
 
-/// What came of a call that failed.
-pub(crate) fn failed(kind: ErrorKind) -> Moved
-    ensures { IsFailure result }
+/// What came of a call that moved nothing.
+pub(crate) fn stopped(stop: Stop) -> Moved
+    ensures { IsStopped stop result }
 {
-    match kind {
-        ErrorKind::WouldBlock => Moved::Waits,
-        ErrorKind::Interrupted => Moved::Again,
-        _ => Moved::Failed,
+    match stop {
+        Stop::Again => Moved::Again,
+        Stop::Waits => Moved::Waits,
+        Stop::Failed => Moved::Failed,
     }
 }
 
-/// Sends the first of the bytes that wait, as many as the stream takes in one call.
-pub(crate) fn send_once<W: Write>(alloc: Global, stream: &mut W, session: &mut Session) -> Moved
-    ensures { Sends (W.contents stream.old) (W.contents stream.new) session.old session.new }
+/// Sends the first of the bytes that wait, of which there are some, as many as the stream takes in one call.
+pub(crate) fn send_once<S: Stream>(alloc: Global, stream: &mut S, session: &mut Session) -> Moved
+    requires { 0 < length session.old.unsent }
+    ensures sends { Sends S.moved stream.old stream.new session.old session.new }
+    ensures counts { CountsMoved (S.failures stream.old) (S.failures stream.new) result }
 {
     match stream.write(session.rest()) {
-        Ok(0) => Moved::Failed,
         Ok(count) => {
             session.sent(alloc, count);
             Moved::Some
         }
-        Err(error) => failed(error.kind()),
+        Err(stop) => stopped(stop),
     }
 }
 
 /// Reads one piece of what a client sends, of which nothing waits, neither to be answered nor to be sent.
-pub(crate) fn read_once<R: Read>(
+pub(crate) fn read_once<S: Stream>(
     alloc: Global,
     tools: &mut Tools,
     buffer: &mut [u8],
-    stream: &mut R,
+    stream: &mut S,
     session: &mut Session,
 ) -> Moved
     requires room { 0 < length buffer.old }
     requires opened { is_open session.old.phase ≡ true }
     requires idle { session.old.waiting ≡ [] }
     requires sent { session.old.unsent ≡ [] }
-    ensures { (read : List ℕ) (ms : List MessageData) → IsCut read ms session.old.progress
-        → Reads (R.remaining stream.old) (R.remaining stream.new) read ms session.old session.new result }
+    ensures reads { (read : List ℕ) (ms : List MessageData) → IsCut read ms session.old.progress
+        → Reads S.moved S.has_ended stream.old stream.new read ms session.old session.new result }
+    ensures counts { CountsMoved (S.failures stream.old) (S.failures stream.new) result }
 {
     match stream.read(buffer) {
         Ok(0) => {
@@ -73,6 +75,19 @@ pub(crate) fn read_once<R: Read>(
             session.take_piece(alloc, tools, &buffer[..count]);
             Moved::Some
         }
-        Err(error) => failed(error.kind()),
+        Err(stop) => stopped(stop),
+    }
+}
+
+/// Reads once of what a client sends after its session is over, and forgets it.
+pub(crate) fn forget_once<S: Stream>(buffer: &mut [u8], stream: &mut S) -> Moved
+    requires room { 0 < length buffer.old }
+    ensures forgets { (read : List ℕ) × S.moved stream.old stream.new read [] }
+    ensures counts { CountsMoved (S.failures stream.old) (S.failures stream.new) result }
+{
+    match stream.read(buffer) {
+        Ok(0) => Moved::Ended,
+        Ok(_) => Moved::Some,
+        Err(stop) => stopped(stop),
     }
 }

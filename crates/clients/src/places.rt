@@ -1,26 +1,27 @@
 //! The clients, each at its place.
 
-ghost use Rattle.std.specs.Prelude.{◌≡◌, ◌↔◌, ◌<◌, ℕ, length, IfNone, IfOk, IfSome, IsTrue};
-ghost use Rattle.clients.specs.Places.{fresh, count, session_at, IsFree, IsFreshWhereFree, StaysBeside, StaysWhereFree, TakesTurn};
+ghost use Rattle.std.specs.Prelude.{◌≡◌, ◌↔◌, ◌<◌, ℕ, Some, length, IfNone, IfOk, IfSome, IsTrue};
+ghost use Rattle.clients.specs.declared.line.Line.{Line as LineData};
+ghost use Rattle.clients.specs.Places.{fresh, count, line_at, session_at, IsFree, IsFreshWhereFree, StaysBeside, TakesTurn, TakeTurns, TakesLastTurn, TakeLastTurns};
 
 use crate::desk::Desk;
 use crate::line::Line;
-use mio::net::TcpStream;
+use crate::stream::Stream;
 use sessions::Session;
 use std::alloc::{AllocError, Global};
 use std::time::{Duration, Instant};
 
-/// As many places as there may be clients at once. Each has a session, and a socket where somebody is there.
+/// As many places as there may be clients at once. Each has a session, and a connection where somebody is there.
 #[derive(Drop)]
-pub(crate) struct Places {
-    lines: Vec<Option<Line>>,
+pub(crate) struct Places<S> {
+    lines: Vec<Option<Line<S>>>,
     pub(crate) sessions: Vec<Session>,
 }
 
-impl Places {
+impl<S> Places<S> {
     /// This many places, at which nobody is.
     #[tactic(auto, using(crate::proofs::Beginning::one_more))]
-    pub(crate) fn new(alloc: Global, places: u16) -> Result<Places, AllocError>
+    pub(crate) fn new(alloc: Global, places: u16) -> Result<Places<S>, AllocError>
         ensures many { IfOk result (λ p. (count p ≡ places) × (length p.sessions.items ≡ places)) }
         ensures free { IfOk result (λ p. (i : ℕ) → i < places → IsFree p i) }
         ensures fresh { IfOk result IsFreshWhereFree }
@@ -63,24 +64,26 @@ impl Places {
     pub(crate) fn take(
         &mut self,
         place: usize,
-        stream: TcpStream,
+        stream: S,
         peer: Option<String>,
         now: Instant,
     )
         ensures beside { StaysBeside place self.old self.new }
         ensures session { session_at self.new place ≡ session_at self.old place }
-        ensures there { IsFree self.new place → ⊥ }
+        ensures there { place < count self.old → (line : LineData S) × (line_at self.new place ≡ Some line) × (line.stream ≡ stream) }
     {
         if place < self.lines.len() {
             self.lines[place] = Some(Line::new(stream, peer, now));
         }
     }
 
-    /// The system tells what the socket of the client at a place is ready for.
+    /// The system tells what the connection of the client at a place is ready for.
     pub(crate) fn mark(&mut self, place: usize, is_readable: bool, is_writable: bool)
         ensures beside { StaysBeside place self.old self.new }
         ensures session { session_at self.new place ≡ session_at self.old place }
         ensures free { IsFree self.new place ↔ IsFree self.old place }
+        ensures stream { (line : LineData S) → line_at self.old place ≡ Some line
+            → (marked : LineData S) × (line_at self.new place ≡ Some marked) × (marked.stream ≡ line.stream) }
     {
         if place >= self.lines.len() {
             return;
@@ -104,6 +107,9 @@ impl Places {
         }
     }
 
+}
+
+impl<S: Stream> Places<S> {
     // One turn of the client at a place. It tells whether more can be done at once.
     fn turn(
         &mut self,
@@ -113,7 +119,7 @@ impl Places {
         now: Instant,
         idle: Option<Duration>,
     ) -> bool
-        ensures { TakesTurn place self.old self.new }
+        ensures { TakesTurn S.moved S.has_ended S.failures idle self.old self.new place }
     {
         if place >= self.lines.len() || place >= self.sessions.len() {
             return false;
@@ -131,7 +137,7 @@ impl Places {
     }
 
     /// One turn of each client. It tells whether more can be done at once.
-    #[tactic(auto, using(crate::proofs::Turns::stays_all, crate::proofs::Turns::stays_then, crate::proofs::Turns::fresh_then))]
+    #[tactic(auto, using(crate::proofs::Turns::turns_none, crate::proofs::Turns::turns_then))]
     pub(crate) fn turn_all(
         &mut self,
         alloc: Global,
@@ -139,8 +145,7 @@ impl Places {
         now: Instant,
         idle: Option<Duration>,
     ) -> bool
-        ensures free { StaysWhereFree self.old self.new }
-        ensures fresh { IsFreshWhereFree self.old → IsFreshWhereFree self.new }
+        ensures { TakeTurns S.moved S.has_ended S.failures idle self.old self.new }
     {
         let mut is_busy = false;
         for place in 0..self.lines.len() {
@@ -164,7 +169,7 @@ impl Places {
     }
 
     /// One turn more of each client whose messages were answered, so that the replies leave at once.
-    #[tactic(auto, using(crate::proofs::Turns::stays_all, crate::proofs::Turns::stays_then, crate::proofs::Turns::fresh_then))]
+    #[tactic(auto, using(crate::proofs::Turns::turns_none, crate::proofs::Turns::turns_then))]
     pub(crate) fn turn_answered(
         &mut self,
         alloc: Global,
@@ -172,8 +177,7 @@ impl Places {
         now: Instant,
         idle: Option<Duration>,
     )
-        ensures free { StaysWhereFree self.old self.new }
-        ensures fresh { IsFreshWhereFree self.old → IsFreshWhereFree self.new }
+        ensures { TakeTurns S.moved S.has_ended S.failures idle self.old self.new }
     {
         for index in 0..self.lines.len() {
             let Some(place) = desk.answered_at(index) else {
@@ -185,7 +189,7 @@ impl Places {
 
     // The last turn of the client at a place.
     fn last_turn(&mut self, alloc: Global, desk: &mut Desk, place: usize, now: Instant)
-        ensures { TakesTurn place self.old self.new }
+        ensures { TakesLastTurn S.moved self.old self.new place }
     {
         if place >= self.lines.len() || place >= self.sessions.len() {
             return;
@@ -200,10 +204,9 @@ impl Places {
     }
 
     /// A turn of each client once nothing more is answered.
-    #[tactic(auto, using(crate::proofs::Turns::stays_all, crate::proofs::Turns::stays_then, crate::proofs::Turns::fresh_then))]
+    #[tactic(auto, using(crate::proofs::Turns::ends_none, crate::proofs::Turns::ends_then))]
     pub(crate) fn last_turn_all(&mut self, alloc: Global, desk: &mut Desk, now: Instant)
-        ensures free { StaysWhereFree self.old self.new }
-        ensures fresh { IsFreshWhereFree self.old → IsFreshWhereFree self.new }
+        ensures { TakeLastTurns S.moved self.old self.new }
     {
         for place in 0..self.lines.len() {
             self.last_turn(alloc, desk, place, now);

@@ -61,6 +61,7 @@ front_refused rules old new v places ms before after fault stopped refused = on 
       waiting = stopped.1.waiting;
       split = stopped.1.split;
       between = before;
+      many = refl;
       given = λ i d below. gains_none (get_or before i d);
       refused = refused;
       store = stopped.1.store;

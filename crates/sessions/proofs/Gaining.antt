@@ -16,9 +16,14 @@ gains_none s = record {
   gains = record { front = []; rest = []; split = refl; unsent = sym (append-nil s.unsent); whole = λ kept. refl };
   phase = λ kept. refl;
   lost = λ lost. refl;
+  none = λ none. refl;
   waiting = refl;
   progress = refl;
 }
+
+nothing_in : (x y : List ℕ) → x ++ y ≡ [] → (x ≡ []) × (y ≡ [])
+nothing_in [] y is = (refl, is)
+nothing_in (b ∷ x) y is = absurd cc
 
 lost_as : (s t : State) → t ≡ s → is_lost t.phase ≡ is_lost s.phase
 lost_as s t same = ap (λ (u : State). is_lost u.phase) same
@@ -27,6 +32,9 @@ lost_as s t same = ap (λ (u : State). is_lost u.phase) same
 pub gains_then : (a b c : State) (x y : List ℕ) → GoesOnWith a b x → GoesOnWith b c y → GoesOnWith a c (x ++ y)
 gains_then a b c x y before after = on (is_lost b.phase) refl
   where
+    nothing : x ++ y ≡ [] → c ≡ a
+    nothing is = let parts = nothing_in x y is in after.none parts.1 ∙ before.none parts.0
+
     on : (lost : Bool) → is_lost b.phase ≡ lost → GoesOnWith a c (x ++ y)
     on false is =
         let first = before.gains in
@@ -42,6 +50,7 @@ gains_then a b c x y before after = on (is_lost b.phase) refl
           };
           phase = λ kept. after.phase kept ∙ before.phase is;
           lost = λ lost. absurd (true≢false (sym lost ∙ sym (lost_as a b (before.lost lost)) ∙ is));
+          none = nothing;
           waiting = after.waiting ∙ before.waiting;
           progress = after.progress ∙ before.progress;
         }
@@ -58,6 +67,7 @@ gains_then a b c x y before after = on (is_lost b.phase) refl
           };
           phase = λ kept. absurd (true≢false (sym is ∙ sym (lost_as b c same) ∙ kept));
           lost = λ lost. same ∙ before.lost lost;
+          none = nothing;
           waiting = after.waiting ∙ before.waiting;
           progress = after.progress ∙ before.progress;
         }

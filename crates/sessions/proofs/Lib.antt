@@ -7,3 +7,4 @@ pub mod Fronts
 pub mod Turns
 pub mod Counting
 pub mod Noting
+pub mod Serving

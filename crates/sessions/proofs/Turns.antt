@@ -60,6 +60,7 @@ module _ {D : Type 0} {g : Ghosts D} (rules : Rules) where
         waiting = after.waiting;
         split = split_then xs ms ns ys (messages after.failing ++ after.waiting) before.answers after.split;
         between = after.between;
+        many = after.many ∙ kept;
         given = λ i d below.
             let Both : List ℕ → Type 0 = λ w. GoesOnWith (get_or a i d) (get_or after.between i d) w in
             subst Both

@@ -1,6 +1,9 @@
 -- What a write to its outbox leaves of a session.
 use Rattle.std.proofs.Common.{◌≡◌, ◌∙◌, sym, ap, refl, subst, ℕ, List, [], ◌++◌, true, false, true≢false}
 use Rattle.std.proofs.lemmas.List.{append-nil}
+use Rattle.names.specs.declared.format.Format.{Format}
+use Rattle.requests.specs.Reply.{Reply}
+use Rattle.routes.specs.ReplyBytes.{reply_bytes}
 use Rattle.httpmsg.specs.Flow.{TookSome}
 use Rattle.httpmsg.specs.Stream.{Message, Progress}
 use Rattle.sessions.specs.declared.outbox.Outbox.{Outbox}
@@ -8,6 +11,10 @@ use Rattle.sessions.specs.declared.session.Phase.{Phase}
 use Rattle.sessions.specs.declared.session.Phase.TheVariants.{Open, Over, Lost}
 use Rattle.sessions.specs.Outbox.{unsent}
 use Rattle.sessions.specs.State.{State, is_open, is_lost, Gains, GoesOnWith, Closes}
+
+-- a reply has bytes
+pub reply_has_some : (format : Format) (m : Message) (r : Reply) → reply_bytes format m r ≡ [] → ⊥
+reply_has_some format m r none = cc
 
 -- what an outbox took
 abbrev pub Gathers : Outbox → Outbox → List ℕ → Type 0
@@ -37,29 +44,31 @@ module _ (progress : Progress) (waiting : List Message) (o p : Outbox) (bytes : 
   closes_in_part phase now is some =
       subst (λ (s : State). Closes s (with_outbox p Lost) bytes) is (record { gains = some_gained phase some; over = refl; waiting = refl })
 
-  pub goes_on_written : (phase : Phase) (now : State) → with_outbox o phase ≡ now → is_lost now.phase ≡ false → Gathers o p bytes
+  pub goes_on_written : (phase : Phase) (now : State) → (bytes ≡ [] → ⊥) → with_outbox o phase ≡ now → is_lost now.phase ≡ false → Gathers o p bytes
       → GoesOnWith now (with_outbox p phase) bytes
-  goes_on_written phase now is kept took =
+  goes_on_written phase now some is kept took =
       let From : State → Type 0 = λ s. is_lost s.phase ≡ false → GoesOnWith s (with_outbox p phase) bytes in
       subst From is
       (λ here. record {
         gains = all_gained phase phase took;
         phase = λ kept. refl;
         lost = λ lost. absurd (true≢false (sym lost ∙ here));
+        none = λ none. absurd (some none);
         waiting = refl;
         progress = refl;
       })
       kept
 
-  pub goes_on_in_part : (phase : Phase) (now : State) → with_outbox o phase ≡ now → is_lost now.phase ≡ false → TookSome Gathers o p bytes
+  pub goes_on_in_part : (phase : Phase) (now : State) → (bytes ≡ [] → ⊥) → with_outbox o phase ≡ now → is_lost now.phase ≡ false → TookSome Gathers o p bytes
       → GoesOnWith now (with_outbox p Lost) bytes
-  goes_on_in_part phase now is kept some =
+  goes_on_in_part phase now any is kept some =
       let From : State → Type 0 = λ s. is_lost s.phase ≡ false → GoesOnWith s (with_outbox p Lost) bytes in
       subst From is
       (λ here. record {
         gains = some_gained phase some;
         phase = λ kept. absurd (true≢false kept);
         lost = λ lost. absurd (true≢false (sym lost ∙ here));
+        none = λ none. absurd (any none);
         waiting = refl;
         progress = refl;
       })
@@ -77,6 +86,7 @@ goes_on_lost s bytes lost = record {
   };
   phase = λ kept. refl;
   lost = λ is. refl;
+  none = λ none. refl;
   waiting = refl;
   progress = refl;
 }

@@ -7,4 +7,5 @@ pub mod Turn
 pub mod Notes
 pub mod Refusing
 pub mod Stops
+pub mod Served
 pub mod Laws

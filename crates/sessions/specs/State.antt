@@ -31,11 +31,12 @@ pub record Gains (old new : State) (bytes : List ℕ) : Type 0 where
   pub unsent : new.unsent ≡ old.unsent ++ front
   pub whole : is_lost new.phase ≡ false → rest ≡ []
 
--- The session gains the bytes and goes on, unless it is lost. One that was lost gains nothing.
+-- The session gains the bytes and goes on, unless it is lost. One that was lost gains nothing, and one that gains nothing stays as it is.
 pub record GoesOnWith (old new : State) (bytes : List ℕ) : Type 0 where
   pub gains : Gains old new bytes
   pub phase : is_lost new.phase ≡ false → new.phase ≡ old.phase
   pub lost : is_lost old.phase ≡ true → new ≡ old
+  pub none : bytes ≡ [] → new ≡ old
   pub waiting : new.waiting ≡ old.waiting
   pub progress : new.progress ≡ old.progress
 

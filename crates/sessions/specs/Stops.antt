@@ -20,6 +20,7 @@ pub record TurnFails {D : Type 0} {g : Ghosts D} (rules : Rules) (old new : Stor
   pub waiting : List Message
   pub split : ms ≡ messages answered ++ (messages failing ++ waiting)
   pub between : List State
+  pub many : length between ≡ length before
   pub given : AllGain before between (λ i. bytes_of rules v i (take (length answered) places) answered)
   pub refused : AllRefuse (drop (length answered) places) between after
   pub store : HasFailedIn rules old new v answered failing

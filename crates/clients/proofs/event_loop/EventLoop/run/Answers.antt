@@ -5,7 +5,7 @@ use Rattle.clients.specs.Compacting.{log_sectors}
 use Rattle.clients.specs.Serving.{HasServedSome, HasStoppedBetween}
 use Rattle.durable.proofs.Answering.{settled_serves}
 use Rattle.clients.proofs.Served.{served_none, served_then, stops_after, compacted_after, never_due, ok_is_no_err, stopped_between, turn_of_stopped}
-use Rattle.clients.proofs.server.Server.run.Goals as goal
+use Rattle.clients.proofs.event_loop.EventLoop.run.Goals as goal
 
 pub loop-init : goal.loop-init
 loop-init g c = (

@@ -5,7 +5,7 @@ use Rattle.histories.specs.View.{view}
 use Rattle.durable.specs.Settled.{IsSettledAt}
 use Rattle.api.specs.Answers.{ShowsAt}
 use Rattle.clients.specs.Serving.{HasServedSome}
-use Rattle.clients.proofs.server.Server.run.Given as goal
+use Rattle.clients.proofs.event_loop.EventLoop.run.Given as goal
 
 abbrev pub invariant-loop : goal.invariant-loop
 invariant-loop g l =
