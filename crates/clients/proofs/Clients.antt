@@ -30,9 +30,13 @@ use Rattle.clients.specs.Serving.{Gathers, AnswersGroup, StopsAtGroup}
 use Rattle.clients.specs.Clients.{Client, IsHere, HasLeft, AreServed, WasThere, IsAt, WasLeft, LeftNow}
 use Rattle.clients.proofs.Turns.{none_or, fresh_after, reason_before}
 
+-- a client that has just come to a place
+abbrev newcomer : {S : Type 0} → Places S → (place : ℕ) → S → Client S
+newcomer p place stream = record { place = place; came = stream; last = stream; read = []; sent = []; state = session_at p place }
+
 module _ {S : Type 0} (moved : S → S → List ℕ → List ℕ → Type 0) (has_ended : S → Type 0) (failures : S → ℕ) (idle : Option Duration) (rules : Rules) (v : View)
     (places : List ℕ) (answered : List Answered) where
-  Is : Places S → Client S → Type 0
+  abbrev Is : Places S → Client S → Type 0
   Is p c = IsHere moved has_ended failures rules v places answered p c ⊎ HasLeft moved has_ended failures rules v places answered idle c
 
   -- what holds of each client that came, where the clients are seen anew
@@ -197,7 +201,7 @@ module _ {S : Type 0} (moved : S → S → List ℕ → List ℕ → Type 0) (ha
       → (now : List (Client S)) × (map (λ c. c.came) now ≡ map (λ c. c.came) clients ++ stream ∷ []) × AreServed moved has_ended failures rules v places answered idle b now
   comes a b clients place stream none free beside session (line, there, is) alike served =
       let anew = seen_anew (Is a) b stays clients served.each in (
-        anew.now ++ newcomer ∷ [],
+        anew.now ++ newcomer b place stream ∷ [],
         came_then anew.now ∙ ap (λ ss. ss ++ stream ∷ []) anew.same,
         record {
           each = each_then anew.now anew.each;
@@ -206,9 +210,6 @@ module _ {S : Type 0} (moved : S → S → List ℕ → List ℕ → Type 0) (ha
         },
       )
     where
-      newcomer : Client S
-      newcomer = record { place = place; came = stream; last = stream; read = []; sent = []; state = session_at b place }
-
       elsewhere : (i : ℕ) → IsFree b i → i ≡ place → ⊥
       elsewhere i now same = none_or (line_at b place) line (subst (λ n. line_at b n ≡ None) same now.1) there
 
@@ -242,7 +243,7 @@ module _ {S : Type 0} (moved : S → S → List ℕ → List ℕ → Type 0) (ha
             });
           }
 
-      is_here : IsHere moved has_ended failures rules v places answered b newcomer
+      is_here : IsHere moved has_ended failures rules v places answered b (newcomer b place stream)
       is_here =
           let Of : State → Type 0 = λ s. IsServed rules (seen rules v answered) place [] [] (has_ended stream) [] [] s in
           record {
@@ -263,11 +264,11 @@ module _ {S : Type 0} (moved : S → S → List ℕ → List ℕ → Type 0) (ha
             served = subst Of (sym (session ∙ served.fresh place free)) (served_none rules (seen rules v answered) place (has_ended stream));
           }
 
-      came_then : (cs : List (Client S)) → map (λ c. c.came) (cs ++ newcomer ∷ []) ≡ map (λ c. c.came) cs ++ stream ∷ []
+      came_then : (cs : List (Client S)) → map (λ c. c.came) (cs ++ newcomer b place stream ∷ []) ≡ map (λ c. c.came) cs ++ stream ∷ []
       came_then [] = refl
       came_then (c ∷ cs) = ap (λ ss. c.came ∷ ss) (came_then cs)
 
-      each_then : (cs : List (Client S)) → AllByRecursion (Is b) cs → AllByRecursion (Is b) (cs ++ newcomer ∷ [])
+      each_then : (cs : List (Client S)) → AllByRecursion (Is b) cs → AllByRecursion (Is b) (cs ++ newcomer b place stream ∷ [])
       each_then [] all = (inl is_here, tt)
       each_then (c ∷ cs) all = (all.0, each_then cs all.1)
 
@@ -313,7 +314,7 @@ gathered first next ps ms before between gathers i below =
 
 module _ {S : Type 0} (moved : S → S → List ℕ → List ℕ → Type 0) (has_ended : S → Type 0) (failures : S → ℕ) (idle : Option Duration) {D : Type 0} {g : Ghosts D}
     (rules : Rules) (v : View) (places : List ℕ) (answered : List Answered) (a b : Places S) (lines : (i : ℕ) → line_at b i ≡ line_at a i) (as_many : count b ≡ count a) where
-  Before : Client S → Type 0
+  abbrev Before : Client S → Type 0
   Before c = IsHere moved has_ended failures rules v places answered a c ⊎ HasLeft moved has_ended failures rules v places answered idle c
 
   -- the place of a client that is there has a session
@@ -348,16 +349,16 @@ module _ {S : Type 0} (moved : S → S → List ℕ → List ℕ → Type 0) (ha
 
   module _ (old new : Store D g) (u : View) (is : u ≡ seen rules v answered) (first next : ℕ) (group : AnswersGroup rules first next old new u a.sessions.items b.sessions.items)
       (rooms : length a.sessions.items ≡ count a) where
-    ps : List ℕ
+    abbrev ps : List ℕ
     ps = group.places
 
-    xs : List Answered
+    abbrev xs : List Answered
     xs = group.turned.answered
 
     sizes : length ps ≡ length xs
     sizes = group.gathers.alike ∙ sym (ap length group.turned.answers) ∙ length-map xs (λ (z : Answered). z.message)
 
-    mid : ℕ → State
+    abbrev mid : ℕ → State
     mid i = get_or group.between i fresh
 
     own_before : (i : ℕ) → i < length a.sessions.items → (session_at a i).waiting ≡ messages_of i ps (messages xs) ++ (mid i).waiting
@@ -432,19 +433,19 @@ module _ {S : Type 0} (moved : S → S → List ℕ → List ℕ → Type 0) (ha
   module _ (old new : Store D g) (u : View) (is_view : u ≡ seen rules v answered) (first next : ℕ) (all_places : List ℕ) (ms : List Message) (between : List State)
       (gathers : Gathers first next all_places ms a.sessions.items between) (fails : TurnFails rules old new u all_places ms between b.sessions.items)
       (rooms : length a.sessions.items ≡ count a) where
-    ys : List Answered
+    abbrev ys : List Answered
     ys = fails.answered
 
-    fronts : List ℕ
+    abbrev fronts : List ℕ
     fronts = take (length ys) all_places
 
-    others : List Message
+    abbrev others : List Message
     others = messages fails.failing ++ fails.waiting
 
     of_places : length all_places ≡ length (messages ys ++ others)
     of_places = gathers.alike ∙ ap length fails.split
 
-    Left : Client S → Type 0
+    abbrev Left : Client S → Type 0
     Left c = WasLeft moved has_ended failures idle rules v (places ++ fronts) (answered ++ ys) b c
 
     record FailedAnew (c : Client S) : Type 0 where

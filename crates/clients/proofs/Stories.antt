@@ -51,7 +51,7 @@ module _ {S : Type 0} (moved : S → S → List ℕ → List ℕ → Type 0) (ha
           → IsServed rules v place places answered (has_ended b) (read ++ sends.forgotten) (sent ++ sends.front) t
       on true opened now =
           let Read : List ℕ → Type 0 = λ r. IsServed rules v place places answered (has_ended b) r (sent ++ sends.front) t in
-          subst Read (sym (ap (λ f. read ++ f) (sends.open opened) ∙ append-nil read)) now
+          subst Read (sym (ap (λ f. read ++ f) (sends.while_open opened) ∙ append-nil read)) now
       on false closed now = served_forgets rules v place places answered (has_ended b) read (sent ++ sends.front) t sends.forgotten closed now
 
   -- the same of a client that was told of a failure
@@ -83,11 +83,8 @@ module _ {S : Type 0} (moved : S → S → List ℕ → List ℕ → Type 0) (ha
       → ((old new : S) (read sent : List ℕ) → moved old new read sent → has_ended old → has_ended new)
       → ((read : List ℕ) (ms : List Message) → IsCut read ms s.progress → Reads moved a b has_ended read ms s t m) → GoesOn moved has_ended a b s t
   reads_go a b s t m idle opened ended_then reads rules v place places answered read sent served =
-      on m (reads read own (cut_before rules v place places answered (has_ended a) read sent s t idle opened served))
+      on m (reads read (messages_of place places (messages answered)) (cut_before rules v place places answered (has_ended a) read sent s t idle opened served))
     where
-      own : List Message
-      own = messages_of place places (messages answered)
-
       none : ReadsNothing moved a b s t → IsServedOn moved has_ended a b rules v place places answered read sent t
       none nothing =
           let now = served_ended rules v place places answered (has_ended a) (has_ended b) read sent s (ended_then a b [] [] nothing.none) served in
@@ -101,7 +98,7 @@ module _ {S : Type 0} (moved : S → S → List ℕ → List ℕ → Type 0) (ha
             served = subst To (sym nothing.same) (subst Read (sym (append-nil read)) (subst Sent (sym (append-nil sent)) now));
           }
 
-      on : (n : Moved) → Reads moved a b has_ended read own s t n → IsServedOn moved has_ended a b rules v place places answered read sent t
+      on : (n : Moved) → Reads moved a b has_ended read (messages_of place places (messages answered)) s t n → IsServedOn moved has_ended a b rules v place places answered read sent t
       on moved_as.Some piece =
           let now = served_ended rules v place places answered (has_ended a) (has_ended b) read sent s (ended_then a b piece.piece [] piece.consumed) served in
           let Sent : List ℕ → Type 0 = λ w. IsServed rules v place places answered (has_ended b) (read ++ piece.piece) w t in

@@ -24,7 +24,7 @@ module _ {S : Type 0} (moved : S → S → List ℕ → List ℕ → Type 0) (ha
     pub forgotten : List ℕ
     pub front : List ℕ
     pub moved : moved before after forgotten front
-    pub open : is_open new.phase ≡ true → forgotten ≡ []
+    pub while_open : is_open new.phase ≡ true → forgotten ≡ []
     pub waited : old.unsent ≡ front ++ new.unsent
     pub waiting : new.waiting ≡ old.waiting
     pub progress : new.progress ≡ old.progress

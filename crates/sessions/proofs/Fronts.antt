@@ -1,5 +1,5 @@
 -- The answers to messages of several sessions, from what the store replied.
-use Rattle.std.proofs.Common.{◌≡◌, ◌≤◌, ◌+◌, ◌∙◌, sym, ap, subst, ◌⊎◌, inl, inr, ℕ, Bool, true, List, [], ◌++◌, length, map, take, get_or}
+use Rattle.std.proofs.Common.{refl, ◌≡◌, ◌≤◌, ◌+◌, ◌∙◌, sym, ap, subst, ◌⊎◌, inl, inr, ℕ, Bool, true, List, [], ◌++◌, length, map, take, get_or}
 use Rattle.device.specs.declared.device.Device.{Ghosts}
 use Rattle.requests.specs.Reply.{Reply}
 use Rattle.names.specs.declared.format.Rules.{Rules}

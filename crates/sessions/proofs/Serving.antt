@@ -59,20 +59,20 @@ messages_of-append i (p ∷ ps) qs (m ∷ ms) ns same =
 among_has : (i : ℕ) (ps : List ℕ) (ms : List Message) → length ps ≡ length ms → is_among i ps ≡ true → messages_of i ps ms ≡ [] → ⊥
 among_has i [] ms same among none = true≢false (sym among)
 among_has i (p ∷ ps) [] same among none = omega (arith, same)
-among_has i (p ∷ ps) (m ∷ ms) same among none = on (p == i) among none
+among_has i (p ∷ ps) (m ∷ ms) same among none = on (among_has i ps ms (omega (arith, same))) (p == i) among none
   where
-    on : (b : Bool) → (b || is_among i ps) ≡ true → cond b (m ∷ []) [] ++ messages_of i ps ms ≡ [] → ⊥
-    on true is empty = cc
-    on false is empty = among_has i ps ms (omega (arith, same)) is empty
+    on : (is_among i ps ≡ true → messages_of i ps ms ≡ [] → ⊥) → (b : Bool) → (b || is_among i ps) ≡ true → cond b (m ∷ []) [] ++ messages_of i ps ms ≡ [] → ⊥
+    on behind true is empty = cc
+    on behind false is empty = behind is empty
 
 among_none : (i : ℕ) (ps : List ℕ) (ms : List Message) → is_among i ps ≡ false → messages_of i ps ms ≡ []
 among_none i [] ms other = refl
 among_none i (p ∷ ps) [] other = refl
-among_none i (p ∷ ps) (m ∷ ms) other = on (p == i) other
+among_none i (p ∷ ps) (m ∷ ms) other = on (among_none i ps ms) (p == i) other
   where
-    on : (b : Bool) → (b || is_among i ps) ≡ false → cond b (m ∷ []) [] ++ messages_of i ps ms ≡ []
-    on true is = absurd (true≢false is)
-    on false is = among_none i ps ms is
+    on : (is_among i ps ≡ false → messages_of i ps ms ≡ []) → (b : Bool) → (b || is_among i ps) ≡ false → cond b (m ∷ []) [] ++ messages_of i ps ms ≡ []
+    on behind true is = absurd (true≢false is)
+    on behind false is = behind is
 
 -- the bytes that a client gains, where nothing waited or what it gains is nothing
 text_then : (sent unsent front rest more : List ℕ) → (rest ≡ []) ⊎ (front ≡ [])
@@ -117,12 +117,12 @@ module _ (rules : Rules) where
   pub no_bytes : (v : View) (i : ℕ) (ps : List ℕ) (xs : List Answered) → messages_of i ps (messages xs) ≡ [] → bytes_of rules v i ps xs ≡ []
   no_bytes v i [] xs none = refl
   no_bytes v i (p ∷ ps) [] none = refl
-  no_bytes v i (p ∷ ps) (x ∷ xs) none = on (p == i) none
+  no_bytes v i (p ∷ ps) (x ∷ xs) none = on (no_bytes (after_all rules v (writes_of rules v x)) i ps xs) (p == i) none
     where
-      on : (b : Bool) → cond b (x.message ∷ []) [] ++ messages_of i ps (messages xs) ≡ []
-          → cond b (reply_bytes rules.format x.message (reply_of rules v x)) [] ++ bytes_of rules (after_all rules v (writes_of rules v x)) i ps xs ≡ []
-      on true empty = absurd cc
-      on false empty = no_bytes (after_all rules v (writes_of rules v x)) i ps xs empty
+      on : (messages_of i ps (messages xs) ≡ [] → bytes_of rules (after_all rules v (writes_of rules v x)) i ps xs ≡ []) → (b : Bool)
+          → cond b (x.message ∷ []) [] ++ messages_of i ps (messages xs) ≡ [] → cond b (reply_bytes rules.format x.message (reply_of rules v x)) [] ++ bytes_of rules (after_all rules v (writes_of rules v x)) i ps xs ≡ []
+      on behind true empty = absurd cc
+      on behind false empty = behind empty
 
   -- a client that has just come
   pub served_none : (v : View) (i : ℕ) (ended : Type 0)
@@ -136,7 +136,7 @@ module _ (rules : Rules) where
     rest = [];
     text = refl;
     whole = λ well. refl;
-    open = λ opened. (refl, refl);
+    while_open = λ opened. (refl, refl);
     over = λ is. cc;
     lost = inl refl;
   }
@@ -153,21 +153,18 @@ module _ (rules : Rules) where
     rest = served.rest;
     text = served.text;
     whole = served.whole;
-    open = served.open;
+    while_open = served.while_open;
     over = λ is. ((served.over is).0, last_told (served.over is).1);
     lost = still_lost served.lost;
   }
     where
-      ms : List Message
-      ms = messages_of i ps (messages xs)
-
-      last_told : IsLastTold before served.cut ms served.last → IsLastTold after served.cut ms served.last
+      last_told : IsLastTold before served.cut (messages_of i ps (messages xs)) served.last → IsLastTold after served.cut (messages_of i ps (messages xs)) served.last
       last_told (inl (end, inl (ended, stream), is)) = inl (end, inl (stays ended, stream), is)
       last_told (inl (end, inr stream, is)) = inl (end, inr stream, is)
       last_told (inr is) = inr is
 
-      still_lost : (served.last ≡ []) ⊎ ((s.waiting ≡ []) × IsLastTold before served.cut ms served.last)
-          → (served.last ≡ []) ⊎ ((s.waiting ≡ []) × IsLastTold after served.cut ms served.last)
+      still_lost : (served.last ≡ []) ⊎ ((s.waiting ≡ []) × IsLastTold before served.cut (messages_of i ps (messages xs)) served.last)
+          → (served.last ≡ []) ⊎ ((s.waiting ≡ []) × IsLastTold after served.cut (messages_of i ps (messages xs)) served.last)
       still_lost (inl none) = inl none
       still_lost (inr (none, told)) = inr (none, last_told told)
 
@@ -176,13 +173,13 @@ module _ (rules : Rules) where
   module _ (v : View) (i : ℕ) (ps qs : List ℕ) (xs ys : List Answered) (ended : Type 0) (read sent : List ℕ) (a b c : State)
       (same : length ps ≡ length xs) (served : IsServed rules v i ps xs ended read sent a) (waited : a.waiting ≡ messages_of i qs (messages ys) ++ b.waiting)
       (stays : StaysBut a b) (goes : GoesOnWith b c (bytes_of rules (seen rules v xs) i qs ys)) where
-    own : List Message
+    abbrev own : List Message
     own = messages_of i ps (messages xs)
 
-    taken : List Message
+    abbrev taken : List Message
     taken = messages_of i qs (messages ys)
 
-    gained : List ℕ
+    abbrev gained : List ℕ
     gained = bytes_of rules (seen rules v xs) i qs ys
 
     own_then : messages_of i (ps ++ qs) (messages (xs ++ ys)) ≡ own ++ taken
@@ -257,7 +254,7 @@ module _ (rules : Rules) where
       rest = served.rest ++ goes.gains.rest;
       text = text_after;
       whole = λ well. ap (λ r. r ++ goes.gains.rest) (served.whole (not_lost_before well)) ∙ goes.gains.whole well;
-      open = λ opened. served.open (ap is_open (sym (phase_before (open_is_not_lost c.phase opened))) ∙ opened);
+      while_open = λ opened. served.while_open (ap is_open (sym (phase_before (open_is_not_lost c.phase opened))) ∙ opened);
       over = λ is.
           let was = served.over (sym (phase_before (over_is_not_lost c.phase is)) ∙ is) in
           (waits_none was.0, told_still served.last was.0 was.1);
@@ -288,7 +285,7 @@ module _ (rules : Rules) where
       text = append_assoc sent front (b.unsent ++ served.rest) ∙ ap (λ z. sent ++ z) (sym (append_assoc front b.unsent served.rest))
           ∙ ap (λ u. sent ++ (u ++ served.rest)) (sym waited) ∙ served.text;
       whole = λ well. served.whole (ap is_lost (sym phase) ∙ well);
-      open = λ opened. served.open (ap is_open (sym phase) ∙ opened);
+      while_open = λ opened. served.while_open (ap is_open (sym phase) ∙ opened);
       over = λ is. let was = served.over (sym phase ∙ is) in (waits ∙ was.0, was.1);
       lost = on served.lost;
     }
@@ -328,7 +325,7 @@ module _ (rules : Rules) where
       rest = served.rest;
       text = served.text;
       whole = served.whole;
-      open = λ opened. absurd (true≢false (sym opened ∙ closed));
+      while_open = λ opened. absurd (true≢false (sym opened ∙ closed));
       over = served.over;
       lost = served.lost;
     }
@@ -350,11 +347,11 @@ module _ (rules : Rules) where
 
   module _ (v : View) (i : ℕ) (ps : List ℕ) (xs : List Answered) (ended : Type 0) (read sent : List ℕ) (a b : State)
       (idle : a.waiting ≡ []) (opened : is_open a.phase ≡ true) (served : IsServed rules v i ps xs ended read sent a) where
-    mine : List Message
+    abbrev mine : List Message
     mine = messages_of i ps (messages xs)
 
     all_cut : read ≡ served.cut
-    all_cut = served.parts ∙ ap (λ u. served.cut ++ u) (served.open opened).0 ∙ append-nil served.cut
+    all_cut = served.parts ∙ ap (λ u. served.cut ++ u) (served.while_open opened).0 ∙ append-nil served.cut
 
     pub cut_before : IsCut read mine a.progress
     cut_before =
@@ -366,7 +363,7 @@ module _ (rules : Rules) where
     text_before : sent ++ a.unsent ≡ bytes_of rules v i ps xs
     text_before =
         ap (λ u. sent ++ u) (sym (append-nil a.unsent)) ∙ ap (λ r. sent ++ (a.unsent ++ r)) (sym (served.whole (open_is_not_lost a.phase opened))) ∙ served.text
-        ∙ ap (λ l. bytes_of rules v i ps xs ++ l) (served.open opened).1 ∙ append-nil (bytes_of rules v i ps xs)
+        ∙ ap (λ l. bytes_of rules v i ps xs ++ l) (served.while_open opened).1 ∙ append-nil (bytes_of rules v i ps xs)
 
     -- something is told last, and then the session takes no more
     ends_with : (cut uncut last : List ℕ) → (all_read : List ℕ) → all_read ≡ cut ++ uncut → IsCut cut mine b.progress
@@ -384,7 +381,7 @@ module _ (rules : Rules) where
           ∙ sym (append_assoc sent a.unsent (closes.gains.front ++ closes.gains.rest)) ∙ ap (λ t. t ++ (closes.gains.front ++ closes.gains.rest)) text_before
           ∙ ap (λ t. bytes_of rules v i ps xs ++ t) (sym closes.gains.split);
       whole = closes.gains.whole;
-      open = λ is. absurd (true≢false (sym is ∙ closes.over));
+      while_open = λ is. absurd (true≢false (sym is ∙ closes.over));
       over = λ is. (closes.waiting ∙ idle, told);
       lost = inr (closes.waiting ∙ idle, told);
     }
@@ -420,7 +417,7 @@ module _ (rules : Rules) where
               rest = [];
               text = text_now;
               whole = λ well. refl;
-              open = λ is. absurd (true≢false (sym is ∙ ap is_open over_now));
+              while_open = λ is. absurd (true≢false (sym is ∙ ap is_open over_now));
               over = λ is. (none, told);
               lost = inl refl;
             }
@@ -435,7 +432,7 @@ module _ (rules : Rules) where
               rest = [];
               text = text_now;
               whole = λ well. refl;
-              open = λ is. (refl, refl);
+              while_open = λ is. (refl, refl);
               over = λ is. let clash : Open ≡ Over = sym open_now ∙ is in absurd cc;
               lost = inl refl;
             }
@@ -468,14 +465,14 @@ module _ (rules : Rules) where
       (same : length ps ≡ length xs) (served : IsServed rules v i ps xs ended read sent a) (alike : length qs ≡ length (messages ys ++ others))
       (waited : a.waiting ≡ messages_of i qs (messages ys ++ others) ++ b.waiting) (stays : StaysBut a b)
       (goes : GoesOnWith b c (bytes_of rules (seen rules v xs) i (take (length ys) qs) ys)) (refused : RefusedIf (is_among i (drop (length ys) qs)) c d) where
-    fronts : List ℕ
+    abbrev fronts : List ℕ
     fronts = take (length ys) qs
 
-    backs : List ℕ
+    abbrev backs : List ℕ
     backs = drop (length ys) qs
 
     -- the messages of the client that are not answered
-    left : List Message
+    abbrev left : List Message
     left = messages_of i backs others
 
     sizes : length (messages ys) ≡ length ys
@@ -496,7 +493,7 @@ module _ (rules : Rules) where
         ∙ messages_of-append i fronts backs (messages ys) others (fronts_size ∙ sym sizes)
 
     -- as if those that are not answered waited still
-    waits_on : State → State
+    abbrev waits_on : State → State
     waits_on s = record s { waiting = left ++ s.waiting }
 
     answered_first : IsServed rules v i (ps ++ fronts) (xs ++ ys) ended read sent (waits_on c)
@@ -508,6 +505,7 @@ module _ (rules : Rules) where
           gains = record { front = goes.gains.front; rest = goes.gains.rest; split = goes.gains.split; unsent = goes.gains.unsent; whole = goes.gains.whole };
           phase = goes.phase;
           lost = λ is. ap waits_on (goes.lost is);
+          none = λ is. ap waits_on (goes.none is);
           waiting = ap (λ (z : List Message). left ++ z) goes.waiting;
           progress = goes.progress;
         })
@@ -549,7 +547,7 @@ module _ (rules : Rules) where
               let At : Progress → Type 0 = λ p. IsCut was.cut (messages_of i (ps ++ fronts) (messages (xs ++ ys)) ++ (left ++ c.waiting)) p in
               subst Cut (sym closes.waiting) (subst At (sym refuses.progress) was.stream);
           rest = closes.gains.rest;
-          text = refused_text was.last (was.open opened).1 closes.gains.front closes.gains.rest was.rest closes.gains.unsent closes.gains.split
+          text = refused_text was.last (was.while_open opened).1 closes.gains.front closes.gains.rest was.rest closes.gains.unsent closes.gains.split
               (was.whole (open_is_not_lost c.phase opened)) was.text;
           whole = closes.gains.whole;
           over = closes.over;

@@ -1,9 +1,14 @@
 -- What a write to its outbox leaves of a session.
-use Rattle.std.proofs.Common.{◌≡◌, ◌∙◌, sym, ap, refl, subst, ℕ, List, [], ◌++◌, true, false, true≢false}
+use Rattle.std.proofs.Common.{◌≡◌, ◌∙◌, sym, ap, refl, subst, ℕ, List, [], ◌∷◌, ◌++◌, true, false, true≢false}
 use Rattle.std.proofs.lemmas.List.{append-nil}
 use Rattle.names.specs.declared.format.Format.{Format}
-use Rattle.requests.specs.Reply.{Reply}
-use Rattle.routes.specs.ReplyBytes.{reply_bytes}
+use Rattle.requests.specs.declared.refusal.Refusal.TheVariants.{OutOfMemory}
+use Rattle.requests.specs.Reply.{Reply, status}
+use Rattle.routes.specs.AnswerBytes.{answer_bytes}
+use Rattle.std.specs.Prelude.{Option, unwrap_or}
+use Rattle.routes.specs.ReplyBytes.{response_of, allow_in, reply_bytes}
+use Rattle.httpmsg.specs.Response.{crlf, content}
+use Rattle.httpmsg.specs.Stream.{is_head}
 use Rattle.httpmsg.specs.Flow.{TookSome}
 use Rattle.httpmsg.specs.Stream.{Message, Progress}
 use Rattle.sessions.specs.declared.outbox.Outbox.{Outbox}
@@ -12,9 +17,22 @@ use Rattle.sessions.specs.declared.session.Phase.TheVariants.{Open, Over, Lost}
 use Rattle.sessions.specs.Outbox.{unsent}
 use Rattle.sessions.specs.State.{State, is_open, is_lost, Gains, GoesOnWith, Closes}
 
--- a reply has bytes
-pub reply_has_some : (format : Format) (m : Message) (r : Reply) → reply_bytes format m r ≡ [] → ⊥
-reply_has_some format m r none = cc
+back_nil : (x y : List ℕ) → x ++ y ≡ [] → y ≡ []
+back_nil [] y is = is
+back_nil (b ∷ x) y is = absurd cc
+
+front_nil : (x y : List ℕ) → x ++ y ≡ [] → x ≡ []
+front_nil [] y is = refl
+front_nil (b ∷ x) y is = absurd cc
+
+-- a reply has bytes: the line that is empty, at least
+reply_has_some : (format : Format) (m : Message) (r : Reply) → reply_bytes format m r ≡ [] → ⊥
+reply_has_some format m r none =
+    let ends : crlf ≡ [] = back_nil _ crlf (front_nil _ (content (response_of (allow_in format m r) (is_head m.method) m.closes r)) none) in
+    cc
+
+pub answer_has_some : (format : Format) (m : Message) (reply : Option Reply) → answer_bytes format m reply ≡ [] → ⊥
+answer_has_some format m reply none = reply_has_some format m (unwrap_or reply (status OutOfMemory)) none
 
 -- what an outbox took
 abbrev pub Gathers : Outbox → Outbox → List ℕ → Type 0

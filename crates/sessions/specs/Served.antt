@@ -29,7 +29,7 @@ pub record IsServed (rules : Rules) (v : View) (place : ℕ) (places : List ℕ)
   pub rest : List ℕ
   pub text : sent ++ (s.unsent ++ rest) ≡ bytes_of rules v place places answered ++ last
   pub whole : is_lost s.phase ≡ false → rest ≡ []
-  pub open : is_open s.phase ≡ true → (uncut ≡ []) × (last ≡ [])
+  pub while_open : is_open s.phase ≡ true → (uncut ≡ []) × (last ≡ [])
   pub over : s.phase ≡ Over → (s.waiting ≡ []) × IsLastTold ended cut (messages_of place places (messages answered)) last
   pub lost : (last ≡ []) ⊎ ((s.waiting ≡ []) × IsLastTold ended cut (messages_of place places (messages answered)) last)
 

@@ -1,5 +1,6 @@
+use Rattle.std.specs.Prelude.{option_map}
 use Rattle.std.proofs.Common.{◌∙◌, sym}
-use Rattle.sessions.proofs.Writing.{goes_on_written, goes_on_in_part, goes_on_lost, reply_has_some}
+use Rattle.sessions.proofs.Writing.{goes_on_written, goes_on_in_part, goes_on_lost, answer_has_some}
 use Rattle.sessions.proofs.session.Session.put.Goals as goal
 
 pub returns-then-is_lost : goal.returns-then-is_lost
@@ -7,10 +8,10 @@ returns-then-is_lost c format can = goes_on_lost c.args.self.now _ (sym c.is_los
 
 pub returns-in-Ok : goal.returns-in-Ok
 returns-in-Ok c format can =
-    goes_on_written c.self.inside.cutter c.self.inside.waiting.items c.self.inside.outbox c.write_answer.new.output _ c.self.inside.phase c.args.self.now (reply_has_some format _ _) c.self.view_is
+    goes_on_written c.self.inside.cutter c.self.inside.waiting.items c.self.inside.outbox c.write_answer.new.output _ c.self.inside.phase c.args.self.now (answer_has_some format c.args.message.now (option_map (λ r. r.now) c.args.reply)) c.self.view_is
     (sym c.is_lost.ensures ∙ c.if-is_lost.false) (c.in-Ok.ensures.writes format can)
 
 pub returns-in-Err : goal.returns-in-Err
 returns-in-Err c format can =
-    goes_on_in_part c.self.inside.cutter c.self.inside.waiting.items c.self.inside.outbox c.write_answer.new.output _ c.self.inside.phase c.args.self.now (reply_has_some format _ _) c.self.view_is
+    goes_on_in_part c.self.inside.cutter c.self.inside.waiting.items c.self.inside.outbox c.write_answer.new.output _ c.self.inside.phase c.args.self.now (answer_has_some format c.args.message.now (option_map (λ r. r.now) c.args.reply)) c.self.view_is
     (sym c.is_lost.ensures ∙ c.if-is_lost.false) (c.in-Err.ensures.writes format can)
