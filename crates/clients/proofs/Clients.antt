@@ -77,7 +77,7 @@ module _ {S : Type 0} (moved : S → S → List ℕ → List ℕ → Type 0) (ha
     turned_here a b turns c here = on ((turns.each c.place).client here.line here.there)
       where
         came_by : moved c.came here.line.stream c.read c.sent
-        came_by = subst (λ s. moved c.came s c.read c.sent) here.last here.moved
+        came_by = subst (λ s. moved c.came s c.read c.sent) here.last here.exchanged
 
         few : failures c.came ≤ failures here.line.stream
         few = subst (λ s. failures c.came ≤ failures s) here.last here.later
@@ -101,7 +101,7 @@ module _ {S : Type 0} (moved : S → S → List ℕ → List ℕ → Type 0) (ha
                 there = still.there;
                 last = refl;
                 state = refl;
-                moved = moved_then c.came here.line.stream still.now.stream c.read more.more_read c.sent more.more_sent came_by more.moved;
+                exchanged = moved_then c.came here.line.stream still.now.stream c.read more.more_read c.sent more.more_sent came_by more.exchanged;
                 later = omega (arith, few, still.later);
                 served = more.served;
               });
@@ -122,7 +122,7 @@ module _ {S : Type 0} (moved : S → S → List ℕ → List ℕ → Type 0) (ha
                 are = here.are ∙ ap (λ (z : List Answered). here.earlier ++ z) (sym (append-nil here.own));
                 alike = here.alike;
                 own_alike = here.own_alike;
-                moved = moved_then c.came here.line.stream left.last c.read more.more_read c.sent more.more_sent came_by more.moved;
+                exchanged = moved_then c.came here.line.stream left.last c.read more.more_read c.sent more.more_sent came_by more.exchanged;
                 served = more.served;
                 gone = left.gone;
                 reason = reason_before left.gone (failures c.came) (failures here.line.stream) (failures left.last) left.state idle few left.reason;
@@ -168,7 +168,7 @@ module _ {S : Type 0} (moved : S → S → List ℕ → List ℕ → Type 0) (ha
           there = seen_line.1;
           last = here.last ∙ sym seen_line.2;
           state = here.state ∙ sym (marks.sessions c.place);
-          moved = here.moved;
+          exchanged = here.exchanged;
           later = here.later;
           served = here.served;
         });
@@ -237,7 +237,7 @@ module _ {S : Type 0} (moved : S → S → List ℕ → List ℕ → Type 0) (ha
               there = stay.line ∙ here.there;
               last = here.last;
               state = here.state ∙ sym stay.session;
-              moved = here.moved;
+              exchanged = here.exchanged;
               later = here.later;
               served = here.served;
             });
@@ -259,7 +259,7 @@ module _ {S : Type 0} (moved : S → S → List ℕ → List ℕ → Type 0) (ha
             there = there;
             last = sym is;
             state = refl;
-            moved = none;
+            exchanged = none;
             later = omega arith;
             served = subst Of (sym (session ∙ served.fresh place free)) (served_none rules (seen rules v answered) place (has_ended stream));
           }
@@ -312,7 +312,7 @@ gathered first next ps ms before between gathers i below =
       kept.1,
     )
 
-module _ {S : Type 0} (moved : S → S → List ℕ → List ℕ → Type 0) (has_ended : S → Type 0) (failures : S → ℕ) (idle : Option Duration) {D : Type 0} {g : Ghosts D}
+module _ {S : Type 0} (moved : S → S → List ℕ → List ℕ → Type 0) (has_ended : S → Type 0) (failures : S → ℕ) (idle : Option Duration)
     (rules : Rules) (v : View) (places : List ℕ) (answered : List Answered) (a b : Places S) (lines : (i : ℕ) → line_at b i ≡ line_at a i) (as_many : count b ≡ count a) where
   abbrev Before : Client S → Type 0
   Before c = IsHere moved has_ended failures rules v places answered a c ⊎ HasLeft moved has_ended failures rules v places answered idle c
@@ -341,13 +341,13 @@ module _ {S : Type 0} (moved : S → S → List ℕ → List ℕ → Type 0) (ha
     are = ap (λ z. z ++ xs) left.are ∙ append_assoc left.earlier (left.own ++ left.later) xs ∙ ap (λ (z : List Answered). left.earlier ++ z) (append_assoc left.own left.later xs);
     alike = left.alike;
     own_alike = left.own_alike;
-    moved = left.moved;
+    exchanged = left.exchanged;
     served = left.served;
     gone = left.gone;
     reason = left.reason;
   }
 
-  module _ (old new : Store D g) (u : View) (is : u ≡ seen rules v answered) (first next : ℕ) (group : AnswersGroup rules first next old new u a.sessions.items b.sessions.items)
+  module _ {D : Type 0} {g : Ghosts D} (old new : Store D g) (u : View) (is : u ≡ seen rules v answered) (first next : ℕ) (group : AnswersGroup rules first next old new u a.sessions.items b.sessions.items)
       (rooms : length a.sessions.items ≡ count a) where
     abbrev ps : List ℕ
     ps = group.places
@@ -392,7 +392,7 @@ module _ {S : Type 0} (moved : S → S → List ℕ → List ℕ → Type 0) (ha
             there = lines i ∙ here.there;
             last = refl;
             state = refl;
-            moved = subst (λ s. moved c.came s c.read c.sent) here.last here.moved;
+            exchanged = subst (λ s. moved c.came s c.read c.sent) here.last here.exchanged;
             later = subst (λ s. failures c.came ≤ failures s) here.last here.later;
             served = served_turn rules w i here.own_places ps here.own xs (has_ended here.line.stream) c.read c.sent (session_at a i) (mid i) (session_at b i) here.own_alike
                 (here_served moved has_ended failures idle rules v places answered a c here) (own_before i below)
@@ -430,7 +430,7 @@ module _ {S : Type 0} (moved : S → S → List ℕ → List ℕ → Type 0) (ha
 
   -- ---- the store fails at a group
 
-  module _ (old new : Store D g) (u : View) (is_view : u ≡ seen rules v answered) (first next : ℕ) (all_places : List ℕ) (ms : List Message) (between : List State)
+  module _ {D : Type 0} {g : Ghosts D} (old new : Store D g) (u : View) (is_view : u ≡ seen rules v answered) (first next : ℕ) (all_places : List ℕ) (ms : List Message) (between : List State)
       (gathers : Gathers first next all_places ms a.sessions.items between) (fails : TurnFails rules old new u all_places ms between b.sessions.items)
       (rooms : length a.sessions.items ≡ count a) where
     abbrev ys : List Answered
@@ -473,7 +473,7 @@ module _ {S : Type 0} (moved : S → S → List ℕ → List ℕ → Type 0) (ha
               own = here.own ++ ys;
               places_are = ap (λ z. z ++ fronts) here.places_are ∙ append_assoc here.earlier_places here.own_places fronts;
               are = ap (λ z. z ++ ys) here.are ∙ append_assoc here.earlier here.own ys;
-              moved = subst (λ s. moved c.came s c.read c.sent) here.last here.moved;
+              exchanged = subst (λ s. moved c.came s c.read c.sent) here.last here.exchanged;
               served = served_or_told rules w i here.own_places all_places here.own ys others (has_ended here.line.stream) c.read c.sent (session_at a i)
                   (get_or between i fresh) (get_or fails.between i fresh) (session_at b i) here.own_alike
                   (here_served moved has_ended failures idle rules v places answered a c here) of_places

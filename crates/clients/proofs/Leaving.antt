@@ -1,9 +1,13 @@
 -- Why a turn lets a client go.
-use Rattle.std.proofs.Common.{◌≡◌, subst, sym}
+use Rattle.std.proofs.Common.{◌≡◌, subst, sym, ℕ, Option}
+use Rattle.std.specs.declared.time.Instant.{Instant}
+use Rattle.std.specs.declared.time.Duration.{Duration}
+use Rattle.objects.specs.Failing.{HasGrown}
+use Rattle.clients.specs.Places.{HasReason}
 use Rattle.sessions.specs.State.{State}
 use Rattle.clients.specs.declared.line.Gone.{Gone}
 use Rattle.clients.specs.declared.line.Gone.TheVariants as gone
-use Rattle.clients.specs.Waiting.{EndsAtRest, EndsFor}
+use Rattle.clients.specs.Waiting.{IsLate, EndsAtRest, EndsFor}
 
 pub at_rest : (g : Gone) (old new : State) (failed later_failed late : Type 0) → (failed → later_failed) → EndsAtRest failed g new → EndsFor g old new later_failed late
 at_rest gone.Lost old new failed later_failed late later ends = absurd ends
@@ -13,3 +17,11 @@ at_rest gone.Late old new failed later_failed late later ends = absurd ends
 
 pub has_failed : (g : Gone) (old new : State) (failed late : Type 0) → g ≡ gone.Failed → failed → EndsFor g old new failed late
 has_failed g old new failed late is fails = subst (λ x. EndsFor x old new failed late) (sym is) fails
+
+-- what a turn ends for is a reason that is seen of the session and of the stream
+pub reason_of : (g : Gone) (old new : State) (before now : ℕ) (since at : Instant) (idle : Option Duration)
+    → EndsFor g old new (HasGrown before now) (IsLate new since at idle) → HasReason g before now new idle
+reason_of gone.Lost old new before now since at idle ends = ends.0
+reason_of gone.Failed old new before now since at idle ends = ends
+reason_of gone.Done old new before now since at idle ends = ends
+reason_of gone.Late old new before now since at idle ends = (since, at, ends)

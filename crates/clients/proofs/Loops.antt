@@ -1,6 +1,7 @@
 -- What the loop that serves clients makes of what they were served.
-use Rattle.std.proofs.Common.{arith, ◌≡◌, ◌∙◌, sym, ap, refl, subst, ◌<◌, ◌≤◌, ◌⊎◌, inl, inr, ⊤, ℕ, List, [], ◌∷◌, ◌++◌, append_assoc, map, length, take, Option, Some, None}
+use Rattle.std.proofs.Common.{arith, ◌≡◌, ◌∙◌, sym, ap, refl, subst, ◌<◌, ◌≤◌, ◌⊎◌, inl, inr, ℕ, List, [], ◌∷◌, ◌++◌, append_assoc, map, length, take, Option, Some, None}
 use Rattle.std.specs.List.{AllByRecursion}
+use Rattle.std.specs.Bool.{⊤}
 use Rattle.std.proofs.lemmas.List.{append-nil, length-append, length-map, length-take-le}
 use Rattle.std.specs.declared.time.Duration.{Duration}
 use Rattle.device.specs.declared.device.Device.{Ghosts}
@@ -101,36 +102,34 @@ module _ {S : Type 0} (moved : S → S → List ℕ → List ℕ → Type 0) (ha
   module _ (moved_then : (old mid new : S) (read more sent further : List ℕ) → moved old mid read sent → moved mid new more further
       → moved old new (read ++ more) (sent ++ further))
       (ended_then : (old new : S) (read sent : List ℕ) → moved old new read sent → has_ended old → has_ended new) where
+    -- what a client was served, and its stream then
+    record NowServed (rules : Rules) (v : View) (places : List ℕ) (answered : List Answered) (c : Client S) (was : WasThere moved has_ended failures rules v places answered c)
+        (last : S) (state : State) (read sent : List ℕ) : Type 0 where
+      pub exchanged_so : moved c.came last read sent
+      pub served : IsServed rules (seen rules v was.earlier) c.place was.own_places was.own (has_ended last) read sent state
+          ⊎ IsToldOfFailure rules (seen rules v was.earlier) c.place was.own_places was.own read sent state
+
     -- the last bytes are sent to a client
     sent_last : (a b : Places S) (rules : Rules) (v : View) (places : List ℕ) (answered : List Answered) (c : Client S)
         → WasThere moved has_ended failures rules v places answered c → (at : IsAt a c) → SendsLast moved a b c.place at.line → EndedAnew rules v places answered b c
     sent_last a b rules v places answered c was at sends = on served_now
       where
-        From : S → State → Type 0
-        From s t = SendsOn moved s sends.last t sends.state
-
         by : SendsOn moved c.last sends.last c.state sends.state
-        by = subst (λ s. From s c.state) (sym at.last) (subst (λ t. From at.line.stream t) (sym at.state) sends.sends)
+        by =
+            let From : S → State → Type 0 = λ s t. SendsOn moved s sends.last t sends.state in
+            subst (λ s. From s c.state) (sym at.last) (subst (λ t. From at.line.stream t) (sym at.state) sends.sends)
 
-        w : View
-        w = seen rules v was.earlier
-
-        record Now (read sent : List ℕ) : Type 0 where
-          pub moved_so : moved c.came sends.last read sent
-          pub served : IsServed rules w c.place was.own_places was.own (has_ended sends.last) read sent sends.state
-              ⊎ IsToldOfFailure rules w c.place was.own_places was.own read sent sends.state
-
-        served_now : (read : List ℕ) × (sent : List ℕ) × Now read sent
+        served_now : (read : List ℕ) × (sent : List ℕ) × NowServed rules v places answered c was sends.last sends.state read sent
         served_now = by_kind was.served
           where
-            by_kind : IsServed rules w c.place was.own_places was.own (has_ended c.last) c.read c.sent c.state
-                ⊎ IsToldOfFailure rules w c.place was.own_places was.own c.read c.sent c.state → (read : List ℕ) × (sent : List ℕ) × Now read sent
+            by_kind : IsServed rules (seen rules v was.earlier) c.place was.own_places was.own (has_ended c.last) c.read c.sent c.state
+                ⊎ IsToldOfFailure rules (seen rules v was.earlier) c.place was.own_places was.own c.read c.sent c.state → (read : List ℕ) × (sent : List ℕ) × NowServed rules v places answered c was sends.last sends.state read sent
             by_kind (inl served) =
-                let on_now = sends_go moved has_ended c.last sends.last c.state sends.state ended_then by rules w c.place was.own_places was.own c.read c.sent served in (
+                let on_now = sends_go moved has_ended c.last sends.last c.state sends.state ended_then by rules (seen rules v was.earlier) c.place was.own_places was.own c.read c.sent served in (
                   c.read ++ on_now.more_read,
                   c.sent ++ on_now.more_sent,
                   record {
-                    moved_so = moved_then c.came c.last sends.last c.read on_now.more_read c.sent on_now.more_sent was.moved on_now.moved;
+                    exchanged_so = moved_then c.came c.last sends.last c.read on_now.more_read c.sent on_now.more_sent was.exchanged on_now.exchanged;
                     served = inl on_now.served;
                   },
                 )
@@ -138,12 +137,12 @@ module _ {S : Type 0} (moved : S → S → List ℕ → List ℕ → Type 0) (ha
               c.read ++ by.forgotten,
               c.sent ++ by.front,
               record {
-                moved_so = moved_then c.came c.last sends.last c.read by.forgotten c.sent by.front was.moved by.moved;
-                served = inr (sends_tell moved has_ended c.last sends.last c.state sends.state by rules w c.place was.own_places was.own c.read c.sent told);
+                exchanged_so = moved_then c.came c.last sends.last c.read by.forgotten c.sent by.front was.exchanged by.exchanged;
+                served = inr (sends_tell moved has_ended c.last sends.last c.state sends.state by rules (seen rules v was.earlier) c.place was.own_places was.own c.read c.sent told);
               },
             )
 
-        on : ((read : List ℕ) × (sent : List ℕ) × Now read sent) → EndedAnew rules v places answered b c
+        on : ((read : List ℕ) × (sent : List ℕ) × NowServed rules v places answered c was sends.last sends.state read sent) → EndedAnew rules v places answered b c
         on (read, sent, now) =
             let seen_now : Client S = record { place = c.place; came = c.came; last = sends.last; read = read; sent = sent; state = sends.state } in
             record {
@@ -157,7 +156,7 @@ module _ {S : Type 0} (moved : S → S → List ℕ → List ℕ → Type 0) (ha
                   own = was.own;
                   places_are = was.places_are;
                   are = was.are;
-                  moved = now.moved_so;
+                  exchanged = now.exchanged_so;
                   served = now.served;
                 },
                 there sends.left,

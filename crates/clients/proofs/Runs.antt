@@ -1,5 +1,5 @@
 -- A whole run of the loop that serves clients, turn after turn.
-use Rattle.std.proofs.Common.{arith, ◌≡◌, ◌∙◌, sym, ap, refl, subst, true≢false, false, inl, inr, ⊤, ◌⊎◌, ℕ, List, [], ◌∷◌, ◌++◌, append_assoc, map, length, Option, Result, Ok, Err}
+use Rattle.std.proofs.Common.{arith, ◌≡◌, ◌∙◌, sym, ap, refl, subst, true≢false, false, inl, inr, ◌⊎◌, ℕ, List, [], ◌∷◌, ◌++◌, append_assoc, map, length, Option, Result, Ok, Err}
 use Rattle.std.specs.Prelude.{MatchResult}
 use Rattle.std.specs.List.{AllByRecursion}
 use Rattle.std.proofs.lemmas.List.{append-nil, length-append, nil_from_length}
@@ -20,7 +20,13 @@ use Rattle.clients.specs.declared.fault.ClientsFault.TheVariants as clients_faul
 use Rattle.clients.specs.declared.places.Places.{Places}
 use Rattle.clients.specs.Serving.{HasServedSome, HasFailedAt, HasStoppedBetween, StopsClients}
 use Rattle.clients.specs.Clients.{Client, IsHere, HasLeft, AreServed, WasThere, IsAt, HasNobody, ServedNow, ServesOn, WasLeft, LeftNow, EndsOn, ServesTurn, FailsTurn, StopsTurn, ServesThem, LeavesThem, HasServedClients, HasFailedClients, HasStoppedClients, StopsRun}
-use Rattle.clients.proofs.Served.{compacted_served}
+use Rattle.clients.proofs.Served.{compacted_applied}
+
+-- nobody more came
+pub came_end : {N S : Type 0} (came : N → N → List S → Type 0)
+    → ((old mid new : N) (first more : List S) → came old mid first → came mid new more → came old new (first ++ more))
+    → (a b c : N) (streams : List S) → came a b streams → came b c [] → came a c streams
+came_end came came_then a b c streams first none = subst (came a c) (append-nil streams) (came_then a b c streams [] first none)
 
 module _ {S : Type 0} (moved : S → S → List ℕ → List ℕ → Type 0) (has_ended : S → Type 0) (failures : S → ℕ) (idle : Option Duration) where
   -- nobody was served yet
@@ -45,7 +51,7 @@ module _ {S : Type 0} (moved : S → S → List ℕ → List ℕ → Type 0) (ha
           own = here.own;
           places_are = here.places_are;
           are = here.are;
-          moved = here.moved;
+          exchanged = here.exchanged;
           served = inl here.served;
         },
         inl (record { line = here.line; there = here.there; last = here.last; state = here.state }),
@@ -60,15 +66,15 @@ module _ {S : Type 0} (moved : S → S → List ℕ → List ℕ → Type 0) (ha
       answered = [];
       alike = refl;
       store = applied_none rules store v shows only_now;
-      clients = λ nobody. record { clients = []; came = nobody_came; served = nobody_served rules v a nobody };
+      clients = λ nobody. record { clients = []; came_by = nobody_came; served = nobody_served rules v a nobody };
     }
 
     module _ (came came_now : List S → Type 0) (streams : List S) (came_on : (before : List S) → came before → came_now (before ++ streams))
         (old mid : Store D g) (v : View) (b c : Places S) (before : HasServedClients moved has_ended failures idle came rules old mid v a b)
         (comes : ServesOn moved has_ended failures idle b c streams) where
-      came_by : (x : List (Client S)) (y : List (Client S)) → map (λ (c : Client S). c.came) x ≡ map (λ (c : Client S). c.came) y ++ streams → came (map (λ (c : Client S). c.came) y)
+      came_then : (x : List (Client S)) (y : List (Client S)) → map (λ (c : Client S). c.came) x ≡ map (λ (c : Client S). c.came) y ++ streams → came (map (λ (c : Client S). c.came) y)
           → came_now (map (λ (c : Client S). c.came) x)
-      came_by x y is by = subst came_now (sym is) (came_on (map (λ (c : Client S). c.came) y) by)
+      came_then x y is by = subst came_now (sym is) (came_on (map (λ (c : Client S). c.came) y) by)
 
       -- a turn
       pub run_turn : (new : Store D g) (d : Places S) → ServesTurn moved has_ended failures idle rules mid new (seen rules v before.answered) c d
@@ -84,7 +90,7 @@ module _ {S : Type 0} (moved : S → S → List ℕ → List ℕ → Type 0) (ha
             let more = turn.on v before.places before.answered now.now refl before.alike now.served in
             record {
               clients = more.now;
-              came = came_by more.now them.clients (more.came ∙ append-nil (map (λ (c : Client S). c.came) now.now) ∙ now.came) them.came;
+              came_by = came_then more.now them.clients (more.came ∙ append-nil (map (λ (c : Client S). c.came) now.now) ∙ now.came) them.came_by;
               served = more.served;
             };
       }
@@ -99,7 +105,7 @@ module _ {S : Type 0} (moved : S → S → List ℕ → List ℕ → Type 0) (ha
         clients = λ nobody.
             let them = before.clients nobody in
             let now = comes rules v before.places before.answered them.clients before.alike them.served in
-            record { clients = now.now; came = came_by now.now them.clients now.came them.came; served = now.served };
+            record { clients = now.now; came_by = came_then now.now them.clients now.came them.came_by; served = now.served };
       }
 
       -- a turn at which the store fails, and what is sent last
@@ -115,7 +121,7 @@ module _ {S : Type 0} (moved : S → S → List ℕ → List ℕ → Type 0) (ha
             let now = comes rules v before.places before.answered them.clients before.alike them.served in
             let more = turn.on v before.places before.answered now.now refl before.alike now.served in
             let last = ends rules v (before.places ++ turn.more_places) (before.answered ++ turn.more) more.now more.left in
-            record { clients = last.now; came = came_by last.now them.clients (last.came ∙ more.came ∙ now.came) them.came; left = last.left };
+            record { clients = last.now; came_by = came_then last.now them.clients (last.came ∙ more.came ∙ now.came) them.came_by; left = last.left };
       }
 
       pub run_stops : (new : Store D g) (d e : Places S) (fault : ServeFault)
@@ -137,7 +143,7 @@ module _ {S : Type 0} (moved : S → S → List ℕ → List ℕ → Type 0) (ha
     run_compacted h before settled kept moments =
         let v : View = view rules h in
         let k : History = h ++ all_writes rules v before.answered in
-        let done = compacted_served rules mid new k (before.store.settled h refl settled) kept moments in
+        let done = compacted_applied rules mid new k (before.store.settled h refl settled) kept moments in
         let Shown : View → Type 0 = λ w. HasApplied rules mid new w [] in
         let Of : List Answered → Type 0 = λ xs. HasApplied rules old new v xs in
         record {
@@ -145,7 +151,7 @@ module _ {S : Type 0} (moved : S → S → List ℕ → List ℕ → Type 0) (ha
           answered = before.answered;
           alike = before.alike;
           store = subst Of (append-nil before.answered)
-              (applied_then rules old mid new v before.answered [] before.store (subst Shown (sym (seen_view rules v h (all_writes rules v before.answered) refl)) done.store));
+              (applied_then rules old mid new v before.answered [] before.store (subst Shown (sym (seen_view rules v h (all_writes rules v before.answered) refl)) done));
           clients = before.clients;
         }
 
@@ -200,7 +206,7 @@ module _ {S : Type 0} (moved : S → S → List ℕ → List ℕ → Type 0) (ha
               (served_is_left rules v (before.places ++ turn.more_places) (before.answered ++ turn.more) c now.now now.served.each) in
               record {
                 clients = last.now;
-                came = subst came (sym (last.came ∙ now.came ∙ append-nil (map (λ (x : Client S). x.came) them.clients))) them.came;
+                came_by = subst came (sym (last.came ∙ now.came ∙ append-nil (map (λ (x : Client S). x.came) them.clients))) them.came_by;
                 left = told_of v before.places turn.more_places before.answered turn.more d last.now idle_turn.1 turn.alike last.left;
               }))
 
@@ -214,7 +220,7 @@ module _ {S : Type 0} (moved : S → S → List ℕ → List ℕ → Type 0) (ha
               let last = ends rules v (before.places ++ turn.more_places) (before.answered ++ turn.more) now.now now.left in
               record {
                 clients = last.now;
-                came = subst came (sym (last.came ∙ now.came)) them.came;
+                came_by = subst came (sym (last.came ∙ now.came)) them.came_by;
                 left = told_of v before.places turn.more_places before.answered turn.more d last.now idle_turn.1 turn.alike last.left;
               }))
 

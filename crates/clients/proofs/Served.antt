@@ -13,7 +13,7 @@ use Rattle.durable.proofs.Answering.{settled_serves}
 use Rattle.httpmsg.specs.Stream.{Message}
 use Rattle.api.specs.declared.fault.ServeFault.{ServeFault}
 use Rattle.api.specs.declared.fault.ServeFault.TheVariants.{Read, Write, Device, Memory, Damaged, Failed}
-use Rattle.api.specs.Answers.{ShowsAt, all_writes}
+use Rattle.api.specs.Answers.{ShowsAt, all_writes, HasApplied}
 use Rattle.api.proofs.Folds.{applied_then, applied_none, failed_then, left_after, moments_then, seen_view}
 use Rattle.sessions.specs.State.{State}
 use Rattle.sessions.specs.Turn.{Turned}
@@ -84,35 +84,22 @@ module _ {D : Type 0} {g : Ghosts D} (rules : Rules) where
   -- ---- a compaction between two turns
 
   -- a store that was compacted, or was not
-  pub compacted_served : (old new : Store D g) (h : History) → IsSettledAt rules old h → ((k : History) → IsSettledAt rules old k → IsSettledAt rules new k)
-      → ((k : History) → IsSettledAt rules old k → LeavesSome rules old new k []) → HasServedSome rules old new (view rules h)
-  compacted_served old new h settled kept moments = record {
-    answered = [];
-    store = record {
-      serving = (kept h settled).working ∙ sym settled.working;
-      shows = λ working. settled_serves rules new h (kept h settled);
-      failed = λ stopped. absurd (true≢false (sym settled.working ∙ stopped));
-      specified = tt;
-      admitted = tt;
-      settled = λ k is was. subst (IsSettledAt rules new) (sym (append-nil k)) (kept k was);
-      moments = λ k is was. moments k was;
-    };
+  pub compacted_applied : (old new : Store D g) (h : History) → IsSettledAt rules old h → ((k : History) → IsSettledAt rules old k → IsSettledAt rules new k)
+      → ((k : History) → IsSettledAt rules old k → LeavesSome rules old new k []) → HasApplied rules old new (view rules h) []
+  compacted_applied old new h settled kept moments = record {
+    serving = (kept h settled).working ∙ sym settled.working;
+    shows = λ working. settled_serves rules new h (kept h settled);
+    failed = λ stopped. absurd (true≢false (sym settled.working ∙ stopped));
+    specified = tt;
+    admitted = tt;
+    settled = λ k is was. subst (IsSettledAt rules new) (sym (append-nil k)) (kept k was);
+    moments = λ k is was. moments k was;
   }
 
   -- what a history and the writes of some answers leave
   pub settled_then : (old mid : Store D g) (h : History) (before : HasServedSome rules old mid (view rules h)) → IsSettledAt rules old h
       → IsSettledAt rules mid (h ++ all_writes rules (view rules h) before.answered)
   settled_then old mid h before settled = before.store.settled h refl settled
-
-  -- turns, and then a compaction
-  pub compacted_after : (old mid new : Store D g) (h : History) (before : HasServedSome rules old mid (view rules h)) → IsSettledAt rules old h
-      → ((k : History) → IsSettledAt rules mid k → IsSettledAt rules new k) → ((k : History) → IsSettledAt rules mid k → LeavesSome rules mid new k [])
-      → HasServedSome rules old new (view rules h)
-  compacted_after old mid new h before settled kept moments =
-      let ws : List standing.Write = all_writes rules (view rules h) before.answered in
-      served_then old mid new (view rules h) before
-      (subst (HasServedSome rules mid new) (sym (seen_view rules (view rules h) h ws refl))
-      (compacted_served mid new (h ++ ws) (settled_then old mid h before settled) kept moments))
 
   -- turns, and then the device fails in a compaction
   pub stopped_between : (old mid new : Store D g) (v : View) (before : HasServedSome rules old mid v)

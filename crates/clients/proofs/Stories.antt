@@ -21,7 +21,7 @@ module _ {S : Type 0} (moved : S → S → List ℕ → List ℕ → Type 0) (ha
   goes_none stream s none rules v place places answered read sent served =
       let Read : List ℕ → Type 0 = λ r. IsServed rules v place places answered (has_ended stream) r (sent ++ []) s in
       let Sent : List ℕ → Type 0 = λ w. IsServed rules v place places answered (has_ended stream) read w s in
-      record { more_read = []; more_sent = []; moved = none; served = subst Read (sym (append-nil read)) (subst Sent (sym (append-nil sent)) served) }
+      record { more_read = []; more_sent = []; exchanged = none; served = subst Read (sym (append-nil read)) (subst Sent (sym (append-nil sent)) served) }
 
   pub goes_then : (a b c : S) (s t u : State)
       → ((old mid new : S) (read more sent further : List ℕ) → moved old mid read sent → moved mid new more further → moved old new (read ++ more) (sent ++ further))
@@ -34,7 +34,7 @@ module _ {S : Type 0} (moved : S → S → List ℕ → List ℕ → Type 0) (ha
       record {
         more_read = one.more_read ++ two.more_read;
         more_sent = one.more_sent ++ two.more_sent;
-        moved = moved_then a b c one.more_read two.more_read one.more_sent two.more_sent one.moved two.moved;
+        exchanged = moved_then a b c one.more_read two.more_read one.more_sent two.more_sent one.exchanged two.exchanged;
         served = subst Read (append_assoc read one.more_read two.more_read) (subst Sent (append_assoc sent one.more_sent two.more_sent) two.served);
       }
 
@@ -42,10 +42,10 @@ module _ {S : Type 0} (moved : S → S → List ℕ → List ℕ → Type 0) (ha
   pub sends_go : (a b : S) (s t : State) → ((old new : S) (read sent : List ℕ) → moved old new read sent → has_ended old → has_ended new)
       → SendsOn moved a b s t → GoesOn moved has_ended a b s t
   sends_go a b s t ended_then sends rules v place places answered read sent served =
-      let ended : has_ended a → has_ended b = ended_then a b sends.forgotten sends.front sends.moved in
+      let ended : has_ended a → has_ended b = ended_then a b sends.forgotten sends.front sends.exchanged in
       let sent_now = served_sent rules v place places answered (has_ended b) read sent s t sends.front sends.waited sends.waiting sends.progress sends.phase
       (served_ended rules v place places answered (has_ended a) (has_ended b) read sent s ended served) in
-      record { more_read = sends.forgotten; more_sent = sends.front; moved = sends.moved; served = on (is_open t.phase) refl sent_now }
+      record { more_read = sends.forgotten; more_sent = sends.front; exchanged = sends.exchanged; served = on (is_open t.phase) refl sent_now }
     where
       on : (o : Bool) → is_open t.phase ≡ o → IsServed rules v place places answered (has_ended b) read (sent ++ sends.front) t
           → IsServed rules v place places answered (has_ended b) (read ++ sends.forgotten) (sent ++ sends.front) t
@@ -55,12 +55,11 @@ module _ {S : Type 0} (moved : S → S → List ℕ → List ℕ → Type 0) (ha
       on false closed now = served_forgets rules v place places answered (has_ended b) read (sent ++ sends.front) t sends.forgotten closed now
 
   -- the same of a client that was told of a failure
-  pub sends_tell : (a b : S) (s t : State) → SendsOn moved a b s t
-      → (rules : Rules) (v : View) (place : ℕ) (places : List ℕ) (answered : List Answered) (read sent : List ℕ)
+  pub sends_tell : (a b : S) (s t : State) (sends : SendsOn moved a b s t) (rules : Rules) (v : View) (place : ℕ) (places : List ℕ) (answered : List Answered) (read sent : List ℕ)
       → IsToldOfFailure rules v place places answered read sent s → IsToldOfFailure rules v place places answered (read ++ sends.forgotten) (sent ++ sends.front) t
   sends_tell a b s t sends rules v place places answered read sent told =
-      told_forgets rules v place places answered (read) (sent ++ sends.front) t sends.forgotten
-      (told_sent rules v place places answered read sent s t sends.front sends.waited sends.waiting sends.progress sends.phase told)
+      told_forgets rules v place places answered (has_ended b) read (sent ++ sends.front) t sends.forgotten
+      (told_sent rules v place places answered (has_ended b) read sent s t sends.front sends.waited sends.waiting sends.progress sends.phase told)
 
   -- a session took a piece
   pub piece_goes : (a b : S) (s t : State) (piece : List ℕ) → s.waiting ≡ [] → is_open s.phase ≡ true
@@ -73,7 +72,7 @@ module _ {S : Type 0} (moved : S → S → List ℕ → List ℕ → Type 0) (ha
       record {
         more_read = piece;
         more_sent = [];
-        moved = given;
+        exchanged = given;
         served = subst Sent (sym (append-nil sent))
             (served_piece rules v place places answered (has_ended b) read sent s t idle opened now piece (takes read (messages_of place places (messages answered)) cut));
       }
@@ -94,7 +93,7 @@ module _ {S : Type 0} (moved : S → S → List ℕ → List ℕ → Type 0) (ha
           record {
             more_read = [];
             more_sent = [];
-            moved = nothing.none;
+            exchanged = nothing.none;
             served = subst To (sym nothing.same) (subst Read (sym (append-nil read)) (subst Sent (sym (append-nil sent)) now));
           }
 
@@ -105,7 +104,7 @@ module _ {S : Type 0} (moved : S → S → List ℕ → List ℕ → Type 0) (ha
           record {
             more_read = piece.piece;
             more_sent = [];
-            moved = piece.consumed;
+            exchanged = piece.consumed;
             served = subst Sent (sym (append-nil sent))
                 (served_piece rules v place places answered (has_ended b) read sent s t idle opened now piece.piece piece.taken);
           }
@@ -118,8 +117,21 @@ module _ {S : Type 0} (moved : S → S → List ℕ → List ℕ → Type 0) (ha
           record {
             more_read = [];
             more_sent = [];
-            moved = end.none;
+            exchanged = end.none;
             served = subst Read (sym (append-nil read)) (subst Sent (sym (append-nil sent))
                 (served_end rules v place places answered (has_ended b) read sent s t idle opened now end.ended end.input));
           }
       on moved_as.Failed nothing = none nothing
+
+  -- it is looked at what stands behind the messages that were answered
+  pub looks_go : (stream : S) (s t : State) → s.waiting ≡ [] → moved stream stream [] []
+      → ((old new : S) (read sent : List ℕ) → moved old new read sent → has_ended old → has_ended new)
+      → (is_open s.phase ≡ false → t ≡ s)
+      → ((read : List ℕ) (ms : List Message) → is_open s.phase ≡ true → IsCut read ms s.progress → TakesPiece read ms [] s t) → GoesOn moved has_ended stream stream s t
+  looks_go stream s t idle none ended_then over takes = on (is_open s.phase) refl
+    where
+      on : (o : Bool) → is_open s.phase ≡ o → GoesOn moved has_ended stream stream s t
+      on true opened = piece_goes stream stream s t [] idle opened ended_then none (λ read ms cut. takes read ms opened cut)
+      on false closed =
+          let To : State → Type 0 = λ x. GoesOn moved has_ended stream stream s x in
+          subst To (sym (over closed)) (goes_none stream s none)

@@ -46,7 +46,7 @@ module _ {S : Type 0} (moved : S → S → List ℕ → List ℕ → Type 0) (ha
     pub there : line_at p c.place ≡ Some line
     pub last : c.last ≡ line.stream
     pub state : c.state ≡ session_at p c.place
-    pub moved : moved c.came c.last c.read c.sent
+    pub exchanged : moved c.came c.last c.read c.sent
     pub later : failures c.came ≤ failures c.last
     pub served : IsServed rules (after_all rules v (all_writes rules v earlier)) c.place own_places own (has_ended c.last) c.read c.sent c.state
 
@@ -62,7 +62,7 @@ module _ {S : Type 0} (moved : S → S → List ℕ → List ℕ → Type 0) (ha
     pub are : answered ≡ earlier ++ (own ++ later)
     pub alike : length earlier_places ≡ length earlier
     pub own_alike : length own_places ≡ length own
-    pub moved : moved c.came c.last c.read c.sent
+    pub exchanged : moved c.came c.last c.read c.sent
     pub served : IsServed rules (after_all rules v (all_writes rules v earlier)) c.place own_places own (has_ended c.last) c.read c.sent c.state
     pub gone : Gone
     pub reason : HasReason gone (failures c.came) (failures c.last) c.state idle
@@ -82,7 +82,7 @@ module _ {S : Type 0} (moved : S → S → List ℕ → List ℕ → Type 0) (ha
     pub own : List Answered
     pub places_are : places ≡ earlier_places ++ own_places
     pub are : answered ≡ earlier ++ own
-    pub moved : moved c.came c.last c.read c.sent
+    pub exchanged : moved c.came c.last c.read c.sent
     pub served : IsServed rules (after_all rules v (all_writes rules v earlier)) c.place own_places own (has_ended c.last) c.read c.sent c.state
         ⊎ IsToldOfFailure rules (after_all rules v (all_writes rules v earlier)) c.place own_places own c.read c.sent c.state
 
@@ -162,13 +162,13 @@ module _ {S : Type 0} (moved : S → S → List ℕ → List ℕ → Type 0) (ha
   -- These clients came, in this order, and are served from one list of messages.
   pub record ServesThem (came : List S → Type 0) (rules : Rules) (v : View) (places : List ℕ) (answered : List Answered) (p : Places S) : Type 0 where
     pub clients : List (Client S)
-    pub came : came (map (λ c. c.came) clients)
+    pub came_by : came (map (λ c. c.came) clients)
     pub served : AreServed moved has_ended failures rules v places answered idle p clients
 
   -- These clients came, in this order, and were served from one list of messages until the store failed.
   pub record LeavesThem (came : List S → Type 0) (rules : Rules) (v : View) (places : List ℕ) (answered : List Answered) (p : Places S) : Type 0 where
     pub clients : List (Client S)
-    pub came : came (map (λ c. c.came) clients)
+    pub came_by : came (map (λ c. c.came) clients)
     pub left : AllByRecursion (WasLeft rules v places answered p) clients
 
   module _ {D : Type 0} {g : Ghosts D} (came : List S → Type 0) (rules : Rules) (old new : Store D g) (v : View) (a b : Places S) where

@@ -11,7 +11,7 @@ module _ {S : Type 0} (moved : S → S → List ℕ → List ℕ → Type 0) (ha
   pub record IsServedOn (rules : Rules) (v : View) (place : ℕ) (places : List ℕ) (answered : List Answered) (read sent : List ℕ) (s : State) : Type 0 where
     pub more_read : List ℕ
     pub more_sent : List ℕ
-    pub moved : moved before after more_read more_sent
+    pub exchanged : moved before after more_read more_sent
     pub served : IsServed rules v place places answered (has_ended after) (read ++ more_read) (sent ++ more_sent) s
 
   -- Whatever a client was served before, that goes on.
@@ -19,11 +19,12 @@ module _ {S : Type 0} (moved : S → S → List ℕ → List ℕ → Type 0) (ha
   GoesOn old new = (rules : Rules) (v : View) (place : ℕ) (places : List ℕ) (answered : List Answered) (read sent : List ℕ)
       → IsServed rules v place places answered (has_ended before) read sent old → IsServedOn rules v place places answered read sent new
 
+module _ {S : Type 0} (moved : S → S → List ℕ → List ℕ → Type 0) (before after : S) where
   -- The first of the bytes that waited were sent, and where the session takes no more of its client, what was read is forgotten.
   pub record SendsOn (old new : State) : Type 0 where
     pub forgotten : List ℕ
     pub front : List ℕ
-    pub moved : moved before after forgotten front
+    pub exchanged : moved before after forgotten front
     pub while_open : is_open new.phase ≡ true → forgotten ≡ []
     pub waited : old.unsent ≡ front ++ new.unsent
     pub waiting : new.waiting ≡ old.waiting

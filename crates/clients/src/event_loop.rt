@@ -1,6 +1,7 @@
 //! The loop that serves clients.
 
-ghost use Rattle.std.specs.Prelude.{◌≡◌, [], None, IfOk, List, MatchResult};
+ghost use Rattle.std.specs.Prelude.{◌≡◌, [], Option, None, IfOk, List, MatchResult};
+ghost use Rattle.std.specs.declared.time.Duration.{Duration as DurationData};
 ghost use Rattle.names.specs.declared.format.Rules.{Rules};
 ghost use Rattle.decoded.specs.Standing.{History, View};
 ghost use Rattle.histories.specs.View.{view};
@@ -71,7 +72,7 @@ pub(crate) struct EventLoop<S> {
     is_asked: bool,
 }
 
-impl<S: Stream> EventLoop<S> {
+impl<S: Stream + Drop> EventLoop<S> {
     /// Nobody is there. All memory that does not depend on what clients send is taken here.
     pub(crate) fn new(alloc: Global, limits: Limits) -> Result<EventLoop<S>, AllocError>
         ensures nobody { IfOk result (λ made. HasNobody made.places) }
@@ -85,6 +86,16 @@ impl<S: Stream> EventLoop<S> {
         })
     }
 
+    // Takes note of whether somebody may wait to be accepted.
+    fn note_asked(&mut self, is_asked: bool)
+        ensures places { self.new.places ≡ self.old.places }
+        ensures limits { self.new.limits ≡ self.old.limits }
+    {
+        if is_asked {
+            self.is_asked = true;
+        }
+    }
+
     // Waits until the network tells that something is ready, and takes note of it. It gives the time.
     fn look<C: Clock, N: Network<S>>(
         &mut self,
@@ -93,13 +104,12 @@ impl<S: Stream> EventLoop<S> {
         wait: u64,
     ) -> io::Result<Instant>
         ensures came { N.came network.old network.new [] }
-        ensures serves { ServesOn S.moved S.has_ended S.failures self.old.limits.idle self.old.places self.new.places [] }
-        ensures ends { EndsOn S.moved S.has_ended S.failures self.old.limits.idle self.old.places self.new.places }
+        ensures serves { (idle : Option DurationData) → ServesOn S.moved S.has_ended S.failures idle self.old.places self.new.places [] }
+        ensures ends { (idle : Option DurationData) → EndsOn S.moved S.has_ended S.failures idle self.old.places self.new.places }
         ensures limits { self.new.limits ≡ self.old.limits }
     {
-        if network.wait(wait, &mut self.places)? {
-            self.is_asked = true;
-        }
+        let is_asked = network.wait(wait, &mut self.places)?;
+        self.note_asked(is_asked);
         Instant::now(clock)
     }
 
@@ -143,7 +153,7 @@ impl<S: Stream> EventLoop<S> {
     // Accepts one client, if one waits and there is a place for it. It tells whether another may wait.
     fn accept_one<N: Network<S>>(&mut self, alloc: Global, network: &mut N, now: Instant) -> bool
         ensures serves { (streams : List S) × N.came network.old network.new streams
-            × ServesOn S.moved S.has_ended S.failures self.old.limits.idle self.old.places self.new.places streams }
+            × ((idle : Option DurationData) → ServesOn S.moved S.has_ended S.failures idle self.old.places self.new.places streams) }
         ensures limits { (self.new.limits.idle ≡ self.old.limits.idle) × (self.new.limits.compact_at ≡ self.old.limits.compact_at) }
     {
         if !self.is_asked || !self.has_left() {
@@ -175,7 +185,7 @@ impl<S: Stream> EventLoop<S> {
     // Accepts clients that wait. It tells whether more may.
     fn accept<N: Network<S>>(&mut self, alloc: Global, network: &mut N, now: Instant) -> bool
         ensures serves { (streams : List S) × N.came network.old network.new streams
-            × ServesOn S.moved S.has_ended S.failures self.old.limits.idle self.old.places self.new.places streams }
+            × ((idle : Option DurationData) → ServesOn S.moved S.has_ended S.failures idle self.old.places self.new.places streams) }
         ensures limits { (self.new.limits.idle ≡ self.old.limits.idle) × (self.new.limits.compact_at ≡ self.old.limits.compact_at) }
     {
         for _ in 0..ACCEPTS {
@@ -228,7 +238,7 @@ impl<S: Stream> EventLoop<S> {
     // Sends what waits to be sent once the store has failed, for a second at most.
     fn send_last<C: Clock, N: Network<S>>(&mut self, clock: &C, alloc: Global, network: &mut N)
         ensures came { N.came network.old network.new [] }
-        ensures ends { EndsOn S.moved S.has_ended S.failures self.old.limits.idle self.old.places self.new.places }
+        ensures ends { (idle : Option DurationData) → EndsOn S.moved S.has_ended S.failures idle self.old.places self.new.places }
     {
         let Ok(start) = Instant::now(clock) else {
             return;

@@ -152,7 +152,7 @@ impl<S> Line<S> {
 
 impl<S: Stream> Line<S> {
     // Sends what waits, as far as the stream takes it now.
-    #[tactic(auto, using(crate::proofs::Sending::sends_none, crate::proofs::Sending::sends_then))]
+    #[tactic(auto, using(crate::proofs::Sending::sends_none))]
     fn send(&mut self, alloc: Global, session: &mut Session, now: Instant) -> Result<(), Gone>
         ensures sent { SendsOn S.moved self.old.stream self.new.stream session.old session.new }
         ensures later { S.failures self.old.stream ≤ S.failures self.new.stream }
@@ -181,6 +181,21 @@ impl<S: Stream> Line<S> {
         self.looks_on = !session.is_idle();
     }
 
+    // Takes note of what came of one call that reads.
+    fn note_read(&mut self, moved: Moved, session: &Session, now: Instant) -> Result<(), Gone>
+        ensures ends { MatchResult result (λ _. moved ≡ Moved.Failed → ⊥) (λ gone. (gone ≡ Gone.Failed) × (moved ≡ Moved.Failed)) }
+        ensures stream { self.new.stream ≡ self.old.stream }
+    {
+        match moved {
+            Moved::Some => self.note_piece(session, now),
+            Moved::Again => {}
+            Moved::Waits => self.is_readable = false,
+            Moved::Ended => self.has_ended = true,
+            Moved::Failed => return Err(Gone::Failed),
+        }
+        Ok(())
+    }
+
     // Reads a piece of what the client sends.
     fn read(
         &mut self,
@@ -197,15 +212,25 @@ impl<S: Stream> Line<S> {
         ensures failed { IfErr result (λ gone. (gone ≡ Gone.Failed) × HasGrown (S.failures self.old.stream) (S.failures self.new.stream)) }
     {
         let stream = &mut self.stream;
-        match read_once(alloc, &mut desk.tools, &mut desk.buffer, stream, session) {
-            Moved::Some => self.note_piece(session, now),
-            Moved::Again => {}
-            Moved::Waits => self.is_readable = false,
-            Moved::Ended => self.has_ended = true,
-            Moved::Failed => return Err(Gone::Failed),
-        }
+        let moved = read_once(alloc, &mut desk.tools, &mut desk.buffer, stream, session);
+        self.note_read(moved, session, now)?;
         tell_closing(alloc, &mut desk.journal, self.peer(), session);
         Ok(())
+    }
+
+    // Since when what the client sends is forgotten: from now on, where it was not yet. Then the client is told that nothing more is sent.
+    fn drain_since(&mut self, now: Instant) -> Instant
+        ensures none { S.moved self.old.stream self.new.stream [] [] }
+        ensures well { S.failures self.new.stream ≡ S.failures self.old.stream }
+    {
+        match self.drained_since {
+            Some(since) => since,
+            None => {
+                self.stream.end();
+                self.drained_since = Some(now);
+                now
+            }
+        }
     }
 
     // Reads on and forgets: a socket that is closed with bytes that nobody read resets the connection, and the client may then lose the last
@@ -219,14 +244,7 @@ impl<S: Stream> Line<S> {
         if self.has_ended {
             return Err(Gone::Done);
         }
-        let since = match self.drained_since {
-            Some(since) => since,
-            None => {
-                self.stream.end();
-                self.drained_since = Some(now);
-                now
-            }
-        };
+        let since = self.drain_since(now);
         if has_passed(since, now, Duration::from_secs(DRAIN_SECONDS)) {
             return Err(Gone::Done);
         }

@@ -63,7 +63,7 @@ pub(crate) fn read_once<S: Stream>(
     requires idle { session.old.waiting ≡ [] }
     requires sent { session.old.unsent ≡ [] }
     ensures reads { (read : List ℕ) (ms : List MessageData) → IsCut read ms session.old.progress
-        → Reads S.moved S.has_ended stream.old stream.new read ms session.old session.new result }
+        → Reads S.moved stream.old stream.new S.has_ended read ms session.old session.new result }
     ensures counts { CountsMoved (S.failures stream.old) (S.failures stream.new) result }
 {
     match stream.read(buffer) {

@@ -18,7 +18,7 @@ pub(crate) struct Places<S> {
     pub(crate) sessions: Vec<Session>,
 }
 
-impl<S> Places<S> {
+impl<S: Drop> Places<S> {
     /// This many places, at which nobody is.
     #[tactic(auto, using(crate::proofs::Beginning::one_more))]
     pub(crate) fn new(alloc: Global, places: u16) -> Result<Places<S>, AllocError>
@@ -109,7 +109,7 @@ impl<S> Places<S> {
 
 }
 
-impl<S: Stream> Places<S> {
+impl<S: Stream + Drop> Places<S> {
     // One turn of the client at a place. It tells whether more can be done at once.
     fn turn(
         &mut self,
@@ -137,7 +137,6 @@ impl<S: Stream> Places<S> {
     }
 
     /// One turn of each client. It tells whether more can be done at once.
-    #[tactic(auto, using(crate::proofs::Turns::turns_none, crate::proofs::Turns::turns_then))]
     pub(crate) fn turn_all(
         &mut self,
         alloc: Global,
@@ -169,7 +168,6 @@ impl<S: Stream> Places<S> {
     }
 
     /// One turn more of each client whose messages were answered, so that the replies leave at once.
-    #[tactic(auto, using(crate::proofs::Turns::turns_none, crate::proofs::Turns::turns_then))]
     pub(crate) fn turn_answered(
         &mut self,
         alloc: Global,
@@ -204,7 +202,6 @@ impl<S: Stream> Places<S> {
     }
 
     /// A turn of each client once nothing more is answered.
-    #[tactic(auto, using(crate::proofs::Turns::ends_none, crate::proofs::Turns::ends_then))]
     pub(crate) fn last_turn_all(&mut self, alloc: Global, desk: &mut Desk, now: Instant)
         ensures { TakeLastTurns S.moved self.old self.new }
     {

@@ -1,5 +1,5 @@
-use Rattle.clients.specs.Places.{IsFreshWhereFree, StaysWhereFree}
+use Rattle.clients.specs.Places.{TakeLastTurns}
 use Rattle.clients.proofs.places.Places.last_turn_all.Given as goal
 
 abbrev pub invariant-loop-place : goal.invariant-loop-place
-invariant-loop-place l = record { free : StaysWhereFree l.fn.self l.self; fresh : IsFreshWhereFree l.fn.self → IsFreshWhereFree l.self }
+invariant-loop-place g l = TakeLastTurns g.S.Stream.moved l.fn.self l.self

@@ -3,7 +3,7 @@ use Rattle.clients.specs.Places.{fresh}
 use Rattle.clients.proofs.places.Places.new.Given as goal
 
 abbrev pub invariant-loop : goal.invariant-loop
-invariant-loop l = record {
+invariant-loop g l = record {
   many : length l.lines.items ≡ l.counter;
   alike : length l.sessions.items ≡ l.counter;
   free : (i : ℕ) → get_or l.lines.items i None ≡ None;
