@@ -2,7 +2,7 @@
 
 use crate::compactions::made;
 use crate::looks::{leaves, push_look};
-use crate::place::StorePlace;
+use crate::place::{NewStores, StorePlace};
 use crate::steps::Stop;
 use cases::Wrong;
 use device::Pick;
@@ -20,11 +20,12 @@ fn upgrade(place: &mut StorePlace) {
 /// Adds what a new store with these writes shows that was compacted this many times, and what it shows once it is upgraded.
 pub fn push_upgrade_looks(
     alloc: Global,
+    stores: NewStores,
     writes: &[String],
     times: u64,
     looks: &mut Vec<String>,
 ) -> Result<u64, Wrong> {
-    let mut place = made(alloc, writes, times);
+    let mut place = made(alloc, stores, writes, times);
     push_look(&mut place, looks);
     upgrade(&mut place);
     push_look(&mut place, looks);
@@ -64,12 +65,13 @@ fn fails(place: &mut StorePlace) -> bool {
 /// One stop and one crash, of the device of a store that is opened and upgraded, with these writes and this many compactions before.
 pub fn upgrade_stopped(
     alloc: Global,
+    stores: NewStores,
     writes: &[String],
     times: u64,
     looks: &[String],
     stop: Stop<'_>,
 ) -> Result<u64, Wrong> {
-    let mut place = made(alloc, writes, times);
+    let mut place = made(alloc, stores, writes, times);
     place.stop_on(stop.call);
     fails(&mut place);
     place.crash(stop.picks, stop.length);
@@ -80,12 +82,13 @@ pub fn upgrade_stopped(
 /// One failure. A store of which an upgrade failed is neither upgraded nor checked any more.
 pub fn upgrade_failed(
     alloc: Global,
+    stores: NewStores,
     writes: &[String],
     times: u64,
     looks: &[String],
     call: u64,
 ) -> Result<u64, Wrong> {
-    let mut place = made(alloc, writes, times);
+    let mut place = made(alloc, stores, writes, times);
     place.fail_on(call);
     if fails(&mut place) {
         place.upgrade();
