@@ -32,6 +32,21 @@ pub fn push_upgrade_looks(
     place.end(0)
 }
 
+// Upgrades the open store, which shows the first or the second of these, unless it was upgraded already. Where it shows the same before and after, as one of
+// format 2 does, it may be either.
+fn upgrade_unless_upgraded(place: &mut StorePlace, looks: &[String], count: usize) {
+    place.upgrade();
+    let was_old = place.told().starts_with("format 3, ");
+    let was_upgraded = place.told() == "already upgraded";
+    place.note(was_old || was_upgraded, "the store is not upgraded");
+    let show_the_same = match looks {
+        [old, new] => old.as_str() == new.as_str(),
+        _ => false,
+    };
+    let is_as_shown = show_the_same || was_old == (count == 0);
+    place.note(is_as_shown, "an upgraded store is upgraded again");
+}
+
 // Asks that an opening finds one of the two, another one after a crash the same, and one after an upgrade that follows the upgraded store.
 fn keeps(place: &mut StorePlace, looks: &[String]) {
     let count = leaves(place, looks, [0, 1], NEITHER);
@@ -42,12 +57,7 @@ fn keeps(place: &mut StorePlace, looks: &[String]) {
         [count, count],
         "a second crash leaves something else",
     );
-    if count == 0 {
-        upgrade(place);
-    } else {
-        place.upgrade();
-        place.tells("already upgraded", "an upgraded store is upgraded again");
-    }
+    upgrade_unless_upgraded(place, looks, count);
     leaves(place, looks, [1, 1], NEITHER);
 }
 
