@@ -14,8 +14,8 @@ use std::alloc::{AllocError, Global};
 // No crash of these devices leaves this many sectors open.
 const MOST_PICKS: usize = 80;
 
-// One call more than the probe takes with the compaction that follows.
-const PROBE_CALLS: u64 = 16;
+// One call more than the probe takes with the compaction that follows, where two pages have objects.
+const PROBE_CALLS: u64 = 17;
 
 // What two sectors that one sync leaves open become: both alike, or one of them as it was.
 const PICKS: [[Pick; 2]; 10] = [
