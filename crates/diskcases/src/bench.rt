@@ -87,7 +87,11 @@ impl Disk {
 
     fn of_chunks(&mut self, alloc: Global, word: &str, line: &mut Line<'_>) {
         match word {
-            "cut" => cut(alloc, line),
+            "cut" => cut(alloc, line, 1),
+            "cut-from" => {
+                let first = line.number();
+                cut(alloc, line, first)
+            }
             "whole" => whole(alloc, &mut self.device, line),
             "whole-list" => whole_list(alloc, &mut self.device, line),
             "whole-under" => whole_under(alloc, &mut self.device, line),

@@ -62,8 +62,8 @@ fn push_listing(line: &mut Line<'_>, entries: &[Entry]) {
     }
 }
 
-/// `cut FORMAT KEY ; CELL | ..`: these entries as the pages of a format have them.
-pub fn cut(alloc: Global, line: &mut Line<'_>) {
+/// `cut FORMAT KEY ; CELL | ..`: these entries as the pages of a format have them; `cut-from N FORMAT ..`: of what they have only from the N-th on.
+pub fn cut(alloc: Global, line: &mut Line<'_>, first: u64) {
     let format = line.format(Format::Third);
     let mut entries = Vec::new(alloc);
     for one in &line.parts(alloc, line.rest, " | ") {
@@ -76,7 +76,8 @@ pub fn cut(alloc: Global, line: &mut Line<'_>) {
         return line.fail(Wrong::Memory);
     };
     let mut is_first = true;
-    for (key, cell) in &all {
+    let wanted = all.get((first as usize).saturating_sub(1)..).unwrap_or(&[]);
+    for (key, cell) in wanted {
         push_entry(line, is_first, key, cell);
         is_first = false;
     }

@@ -1,12 +1,12 @@
 //! What a case stands on, what was sent to it, and the questions by their words.
 
 use crate::compactions::compaction_damage;
-use crate::place::StorePlace;
+use crate::place::{NewStores, StorePlace};
 use crate::refusals::{at_hand, fault};
 use crate::scripts::{applied, driven};
 use crate::streams::{cuts, readers, writers};
 use crate::trials::trials;
-use cases::{Wrong, shown, text};
+use cases::{WordReader, Wrong, shown, text};
 use diskcases::{Line, crash_words, on_store_device};
 use names::Format;
 use rowcases::{Service, message};
@@ -18,6 +18,8 @@ const ROOM_SECTORS: u64 = 64;
 #[derive(Drop)]
 pub struct Stand {
     place: StorePlace,
+    // what the stores are like that its questions make
+    stores: NewStores,
     // what was sent since the case began, and of that the connections that ask for a write
     all_sent: String,
     writes: Vec<String>,
@@ -37,7 +39,11 @@ impl Service for Stand {
     // A new store, opened.
     fn new(alloc: Global) -> Result<Stand, Wrong> {
         let mut stand = Stand {
-            place: StorePlace::new(alloc, ROOM_SECTORS),
+            place: StorePlace::new(alloc, Format::First, ROOM_SECTORS),
+            stores: NewStores {
+                format: Format::First,
+                room_sectors: 0,
+            },
             all_sent: String::new(alloc),
             writes: Vec::new(alloc),
             steps: Vec::new(alloc),
@@ -60,9 +66,9 @@ impl Service for Stand {
     fn answer(&mut self, alloc: Global, word: &str, rest: &str) -> Result<String, Wrong> {
         match word {
             "sent" => shown(alloc, &self.all_sent.len()),
-            "cuts" => cuts(alloc, self.all_sent.as_str()),
-            "writers" => writers(alloc, self.all_sent.as_str()),
-            "readers" => readers(alloc, self.all_sent.as_str(), rest),
+            "cuts" => cuts(alloc, self.stores, self.all_sent.as_str()),
+            "writers" => writers(alloc, self.stores, self.all_sent.as_str()),
+            "readers" => readers(alloc, self.stores, self.all_sent.as_str(), rest),
             "stops"
             | "group-stops"
             | "compaction-stops"
@@ -70,9 +76,11 @@ impl Service for Stand {
             | "upgrade-stops"
             | "upgrade-failures"
             | "script-stops"
-            | "script-failures" => { trials(alloc, word, &self.writes, &self.steps, rest) }
-            "compaction-damage" => compaction_damage(alloc, &self.writes, rest),
-            "drive" => driven(alloc, &self.steps, rest),
+            | "script-failures" => {
+                trials(alloc, self.stores, word, &self.writes, &self.steps, rest)
+            }
+            "compaction-damage" => compaction_damage(alloc, self.stores, &self.writes, rest),
+            "drive" => driven(alloc, self.stores.format, &self.steps, rest),
             "apply" => self.apply(alloc, rest),
             "at-hand" => at_hand(alloc, rest),
             "fault" => fault(alloc, rest),
@@ -87,7 +95,7 @@ impl Stand {
             "open" | "compact" => text(alloc, step)?,
             _ => message(alloc, step)?,
         })?;
-        applied(alloc, &mut self.place, &self.steps)
+        applied(alloc, self.stores, &mut self.place, &self.steps)
     }
 
     // Keeps the steps that a line on the store is. The opening before the first step is that of the case.
@@ -116,12 +124,16 @@ impl Stand {
         let format = line.format(Format::First);
         // Nothing is shown, so what is wrong with the words is told here.
         drop(line.end()?);
+        self.stores.format = format;
         self.place.create(format);
         self.place.answer()
     }
 
     // Answers a line on the device, with the store shut.
     fn answer_of_device(&mut self, alloc: Global, word: &str, rest: &str) -> Result<String, Wrong> {
+        if word == "device" {
+            self.stores.room_sectors = WordReader::new(rest).number();
+        }
         match self.place.device() {
             Some(device) => {
                 let mut line = Line::new(alloc, rest);

@@ -1,7 +1,7 @@
 //! Compactions that are stopped, or that fail, at a call of the device, and sectors of a compacted store that are overwritten.
 
 use crate::looks::{is_look, leaves, push_look};
-use crate::place::StorePlace;
+use crate::place::{NewStores, StorePlace};
 use crate::steps::Stop;
 use crate::stops::make;
 use cases::{TextBuilder, Wrong};
@@ -21,8 +21,8 @@ fn compact(place: &mut StorePlace) {
 }
 
 /// A new store with these writes, compacted this many times.
-pub fn made(alloc: Global, writes: &[String], times: u64) -> StorePlace {
-    let mut place = StorePlace::new(alloc, ROOM_SECTORS);
+pub fn made(alloc: Global, stores: NewStores, writes: &[String], times: u64) -> StorePlace {
+    let mut place = stores.place(alloc, ROOM_SECTORS);
     place.open();
     for write in writes {
         make(&mut place, write.as_str());
@@ -34,8 +34,14 @@ pub fn made(alloc: Global, writes: &[String], times: u64) -> StorePlace {
 }
 
 // Such a store, and what it shows.
-fn begun(alloc: Global, writes: &[String], times: u64, looks: &mut Vec<String>) -> StorePlace {
-    let mut place = made(alloc, writes, times);
+fn begun(
+    alloc: Global,
+    stores: NewStores,
+    writes: &[String],
+    times: u64,
+    looks: &mut Vec<String>,
+) -> StorePlace {
+    let mut place = made(alloc, stores, writes, times);
     push_look(&mut place, looks);
     place
 }
@@ -63,12 +69,13 @@ fn fails(place: &mut StorePlace) -> bool {
 /// One stop and one crash, of the device of a store that is opened and compacted, with these writes and this many compactions before.
 pub fn compaction_stopped(
     alloc: Global,
+    stores: NewStores,
     writes: &[String],
     times: u64,
     stop: Stop<'_>,
 ) -> Result<u64, Wrong> {
     let mut looks = Vec::new(alloc);
-    let mut place = begun(alloc, writes, times, &mut looks);
+    let mut place = begun(alloc, stores, writes, times, &mut looks);
     place.stop_on(stop.call);
     fails(&mut place);
     place.crash(stop.picks, stop.length);
@@ -79,12 +86,13 @@ pub fn compaction_stopped(
 /// One failure. A store of which a compaction failed is neither compacted nor checked any more.
 pub fn compaction_failed(
     alloc: Global,
+    stores: NewStores,
     writes: &[String],
     times: u64,
     call: u64,
 ) -> Result<u64, Wrong> {
     let mut looks = Vec::new(alloc);
-    let mut place = begun(alloc, writes, times, &mut looks);
+    let mut place = begun(alloc, stores, writes, times, &mut looks);
     place.fail_on(call);
     if fails(&mut place) {
         place.compact();
@@ -97,8 +105,8 @@ pub fn compaction_failed(
 }
 
 // How many sectors a compacted store has.
-fn sectors(alloc: Global, writes: &[String]) -> Result<u64, Wrong> {
-    let mut place = begun(alloc, writes, 1, &mut Vec::new(alloc));
+fn sectors(alloc: Global, stores: NewStores, writes: &[String]) -> Result<u64, Wrong> {
+    let mut place = begun(alloc, stores, writes, 1, &mut Vec::new(alloc));
     let sectors = match place.device() {
         Some(device) => device.len().unwrap_or(0),
         None => 0,
@@ -107,9 +115,15 @@ fn sectors(alloc: Global, writes: &[String]) -> Result<u64, Wrong> {
 }
 
 // Overwrites a sector of a compacted store: how many open, and then show what they showed before; else damage must be told.
-fn damaged(alloc: Global, writes: &[String], at: u64, with: u8) -> Result<u64, Wrong> {
+fn damaged(
+    alloc: Global,
+    stores: NewStores,
+    writes: &[String],
+    at: u64,
+    with: u8,
+) -> Result<u64, Wrong> {
     let mut looks = Vec::new(alloc);
-    let mut place = begun(alloc, writes, 1, &mut looks);
+    let mut place = begun(alloc, stores, writes, 1, &mut looks);
     let is_put = match place.device() {
         Some(device) => put(device, at, &[with; 512]).is_ok(),
         None => false,
@@ -127,12 +141,17 @@ fn damaged(alloc: Global, writes: &[String], at: u64, with: u8) -> Result<u64, W
 
 /// `compaction-damage BYTE`: overwrites each sector of a new store with these writes that was compacted, one each time, with a byte throughout: how
 /// many of all leave a store that opens and shows what it showed before. At each other damage must be told.
-pub fn compaction_damage(alloc: Global, writes: &[String], line: &str) -> Result<String, Wrong> {
+pub fn compaction_damage(
+    alloc: Global,
+    stores: NewStores,
+    writes: &[String],
+    line: &str,
+) -> Result<String, Wrong> {
     let with = byte(line)?;
-    let sectors = sectors(alloc, writes)?;
+    let sectors = sectors(alloc, stores, writes)?;
     let mut opened = 0_u64;
     for at in 0..sectors {
-        opened = opened.saturating_add(damaged(alloc, writes, at, with)?);
+        opened = opened.saturating_add(damaged(alloc, stores, writes, at, with)?);
     }
     let mut told = TextBuilder::new(alloc);
     told.show(&opened);

@@ -99,27 +99,41 @@ fn reply_text(alloc: Global, reply: &Reply) -> Result<String, Wrong> {
     line.end()
 }
 
+/// What the new stores of a case are like: their format, and for how many sectors the case asked, of its device.
+#[derive(Clone, Copy)]
+pub struct NewStores {
+    pub format: Format,
+    pub room_sectors: u64,
+}
+
+impl NewStores {
+    /// A new store on a device with the case's room, but for so many sectors at least; it is shut.
+    pub fn place(self, alloc: Global, least_sectors: u64) -> StorePlace {
+        StorePlace::new(alloc, self.format, self.room_sectors.max(least_sectors))
+    }
+}
+
 // A device with a new store.
-fn created(alloc: Global, room_sectors: u64) -> Result<MemDevice, &'static str> {
+fn created(alloc: Global, format: Format, room_sectors: u64) -> Result<MemDevice, &'static str> {
     let Ok(mut device) = MemDevice::new(alloc, room_sectors) else {
         return Err("out of memory");
     };
-    match create(&mut device, Format::First) {
+    match create(&mut device, format) {
         Ok(()) => Ok(device),
         Err(_) => Err("no store can be made"),
     }
 }
 
 impl StorePlace {
-    /// A new store on a device with so much room, shut.
-    pub fn new(alloc: Global, room_sectors: u64) -> StorePlace {
+    /// A new store of a format on a device with room for so many sectors; it is shut.
+    pub fn new(alloc: Global, format: Format, room_sectors: u64) -> StorePlace {
         let mut place = StorePlace {
             alloc,
             ground: Ground::Nothing,
             told: String::new(alloc),
             wrong: "",
         };
-        match created(alloc, room_sectors) {
+        match created(alloc, format, room_sectors) {
             Ok(device) => place.shut(device),
             Err(why) => place.note(false, why),
         }

@@ -2,18 +2,32 @@
 //! episodes of one life.
 
 use crate::looks::{crash_leaves, is_look, leaves, push_look};
-use crate::place::StorePlace;
+use crate::place::{NewStores, StorePlace};
 use crate::steps::{Stop, push_steps, stop_step};
 use cases::{TextBuilder, WordReader, Wrong, shown, wanted};
 use diskcases::crash_words;
 use durable::{Episode, Found};
+use names::Format;
 use std::alloc::Global;
 
 const ROOM_SECTORS: u64 = 160;
 
-/// The request after a stop. With the compaction that follows, it takes fewer calls than `PROBE_CALLS`.
-pub const PROBE: &str =
+// What a store in which namespaces stand for nothing is asked after a stop.
+const CONFIG_MAP_PROBE: &str =
     "POST /api/v1/namespaces/default/configmaps HTTP/1.1\r\nHost: x\r\nContent-Length: 66\r\n\r\n{\"apiVersion\":\"v1\",\"kind\":\"ConfigMap\",\"metadata\":{\"name\":\"probe\"}}";
+
+// The same of one in which namespaces are objects, since there may be none yet.
+const NAMESPACE_PROBE: &str =
+    "POST /api/v1/namespaces HTTP/1.1\r\nHost: x\r\nContent-Length: 66\r\n\r\n{\"apiVersion\":\"v1\",\"kind\":\"Namespace\",\"metadata\":{\"name\":\"probe\"}}";
+
+/// The request after a stop of a store of this format, which any such store takes.
+pub fn probe(format: Format) -> &'static str {
+    if format.has_namespaces() {
+        NAMESPACE_PROBE
+    } else {
+        CONFIG_MAP_PROBE
+    }
+}
 
 // Does what a step says.
 fn go(place: &mut StorePlace, step: &Episode) {
@@ -54,10 +68,11 @@ fn taken(place: &mut StorePlace, steps: &[Episode]) -> usize {
 /// Adds what is shown after each step, where nothing fails.
 pub fn push_script_looks(
     alloc: Global,
+    stores: NewStores,
     steps: &[Episode],
     looks: &mut Vec<String>,
 ) -> Result<u64, Wrong> {
-    let mut place = StorePlace::new(alloc, ROOM_SECTORS);
+    let mut place = stores.place(alloc, ROOM_SECTORS);
     for step in steps {
         let is_taken = take(&mut place, step);
         place.note(is_taken, "the device fails");
@@ -86,12 +101,13 @@ fn stops_again(place: &mut StorePlace, probe: &[Episode]) {
 /// Takes the steps on a device that stops, and crashes, and lives the episodes after: how many a step met.
 pub fn script_stopped(
     alloc: Global,
+    stores: NewStores,
     steps: &[Episode],
     after: &[Episode],
     looks: &[String],
     stop: Stop<'_>,
 ) -> Result<u64, Wrong> {
-    let mut place = StorePlace::new(alloc, ROOM_SECTORS);
+    let mut place = stores.place(alloc, ROOM_SECTORS);
     place.stop_on(stop.call);
     let count = taken(&mut place, steps);
     crash_leaves(&mut place, looks, [count.saturating_sub(1), count], stop);
@@ -103,11 +119,12 @@ pub fn script_stopped(
 /// step.
 pub fn script_failed(
     alloc: Global,
+    stores: NewStores,
     steps: &[Episode],
     looks: &[String],
     call: u64,
 ) -> Result<u64, Wrong> {
-    let mut place = StorePlace::new(alloc, ROOM_SECTORS);
+    let mut place = stores.place(alloc, ROOM_SECTORS);
     place.fail_on(call);
     let count = taken(&mut place, steps);
     let Some(step) = steps.get(count) else {
@@ -127,10 +144,15 @@ pub fn script_failed(
 }
 
 // Asks that a place shows what these steps leave.
-fn is_as_before(alloc: Global, place: &mut StorePlace, words: &[String]) -> Result<(), Wrong> {
+fn is_as_before(
+    alloc: Global,
+    stores: NewStores,
+    place: &mut StorePlace,
+    words: &[String],
+) -> Result<(), Wrong> {
     let (mut steps, mut looks) = (Vec::new(alloc), Vec::new(alloc));
-    push_steps(alloc, words, &[], false, &mut steps)?;
-    push_script_looks(alloc, &steps, &mut looks)?;
+    push_steps(alloc, stores.format, words, &[], false, &mut steps)?;
+    push_script_looks(alloc, stores, &steps, &mut looks)?;
     place.look();
     let is_left = is_look(&looks, looks.len().saturating_sub(1), place.told());
     wanted(
@@ -141,15 +163,20 @@ fn is_as_before(alloc: Global, place: &mut StorePlace, words: &[String]) -> Resu
 
 /// `apply STEP`: takes the last of these steps by a call of the store, and gives what is told of it. Where that is out of memory, a store that is
 /// open must show what the steps before left, and the step is taken once more.
-pub fn applied(alloc: Global, place: &mut StorePlace, words: &[String]) -> Result<String, Wrong> {
+pub fn applied(
+    alloc: Global,
+    stores: NewStores,
+    place: &mut StorePlace,
+    words: &[String],
+) -> Result<String, Wrong> {
     let (before, last) = words.split_at(words.len().saturating_sub(1));
     let mut steps = Vec::new(alloc);
-    push_steps(alloc, last, &[], false, &mut steps)?;
+    push_steps(alloc, stores.format, last, &[], false, &mut steps)?;
     for step in &steps {
         go(place, step);
         if place.told() == "out of memory" {
             if place.is_open() {
-                is_as_before(alloc, place, before)?;
+                is_as_before(alloc, stores, place, before)?;
             }
             go(place, step);
         }
@@ -175,7 +202,12 @@ fn found_text(alloc: Global, found: &[Found]) -> Result<String, Wrong> {
 
 /// `drive ROOM AT STOP LENGTH [PICK ..]`: the steps of this case after its opening as a life of a new store, each in an episode of its own, and an
 /// opening after them. The AT-th is stopped at a call, and crashes so. Of each the revision that it finds, and the codes of its replies.
-pub fn driven(alloc: Global, words: &[String], line: &str) -> Result<String, Wrong> {
+pub fn driven(
+    alloc: Global,
+    format: Format,
+    words: &[String],
+    line: &str,
+) -> Result<String, Wrong> {
     let mut numbers = WordReader::new(line);
     let (room, at, call) = (numbers.number(), numbers.number(), numbers.number());
     numbers.end()?;
@@ -189,6 +221,7 @@ pub fn driven(alloc: Global, words: &[String], line: &str) -> Result<String, Wro
     let mut steps = Vec::new(alloc);
     push_steps(
         alloc,
+        format,
         words.get(1..).unwrap_or(&[]),
         &["open"],
         false,
@@ -201,7 +234,7 @@ pub fn driven(alloc: Global, words: &[String], line: &str) -> Result<String, Wro
         stop,
         false,
     )?;
-    let mut place = StorePlace::new(alloc, room);
+    let mut place = StorePlace::new(alloc, format, room);
     let lived = place.live(&steps);
     drop(place);
     match lived {

@@ -20,6 +20,7 @@ pub struct Stop<'a> {
 fn push_step(
     alloc: Global,
     routes: &Routes,
+    format: Format,
     word: &str,
     is_group: bool,
     steps: &mut Vec<Episode>,
@@ -41,7 +42,7 @@ fn push_step(
         "open" => {}
         _ => step
             .requests
-            .push(routed_first(alloc, routes, Format::First, word)?.request)?,
+            .push(routed_first(alloc, routes, format, word)?.request)?,
     }
     Ok(())
 }
@@ -50,30 +51,32 @@ fn push_step(
 fn push_each(
     alloc: Global,
     routes: &Routes,
+    format: Format,
     words: &[String],
     after: &[&str],
     is_group: bool,
     steps: &mut Vec<Episode>,
 ) -> Result<(), Wrong> {
     for word in words {
-        push_step(alloc, routes, word.as_str(), is_group, steps)?;
+        push_step(alloc, routes, format, word.as_str(), is_group, steps)?;
     }
     for word in after {
-        push_step(alloc, routes, word, is_group, steps)?;
+        push_step(alloc, routes, format, word, is_group, steps)?;
     }
     Ok(())
 }
 
-/// Adds the steps of a case, and these after them, each an episode, or all in one.
+/// Adds the steps of a case over a store of this format, and these after them, each an episode, or all in one.
 pub fn push_steps(
     alloc: Global,
+    format: Format,
     words: &[String],
     after: &[&str],
     is_group: bool,
     steps: &mut Vec<Episode>,
 ) -> Result<(), Wrong> {
     let routes = Routes::new(alloc)?;
-    let pushed = push_each(alloc, &routes, words, after, is_group, steps);
+    let pushed = push_each(alloc, &routes, format, words, after, is_group, steps);
     drop(routes);
     pushed
 }

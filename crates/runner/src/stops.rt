@@ -1,7 +1,7 @@
 //! Writes that are stopped at a call of the device, and the crash that follows.
 
 use crate::looks::{crash_leaves, push_look};
-use crate::place::StorePlace;
+use crate::place::{NewStores, StorePlace};
 use crate::steps::Stop;
 use cases::Wrong;
 use durable::Episode;
@@ -25,10 +25,11 @@ pub fn make(place: &mut StorePlace, write: &str) {
 /// Adds what is shown before the first write and after each, where nothing fails.
 pub fn push_write_looks(
     alloc: Global,
+    stores: NewStores,
     writes: &[String],
     looks: &mut Vec<String>,
 ) -> Result<u64, Wrong> {
-    let mut place = StorePlace::new(alloc, ROOM_SECTORS);
+    let mut place = stores.place(alloc, ROOM_SECTORS);
     place.open();
     push_look(&mut place, looks);
     for write in writes {
@@ -57,13 +58,14 @@ fn run_each(place: &mut StorePlace, writes: &[String], steps: &[Episode]) -> usi
 /// the next group, or none.
 pub fn writes_stopped(
     alloc: Global,
+    stores: NewStores,
     writes: &[String],
     steps: &[Episode],
     looks: &[String],
     is_group: bool,
     stop: Stop<'_>,
 ) -> Result<u64, Wrong> {
-    let mut place = StorePlace::new(alloc, ROOM_SECTORS);
+    let mut place = stores.place(alloc, ROOM_SECTORS);
     place.stop_on(stop.call);
     place.open();
     let counts = match steps.first() {

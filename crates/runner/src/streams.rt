@@ -1,6 +1,6 @@
 //! Streams that are read in parts, and readers and writers that fail, each on a new store.
 
-use crate::place::StorePlace;
+use crate::place::NewStores;
 use cases::{WordReader, Wrong, compare, text};
 use rowcases::short;
 use std::alloc::Global;
@@ -85,8 +85,13 @@ impl Write for Taker {
 }
 
 // What is written on a new store, with its end after it.
-fn served(alloc: Global, reader: Parted<'_>, writer: Taker) -> Result<String, Wrong> {
-    let mut place = StorePlace::new(alloc, ROOM_SECTORS);
+fn served(
+    alloc: Global,
+    stores: NewStores,
+    reader: Parted<'_>,
+    writer: Taker,
+) -> Result<String, Wrong> {
+    let mut place = stores.place(alloc, ROOM_SECTORS);
     place.open();
     place.serve(reader, writer);
     let answer = place.answer();
@@ -95,49 +100,67 @@ fn served(alloc: Global, reader: Parted<'_>, writer: Taker) -> Result<String, Wr
 }
 
 // Asks that this is written, with its end after it, where a reader gets on.
-fn is_read(alloc: Global, reader: Parted<'_>, wanted: &str) -> Result<(), Wrong> {
-    let found = served(alloc, reader, Taker::new(alloc, usize::MAX, 0))?;
+fn is_read(
+    alloc: Global,
+    stores: NewStores,
+    reader: Parted<'_>,
+    wanted: &str,
+) -> Result<(), Wrong> {
+    let found = served(alloc, stores, reader, Taker::new(alloc, usize::MAX, 0))?;
     compare(alloc, found.as_str(), wanted)
 }
 
 /// `cuts`: whether a stream that is cut after each of its bytes in turn, or that is read byte by byte, has the replies and the end
 /// of the whole.
-pub fn cuts(alloc: Global, sent: &str) -> Result<String, Wrong> {
+pub fn cuts(alloc: Global, stores: NewStores, sent: &str) -> Result<String, Wrong> {
     let reader = Parted::new(sent, usize::MAX, usize::MAX, 0);
-    let whole = served(alloc, reader, Taker::new(alloc, usize::MAX, 0))?;
+    let whole = served(alloc, stores, reader, Taker::new(alloc, usize::MAX, 0))?;
     for first in 1..sent.len() {
         is_read(
             alloc,
+            stores,
             Parted::new(sent, first, usize::MAX, 0),
             whole.as_str(),
         )?;
     }
-    is_read(alloc, Parted::new(sent, 1, 1, 0), whole.as_str())?;
+    is_read(alloc, stores, Parted::new(sent, 1, 1, 0), whole.as_str())?;
     text(alloc, "ok")
 }
 
 /// `readers A B`: what is written where a reader that gives a byte a call fails at each call from the A-th to the B-th, which is the
 /// same for all of them.
-pub fn readers(alloc: Global, sent: &str, line: &str) -> Result<String, Wrong> {
+pub fn readers(alloc: Global, stores: NewStores, sent: &str, line: &str) -> Result<String, Wrong> {
     let mut words = WordReader::new(line);
     let (first, last) = (words.number(), words.number());
     words.end()?;
     let answer = served(
         alloc,
+        stores,
         Parted::new(sent, 1, 1, first),
         Taker::new(alloc, usize::MAX, 0),
     )?;
     for call in first..=last {
-        is_read(alloc, Parted::new(sent, 1, 1, call), answer.as_str())?;
+        is_read(
+            alloc,
+            stores,
+            Parted::new(sent, 1, 1, call),
+            answer.as_str(),
+        )?;
     }
     short(alloc, answer.as_str())
 }
 
 // Asks that a writer that takes a byte a call, and fails after this many, takes the front of the replies, and that the connection ends so.
-fn is_written(alloc: Global, sent: &str, replies: &str, count: usize) -> Result<(), Wrong> {
+fn is_written(
+    alloc: Global,
+    stores: NewStores,
+    sent: &str,
+    replies: &str,
+    count: usize,
+) -> Result<(), Wrong> {
     let reader = Parted::new(sent, usize::MAX, usize::MAX, 0);
     let writer = Taker::new(alloc, 1, (count as u64).saturating_add(1));
-    let found = served(alloc, reader, writer)?;
+    let found = served(alloc, stores, reader, writer)?;
     let front = replies.get(..count).unwrap_or("no text");
     match found.strip_suffix("ends write") {
         Some(taken) if taken == front => Ok(()),
@@ -147,14 +170,14 @@ fn is_written(alloc: Global, sent: &str, replies: &str, count: usize) -> Result<
 
 /// `writers`: whether a writer that takes a byte a call, and fails at any of the calls that the replies need, takes all that is
 /// before the call, and the connection ends so.
-pub fn writers(alloc: Global, sent: &str) -> Result<String, Wrong> {
+pub fn writers(alloc: Global, stores: NewStores, sent: &str) -> Result<String, Wrong> {
     let reader = Parted::new(sent, usize::MAX, usize::MAX, 0);
-    let answer = served(alloc, reader, Taker::new(alloc, usize::MAX, 0))?;
+    let answer = served(alloc, stores, reader, Taker::new(alloc, usize::MAX, 0))?;
     let Some(replies) = answer.strip_suffix("ends clean") else {
         return Err(Wrong::Told("the connection does not end clean"));
     };
     for count in 0..replies.len() {
-        is_written(alloc, sent, replies, count)?;
+        is_written(alloc, stores, sent, replies, count)?;
     }
     text(alloc, "ok")
 }

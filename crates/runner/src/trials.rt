@@ -1,7 +1,8 @@
 //! Repeats a case on new stores, with a stop or a failure at each of some calls of the device.
 
 use crate::compactions::{compaction_failed, compaction_stopped};
-use crate::scripts::{PROBE, push_script_looks, script_failed, script_stopped};
+use crate::place::NewStores;
+use crate::scripts::{probe, push_script_looks, script_failed, script_stopped};
 use crate::steps::{Stop, push_steps, stop_step};
 use crate::stops::{push_write_looks, writes_stopped};
 use crate::upgrades::{push_upgrade_looks, upgrade_failed, upgrade_stopped};
@@ -13,8 +14,8 @@ use std::alloc::{AllocError, Global};
 // No crash of these devices leaves this many sectors open.
 const MOST_PICKS: usize = 80;
 
-// One call more than the probe takes with the compaction that follows.
-const PROBE_CALLS: u64 = 16;
+// One call more than the probe takes with the compaction that follows, where two pages have objects.
+const PROBE_CALLS: u64 = 17;
 
 // What two sectors that one sync leaves open become: both alike, or one of them as it was.
 const PICKS: [[Pick; 2]; 10] = [
@@ -46,7 +47,7 @@ enum Kind {
     // `compaction-failures A B TIMES`: the same with one call that fails, and no crash before what is found: where the opening does not fail, the
     // compaction must, and then the store is neither compacted nor checked any more.
     CompactionFailures(u64),
-    // `upgrade-stops A B TIMES ALONE`: opens and upgrades a new store of format 1 with these writes, which was compacted this many times before, with a
+    // `upgrade-stops A B TIMES ALONE`: opens and upgrades a new store with these writes, which was compacted this many times before, with a
     // stop at each call from the A-th to the B-th, and crashes: the sectors that may change become all alike, or one of the first this many alone, with
     // the least and the greatest length. What is found is what was shown before, or what the upgraded store shows, the same after a second crash, and
     // the second after an upgrade that follows. Each of the calls must be one of the opening or of the upgrade.
@@ -66,6 +67,7 @@ enum Kind {
 // What is tried, and what it is tried with.
 struct Trial<'a> {
     kind: Kind,
+    stores: NewStores,
     writes: &'a [String],
     // the writes, or the steps of a script and those that follow a stop
     steps: Vec<Episode>,
@@ -88,6 +90,7 @@ impl Drop for Trial<'_> {
     fn drop(self) {
         let Trial {
             kind: _,
+            stores: _,
             writes: _,
             steps: _,
             looks: _,
@@ -101,17 +104,26 @@ impl<'a> Trial<'a> {
         match self.kind {
             Kind::CompactionStops(_) | Kind::CompactionFailures(_) => Ok(0),
             Kind::UpgradeStops { times, alone: _ } | Kind::UpgradeFailures(times) => {
-                push_upgrade_looks(alloc, self.writes, times, &mut self.looks)
+                push_upgrade_looks(alloc, self.stores, self.writes, times, &mut self.looks)
             }
             Kind::Stops | Kind::GroupStops => {
                 let is_group = matches!(self.kind, Kind::GroupStops);
-                push_steps(alloc, self.writes, &[], is_group, &mut self.steps)?;
-                push_write_looks(alloc, self.writes, &mut self.looks)
+                push_steps(
+                    alloc,
+                    self.stores.format,
+                    self.writes,
+                    &[],
+                    is_group,
+                    &mut self.steps,
+                )?;
+                push_write_looks(alloc, self.stores, self.writes, &mut self.looks)
             }
             Kind::ScriptStops(_) | Kind::ScriptFailures => {
-                push_steps(alloc, script, &[PROBE, "open"], false, &mut self.steps)?;
+                let format = self.stores.format;
+                let after = [probe(format), "open"];
+                push_steps(alloc, format, script, &after, false, &mut self.steps)?;
                 let (script, _) = self.steps.split_at(self.steps.len().saturating_sub(2));
-                push_script_looks(alloc, script, &mut self.looks)
+                push_script_looks(alloc, self.stores, script, &mut self.looks)
             }
         }
     }
@@ -119,10 +131,24 @@ impl<'a> Trial<'a> {
     // One stop and one crash: how many hold.
     fn stopped(&self, alloc: Global, stop: Stop<'_>) -> Result<u64, Wrong> {
         match self.kind {
-            Kind::CompactionStops(times) => compaction_stopped(alloc, self.writes, times, stop),
+            Kind::CompactionStops(times) => compaction_stopped(
+                alloc,
+                self.stores,
+                self.writes,
+                times,
+                stop,
+            ),
             _ => {
                 let is_group = matches!(self.kind, Kind::GroupStops);
-                writes_stopped(alloc, self.writes, &self.steps, &self.looks, is_group, stop)
+                writes_stopped(
+                    alloc,
+                    self.stores,
+                    self.writes,
+                    &self.steps,
+                    &self.looks,
+                    is_group,
+                    stop,
+                )
             }
         }
     }
@@ -153,7 +179,7 @@ impl<'a> Trial<'a> {
         };
         stop_step(alloc, &mut self.steps, at, further, true)?;
         let (script, after) = self.steps.split_at(at);
-        script_stopped(alloc, script, after, &self.looks, stop)
+        script_stopped(alloc, self.stores, script, after, &self.looks, stop)
     }
 
     // The same with each crash after a stop at a call.
@@ -196,6 +222,7 @@ impl<'a> Trial<'a> {
                     };
                     held = held.saturating_add(upgrade_stopped(
                         alloc,
+                        self.stores,
                         self.writes,
                         times,
                         &self.looks,
@@ -210,15 +237,21 @@ impl<'a> Trial<'a> {
     // All trials of a call: how many hold, or met the stop or the failure.
     fn at(&mut self, alloc: Global, call: u64) -> Result<u64, Wrong> {
         match self.kind {
-            Kind::CompactionFailures(times) => compaction_failed(alloc, self.writes, times, call),
+            Kind::CompactionFailures(times) => compaction_failed(
+                alloc,
+                self.stores,
+                self.writes,
+                times,
+                call,
+            ),
             Kind::ScriptFailures => {
                 let (script, _) = self.steps.split_at(self.steps.len().saturating_sub(2));
-                script_failed(alloc, script, &self.looks, call)
+                script_failed(alloc, self.stores, script, &self.looks, call)
             }
             Kind::ScriptStops(alone) => self.script_stops(alloc, call, alone),
             Kind::UpgradeStops { times, alone } => self.upgrade_stops(alloc, call, times, alone),
             Kind::UpgradeFailures(times) => {
-                upgrade_failed(alloc, self.writes, times, &self.looks, call)
+                upgrade_failed(alloc, self.stores, self.writes, times, &self.looks, call)
             }
             _ => self.stops(alloc, call),
         }
@@ -229,6 +262,7 @@ impl<'a> Trial<'a> {
 /// met the stop or the failure.
 pub fn trials(
     alloc: Global,
+    stores: NewStores,
     word: &str,
     writes: &[String],
     script: &[String],
@@ -252,6 +286,7 @@ pub fn trials(
     words.end()?;
     let mut trial = Trial {
         kind,
+        stores,
         writes,
         steps: Vec::new(alloc),
         looks: Vec::new(alloc),

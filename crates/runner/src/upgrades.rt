@@ -2,7 +2,7 @@
 
 use crate::compactions::made;
 use crate::looks::{leaves, push_look};
-use crate::place::StorePlace;
+use crate::place::{NewStores, StorePlace};
 use crate::steps::Stop;
 use cases::Wrong;
 use device::Pick;
@@ -20,15 +20,31 @@ fn upgrade(place: &mut StorePlace) {
 /// Adds what a new store with these writes shows that was compacted this many times, and what it shows once it is upgraded.
 pub fn push_upgrade_looks(
     alloc: Global,
+    stores: NewStores,
     writes: &[String],
     times: u64,
     looks: &mut Vec<String>,
 ) -> Result<u64, Wrong> {
-    let mut place = made(alloc, writes, times);
+    let mut place = made(alloc, stores, writes, times);
     push_look(&mut place, looks);
     upgrade(&mut place);
     push_look(&mut place, looks);
     place.end(0)
+}
+
+// Upgrades the open store, which shows the first or the second of these, unless it was upgraded already. Where it shows the same before and after, as one of
+// format 2 does, it may be either.
+fn upgrade_unless_upgraded(place: &mut StorePlace, looks: &[String], count: usize) {
+    place.upgrade();
+    let was_old = place.told().starts_with("format 3, ");
+    let was_upgraded = place.told() == "already upgraded";
+    place.note(was_old || was_upgraded, "the store is not upgraded");
+    let show_the_same = match looks {
+        [old, new] => old.as_str() == new.as_str(),
+        _ => false,
+    };
+    let is_as_shown = show_the_same || was_old == (count == 0);
+    place.note(is_as_shown, "an upgraded store is upgraded again");
 }
 
 // Asks that an opening finds one of the two, another one after a crash the same, and one after an upgrade that follows the upgraded store.
@@ -41,12 +57,7 @@ fn keeps(place: &mut StorePlace, looks: &[String]) {
         [count, count],
         "a second crash leaves something else",
     );
-    if count == 0 {
-        upgrade(place);
-    } else {
-        place.upgrade();
-        place.tells("already upgraded", "an upgraded store is upgraded again");
-    }
+    upgrade_unless_upgraded(place, looks, count);
     leaves(place, looks, [1, 1], NEITHER);
 }
 
@@ -64,12 +75,13 @@ fn fails(place: &mut StorePlace) -> bool {
 /// One stop and one crash, of the device of a store that is opened and upgraded, with these writes and this many compactions before.
 pub fn upgrade_stopped(
     alloc: Global,
+    stores: NewStores,
     writes: &[String],
     times: u64,
     looks: &[String],
     stop: Stop<'_>,
 ) -> Result<u64, Wrong> {
-    let mut place = made(alloc, writes, times);
+    let mut place = made(alloc, stores, writes, times);
     place.stop_on(stop.call);
     fails(&mut place);
     place.crash(stop.picks, stop.length);
@@ -80,12 +92,13 @@ pub fn upgrade_stopped(
 /// One failure. A store of which an upgrade failed is neither upgraded nor checked any more.
 pub fn upgrade_failed(
     alloc: Global,
+    stores: NewStores,
     writes: &[String],
     times: u64,
     looks: &[String],
     call: u64,
 ) -> Result<u64, Wrong> {
-    let mut place = made(alloc, writes, times);
+    let mut place = made(alloc, stores, writes, times);
     place.fail_on(call);
     if fails(&mut place) {
         place.upgrade();
