@@ -1,5 +1,5 @@
 -- Which entries in the pages of a root are of nothing.
-use Rattle.std.specs.Prelude.{◌≡◌, ◌≢◌, ℕ, List, ◌∷◌, ◌++◌, Contains}
+use Rattle.std.specs.Prelude.{◌≡◌, ◌≢◌, ℕ, List, [], ◌∷◌, ◌++◌, Contains}
 use Rattle.byteorder.specs.Endian.{big_bytes}
 use Rattle.names.specs.declared.resource.Resource.TheVariants.{ValidatingAdmissionPolicy}
 use Rattle.names.specs.Key.{Key, key_bytes}

@@ -12,7 +12,7 @@ use chunks::scan_whole;
 use device::Device;
 use documents::Document;
 use expressions::{Specification, StoredPlans, plans_bytes, specification_of};
-use gatelog::Log;
+use gatelog::{Log, LogFault};
 use names::{Format, Key};
 use records::{KeptObject, RecordFault, StoredWrite, read_view, read_writes};
 use roots::Root;
@@ -110,25 +110,35 @@ pub fn other_plans_in_pages<D: Device>(alloc: Global, device: &mut D, root: &Roo
     }
 }
 
+// The key of the last put in a log that has other plans.
+fn last_put<D: Device>(
+    alloc: Global,
+    device: &mut D,
+    root: &Root,
+) -> Result<Option<Key>, LogFault>
+    requires small { log_sector root.now < 2 ^ 54 }
+    ensures others { D.disk.keeps device.old → IfOk result (λ found. IfSome found (PutsOtherPlans (D.disk.content device.old) root.now)) }
+    ensures ran { Ran D.disk device.old device.new Same }
+{
+    let mut log = Log::open(device, root.log_sector())?;
+    let mut found = None;
+    let mut gate = log.first_gate_sector();
+    'each: while let Some((payload, next)) = log.payload(alloc, device, gate)? {
+        found = put_in(alloc, root.label.format, &payload)?.or(found);
+        gate = next;
+    }
+    Ok(found)
+}
+
 /// Looks in the log behind the pages of a root for the last record with a put of plans that are not those of the expressions of the object that it puts. One payload is held at a time.
 /// None where there is no such record, where no log stands there, and where the device failed or memory was refused.
 pub fn other_plans_in_log<D: Device>(alloc: Global, device: &mut D, root: &Root) -> Option<Key>
+    requires small { log_sector root.now < 2 ^ 54 }
     ensures others { D.disk.keeps device.old → IfSome result (PutsOtherPlans (D.disk.content device.old) root.now) }
     ensures ran { Ran D.disk device.old device.new Same }
 {
-    let Ok(opened) = Log::open(device, root.log_sector()) else {
-        return None;
-    };
-    let mut log = opened;
-    let mut found = None;
-    let mut gate = log.first_gate_sector();
-    'each: while let Ok(Some((payload, next))) = log.payload(alloc, device, gate) {
-        match put_in(alloc, root.label.format, &payload) {
-            Ok(Some(key)) => found = Some(key),
-            Ok(None) => {}
-            Err(AllocError) => return None,
-        }
-        gate = next;
+    match last_put(alloc, device, root) {
+        Ok(found) => found,
+        Err(_) => None,
     }
-    found
 }

@@ -5,7 +5,7 @@ use Rattle.device.specs.Step.{Same}
 use Rattle.roots.specs.Root.{log_sector}
 use Rattle.damage.specs.Plans.{PutsOtherPlans}
 use Rattle.damage.proofs.Walking.{Walked}
-use Rattle.damage.proofs.plan_search.other_plans_in_log.Given as goal
+use Rattle.damage.proofs.plan_search.last_put.Given as goal
 
 -- what was found is there
 abbrev pub invariant-each : goal.invariant-each

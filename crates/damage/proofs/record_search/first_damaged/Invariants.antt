@@ -5,7 +5,7 @@ use Rattle.device.specs.Step.{Same}
 use Rattle.roots.specs.Root.{log_sector}
 use Rattle.damage.specs.Records.{IsOfWrites}
 use Rattle.damage.proofs.Walking.{Walked}
-use Rattle.damage.proofs.record_search.damaged_record.Given as goal
+use Rattle.damage.proofs.record_search.first_damaged.Given as goal
 
 -- the payloads so far are of writes
 abbrev pub invariant-each : goal.invariant-each
