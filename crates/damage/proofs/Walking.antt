@@ -25,6 +25,13 @@ walked_here content start gate last payloads is log =
 abbrev Told : Type 0
 Told = Vec ℕ Global × ℕ
 
+-- This payload stands at a gate, the others at another one.
+record Next (content : List ℕ) (start gate last : ℕ) (passed : List (List ℕ)) (told : Told) : Type 0 where
+  others : List (List ℕ)
+  all : HoldsLog start (passed ++ told.0.items ∷ others) last content
+  here : HoldsLog gate (told.0.items ∷ others) last content
+  behind : HoldsLog told.1 others last content
+
 -- The content of the device is the same now, and this is answered of the payloads that are left: a payload, and the gate behind its record.
 module _ (content now : List ℕ) (same : now ≡ content) (start gate last : ℕ) (passed : List (List ℕ)) (walked : Walked content start gate last passed) (answer : Option Told) (told : Told)
     (is : answer ≡ Some told) (found : (payloads : List (List ℕ)) → HoldsLog gate payloads last now → IsFirstOf answer payloads last now) where
@@ -35,11 +42,11 @@ module _ (content now : List ℕ) (same : now ≡ content) (start gate last : �
       subst (λ a. First a content) is (subst (First answer) same (found walked.rest (subst Log (sym same) walked.behind)))
 
   -- it is the next one
-  next_there : (others : List (List ℕ)) × HoldsLog start (passed ++ told.0.items ∷ others) last content × HoldsLog gate (told.0.items ∷ others) last content × HoldsLog told.1 others last content
+  next_there : Next content start gate last passed told
   next_there =
       let All : List (List ℕ) → Type 0 = λ ps. HoldsLog start (passed ++ ps) last content in
       let Behind : List (List ℕ) → Type 0 = λ ps. HoldsLog gate ps last content in
-      (first_left.0, subst All first_left.1 walked.all, subst Behind first_left.1 walked.behind, first_left.2)
+      record { others = first_left.0; all = subst All first_left.1 walked.all; here = subst Behind first_left.1 walked.behind; behind = first_left.2 }
 
   -- over this payload, in a log whose last gate is the same one
   pub walked_on : (new_last : ℕ) → new_last ≡ last → Walked content start told.1 new_last (passed ++ told.0.items ∷ [])
@@ -47,24 +54,24 @@ module _ (content now : List ℕ) (same : now ≡ content) (start gate last : �
       let Of : List (List ℕ) → Type 0 = λ ps. HoldsLog start ps last content in
       let Last : ℕ → Type 0 = λ l. Walked content start told.1 l (passed ++ told.0.items ∷ []) in
       subst Last (sym stays) (record {
-        rest = next_there.0;
-        all = subst Of (sym (append_assoc passed (told.0.items ∷ []) next_there.0)) next_there.1;
-        behind = next_there.2.1;
+        rest = next_there.others;
+        all = subst Of (sym (append_assoc passed (told.0.items ∷ []) next_there.others)) next_there.all;
+        behind = next_there.behind;
       })
 
   -- where it is that of no writes
   pub damaged_there : (root : Root) → start ≡ log_sector root → AllByRecursion IsOfWrites passed → (IsOfWrites told.0.items → ⊥) → (sector : ℕ) → sector ≡ gate + 1
       → IsFirstDamagedRecord content root sector
   damaged_there root is_start sound damaged sector begins =
-      let Of : ℕ → Type 0 = λ s. HoldsLog s (passed ++ told.0.items ∷ next_there.0) last content in
+      let Of : ℕ → Type 0 = λ s. HoldsLog s (passed ++ told.0.items ∷ next_there.others) last content in
       record {
         before = passed;
         damaged_payload = told.0.items;
-        after = next_there.0;
+        after = next_there.others;
         last = last;
         gate = gate;
-        log = subst Of is_start next_there.1;
-        behind = next_there.2.0;
+        log = subst Of is_start next_there.all;
+        behind = next_there.here;
         begins = begins;
         sound = sound;
         damaged = damaged;

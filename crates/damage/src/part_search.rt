@@ -52,15 +52,27 @@ fn full_bytes(format: Format, stem: &[u8]) -> Option<usize>
     None
 }
 
+// Whether an entry is the part with this number, full.
+fn is_full_part(entry: &Entry, stem: &[u8], number: u16, full: usize) -> bool
+    ensures { result ≡ false → (value : List ℕ) → entry.now ≡ (stem.now ++ big_bytes 2 number, value) → length value ≢ full }
+{
+    match split_number(entry.key()) {
+        Some((own, its)) => {
+            if own != stem {
+                return false;
+            }
+            its == number && entry.cell().len() == full
+        }
+        None => false,
+    }
+}
+
 // Whether the last of these entries is the part with this number, full.
 fn end_in(before: &[Entry], stem: &[u8], number: u16, full: usize) -> bool
     ensures { result ≡ false → (others : List EntryData) (last : List ℕ) → before.now ≡ others ++ (stem.now ++ big_bytes 2 number, last) ∷ [] → length last ≢ full }
 {
-    let Some(last) = before.last() else {
-        return false;
-    };
-    match split_number(last.key()) {
-        Some((own, its)) => own == stem && its == number && last.cell().len() == full,
+    match before.split_last() {
+        Some((last, _others)) => is_full_part(last, stem, number, full),
         None => false,
     }
 }

@@ -174,8 +174,10 @@ fn entry_in<D: Device>(alloc: Global, device: &mut D, root: &Root) -> Option<Pla
     ensures kind { IfSome result IsEntry }
     ensures ran { Ran D.disk device.old device.new Same }
 {
-    let key = damaged_entry(alloc, device, root)?;
-    named(alloc, &key)
+    match damaged_entry(alloc, device, root) {
+        Some(key) => named(alloc, &key),
+        None => None,
+    }
 }
 
 // What has a part in the pages of a root that does not join, as a place.
@@ -186,8 +188,10 @@ fn parts_in<D: Device>(alloc: Global, device: &mut D, root: &Root) -> Option<Pla
     ensures kind { IfSome result IsEntry }
     ensures ran { Ran D.disk device.old device.new Same }
 {
-    let stem = unjoined_part(alloc, device, root)?;
-    named_by_parts(alloc, &stem)
+    match unjoined_part(alloc, device, root) {
+        Some(stem) => named_by_parts(alloc, &stem),
+        None => None,
+    }
 }
 
 // The plans in the pages of a root that are of no policy there, as a place.
@@ -198,7 +202,10 @@ fn lone_plans_in<D: Device>(alloc: Global, device: &mut D, root: &Root) -> Optio
     ensures kind { IfSome result IsEntry }
     ensures ran { Ran D.disk device.old device.new Same }
 {
-    Some(Place::Plans(lone_plans(alloc, device, root)?))
+    match lone_plans(alloc, device, root) {
+        Some(key) => Some(Place::Plans(key)),
+        None => None,
+    }
 }
 
 // What is damaged in the pages of a root, as a place: an entry, else a part, else plans without a policy.
@@ -254,7 +261,10 @@ pub fn damaged_plans_of<D: Device>(alloc: Global, device: &mut D) -> Option<Plac
     ensures ran { Ran D.disk device.old device.new Same }
 {
     match counted_root(device) {
-        Ok(root) => Some(Place::Plans(other_plans(alloc, device, &root)?)),
+        Ok(root) => match other_plans(alloc, device, &root) {
+            Some(key) => Some(Place::Plans(key)),
+            None => None,
+        },
         Err(_) => None,
     }
 }
@@ -267,7 +277,10 @@ pub fn damaged_record_of<D: Device>(alloc: Global, device: &mut D) -> Option<Pla
     ensures ran { Ran D.disk device.old device.new Same }
 {
     match counted_root(device) {
-        Ok(root) => Some(Place::Record(damaged_record(alloc, device, &root)?)),
+        Ok(root) => match damaged_record(alloc, device, &root) {
+            Some(sector) => Some(Place::Record(sector)),
+            None => None,
+        },
         Err(_) => None,
     }
 }

@@ -19,6 +19,7 @@ use roots::Root;
 use std::alloc::{AllocError, Global};
 
 // Whether the bytes are those of other plans than those of the expressions of an object.
+#[tactic(auto, using(crate::proofs::Owning::others_there, crate::proofs::Owning::none_in_bad_spec, crate::proofs::Owning::none_in_bad_expression))]
 fn are_others(
     alloc: Global,
     format: Format,
@@ -41,6 +42,7 @@ fn are_others(
 }
 
 // The key of the first of these objects beside which other plans stand.
+#[tactic(auto, using(crate::proofs::Finding::contains_here))]
 fn first_beside(
     alloc: Global,
     format: Format,
@@ -58,6 +60,7 @@ fn first_beside(
 }
 
 // The key of the first put among these writes that has other plans.
+#[tactic(auto, using(crate::proofs::Finding::contains_mapped))]
 fn first_put(
     alloc: Global,
     format: Format,

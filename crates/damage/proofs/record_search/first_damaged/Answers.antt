@@ -9,7 +9,7 @@ use Rattle.damage.proofs.record_search.first_damaged.Goals as goal
 
 pub each-init : goal.each-init
 each-init g c = record {
-  ran = c.open-log.ensures.ran;
+  ran = c.«open».ensures.ran;
   passed = [];
   walked = λ keeps.
       let content = g.D.Device.disk.content c.args.device.now in

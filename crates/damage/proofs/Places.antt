@@ -1,0 +1,34 @@
+-- What is damaged, as a place.
+use Rattle.std.proofs.Common.{inl, inr, subst, ℕ, List, Option, None, Some}
+use Rattle.std.specs.Option.{IfSome}
+use Rattle.roots.specs.declared.root.Root.{Root}
+use Rattle.damage.specs.declared.place.Place.{Place}
+use Rattle.damage.specs.declared.place.Place.TheVariants as place
+use Rattle.damage.specs.Entries.{HasDamagedEntry}
+use Rattle.damage.specs.Parts.{HasUnjoinedPart}
+use Rattle.damage.specs.Place.{IsAt, Names, NamesParts}
+
+module _ (content : List ℕ) (root : Root) where
+  at_entry : (p : Place) (key : List ℕ) → Names p key → HasDamagedEntry content root key → IsAt content root p
+  at_entry (place.Page number sector) key names damaged = absurd names
+  at_entry (place.Object k) key names damaged = inl (subst (HasDamagedEntry content root) names damaged)
+  at_entry (place.Event revision) key names damaged = inl (subst (HasDamagedEntry content root) names damaged)
+  at_entry (place.Plans k) key names damaged = absurd names
+  at_entry (place.Record sector) key names damaged = absurd names
+
+  at_part : (p : Place) (stem : List ℕ) → NamesParts p stem → HasUnjoinedPart content root stem → IsAt content root p
+  at_part (place.Page number sector) stem names unjoined = absurd names
+  at_part (place.Object k) stem names unjoined = inr (subst (HasUnjoinedPart content root) names unjoined)
+  at_part (place.Event revision) stem names unjoined = inr (subst (HasUnjoinedPart content root) names unjoined)
+  at_part (place.Plans k) stem names unjoined = inl (names.0, subst (HasUnjoinedPart content root) names.1 unjoined)
+  at_part (place.Record sector) stem names unjoined = absurd names
+
+  -- the place that an entry's key names, if it names one
+  pub at_named : (found : Option Place) (key : List ℕ) → HasDamagedEntry content root key → IfSome found (λ p. Names p key) → IfSome found (IsAt content root)
+  at_named None key damaged names = names
+  at_named (Some p) key damaged names = at_entry p key names damaged
+
+  -- the place that the key of a part names, if it names one
+  pub at_named_part : (found : Option Place) (stem : List ℕ) → HasUnjoinedPart content root stem → IfSome found (λ p. NamesParts p stem) → IfSome found (IsAt content root)
+  at_named_part None stem unjoined names = names
+  at_named_part (Some p) stem unjoined names = at_part p stem names unjoined
