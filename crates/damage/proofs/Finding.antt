@@ -42,13 +42,13 @@ some_last entries others e none is = none_pushed others e (ap length (sym is) �
 
 -- what stands at a place
 pub contains_here : {X : Type 0} (xs : List X) (i : ℕ) (x : X) → i < length xs → x ≡ get_or xs i x → Contains xs x
-contains_here xs i x below is = let In : _ → Type 0 = λ y. Contains xs y in subst In (sym is) (Contains-get_or xs i x below)
+contains_here {X} xs i x below is = let In : X → Type 0 = λ y. Contains xs y in subst In (sym is) (Contains-get_or xs i x below)
 
 -- and what a list that is made of it has there
 pub contains_mapped : {X Y : Type 0} (f : X → Y) (xs : List X) (i : ℕ) (x : X) (y : Y) → i < length xs → x ≡ get_or xs i x → f x ≡ y → Contains (map f xs) y
-contains_mapped f xs i x y below is same =
+contains_mapped {X} {Y} f xs i x y below is same =
     let at : get_or (map f xs) i (f x) ≡ y = get_or-map f xs i x (f x) below ∙ ap f (sym is) ∙ same in
-    let In : _ → Type 0 = λ z. Contains (map f xs) z in
+    let In : Y → Type 0 = λ z. Contains (map f xs) z in
     subst In at (Contains-get_or (map f xs) i (f x) (omega (arith, below, length-map f xs)))
 
 -- one entry more that has not the key

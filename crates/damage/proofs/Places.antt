@@ -1,10 +1,14 @@
 -- What is damaged, as a place.
-use Rattle.std.proofs.Common.{inl, inr, subst, ℕ, List, Option, None, Some}
+use Rattle.std.proofs.Common.{◌≡◌, ◌∙◌, sym, ap, inl, inr, subst, ℕ, List, [], ◌∷◌, ◌++◌, Option, None, Some}
 use Rattle.std.specs.Option.{IfSome}
+use Rattle.byteorder.specs.Endian.{big_bytes}
+use Rattle.names.specs.declared.resource.Resource.TheVariants.{ValidatingAdmissionPolicy}
+use Rattle.names.specs.Key.{Key, key_bytes}
+use Rattle.pages.specs.Page.{Entry}
 use Rattle.roots.specs.declared.root.Root.{Root}
 use Rattle.damage.specs.declared.place.Place.{Place}
 use Rattle.damage.specs.declared.place.Place.TheVariants as place
-use Rattle.damage.specs.Entries.{HasDamagedEntry}
+use Rattle.damage.specs.Entries.{HasDamagedEntry, IsPieceOf}
 use Rattle.damage.specs.Parts.{HasUnjoinedPart}
 use Rattle.damage.specs.Place.{IsAt, Names, NamesParts}
 
@@ -32,3 +36,22 @@ module _ (content : List ℕ) (root : Root) where
   pub at_named_part : (found : Option Place) (stem : List ℕ) → HasUnjoinedPart content root stem → IfSome found (λ p. NamesParts p stem) → IfSome found (IsAt content root)
   at_named_part None stem unjoined names = names
   at_named_part (Some p) stem unjoined names = at_part p stem names unjoined
+
+-- ---- keys in front of the numbers of parts
+
+-- of an object
+pub object_parts : (k : Key) (bytes rest : List ℕ) (end : ℕ) → bytes ≡ rest ++ end ∷ [] → end ≡ 0 → key_bytes k ≡ rest → 1 ∷ bytes ≡ (1 ∷ key_bytes k) ++ 0 ∷ []
+object_parts k bytes rest end are zero same =
+    ap (λ (xs : List ℕ). 1 ∷ xs) (are ∙ ap (λ (n : ℕ). rest ++ n ∷ []) zero ∙ ap (λ (xs : List ℕ). xs ++ 0 ∷ []) (sym same))
+
+-- of a policy's plans
+pub plans_parts : (k : Key) (bytes : List ℕ) → bytes ≡ k.name ++ 0 ∷ [] → 2 ∷ bytes ≡ (2 ∷ k.name) ++ 0 ∷ []
+plans_parts k bytes are = ap (λ (xs : List ℕ). 2 ∷ xs) are
+
+pub piece_of : (k : Key) (e : Entry) (stem rest : List ℕ) (mark number : ℕ) → k.resource ≡ ValidatingAdmissionPolicy → e.0 ≡ stem ++ big_bytes 2 number → stem ≡ mark ∷ rest → mark ≡ 2
+    → rest ≡ k.name ++ 0 ∷ [] → IsPieceOf k e
+piece_of k e stem rest mark number policy key parts is name = record {
+  is_policy = policy;
+  number = number;
+  key = key ∙ ap (λ (xs : List ℕ). xs ++ big_bytes 2 number) (parts ∙ ap (λ (m : ℕ). m ∷ rest) is ∙ plans_parts k rest name);
+}

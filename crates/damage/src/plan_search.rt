@@ -52,7 +52,13 @@ fn first_beside(
 {
     'each: for object in objects {
         let key = object.manifest.key();
-        if are_others(alloc, format, key, object.manifest.document(), &object.plans)? {
+        if are_others(
+            alloc,
+            format,
+            key,
+            object.manifest.document(),
+            &object.plans,
+        )? {
             return Ok(Some(key.clone()?));
         }
     }
@@ -114,11 +120,7 @@ pub fn other_plans_in_pages<D: Device>(alloc: Global, device: &mut D, root: &Roo
 }
 
 // The key of the last put in a log that has other plans.
-fn last_put<D: Device>(
-    alloc: Global,
-    device: &mut D,
-    root: &Root,
-) -> Result<Option<Key>, LogFault>
+fn last_put<D: Device>(alloc: Global, device: &mut D, root: &Root) -> Result<Option<Key>, LogFault>
     requires small { log_sector root.now < 2 ^ 54 }
     ensures others { D.disk.keeps device.old → IfOk result (λ found. IfSome found (PutsOtherPlans (D.disk.content device.old) root.now)) }
     ensures ran { Ran D.disk device.old device.new Same }

@@ -33,7 +33,7 @@ each-preserved g c =
       passed = inv.passed ++ c.in-Some.payload.items ∷ [];
       walked = λ keeps.
           walked_on content (disk.content c.each.device) (inv.ran.seen keeps) (log_sector root) c.each.gate c.each.log.last_gate_sector inv.passed (inv.walked keeps)
-          c.in_ok-payload.field-0 (c.in-Some.payload, c.in-Some.next) c.in-Some.is (c.in_ok-payload.ensures.found (inv.ran.kept keeps)) c.payload.new.self.last_gate_sector
+          c.in_ok-payload.field-0 (c.in-Some.payload, c.in-Some.next) c.in-Some.is (c.in_ok-payload.ensures.found (inv.ran.kept keeps)) _
           c.payload.ensures.place.1;
       found = λ keeps.
           let Found : Option Key → Type 0 = λ found. IfSome found (PutsOtherPlans content root) in

@@ -30,10 +30,10 @@ each-preserved g c =
       passed = inv.passed ++ c.in-Some.payload.items ∷ [];
       walked = λ keeps.
           walked_on (disk.content c.args.device.now) (disk.content c.each.device) (inv.ran.seen keeps) (log_sector c.args.root.now) c.each.gate c.each.log.last_gate_sector inv.passed (inv.walked keeps)
-          c.in_ok-payload.field-0 (c.in-Some.payload, c.in-Some.next) c.in-Some.is (c.in_ok-payload.ensures.found (inv.ran.kept keeps)) c.payload.new.self.last_gate_sector
+          c.in_ok-payload.field-0 (c.in-Some.payload, c.in-Some.next) c.in-Some.is (c.in_ok-payload.ensures.found (inv.ran.kept keeps)) _
           c.payload.ensures.place.1;
       sound = all-push IsOfWrites inv.passed c.in-Some.payload.items inv.sound
-      (subst IsOfWrites c.deref.ensures.value (c.in_ok-is_of_writes.ensures.yes c.if-not-branch.false));
+          (subst IsOfWrites c.deref.ensures.value (c.in_ok-is_of_writes.ensures.yes c.if-not-branch.false));
     }
 
 pub returns-then-not-branch-clause-first : goal.returns-then-not-branch-clause-first
