@@ -132,7 +132,6 @@ fn are_without(alloc: Global, entries: &[Entry], key: &Key) -> Result<bool, Allo
 }
 
 // The policy of the first piece of plans among these entries whose policy is not among them.
-#[tactic(auto, using(crate::proofs::Finding::contains_here))]
 fn first_lone(alloc: Global, entries: &[Entry]) -> Option<Key>
     ensures { IfSome result (IsLone entries.now) }
 {

@@ -9,7 +9,7 @@ pub returns-in-Some : goal.returns-in-Some
 returns-in-Some c =
     let entries = c.args.entries.now in
     let item = c.index-entries-i.result in
-    let below : c.each.i < length entries = omega (arith, c.each-test.true, c.len.ensures) in
+    let below : c.each.i < length entries = omega (arith, c.each-test.true) in
     let there : HasUnjoined (has_chunks c.args.format) entries c.in-Some.stem.now = record {
       before = take c.each.i entries;
       entry = item;
