@@ -49,7 +49,7 @@ pub contains_mapped : {X Y : Type 0} (f : X → Y) (xs : List X) (i : ℕ) (x : 
 contains_mapped {X} {Y} f xs i x y below is same =
     let at : get_or (map f xs) i (f x) ≡ y = get_or-map f xs i x (f x) below ∙ ap f (sym is) ∙ same in
     let In : Y → Type 0 = λ z. Contains (map f xs) z in
-    subst In at (Contains-get_or (map f xs) i (f x) (omega (arith, below, length-map f xs)))
+    subst In at (Contains-get_or (map f xs) i (f x) (omega (arith, below, length-map xs f)))
 
 -- one entry more that has not the key
 pub without_more : (key : Key) (entries : List Entry) (i : ℕ) (e : Entry) → i < length entries → e ≡ get_or entries i e → (e.0 ≡ 1 ∷ key_bytes key → ⊥) → AreWithout key (take i entries)

@@ -41,7 +41,7 @@ each-preserved g c =
           let here = subst Put c.deref.ensures.value c.in_ok-put_in.ensures in
           let puts = puts_there content (disk.content c.each.device) (inv.ran.seen keeps) (log_sector root) c.each.gate c.each.log.last_gate_sector inv.passed (inv.walked keeps)
           c.in_ok-payload.field-0 (c.in-Some.payload, c.in-Some.next) c.in-Some.is (c.in_ok-payload.ensures.found (inv.ran.kept keeps)) root refl in
-          subst Found (sym c.or.ensures)
+          subst Found (sym c.or-found.ensures)
           (either_found (PutsOtherPlans content root) c.in_ok-put_in.field-0 c.each.found
           (if_found (ArePutIn root.label.format c.in-Some.payload.items) (PutsOtherPlans content root) puts c.in_ok-put_in.field-0 here) (inv.found keeps));
     }
