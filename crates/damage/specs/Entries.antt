@@ -1,6 +1,8 @@
 -- Which entries in the pages of a root are of nothing.
-use Rattle.std.specs.Prelude.{◌≡◌, ◌≢◌, ℕ, List, ◌∷◌, ◌++◌}
-use Rattle.names.specs.Key.{Key}
+use Rattle.std.specs.Prelude.{◌≡◌, ◌≢◌, ℕ, List, [], ◌∷◌, ◌++◌, Contains}
+use Rattle.byteorder.specs.Endian.{big_bytes}
+use Rattle.names.specs.declared.resource.Resource.TheVariants.{ValidatingAdmissionPolicy}
+use Rattle.names.specs.Key.{Key, key_bytes}
 use Rattle.window.specs.declared.event.Event.{Event}
 use Rattle.documents.specs.Document.{Document}
 use Rattle.pages.specs.Page.{Entry}
@@ -29,3 +31,26 @@ pub record HasDamagedEntry (content : List ℕ) (root : Root) (key : List ℕ) :
   pub whole : List Entry
   pub are : cut root.label.format whole ≡ joined (pages_of_root root content)
   pub damaged : IsOneOfNothing whole key
+
+-- The entry is a piece of the plans of this policy.
+pub record IsPieceOf (policy : Key) (entry : Entry) : Type 0 where
+  pub is_policy : policy.resource ≡ ValidatingAdmissionPolicy
+  pub number : ℕ
+  pub key : entry.0 ≡ ((2 ∷ policy.name) ++ 0 ∷ []) ++ big_bytes 2 number
+
+-- No entry stands under the key of this object.
+abbrev pub AreWithout : Key → List Entry → Type 0
+AreWithout k entries = (entry : Entry) → Contains entries entry → entry.0 ≢ 1 ∷ key_bytes k
+
+-- A piece of the plans of this policy is among these entries, and the policy is not.
+pub record IsLone (entries : List Entry) (policy : Key) : Type 0 where
+  pub piece : Entry
+  pub there : Contains entries piece
+  pub is_piece : IsPieceOf policy piece
+  pub without : AreWithout policy entries
+
+-- The pages of the root hold whole entries, as its format has them, and there plans of this policy are, but not the policy.
+pub record HasLonePlans (content : List ℕ) (root : Root) (policy : Key) : Type 0 where
+  pub whole : List Entry
+  pub are : cut root.label.format whole ≡ joined (pages_of_root root content)
+  pub lone : IsLone whole policy

@@ -10,17 +10,18 @@ ghost use Rattle.window.specs.declared.event.Event.{Event};
 ghost use Rattle.documents.specs.Document.{Document};
 ghost use Rattle.records.specs.Entries.{object_entry, event_entry};
 ghost use Rattle.records.specs.Holding.{IsStorableObject, IsStorableEvent};
-ghost use Rattle.damage.specs.Entries.{HasDamagedEntry, IsOfNothing, IsOneOfNothing};
+ghost use Rattle.damage.specs.Entries.{HasDamagedEntry, IsOfNothing, IsOneOfNothing, IsPieceOf, AreWithout, IsLone, HasLonePlans};
 
 use crate::gathering::Gathering;
+use crate::marks::PLANS_MARK;
+use crate::part_search::split_number;
+use crate::policy_name::policy_named;
 use chunks::scan_whole;
 use device::Device;
-use records::{Entry, EntryFault, read_event, read_object};
+use names::Key;
+use records::{Entry, EntryFault, object_key, read_event, read_object};
 use roots::Root;
 use std::alloc::{AllocError, Global};
-
-// With this byte the keys of plans begin.
-const PLANS_MARK: u8 = 2;
 
 // Whether a key is none of plans.
 fn is_no_plans_key(key: &[u8]) -> bool
@@ -101,6 +102,64 @@ pub fn damaged_entry<D: Device>(alloc: Global, device: &mut D, root: &Root) -> O
     };
     match scan_whole(alloc, device, root, gathering) {
         Ok((_, gathering)) => first_of_nothing(alloc, &gathering.entries),
+        Err(_) => None,
+    }
+}
+
+// The policy of whose plans an entry is a piece.
+fn policy_of(alloc: Global, entry: &Entry) -> Option<Key>
+    ensures { IfSome result (λ key. IsPieceOf key entry.now) }
+{
+    let (stem, _number) = split_number(entry.key())?;
+    let (mark, name) = stem.split_first()?;
+    if *mark != PLANS_MARK {
+        return None;
+    }
+    policy_named(alloc, name)
+}
+
+// Whether none of these entries has the key of an object.
+fn are_without(alloc: Global, entries: &[Entry], key: &Key) -> Result<bool, AllocError>
+    ensures { IfOk result (λ without. without ≡ true → AreWithout key.now entries.now) }
+{
+    let own = object_key(alloc, key)?;
+    'each: for entry in entries {
+        if entry.key() == own.as_slice() {
+            return Ok(false);
+        }
+    }
+    Ok(true)
+}
+
+// The policy of the first piece of plans among these entries whose policy is not among them.
+fn first_lone(alloc: Global, entries: &[Entry]) -> Option<Key>
+    ensures { IfSome result (IsLone entries.now) }
+{
+    'each: for entry in entries {
+        if let Some(key) = policy_of(alloc, entry) {
+            match are_without(alloc, entries, &key) {
+                Ok(true) => return Some(key),
+                Ok(false) => {}
+                Err(AllocError) => return None,
+            }
+        }
+    }
+    None
+}
+
+/// The policy of the first piece of plans in the pages of a root whose policy is not in them. All entries are held in memory meanwhile. None where there is no such piece, where the
+/// pages are damaged or hold no whole entries, and where the device failed or memory was refused.
+pub fn lone_plans<D: Device>(alloc: Global, device: &mut D, root: &Root) -> Option<Key>
+    requires small { log_sector root.now < 2 ^ 54 }
+    requires inside { D.disk.keeps device.old → 512 * log_sector root.now ≤ length (D.disk.content device.old) }
+    ensures lone { D.disk.keeps device.old → IfSome result (HasLonePlans (D.disk.content device.old) root.now) }
+    ensures ran { Ran D.disk device.old device.new Same }
+{
+    let gathering = Gathering {
+        entries: Vec::new(alloc),
+    };
+    match scan_whole(alloc, device, root, gathering) {
+        Ok((_, gathering)) => first_lone(alloc, &gathering.entries),
         Err(_) => None,
     }
 }

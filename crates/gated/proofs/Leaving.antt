@@ -178,9 +178,9 @@ module _ {S D : Type 0} (disk : Disk D) (missed : S → List ℕ → Type 0) (op
       is_so = λ rules h holds. upgraded_either rules disk upgraded.found upgraded.left h (upgraded.upgraded rules h holds);
     })
 
-    pub damaged_left : (told : Option Place) → FoundDamaged disk made opened closed storage name told
+    pub damaged_left : (damage : Damage) (told : Option Place) → FoundDamaged disk made opened closed storage name damage told
         → HasLeft disk missed opened closed storage name (λ rules old new h. KeepsHistory rules disk old new h)
-    damaged_left told damaged = inr (record {
+    damaged_left damage told damaged = inr (record {
       found = damaged.found;
       left = damaged.left;
       was_opened = damaged.was_opened;

@@ -10,6 +10,7 @@ use Rattle.decoded.specs.Standing.{History}
 use Rattle.apicore.specs.Admitted.{AreAdmitted}
 use Rattle.durable.specs.declared.compacted.Checked.{Checked}
 use Rattle.durable.specs.declared.compacted.Compacted.{Compacted}
+use Rattle.durable.specs.declared.fault.Damage.{Damage}
 use Rattle.durable.specs.declared.store.Store.{Store}
 use Rattle.durable.specs.declared.upgraded.Upgraded.{Upgraded}
 use Rattle.durable.specs.ReadWhole.{HoldsWellFormed}
@@ -19,6 +20,7 @@ use Rattle.durable.specs.Settled.{device_of, IsFound, IsSettledAt}
 use Rattle.api.specs.Answers.{Answered, AreRead, all_writes}
 use Rattle.api.specs.Serving.{Exchanged}
 use Rattle.store.specs.Upkeep.{KeepsHistory, IsWrittenAnew, IsUpgraded, IsToldUpgraded, IsToldOfHistory}
+use Rattle.store.specs.Places.{IsPlaceOf}
 use Rattle.store.specs.Whole.{HasAnswered}
 use Rattle.damage.specs.declared.place.Place.{Place}
 use Rattle.damage.specs.Place.{IsDamagedAt}
@@ -96,16 +98,17 @@ module _ {S D : Type 0} (disk : Disk D) (made opened closed : S → List ℕ →
     pub told : (rules : Rules) (h : History) (holds : HoldsHistory rules disk found h) → IsToldOfHistory rules h holds.read.root c
     pub whole : disk.keeps found → HoldsWellFormed (disk.content found)
 
-  -- The device under the name holds no history, and was given back. Where a place is told, the damage is there.
-  pub record FoundDamaged (told : Option Place) : Type 0 where
+  -- The device under the name holds no history, and was given back. Where a place is told, it is one of this damage, and is damaged.
+  pub record FoundDamaged (damage : Damage) (told : Option Place) : Type 0 where
     pub found : D
     pub left : D
     pub was_opened : opened storage name found
     pub was_closed : closed storage name left
     pub none : (rules : Rules) (h : History) → HoldsHistory rules disk found h → ⊥
+    pub kind : IfSome told (IsPlaceOf damage)
     pub at : disk.keeps left → IfSome told (IsDamagedAt (disk.content left))
 
   -- This was found of the store on the device under the name.
   abbrev pub HasFound : Looked → Type 0
   HasFound (looked.Whole c) = FoundWhole c
-  HasFound (looked.Damaged damage told) = FoundDamaged told
+  HasFound (looked.Damaged damage told) = FoundDamaged damage told

@@ -47,7 +47,7 @@ module _ {S D O : Type 0} (disk : Disk D) (made opened closed : S → List ℕ �
   pub record FindsDamage : Type 0 where
     pub damage : Damage
     pub told : Option Place
-    pub found : FoundDamaged disk made opened closed storage file told
+    pub found : FoundDamaged disk made opened closed storage file damage told
     pub lines : HasLine took output_old output_new (damaged_text damage told)
     pub status : result ≡ status.NoStore
 

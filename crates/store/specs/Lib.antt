@@ -1,3 +1,4 @@
 pub mod Whole
 pub mod Upkeep
 pub mod Cause
+pub mod Places

@@ -14,5 +14,5 @@ pub returns-in_err-print_damaged-in-Damaged-clause-left : goal.returns-in_err-pr
 returns-in_err-print_damaged-in-Damaged-clause-left g c =
     on_err c.from_residual-in_err-print_damaged-in-Damaged.result
     (damaged_left g.D.Device.disk g.S.Storage.missed g.S.Storage.opened g.S.Storage.closed c.args.storage.now c.args.file.now g.S.Storage.made
-    c.in-Damaged.place
+    c.in-Damaged.damage c.in-Damaged.place
     (subst (HasFound g.D.Device.disk g.S.Storage.made g.S.Storage.opened g.S.Storage.closed c.args.storage.now c.args.file.now) c.in-Damaged.is c.in_ok-checked.ensures.found))

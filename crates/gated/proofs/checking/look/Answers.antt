@@ -16,6 +16,7 @@ returns-in-Some-clause-found g c =
       was_opened = c.in_ok-device.ensures.opened;
       was_closed = c.close-in-Some.ensures.closed;
       none = λ rules h holds. c.in-Err.ensures.undamaged rules h holds c.in-Some.damage is;
+      kind = c.damaged_place-place.ensures.kind;
       at = λ keeps. let was = ran.had_kept keeps in subst At (sym (ran.seen was)) (c.damaged_place-place.ensures.at was);
     }
 
