@@ -1,15 +1,14 @@
 -- What clients are served, turn after turn.
 use Rattle.std.proofs.Common.{arith, ◌≡◌, ◌∙◌, sym, ap, refl, subst, ◌<◌, ◌≤◌, ◌⊎◌, inl, inr, ℕ, zero, suc, List, [], ◌∷◌, ◌++◌, append_assoc, map, length, take, get_or, Option, Some, None}
 use Rattle.std.specs.List.{AllByRecursion}
-use Rattle.std.proofs.lemmas.List.{append-nil, length-append, length-map, length-take-le}
-use Rattle.std.proofs.lemmas.Bool.{cases_eq}
+use Rattle.std.proofs.lemmas.List.{append-nil, length-append, length-map}
 use Rattle.std.specs.declared.time.Duration.{Duration}
 use Rattle.names.specs.declared.format.Rules.{Rules}
 use Rattle.histories.specs.View.{after_all}
 use Rattle.decoded.specs.Standing.{View}
 use Rattle.api.specs.Answers.{Answered, all_writes}
 use Rattle.sessions.specs.State.{State}
-use Rattle.sessions.specs.Served.{IsServed, IsToldOfFailure}
+use Rattle.sessions.specs.Served.{IsServed}
 use Rattle.httpmsg.specs.Stream.{Message, Progress}
 use Rattle.device.specs.declared.device.Device.{Ghosts}
 use Rattle.durable.specs.declared.store.Store.{Store}
@@ -17,17 +16,16 @@ use Rattle.api.specs.Answers.{messages}
 use Rattle.api.proofs.Folds.{seen, all_writes-append}
 use Rattle.histories.proofs.ViewLemmas.{after_all-append}
 use Rattle.sessions.specs.declared.session.Phase.{Phase}
-use Rattle.sessions.specs.declared.batch.Batch.{Batch}
 use Rattle.sessions.specs.Batch.{held, places_of, messages_of, StaysBut}
 use Rattle.sessions.specs.State.{GoesOnWith}
-use Rattle.sessions.specs.Turn.{bytes_of, Turned}
+use Rattle.sessions.specs.Turn.{bytes_of}
 use Rattle.sessions.specs.Stops.{TurnFails}
 use Rattle.sessions.proofs.Serving.{served_none, served_turn, served_or_told, no_bytes}
 use Rattle.clients.specs.declared.line.Line.{Line}
 use Rattle.clients.specs.declared.places.Places.{Places}
-use Rattle.clients.specs.Places.{fresh, count, line_at, session_at, IsFree, IsFreshWhereFree, HasAsMany, StaysAt, StaysBeside, AreMarked, IsThereStill, IsLetGo, TakeTurns}
-use Rattle.clients.specs.Serving.{Gathers, AnswersGroup, StopsAtGroup}
-use Rattle.clients.specs.Clients.{Client, IsHere, HasLeft, AreServed, WasThere, IsAt, WasLeft, LeftNow}
+use Rattle.clients.specs.Places.{fresh, count, line_at, session_at, IsFree, IsFreshWhereFree, StaysBeside, AreMarked, IsThereStill, IsLetGo, TakeTurns}
+use Rattle.clients.specs.Serving.{Gathers, AnswersGroup}
+use Rattle.clients.specs.Clients.{Client, IsHere, HasLeft, AreServed, WasLeft, LeftNow}
 use Rattle.clients.proofs.Turns.{none_or, fresh_after, reason_before}
 
 -- a client that has just come to a place

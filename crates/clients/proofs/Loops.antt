@@ -1,28 +1,26 @@
 -- What the loop that serves clients makes of what they were served.
-use Rattle.std.proofs.Common.{arith, ◌≡◌, ◌∙◌, sym, ap, refl, subst, ◌<◌, ◌≤◌, ◌⊎◌, inl, inr, ℕ, List, [], ◌∷◌, ◌++◌, append_assoc, map, length, take, Option, Some, None}
-use Rattle.std.specs.List.{AllByRecursion}
+use Rattle.std.proofs.Common.{arith, ◌≡◌, ◌∙◌, sym, ap, refl, subst, ◌⊎◌, inl, inr, ℕ, List, [], ◌∷◌, ◌++◌, append_assoc, map, length, take, Option, Some}
 use Rattle.std.specs.Bool.{⊤}
 use Rattle.std.proofs.lemmas.List.{append-nil, length-append, length-map, length-take-le}
 use Rattle.std.specs.declared.time.Duration.{Duration}
 use Rattle.device.specs.declared.device.Device.{Ghosts}
 use Rattle.names.specs.declared.format.Rules.{Rules}
-use Rattle.histories.specs.View.{after_all}
 use Rattle.decoded.specs.Standing.{View}
 use Rattle.durable.specs.declared.store.Store.{Store}
 use Rattle.httpmsg.specs.Stream.{Message}
 use Rattle.api.specs.declared.fault.ServeFault.{ServeFault}
 use Rattle.api.specs.declared.fault.ServeFault.TheVariants.{Read, Write, Device, Memory, Damaged, Failed}
-use Rattle.api.specs.Answers.{Answered, messages, all_writes}
+use Rattle.api.specs.Answers.{Answered, messages}
 use Rattle.api.proofs.Folds.{seen}
 use Rattle.sessions.specs.State.{State}
 use Rattle.sessions.specs.Stops.{TurnFails}
 use Rattle.sessions.specs.Served.{IsServed, IsToldOfFailure}
 use Rattle.clients.specs.declared.line.Line.{Line}
 use Rattle.clients.specs.declared.places.Places.{Places}
-use Rattle.clients.specs.Story.{SendsOn, IsServedOn}
+use Rattle.clients.specs.Story.{SendsOn}
 use Rattle.clients.specs.Places.{fresh, count, line_at, session_at, IsFree, StaysBeside, AreMarked, TakeTurns, SendsLast, TakeLastTurns}
 use Rattle.clients.specs.Serving.{Gathers, AnswersGroup, StopsAtGroup}
-use Rattle.clients.specs.Clients.{Client, IsHere, HasLeft, AreServed, WasThere, IsAt, ServedNow, ServesOn, WasLeft, LeftNow, EndsOn, ServesTurn, FailsTurn, StopsTurn}
+use Rattle.clients.specs.Clients.{Client, WasThere, IsAt, ServesOn, WasLeft, EndsOn, ServesTurn, FailsTurn, StopsTurn}
 use Rattle.clients.proofs.Stories.{sends_go, sends_tell}
 use Rattle.clients.proofs.Clients.{turned_all, marked_all, comes, answered_all, fails_all}
 
@@ -203,8 +201,13 @@ module _ {S : Type 0} (moved : S → S → List ℕ → List ℕ → Type 0) (ha
         more = fails.answered;
         failing = fails.failing;
         alike = length-take-le (length fails.answered) ps
-            (omega (arith, gathers.alike, ap length fails.split, length-append (messages fails.answered) (messages fails.failing ++ fails.waiting),
-            length-map fails.answered (λ (z : Answered). z.message)));
+            (omega (
+              arith,
+              gathers.alike,
+              ap length fails.split,
+              length-append (messages fails.answered) (messages fails.failing ++ fails.waiting),
+              length-map fails.answered (λ (z : Answered). z.message),
+            ));
         store = fails.store;
         on = λ start places answered clients is alike served.
             let one = turned_all moved has_ended failures idle rules start places answered moved_then a b clients turns served in

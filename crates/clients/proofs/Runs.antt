@@ -1,12 +1,12 @@
 -- A whole run of the loop that serves clients, turn after turn.
-use Rattle.std.proofs.Common.{arith, ◌≡◌, ◌∙◌, sym, ap, refl, subst, true≢false, false, inl, inr, ◌⊎◌, ℕ, List, [], ◌∷◌, ◌++◌, append_assoc, map, length, Option, Result, Ok, Err}
+use Rattle.std.proofs.Common.{arith, ◌≡◌, ◌∙◌, sym, ap, refl, subst, false, inl, inr, ◌⊎◌, ℕ, List, [], ◌∷◌, ◌++◌, map, length, Option, Result, Ok, Err}
 use Rattle.std.specs.Prelude.{MatchResult}
 use Rattle.std.specs.List.{AllByRecursion}
 use Rattle.std.proofs.lemmas.List.{append-nil, length-append, nil_from_length}
 use Rattle.std.specs.declared.time.Duration.{Duration}
 use Rattle.device.specs.declared.device.Device.{Ghosts}
 use Rattle.names.specs.declared.format.Rules.{Rules}
-use Rattle.histories.specs.View.{view, after_all}
+use Rattle.histories.specs.View.{view}
 use Rattle.decoded.specs.Standing.{History, View}
 use Rattle.durable.specs.declared.store.Store.{Store}
 use Rattle.durable.specs.Settled.{device_of, serves, IsSettledAt, IsLeftAt, LeavesSome}
@@ -19,7 +19,7 @@ use Rattle.clients.specs.declared.fault.ClientsFault.{ClientsFault}
 use Rattle.clients.specs.declared.fault.ClientsFault.TheVariants as clients_fault
 use Rattle.clients.specs.declared.places.Places.{Places}
 use Rattle.clients.specs.Serving.{HasServedSome, HasFailedAt, HasStoppedBetween, StopsClients}
-use Rattle.clients.specs.Clients.{Client, IsHere, HasLeft, AreServed, WasThere, IsAt, HasNobody, ServedNow, ServesOn, WasLeft, LeftNow, EndsOn, ServesTurn, FailsTurn, StopsTurn, ServesThem, LeavesThem, HasServedClients, HasFailedClients, HasStoppedClients, StopsRun}
+use Rattle.clients.specs.Clients.{Client, IsHere, HasLeft, AreServed, HasNobody, ServesOn, WasLeft, EndsOn, ServesTurn, FailsTurn, StopsTurn, LeavesThem, HasServedClients, HasFailedClients, HasStoppedClients, StopsRun}
 use Rattle.clients.proofs.Served.{compacted_applied}
 
 -- nobody more came
@@ -200,29 +200,29 @@ module _ {S : Type 0} (moved : S → S → List ℕ → List ℕ → Type 0) (ha
       after_turn later turn =
           let idle_turn = turn.store.failed stops in
           as_later later idle_turn.0 (stopped_new (λ nobody.
-              let them = before.clients nobody in
-              let now = turn.on v before.places before.answered them.clients refl before.alike them.served in
-              let last = ends rules v (before.places ++ turn.more_places) (before.answered ++ turn.more) now.now
-              (served_is_left rules v (before.places ++ turn.more_places) (before.answered ++ turn.more) c now.now now.served.each) in
-              record {
-                clients = last.now;
-                came_by = subst came (sym (last.came ∙ now.came ∙ append-nil (map (λ (x : Client S). x.came) them.clients))) them.came_by;
-                left = told_of v before.places turn.more_places before.answered turn.more d last.now idle_turn.1 turn.alike last.left;
-              }))
+          let them = before.clients nobody in
+          let now = turn.on v before.places before.answered them.clients refl before.alike them.served in
+          let last = ends rules v (before.places ++ turn.more_places) (before.answered ++ turn.more) now.now
+          (served_is_left rules v (before.places ++ turn.more_places) (before.answered ++ turn.more) c now.now now.served.each) in
+          record {
+            clients = last.now;
+            came_by = subst came (sym (last.came ∙ now.came ∙ append-nil (map (λ (x : Client S). x.came) them.clients))) them.came_by;
+            left = told_of v before.places turn.more_places before.answered turn.more d last.now idle_turn.1 turn.alike last.left;
+          }))
 
       after_failure : (later : Store D g) → FailsTurn moved has_ended failures idle rules new later (seen rules v before.answered) b c
           → HasStoppedClients moved has_ended failures idle came rules old later v a d
       after_failure later turn =
           let idle_turn = turn.store.failed stops in
           as_later later idle_turn.0 (stopped_new (λ nobody.
-              let them = before.clients nobody in
-              let now = turn.on v before.places before.answered them.clients refl before.alike them.served in
-              let last = ends rules v (before.places ++ turn.more_places) (before.answered ++ turn.more) now.now now.left in
-              record {
-                clients = last.now;
-                came_by = subst came (sym (last.came ∙ now.came)) them.came_by;
-                left = told_of v before.places turn.more_places before.answered turn.more d last.now idle_turn.1 turn.alike last.left;
-              }))
+          let them = before.clients nobody in
+          let now = turn.on v before.places before.answered them.clients refl before.alike them.served in
+          let last = ends rules v (before.places ++ turn.more_places) (before.answered ++ turn.more) now.now now.left in
+          record {
+            clients = last.now;
+            came_by = subst came (sym (last.came ∙ now.came)) them.came_by;
+            left = told_of v before.places turn.more_places before.answered turn.more d last.now idle_turn.1 turn.alike last.left;
+          }))
 
       pub run_stopped : {T : Type 0} (later : Store D g) (r : Result T ServeFault)
           → MatchResult r (λ _. ServesTurn moved has_ended failures idle rules new later (seen rules v before.answered) b c)

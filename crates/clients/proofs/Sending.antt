@@ -1,6 +1,5 @@
 -- What several calls of a stream send, one after another.
-use Rattle.std.proofs.Common.{◌≡◌, ◌∙◌, ap, sym, refl, subst, List, [], ◌++◌, append_assoc, ℕ, true}
-use Rattle.std.proofs.lemmas.List.{append-nil}
+use Rattle.std.proofs.Common.{◌≡◌, ◌∙◌, ap, sym, refl, List, [], ◌++◌, append_assoc, ℕ, true}
 use Rattle.sessions.specs.State.{State, is_open}
 use Rattle.clients.specs.Moving.{Sends}
 use Rattle.clients.specs.Story.{SendsOn}

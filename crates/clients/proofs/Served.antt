@@ -14,7 +14,7 @@ use Rattle.httpmsg.specs.Stream.{Message}
 use Rattle.api.specs.declared.fault.ServeFault.{ServeFault}
 use Rattle.api.specs.declared.fault.ServeFault.TheVariants.{Read, Write, Device, Memory, Damaged, Failed}
 use Rattle.api.specs.Answers.{ShowsAt, all_writes, HasApplied}
-use Rattle.api.proofs.Folds.{applied_then, applied_none, failed_then, left_after, moments_then, seen_view}
+use Rattle.api.proofs.Folds.{applied_then, applied_none, failed_then, left_after, moments_then}
 use Rattle.sessions.specs.State.{State}
 use Rattle.sessions.specs.Turn.{Turned}
 use Rattle.sessions.specs.Stops.{TurnStops}

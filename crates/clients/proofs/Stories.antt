@@ -1,5 +1,5 @@
 -- What was served to a client goes on, call after call.
-use Rattle.std.proofs.Common.{◌≡◌, ◌∙◌, ap, sym, refl, subst, List, [], ◌++◌, append_assoc, ℕ, Bool, true, false, true≢false, Result, inl, inr, ◌⊎◌}
+use Rattle.std.proofs.Common.{◌≡◌, ◌∙◌, ap, sym, refl, subst, List, [], ◌++◌, append_assoc, ℕ, Bool, true, false}
 use Rattle.std.proofs.lemmas.List.{append-nil}
 use Rattle.names.specs.declared.format.Rules.{Rules}
 use Rattle.decoded.specs.Standing.{View}
@@ -12,7 +12,7 @@ use Rattle.sessions.specs.Served.{IsServed, IsToldOfFailure}
 use Rattle.sessions.proofs.Serving.{served_ended, served_sent, served_forgets, served_piece, served_end, cut_before, told_sent, told_forgets}
 use Rattle.clients.specs.declared.moving.Moved.{Moved}
 use Rattle.clients.specs.declared.moving.Moved.TheVariants as moved_as
-use Rattle.clients.specs.Moving.{Reads, ReadsPiece, ReadsEnd, ReadsNothing}
+use Rattle.clients.specs.Moving.{Reads, ReadsNothing}
 use Rattle.clients.specs.Story.{IsServedOn, GoesOn, SendsOn}
 
 module _ {S : Type 0} (moved : S → S → List ℕ → List ℕ → Type 0) (has_ended : S → Type 0) where

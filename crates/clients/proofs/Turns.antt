@@ -126,7 +126,7 @@ fresh_after {S} moved has_ended failures idle a b turns all i is = on (line_at a
 module _ {S : Type 0} (moved : S → S → List ℕ → List ℕ → Type 0) (has_ended : S → Type 0) (failures : S → ℕ) (idle : Option Duration)
     (moved_none : (stream : S) → moved stream stream [] [])
     (moved_then : (old mid new : S) (read more sent further : List ℕ) → moved old mid read sent → moved mid new more further
-        → moved old new (read ++ more) (sent ++ further)) where
+    → moved old new (read ++ more) (sent ++ further)) where
   pub turns_stay : (i : ℕ) (a b : Places S) → StaysAt i a b → TurnsAt moved has_ended failures idle i a b
   turns_stay i a b stays = record {
     free = λ is. stays;

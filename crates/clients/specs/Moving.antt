@@ -1,5 +1,5 @@
 -- What one call of a client's stream does to its session, and to the bytes that the stream tells.
-use Rattle.std.specs.Prelude.{◌≡◌, ℕ, ◌≤◌, List, [], ◌++◌, ⊤}
+use Rattle.std.specs.Prelude.{◌≡◌, ℕ, ◌≤◌, List, [], ◌++◌}
 use Rattle.objects.specs.Failing.{HasGrown}
 use Rattle.httpmsg.specs.Stream.{Message}
 use Rattle.sessions.specs.State.{State}

@@ -1,10 +1,10 @@
 -- What the calls of a client's stream make of what it was served.
-use Rattle.std.specs.Prelude.{◌≡◌, ℕ, ◌≤◌, true, false, List, [], ◌++◌}
+use Rattle.std.specs.Prelude.{◌≡◌, ℕ, true, List, [], ◌++◌}
 use Rattle.names.specs.declared.format.Rules.{Rules}
 use Rattle.decoded.specs.Standing.{View}
 use Rattle.api.specs.Answers.{Answered}
 use Rattle.sessions.specs.State.{State, is_open}
-use Rattle.sessions.specs.Served.{IsServed, IsToldOfFailure}
+use Rattle.sessions.specs.Served.{IsServed}
 
 module _ {S : Type 0} (moved : S → S → List ℕ → List ℕ → Type 0) (has_ended : S → Type 0) (before after : S) where
   -- Some bytes were read of the client and some sent to it, and what it was served goes on with them.

@@ -29,7 +29,7 @@ mod socket;
 mod sockets;
 mod stream;
 
+pub use crate::event_loop::Limits;
 pub use crate::fault::{BindFault, ClientsFault};
 pub use crate::laws::texts_are_shown;
-pub use crate::event_loop::Limits;
 pub use crate::server::Server;

@@ -61,13 +61,7 @@ impl<S: Drop> Places<S> {
     }
 
     /// A client comes to a place.
-    pub(crate) fn take(
-        &mut self,
-        place: usize,
-        stream: S,
-        peer: Option<String>,
-        now: Instant,
-    )
+    pub(crate) fn take(&mut self, place: usize, stream: S, peer: Option<String>, now: Instant)
         ensures beside { StaysBeside place self.old self.new }
         ensures session { session_at self.new place ≡ session_at self.old place }
         ensures there { place < count self.old → (line : LineData S) × (line_at self.new place ≡ Some line) × (line.stream ≡ stream) }
@@ -106,7 +100,6 @@ impl<S: Drop> Places<S> {
             self.sessions[place] = Session::new(alloc);
         }
     }
-
 }
 
 impl<S: Stream + Drop> Places<S> {

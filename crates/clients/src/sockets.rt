@@ -98,8 +98,7 @@ impl Network<Socket> for Sockets {
     ghost came_then = { λ old mid new first more before after. tt };
 
     fn wait(&mut self, milliseconds: u64, places: &mut Places<Socket>) -> io::Result<bool> {
-        self.poll
-            .poll(&mut self.events, Some(Duration::from_millis(milliseconds)))?;
+        self.poll.poll(&mut self.events, Some(Duration::from_millis(milliseconds)))?;
         Ok(self.mark(places))
     }
 

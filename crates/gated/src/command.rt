@@ -14,7 +14,7 @@ use std::convert::AsStr;
 use store::Format;
 
 /// The program's version.
-pub const VERSION: &str = "0.28.0";
+pub const VERSION: &str = "0.29.0";
 
 // How many connections are served at once where the words say neither this nor how many there are in all.
 const DEFAULT_AT_ONCE: u16 = 256;

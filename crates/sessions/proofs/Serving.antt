@@ -2,27 +2,24 @@
 use Rattle.std.proofs.Common.{arith, ◌≡◌, ◌∙◌, sym, ap, refl, subst, ◌⊎◌, inl, inr, ℕ, Bool, true, false, true≢false, Option, Some, None, List, [], ◌∷◌, ◌++◌, ◌+◌, length, take, drop, take-append-drop, ◌==◌, ◌||◌, cond}
 use Rattle.std.proofs.lemmas.List.{append-nil, append_assoc, append_cancel_left, map-append, length-map, length-append, length-take-le, length-drop}
 use Rattle.requests.specs.declared.refusal.Refusal.TheVariants.{OutOfMemory, StorageFailed}
-use Rattle.requests.specs.Reply.{Reply}
 use Rattle.histories.specs.View.{after_all}
 use Rattle.names.specs.declared.format.Rules.{Rules}
 use Rattle.decoded.specs.Standing.{View}
-use Rattle.httpmsg.specs.declared.head.BrokenMessage.{BrokenMessage}
 use Rattle.httpmsg.specs.declared.head.End.{End}
 use Rattle.httpmsg.specs.declared.head.End.TheVariants.{Clean, Closed, Broken}
-use Rattle.httpmsg.specs.Stream.{Message, Progress, IsCut, IsStream}
+use Rattle.httpmsg.specs.Stream.{Message, Progress, IsCut}
 use Rattle.httpmsg.proofs.Cuts.{awaits_first, awaits_now}
 use Rattle.routes.specs.ReplyBytes.{reply_bytes, closing_bytes, end_bytes}
 use Rattle.api.specs.Answers.{Answered, messages, writes_of, reply_of}
-use Rattle.api.specs.Serving.{Ends}
 use Rattle.api.proofs.Folds.{seen}
 use Rattle.api.proofs.Streams.{at_once}
 use Rattle.sessions.specs.declared.session.Phase.{Phase}
 use Rattle.sessions.specs.declared.session.Phase.TheVariants.{Open, Over, Lost}
 use Rattle.sessions.specs.Batch.{messages_of, StaysBut}
-use Rattle.sessions.specs.State.{State, is_open, is_lost, Gains, GoesOnWith, Closes}
+use Rattle.sessions.specs.State.{State, is_open, is_lost, GoesOnWith, Closes}
 use Rattle.sessions.specs.Turn.{bytes_of}
 use Rattle.sessions.specs.Refusing.{is_among, Refuses, RefusedIf}
-use Rattle.sessions.specs.Pieces.{HasClosed, TakesMessages, MeetsFault, LacksMemory, TakesPiece, EndsInput}
+use Rattle.sessions.specs.Pieces.{HasClosed, TakesMessages, TakesPiece, EndsInput}
 use Rattle.sessions.specs.Served.{IsLastTold, IsServed, IsToldOfFailure}
 use Rattle.sessions.proofs.Turning.{bytes_of-append}
 

@@ -1,7 +1,6 @@
 use Rattle.std.proofs.Common.{◌≡◌, ◌∙◌, ap, ap₂, ◌-◌, ◌^◌, ℕ, List, length}
 use Rattle.std.specs.Prelude.{min, option_map}
 use Rattle.routes.specs.AnswerBytes.{answer_bytes}
-use Rattle.sessions.specs.declared.note.Note.{Note}
 use Rattle.sessions.specs.declared.tally.Tally.{Tally}
 use Rattle.sessions.specs.Tally.{counted}
 use Rattle.sessions.proofs.Counting.{counted_all}

@@ -2,7 +2,6 @@ use Rattle.std.proofs.Common.{◌≡◌, ◌∙◌, ap, ap₂, ◌-◌, ◌^◌,
 use Rattle.std.specs.Prelude.{min}
 use Rattle.requests.specs.declared.refusal.Refusal.TheVariants.{StorageFailed}
 use Rattle.routes.specs.ReplyBytes.{closing_bytes}
-use Rattle.sessions.specs.declared.note.Note.{Note}
 use Rattle.sessions.specs.declared.tally.Tally.{Tally}
 use Rattle.sessions.specs.Tally.{counted}
 use Rattle.sessions.proofs.Counting.{counted_all}

@@ -11,8 +11,7 @@ loop-init g c = record {
 pub returns-then-not-accept_one-clause-serves : goal.returns-then-not-accept_one-clause-serves
 returns-then-not-accept_one-clause-serves g c =
     let before = c.loop.invariant.serves in
-    let one = c.accept_one.ensures.serves in
-    (
+    let one = c.accept_one.ensures.serves in (
       before.0 ++ one.0,
       g.met.N.Network.came_then c.args.network.now c.loop.network c.accept_one.new.network before.0 one.0 before.1 one.1,
       (λ idle. serves_then g.S.Stream.moved g.S.Stream.has_ended g.S.Stream.failures idle c.args.self.now.places c.loop.self.places c.accept_one.new.self.places before.0 one.0 (before.2 idle) (one.2 idle)),
@@ -24,9 +23,9 @@ loop-preserved g c =
     let one = c.accept_one.ensures.serves in
     record {
       serves = (
-      before.0 ++ one.0,
-      g.met.N.Network.came_then c.args.network.now c.loop.network c.accept_one.new.network before.0 one.0 before.1 one.1,
-      (λ idle. serves_then g.S.Stream.moved g.S.Stream.has_ended g.S.Stream.failures idle c.args.self.now.places c.loop.self.places c.accept_one.new.self.places before.0 one.0 (before.2 idle) (one.2 idle)),
-    );
+        before.0 ++ one.0,
+        g.met.N.Network.came_then c.args.network.now c.loop.network c.accept_one.new.network before.0 one.0 before.1 one.1,
+        (λ idle. serves_then g.S.Stream.moved g.S.Stream.has_ended g.S.Stream.failures idle c.args.self.now.places c.loop.self.places c.accept_one.new.self.places before.0 one.0 (before.2 idle) (one.2 idle)),
+      );
       limits = (c.accept_one.ensures.limits.0 ∙ c.loop.invariant.limits.0, c.accept_one.ensures.limits.1 ∙ c.loop.invariant.limits.1);
     }

@@ -10,13 +10,12 @@ returns-in-Client-clause-serves g c =
     let came = c.in-Client.stream in
     let same = c.count_one.ensures.places in
     let Free : Places g.row.S.Denot → Type 0 = λ p. IsFree p c.in-Some.place in
-    let free = subst Free (sym same) c.in-Some.ensures.free in
-    (
+    let free = subst Free (sym same) c.in-Some.ensures.free in (
       came ∷ [],
       c.in-Client.ensures,
       (λ idle.
-      let From : Places g.row.S.Denot → Type 0 = λ p. ServesOn g.S.Stream.moved g.S.Stream.has_ended g.S.Stream.failures idle p c.take.new.self (came ∷ []) in
-      subst From same
-      (serves_coming g.S.Stream.moved g.S.Stream.has_ended g.S.Stream.failures idle c.count_one.new.self.places c.take.new.self c.in-Some.place came (g.met.S.Stream.moved_none came) free c.take.ensures.beside c.take.ensures.session
-      (c.take.ensures.there free.0))),
+          let From : Places g.row.S.Denot → Type 0 = λ p. ServesOn g.S.Stream.moved g.S.Stream.has_ended g.S.Stream.failures idle p c.take.new.self (came ∷ []) in
+          subst From same
+          (serves_coming g.S.Stream.moved g.S.Stream.has_ended g.S.Stream.failures idle c.count_one.new.self.places c.take.new.self c.in-Some.place came (g.met.S.Stream.moved_none came) free c.take.ensures.beside c.take.ensures.session
+          (c.take.ensures.there free.0))),
     )

@@ -1,4 +1,4 @@
-use Rattle.std.proofs.Common.{◌≡◌, [], Option}
+use Rattle.std.proofs.Common.{[], Option}
 use Rattle.std.specs.declared.time.Duration.{Duration}
 use Rattle.clients.specs.Clients.{EndsOn}
 use Rattle.clients.proofs.event_loop.EventLoop.send_last.Given as goal

@@ -1,4 +1,4 @@
-use Rattle.std.proofs.Common.{arith, ◌≤◌, ap, sym, subst}
+use Rattle.std.proofs.Common.{arith, ap, sym, subst}
 use Rattle.clients.specs.Story.{SendsOn}
 use Rattle.clients.proofs.Sending.{sends_once, sends_then}
 use Rattle.clients.proofs.line.Line.send.Goals as goal

@@ -1,6 +1,5 @@
 use Rattle.std.proofs.lemmas.List.{length-set}
-use Rattle.std.proofs.Common.{subst, rules, arith, ◌≡◌, ◌<◌, ◌∙◌, sym, ap, refl, Some, None, length}
-use Rattle.sessions.specs.State.{State}
+use Rattle.std.proofs.Common.{subst, rules, ◌≡◌, ◌<◌, ◌∙◌, sym, refl, Some, None, length}
 use Rattle.clients.specs.Places.{fresh, count, line_at, session_at}
 use Rattle.clients.proofs.Turns.{at_index, sends_nothing, sends_on, sends_off}
 use Rattle.clients.proofs.places.Places.last_turn.Goals as goal

@@ -1,4 +1,4 @@
-use Rattle.std.proofs.Common.{rules, arith, ◌≡◌, ◌<◌, ◌∙◌, sym, ap, Some, None}
+use Rattle.std.proofs.Common.{rules, ◌≡◌, ◌<◌, ◌∙◌, sym, ap, Some, None}
 use Rattle.std.proofs.lemmas.List.{get_or-set_same}
 use Rattle.clients.specs.declared.line.Line.{Line}
 use Rattle.clients.specs.Places.{count, line_at}

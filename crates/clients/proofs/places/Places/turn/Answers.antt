@@ -1,7 +1,6 @@
 use Rattle.std.proofs.lemmas.List.{length-set}
 use Rattle.clients.proofs.Leaving.{reason_of}
-use Rattle.std.proofs.Common.{subst, rules, arith, ◌≡◌, ◌<◌, ◌∙◌, sym, ap, refl, Some, None, length}
-use Rattle.sessions.specs.State.{State}
+use Rattle.std.proofs.Common.{subst, rules, ◌≡◌, ◌<◌, ◌∙◌, sym, refl, Some, None, length}
 use Rattle.clients.specs.Places.{fresh, count, line_at, session_at}
 use Rattle.clients.proofs.Turns.{at_index, takes_none, takes_on, takes_off}
 use Rattle.clients.proofs.places.Places.turn.Goals as goal

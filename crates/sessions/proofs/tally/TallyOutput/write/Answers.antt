@@ -1,4 +1,4 @@
-use Rattle.std.proofs.Common.{arith, ◌≡◌, ◌∙◌, sym, ap, ℕ, List, length, take}
+use Rattle.std.proofs.Common.{arith, ◌∙◌, sym, ap, length}
 use Rattle.std.proofs.lemmas.List.{take_all}
 use Rattle.sessions.specs.Tally.{counted}
 use Rattle.sessions.proofs.Counting.{counted_is}
