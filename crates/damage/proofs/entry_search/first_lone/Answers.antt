@@ -1,4 +1,4 @@
-use Rattle.std.proofs.Common.{rules, List}
+use Rattle.std.proofs.Common.{rules}
 use Rattle.damage.specs.Entries.{AreWithout, IsPieceOf}
 use Rattle.damage.proofs.Finding.{contains_here}
 use Rattle.damage.proofs.entry_search.first_lone.Goals as goal

@@ -16,9 +16,9 @@ returns-then-branch c =
     let document = c.document.result.now in
     let plans = c.in-Put.plans.now in
     let same : write_of item ≡ put own document plans =
-        ap write_of c.in-Put.is
-        ∙ ap (λ b. write_of (Put (record { key = manifest.key; body = b; version = manifest.version }) c.in-Put.plans)) c.document.ensures.body
-        ∙ ap (λ (k : Key). put k document plans) (sym c.key-key.ensures) in
+    ap write_of c.in-Put.is
+    ∙ ap (λ b. write_of (Put (record { key = manifest.key; body = b; version = manifest.version }) c.in-Put.plans)) c.document.ensures.body
+    ∙ ap (λ (k : Key). put k document plans) (sym c.key-key.ensures) in
     let At : Key → Type 0 = λ k. ArePut c.args.format (map write_of writes) k in
     subst At (sym c.in_ok-clone.ensures.cases) (record {
       document = document;
