@@ -66,7 +66,6 @@ fn first_beside(
 }
 
 // The key of the first put among these writes that has other plans.
-#[tactic(auto, using(crate::proofs::Finding::contains_mapped))]
 fn first_put(
     alloc: Global,
     format: Format,

@@ -1,4 +1,4 @@
-use Rattle.std.proofs.Common.{rules, arith, ◌≡◌, ◌+◌, ◌-◌, ◌≤◌, subst, sym, suc, ℕ}
+use Rattle.std.proofs.Common.{arith, ◌≡◌, subst, sym, suc}
 use Rattle.checkpoint.specs.Pages.{HoldsPages}
 use Rattle.damage.specs.Pages.{with_pages}
 use Rattle.damage.proofs.page_search.damaged_page.Goals as goal

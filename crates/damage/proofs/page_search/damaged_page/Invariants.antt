@@ -1,4 +1,4 @@
-use Rattle.std.proofs.Common.{◌≡◌, ◌<◌, ◌≤◌, ◌-◌}
+use Rattle.std.proofs.Common.{◌<◌, ◌≤◌, ◌-◌}
 use Rattle.device.specs.Run.{Ran}
 use Rattle.device.specs.Step.{Same}
 use Rattle.checkpoint.specs.Pages.{HoldsPages}

@@ -1,4 +1,4 @@
-use Rattle.std.proofs.Common.{◌∙◌, refl, sym, subst, ◌≡◌, ◌+◌, ℕ, List, [], ◌∷◌, ◌++◌}
+use Rattle.std.proofs.Common.{◌∙◌, refl, sym, subst, ◌≡◌, ◌+◌, ℕ, [], ◌∷◌, ◌++◌}
 use Rattle.gatelog.specs.Log.{HoldsLog}
 use Rattle.gatelog.proofs.Walking.{same_then}
 use Rattle.roots.specs.Root.{log_sector}
