@@ -1,12 +1,13 @@
 //! The loop that serves clients.
 
-ghost use Rattle.std.specs.Prelude.{◌≡◌, [], Option, None, IfOk, List, MatchResult};
+ghost use Rattle.std.specs.Prelude.{◌≡◌, ◌↔◌, ◌-◌, [], Option, None, Some, IfOk, IsTrue, List, MatchResult, option_map};
 ghost use Rattle.std.specs.declared.time.Duration.{Duration as DurationData};
 ghost use Rattle.names.specs.declared.format.Rules.{Rules};
 ghost use Rattle.decoded.specs.Standing.{History, View};
 ghost use Rattle.histories.specs.View.{view};
 ghost use Rattle.durable.specs.Settled.{IsSettledAt};
 ghost use Rattle.api.specs.Answers.{ShowsAt};
+ghost use Rattle.clients.specs.Places.{count};
 ghost use Rattle.clients.specs.Clients.{ServesOn, EndsOn, ServesTurn, StopsTurn, HasNobody, HasServedClients, StopsRun};
 
 use crate::compacting::{Compacting, tell_compacted};
@@ -76,6 +77,7 @@ impl<S: Stream + Drop> EventLoop<S> {
     /// Nobody is there. All memory that does not depend on what clients send is taken here.
     pub(crate) fn new(alloc: Global, limits: Limits) -> Result<EventLoop<S>, AllocError>
         ensures nobody { IfOk result (λ made. HasNobody made.places) }
+        ensures many { IfOk result (λ made. count made.places ≡ limits.at_once) }
         ensures limits { IfOk result (λ made. made.limits ≡ limits) }
     {
         Ok(EventLoop {
@@ -124,7 +126,9 @@ impl<S: Stream + Drop> EventLoop<S> {
     }
 
     // Whether one more connection may be accepted.
-    fn has_left(&self) -> bool {
+    fn has_left(&self) -> bool
+        ensures { IsTrue result ↔ (self.now.limits.connections ≡ Some 0 → ⊥) }
+    {
         match self.limits.connections {
             Some(left) => left > 0,
             None => true,
@@ -144,6 +148,7 @@ impl<S: Stream + Drop> EventLoop<S> {
     fn count_one(&mut self)
         ensures places { self.new.places ≡ self.old.places }
         ensures limits { (self.new.limits.idle ≡ self.old.limits.idle) × (self.new.limits.compact_at ≡ self.old.limits.compact_at) }
+        ensures fewer { self.new.limits.connections ≡ option_map (λ left. left - 1) self.old.limits.connections }
     {
         if let Some(left) = self.limits.connections {
             self.limits.connections = Some(left.saturating_sub(1));

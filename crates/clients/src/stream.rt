@@ -17,9 +17,9 @@ pub(crate) enum Stop {
 }
 
 impl From<ErrorKind> for Stop {
-    ghost use Rattle.std.specs.Prelude.{⊤};
+    ghost use Rattle.clients.specs.Stream.{IsCauseOf};
 
-    ghost from_gives = { λ _ _. ⊤ };
+    ghost from_gives = { λ kind stop. IsCauseOf kind stop };
 
     fn from(kind: ErrorKind) -> Stop {
         match kind {
