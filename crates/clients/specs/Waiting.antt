@@ -24,6 +24,11 @@ IsEnd failed gone.Failed = failed
 IsEnd failed gone.Done = ⊤
 IsEnd failed gone.Late = ⊥
 
+-- What a client sends was forgotten for a second.
+abbrev pub HasDrained : (since : Option Instant) → (now : Instant) → Type 0
+HasDrained None now = ⊥
+HasDrained (Some since) now = 1000000000 ≤ instant_nanos now - instant_nanos since
+
 -- the stream failed, or the session is over and all was sent
 abbrev pub EndsAtRest : (failed : Type 0) → Gone → State → Type 0
 EndsAtRest failed gone.Lost new = ⊥

@@ -1,6 +1,6 @@
 //! What is told of messages and their replies, a line each.
 
-ghost use Rattle.std.specs.Prelude.{◌≡◌, ◌⊎◌, ◌<◌, ◌++◌, ◌-◌, ◌*ℤ◌, pos, ℕ, List, true, false, None, Some, codes, IfOk, IfSome, OnOk};
+ghost use Rattle.std.specs.Prelude.{◌≡◌, ◌⊎◌, ◌<◌, ◌++◌, ◌-◌, ◌^◌, ◌*ℤ◌, pos, ℕ, List, [], true, false, None, Some, codes, IfOk, IfSome, OnOk};
 ghost use Rattle.http.specs.StatusCode.{IsStatusCode, code_digits};
 ghost use Rattle.clients.specs.Journal.{is_plain, hex_digit, shown_byte, shown, method_text, last_second, HasTime, IsLine, answered_line, refused_line};
 
@@ -224,7 +224,12 @@ impl Journal {
     }
 
     /// Writes the lines, and forgets them, also where they cannot be written: a log that fails does not stop the server.
-    pub(crate) fn write_to<O: Output>(&mut self, alloc: Global, log: &mut O) {
+    pub(crate) fn write_to<O: Output>(&mut self, alloc: Global, log: &mut O)
+        ensures forgotten { self.new.text.items ≡ [] }
+        ensures none { self.old.text.items ≡ [] → log.new ≡ log.old }
+        ensures told { (self.old.text.items ≡ []) ⊎ O.took log.old log.new self.old.text.items
+            ⊎ (O.failures log.old < O.failures log.new) ⊎ (O.failures log.new ≡ 2 ^ 64 - 1) }
+    {
         if self.text.is_empty() {
             return;
         }

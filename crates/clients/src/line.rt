@@ -1,12 +1,12 @@
 //! The socket of one client.
 
-ghost use Rattle.std.specs.Prelude.{◌≡◌, ◌↔◌, ◌≤◌, ◌<◌, ◌-◌, ℕ, List, [], true, false, length, IfErr, IsTrue, MatchResult};
+ghost use Rattle.std.specs.Prelude.{◌≡◌, ◌↔◌, ◌≤◌, ◌<◌, ◌-◌, ◌⊎◌, ℕ, List, [], true, false, length, Err, IfErr, IsTrue, MatchOption, MatchResult};
 ghost use Rattle.std.specs.Duration.{as_nanos};
 ghost use Rattle.std.specs.Time.{instant_nanos};
 ghost use Rattle.objects.specs.Failing.{HasGrown};
 ghost use Rattle.sessions.specs.State.{is_open, is_lost};
 ghost use Rattle.clients.specs.Story.{GoesOn, SendsOn};
-ghost use Rattle.clients.specs.Waiting.{IsWaitedFor, IsLate, IsEnd, EndsAtRest, EndsFor};
+ghost use Rattle.clients.specs.Waiting.{IsWaitedFor, IsLate, IsEnd, HasDrained, EndsAtRest, EndsFor};
 
 use crate::desk::Desk;
 use crate::journal::{Journal, status_in};
@@ -222,6 +222,7 @@ impl<S: Stream> Line<S> {
     fn drain_since(&mut self, now: Instant) -> Instant
         ensures none { S.moved self.old.stream self.new.stream [] [] }
         ensures well { S.failures self.new.stream ≡ S.failures self.old.stream }
+        ensures since { MatchOption self.old.drained_since (result ≡ now) (λ since. result ≡ since) }
     {
         match self.drained_since {
             Some(since) => since,
@@ -240,6 +241,9 @@ impl<S: Stream> Line<S> {
         ensures forgets { (read : List ℕ) × S.moved self.old.stream self.new.stream read [] }
         ensures later { S.failures self.old.stream ≤ S.failures self.new.stream }
         ensures ends { IfErr result (IsEnd (HasGrown (S.failures self.old.stream) (S.failures self.new.stream))) }
+
+        // A client that sends on is let go only once what it sends was forgotten for a second.
+        ensures done { result ≡ Err Gone.Done → (self.old.has_ended ≡ true) ⊎ S.has_ended self.new.stream ⊎ HasDrained self.old.drained_since now }
     {
         if self.has_ended {
             return Err(Gone::Done);
@@ -257,6 +261,7 @@ impl<S: Stream> Line<S> {
         ensures forgets { (read : List ℕ) × S.moved self.old.stream self.new.stream read [] }
         ensures later { S.failures self.old.stream ≤ S.failures self.new.stream }
         ensures ends { IfErr result (IsEnd (HasGrown (S.failures self.old.stream) (S.failures self.new.stream))) }
+        ensures done { result ≡ Err Gone.Done → S.has_ended self.new.stream }
     {
         if !self.is_readable {
             return Ok(());
@@ -304,6 +309,7 @@ impl<S: Stream> Line<S> {
         ensures goes_on { GoesOn S.moved S.has_ended self.old.stream self.new.stream session.old session.new }
         ensures later { S.failures self.old.stream ≤ S.failures self.new.stream }
         ensures ends { IfErr result (λ gone. EndsAtRest (HasGrown (S.failures self.old.stream) (S.failures self.new.stream)) gone session.new) }
+        ensures done { result ≡ Err Gone.Done → (self.old.has_ended ≡ true) ⊎ S.has_ended self.new.stream ⊎ HasDrained self.old.drained_since now }
     {
         if !is_quiet(session) {
             return Ok(());

@@ -83,6 +83,7 @@ pub(crate) fn read_once<S: Stream>(
 pub(crate) fn forget_once<S: Stream>(buffer: &mut [u8], stream: &mut S) -> Moved
     requires room { 0 < length buffer.old }
     ensures forgets { (read : List ℕ) × S.moved stream.old stream.new read [] }
+    ensures ended { result ≡ Moved.Ended → S.has_ended stream.new }
     ensures counts { CountsMoved (S.failures stream.old) (S.failures stream.new) result }
 {
     match stream.read(buffer) {
