@@ -27,7 +27,7 @@ impl Model for Message {
 
 impl Message {
     /// A message of these parts, which are copied.
-    pub(crate) fn new(
+    pub fn new(
         alloc: Global,
         method: Method,
         target: &str,

@@ -107,6 +107,11 @@ pub data PathPlace : Type 0 where
   everywhere : Resource → PathPlace
   within : Target → PathPlace
 
+-- the resource whose objects stand at a place
+abbrev pub resource_in : PathPlace → Resource
+resource_in (everywhere r) = r
+resource_in (within t) = t.resource
+
 -- a place of a resource: namespaced objects stand in a namespace, and the others in none
 abbrev pub in_scope : Scope → Resource → (namespace name : Option (List ℕ)) → Option PathPlace
 in_scope Namespaced r (Some namespace) name = Some (within (target r namespace name))

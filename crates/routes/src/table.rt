@@ -3,14 +3,14 @@
 ghost use Rattle.std.specs.Prelude.{◌≡◌, [], IfOk, OnOk, Some, None, option_map, if◌then◌else◌, ◌||◌, string_bytes};
 ghost use Rattle.matchit.specs.declared.router.Router.{Router};
 ghost use Rattle.documents.specs.Form.{namespace_at};
-ghost use Rattle.routes.specs.Path.{resource_of, in_scope, place_of, place_at, parts_of};
+ghost use Rattle.routes.specs.Path.{resource_of, in_scope, place_of, place_at, parts_of, path_of, resource_in};
 ghost use Rattle.routes.specs.PlaceOf.{seen};
 ghost use Rattle.routes.specs.Allow.{allowed};
 ghost use Rattle.routes.specs.Table.{AnswersTable};
 ghost use Rattle.names.specs.Format.{has_resource};
 ghost use Rattle.names.specs.Resource.{row};
 
-use crate::path::{Pieces, literal, pieces_of};
+use crate::path::{Pieces, literal, path_and_query, pieces_of};
 use matchit::{InsertError, Router};
 use names::{Format, Resource, Scope};
 use std::alloc::{AllocError, Global};
@@ -56,6 +56,16 @@ pub(crate) enum PathPlace<'p> {
 }
 
 impl PathPlace<'_> {
+    /// The resource whose objects stand there.
+    fn resource(&self) -> Resource
+        ensures { result ≡ resource_in (seen self.now) }
+    {
+        match self {
+            PathPlace::Everywhere(resource) => *resource,
+            PathPlace::Within(target) => target.resource,
+        }
+    }
+
     /// The methods that the place allows, as an `Allow` field lists them (RFC 9110 section 10.2.1).
     pub(crate) fn allowed(&self) -> &'static str
         ensures { result.now ≡ allowed (seen self.now) }
@@ -201,5 +211,21 @@ impl Routes {
             Some(pieces) => self.place_at(alloc, format, &pieces),
             None => Ok(None),
         }
+    }
+
+    /// The resource that a target points to, to its objects or to one of them, if a store of the format serves that.
+    pub fn resource_at(
+        &self,
+        alloc: Global,
+        format: Format,
+        target: &str,
+    ) -> Result<Option<Resource>, AllocError>
+        ensures { IfOk result (λ resource. resource ≡ option_map resource_in (place_at format (parts_of (path_of target.now)))) }
+    {
+        let (path, _) = path_and_query(target);
+        Ok(match self.place_of(alloc, format, path)? {
+            Some(place) => Some(place.resource()),
+            None => None,
+        })
     }
 }

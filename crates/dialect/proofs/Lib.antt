@@ -1,0 +1,3 @@
+mod Refusing
+mod Served
+mod Bodies
