@@ -6,8 +6,8 @@
 //! ```
 //!
 //! A step takes a history and a request, with what stands in the document that it asks to be stored, to a history and a reply. Each
-//! write is asked of the policies and bindings that are stored just before it: one that they deny is refused, and stands nowhere.
-//! `prepare` takes all the memory of a step over the objects of a source and changes nothing that is seen, `Holdings::take` of `holdings` takes none; together they are one step.
+//! write is asked of the policies and bindings that are stored just before it: one that they deny is refused, and is not stored.
+//! A step has two halves. `prepare` takes all the memory that the step needs, and changes nothing that is seen. `Holdings::take` of `holdings` makes the change, and takes no memory.
 //! Beside each document the model has the trees of its expressions, and the core (`decoded::Core`) the plans of those trees, with what the document
 //! spells as a policy and as a binding.
 //!

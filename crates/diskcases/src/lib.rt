@@ -1,7 +1,7 @@
 //! The cases of devices, logs, roots and pages.
 //!
 //! [`run_disk`] runs their files; `README.md` beside the files has their lines. [`check_files`] looks at devices over files of the
-//! operating system. How a [`Line`] is read and answered serves the bench of records too, and [`on_store_device`] that of the store.
+//! operating system. The bench of records uses [`Line`] too, and the bench of the store [`on_store_device`].
 #![tactic(auto)]
 
 mod bench;
