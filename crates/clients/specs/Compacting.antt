@@ -9,7 +9,7 @@ use Rattle.durable.specs.Settled.{log_of}
 abbrev pub log_sectors : {D : Type 0} {g : Ghosts D} → Store D g → ℕ
 log_sectors store = (log_of store).last_gate_sector - (log_of store).first_gate_sector
 
--- the length from which on a log is compacted, behind so many pages of 64 sectors: some number of times as long as they, and 8 MiB at least
+-- the length from which on a log is compacted, behind this number of pages of 64 sectors: some number of times as long as they, and 8 MiB at least
 abbrev pub due_sectors : (times pages : ℕ) → ℕ
 due_sectors times pages = max 16384 (64 * pages * times)
 

@@ -45,7 +45,7 @@ method_text Other = codes "-"
 abbrev pub last_second : ℕ
 last_second = 253_402_207_200
 
--- The text of a time so many seconds after 1970-01-01T00:00:00Z: its date and its time of day in UTC, as `2026-12-01T08:30:00Z` (RFC 3339 section 5.6). Where it is not
+-- The text of a time this number of seconds after 1970-01-01T00:00:00Z: its date and its time of day in UTC, as `2026-12-01T08:30:00Z` (RFC 3339 section 5.6). Where it is not
 -- known, or behind the last second, it is a hyphen.
 abbrev pub HasTime : Option ℕ → List ℕ → Type 0
 HasTime None text = text ≡ codes "-"

@@ -19,7 +19,7 @@ const LEAST_LOG_SECTORS: u64 = 16384;
 
 const PAGE_SECTORS: u64 = 64;
 
-// The number of sectors of a log from which on a store with so many pages is compacted.
+// The number of sectors of a log from which on a store with this number of pages is compacted.
 fn due_sectors(times: u16, pages: u32) -> u64
     ensures { result ≡ due_sectors times pages }
 {

@@ -67,7 +67,7 @@ fn method_text(method: Method) -> &'static str
     }
 }
 
-// The instant so many seconds after 1970-01-01T00:00:00Z; none behind the calendar's end.
+// The instant this number of seconds after 1970-01-01T00:00:00Z; none behind the calendar's end.
 fn instant_at(seconds: u64) -> Option<Timestamp>
     ensures value { IfSome result (λ t. t.nanosecond ≡ pos seconds *ℤ pos 1_000_000_000) }
     ensures end { result ≡ None → last_second < seconds }
@@ -75,7 +75,7 @@ fn instant_at(seconds: u64) -> Option<Timestamp>
     Timestamp::from_nanosecond(i128::from(seconds) * 1_000_000_000).ok()
 }
 
-// Puts the text of a time to a line, so many seconds after 1970-01-01T00:00:00Z.
+// Puts the text of a time to a line, this number of seconds after 1970-01-01T00:00:00Z.
 fn put_time(line: &mut Vec<u8>, seconds: Option<u64>) -> Result<(), AllocError>
     ensures { OnOk result ((time : List ℕ) × HasTime seconds time × (line.new.items ≡ line.old.items ++ time)) }
 {

@@ -28,7 +28,7 @@ pub(crate) trait Network<S> {
     /// Between these two states these clients came, in this order.
     ghost came: { Self → Self → List S → Type 0 };
 
-    /// Waits until something is ready, for so many milliseconds at most, and marks the places of the clients that are. It says whether somebody may wait to be accepted.
+    /// Waits until something is ready, for this number of milliseconds at most, and marks the places of the clients that are. It says whether somebody may wait to be accepted.
     fn wait(&mut self, milliseconds: u64, places: &mut Places<S>) -> io::Result<bool>
         ensures came { came self.old self.new [] }
         ensures marked { AreMarked places.old places.new };

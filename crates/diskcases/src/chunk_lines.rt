@@ -17,7 +17,7 @@ use roots::{Root, counted_root};
 use shelf::{Reading, Shelf};
 use std::alloc::Global;
 
-// Adds so many times a byte, as a payload has them, behind a ` + ` unless it is the first part.
+// Adds a byte this many times, as a payload has them, behind a ` + ` unless it is the first part.
 fn push_run(line: &mut Line<'_>, is_first: bool, byte: u8, count: u64) {
     if !is_first {
         line.answer.word("+");

@@ -26,7 +26,7 @@ pub enum Serving {
     OneByOne {
         connections: u16,
     },
-    /// So many at once, of this many in all, or of any number. Between them the store is compacted where its log is so many times as long as its pages, or never.
+    /// This many at once, of this many in all, or of any number. Between them the store is compacted where its log is this many times as long as its pages, or never.
     AtOnce {
         at_once: u16,
         connections: Option<u16>,

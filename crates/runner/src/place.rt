@@ -107,7 +107,7 @@ pub struct NewStores {
 }
 
 impl NewStores {
-    /// A new store on a device with the case's room, but for so many sectors at least; it is shut.
+    /// A new store on a device with the case's room, but for at least this many sectors; it is shut.
     pub fn place(self, alloc: Global, least_sectors: u64) -> StorePlace {
         StorePlace::new(alloc, self.format, self.room_sectors.max(least_sectors))
     }
@@ -125,7 +125,7 @@ fn created(alloc: Global, format: Format, room_sectors: u64) -> Result<MemDevice
 }
 
 impl StorePlace {
-    /// A new store of a format on a device with room for so many sectors; it is shut.
+    /// A new store of a format on a device with room for this many sectors; it is shut.
     pub fn new(alloc: Global, format: Format, room_sectors: u64) -> StorePlace {
         let mut place = StorePlace {
             alloc,

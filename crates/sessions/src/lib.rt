@@ -4,7 +4,7 @@
 //! session.take_piece(alloc, &mut tools, piece);                  // bytes that a client sent
 //! let next = batch.gather(&mut sessions, first);                 // messages of all sessions, by turns
 //! batch.answer(alloc, &mut tools, &mut sessions, &mut store)?;   // one group of the store
-//! session.sent(alloc, count);                                    // so many bytes of `session.rest()`
+//! session.sent(alloc, count);                                    // this many bytes of `session.rest()`
 //! ```
 //!
 //! A [`Session`] is one client's: how far its bytes are cut into messages, those that wait to be answered, and the bytes that wait to be
