@@ -16,6 +16,7 @@
 
 mod constant;
 mod discovery;
+mod labels;
 mod laws;
 mod nulls;
 mod options;
