@@ -125,7 +125,8 @@ pub(crate) fn restated_object(
     resource: Resource,
     body: &[u8],
 ) -> Result<Option<String>, AllocError>
-    ensures { IfOk result (λ text. unwrap_or (option_map string_bytes text) body.now ≡ restated_object resource body.now) }
+    ensures text { IfOk result (λ text. unwrap_or (option_map string_bytes text) body.now ≡ restated_object resource body.now) }
+    ensures again { IfOk result (λ _. restated_object resource (restated_object resource body.now) ≡ restated_object resource body.now) }
 {
     let mut document = match Doc::read(alloc, body) {
         Ok(document) => document,
