@@ -1,10 +1,10 @@
 -- A message that was restated is asked as it is, where it is read again: its target, and all of it where its body stays.
-use Rattle.std.proofs.Common.{◌≡◌, ◌≢◌, ℕ, List, [], ◌∷◌, ◌++◌, take, Bool, true, false, not, ◌&&◌, ◌||◌, cond, codes, Option, Some, None, IsUtf8, All, refl, sym, ap, ◌∙◌, subst, ⊎_elim, true≢false}
+use Rattle.std.proofs.Common.{◌≡◌, ◌≢◌, ℕ, List, [], ◌∷◌, ◌++◌, take, Bool, true, false, not, ◌&&◌, ◌||◌, cond, codes, Option, Some, None, IsUtf8, All, refl, sym, ap, ◌∙◌, subst, ⊎_elim, true≢false, length, arith}
 use Rattle.std.specs.Prelude.{is_none, option_map}
 use Rattle.std.specs.List.{list_any}
 use Rattle.std.specs.Option.{option_map_or}
 use Rattle.std.specs.Str.{bytes_eq}
-use Rattle.std.proofs.lemmas.Bool.{cond-false, cond_both, cases_eq, and_parts}
+use Rattle.std.proofs.lemmas.Bool.{cond-false, cond_both, cases_eq, and_parts, ne_eqb}
 use Rattle.std.proofs.lemmas.List.Elements.{All-nil, All-cons}
 use Rattle.std.proofs.lemmas.Slice.Eq.{bytes_eq-Decides}
 use lib.Utf8.{encode}
@@ -15,7 +15,7 @@ use Rattle.httpmsg.specs.declared.head.Method.{Method}
 use Rattle.httpmsg.specs.declared.head.Method.TheVariants.{Get, Head, Post, Put, Delete, Other}
 use Rattle.httpmsg.specs.Stream.{Message}
 use Rattle.routes.specs.Asked.{place_in}
-use Rattle.routes.specs.Path.{path_of, query_of, parts_of, place_at, resource_in}
+use Rattle.routes.specs.Path.{path_of, query_of, parts_of, place_at, resource_in, is_empty}
 use Rattle.routes.specs.Query.{Pair, pairs_of, truth_of}
 use Rattle.dialect.specs.Discovery.{constant_at}
 use Rattle.dialect.specs.Pairs.{is_left_out, is_other, is_misread, is_true, may_stay, served_truth, served_pair, kept, is_restated, asks_to_watch, with_query, target_of}
@@ -147,7 +147,10 @@ no_mark (b ∷ text) = ⊎_elim
 
 target_parts : (path query : List ℕ) → All (λ (b : ℕ). b ≢ 63) path → (path_of (with_query path query) ≡ path) × (query_of (with_query path query) ≡ query)
 target_parts path [] none = (split_once_before_none 63 path none, split_once_after_none 63 path none)
-target_parts path (byte ∷ query) none = (split_once_before_at 63 path (byte ∷ query) none, split_once_after_at 63 path (byte ∷ query) none)
+target_parts path (byte ∷ query) none =
+    let some : is_empty (byte ∷ query) ≡ false = ne_eqb (length (byte ∷ query)) 0 (omega arith) in
+    let made : with_query path (byte ∷ query) ≡ path ++ 63 ∷ byte ∷ query = cond-false _ _ _ some in
+    (ap path_of made ∙ split_once_before_at 63 path (byte ∷ query) none, ap query_of made ∙ split_once_after_at 63 path (byte ∷ query) none)
 
 -- a target has this path, and pairs that stay
 abbrev TargetStays : (method : Method) (w : Bool) (path target : List ℕ) → Type 0
