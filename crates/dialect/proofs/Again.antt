@@ -75,8 +75,7 @@ served_stays : (method : Method) (w : Bool) (pair : Pair) → is_left_out method
 served_stays method w pair left other =
     cond_both (is_misread pair) (pair.0, served_truth pair.1) pair (Stays method w pair)
     (λ is.
-    let named = (and_parts (bytes_eq pair.0 (codes "watch")) (is_none (truth_of pair.1)) is).0 in
-    (
+    let named = (and_parts (bytes_eq pair.0 (codes "watch")) (is_none (truth_of pair.1)) is).0 in (
       named_stays method w pair.0 (served_truth pair.1) named,
       and_false _ _ (and_rest (is_left_out method w pair) (not (may_stay method pair.0)) left other),
       and_false _ _ (truth_is_served pair.1),
@@ -167,7 +166,7 @@ target_stays m none =
     let same : pairs_of (query_of (target_of path left)) ≡ left = ap pairs_of parts.1 ∙ written_pairs left texts in
     cond_both (is_restated m.method w (pairs_in m)) (target_of path left) m.target (TargetStays m.method w path)
     (λ _. (parts.0, subst (KeptStay m.method w w) (sym same) (kept_stay m.method w (pairs_in m) none)))
-    (λ is. (refl, none, is, refl))
+    (λ is. (refl, (none, is, refl)))
 
 -- ---- all of a message
 

@@ -205,12 +205,11 @@ IsFull d = (has_null_metadata d ≡ false) × (lacks (codes "apiVersion") d ≡ 
 
 second_step : (r : Resource) (d : Data) → has_null_metadata d ≡ false → IsFull (with_kind r d)
 second_step r d none =
-    let versioned = with_text (codes "apiVersion") (api_version r) d in
-    (
+    let versioned = with_text (codes "apiVersion") (api_version r) d in (
       no_null_still (codes "kind") (row r).kind versioned (differ (codes "metadata") (codes "kind") refl)
-      (no_null_still (codes "apiVersion") (api_version r) d (differ (codes "metadata") (codes "apiVersion") refl) none),
+          (no_null_still (codes "apiVersion") (api_version r) d (differ (codes "metadata") (codes "apiVersion") refl) none),
       has_still (codes "apiVersion") (codes "kind") (row r).kind versioned (differ (codes "apiVersion") (codes "kind") refl)
-      (has_text_now (codes "apiVersion") (api_version r) d),
+          (has_text_now (codes "apiVersion") (api_version r) d),
       has_text_now (codes "kind") (row r).kind versioned,
     )
 
@@ -268,10 +267,9 @@ third_step r d full = by_label IsFull r d full
     (λ name is lack.
     let md = metadata_of d in
     let labels = and_parts (is_some (as_object (labels_in md))) (not (has_text name_label name (labels_in md))) lack in
-    let new = not_null_with name_label (string name) (labels_in md) labels.0 in
-    (
+    let new = not_null_with name_label (string name) (labels_in md) labels.0 in (
       put_metadata (with_label name md) d (named_document (codes "name") name d is)
-      (none_with (codes "labels") (with_member name_label (string name) (labels_in md)) md new (found_none (get (codes "metadata") d) full.0)),
+          (none_with (codes "labels") (with_member name_label (string name) (labels_in md)) md new (found_none (get (codes "metadata") d) full.0)),
       lacks_after (codes "apiVersion") (codes "metadata") (with_label name md) d (differ (codes "apiVersion") (codes "metadata") refl) ∙ full.1,
       lacks_after (codes "kind") (codes "metadata") (with_label name md) d (differ (codes "kind") (codes "metadata") refl) ∙ full.2,
     ))

@@ -269,7 +269,7 @@ module _ (m : Message) where
 
 with_both : (m : Message) (target body new : List ℕ) → target ≡ m.target → body ≡ new
     → (let restated : Message = record { method = m.method; target = target; closes = m.closes; body = body } in
-      let expected : Message = record { method = m.method; target = m.target; closes = m.closes; body = new } in restated ≡ expected)
+    let expected : Message = record { method = m.method; target = m.target; closes = m.closes; body = new } in restated ≡ expected)
 with_both m target body new is_target is_body = λ i. record { method = m.method; target = is_target i; closes = m.closes; body = is_body i }
 
 pub stays : (f : Format) (m : Message) → IsServed (asked f m) → IsNoWatch (asked f m) → restated f m ≡ labelled_message f m
