@@ -1,5 +1,5 @@
 -- A message that was restated is asked as it is, where it is read again: its target, and all of it where its body stays.
-use Rattle.std.proofs.Common.{◌≡◌, ◌≢◌, ℕ, List, [], ◌∷◌, ◌++◌, take, Bool, true, false, not, ◌&&◌, ◌||◌, cond, codes, Option, Some, None, IsUtf8, All, refl, sym, ap, ◌∙◌, subst, ⊎_elim, true≢false, length, arith}
+use Rattle.std.proofs.Common.{◌≡◌, ◌≢◌, ℕ, List, [], ◌∷◌, ◌++◌, Bool, true, false, not, ◌&&◌, ◌||◌, cond, codes, None, IsUtf8, All, refl, sym, ap, ◌∙◌, subst, ⊎_elim, true≢false, length, arith}
 use Rattle.std.specs.Prelude.{is_none, option_map}
 use Rattle.std.specs.List.{list_any}
 use Rattle.std.specs.Option.{option_map_or}
@@ -19,7 +19,7 @@ use Rattle.routes.specs.Path.{path_of, query_of, parts_of, place_at, resource_in
 use Rattle.routes.specs.Query.{Pair, pairs_of, truth_of}
 use Rattle.dialect.specs.Discovery.{constant_at}
 use Rattle.dialect.specs.Pairs.{is_left_out, is_other, is_misread, is_true, may_stay, served_truth, served_pair, kept, is_restated, asks_to_watch, with_query, target_of}
-use Rattle.dialect.specs.Restated.{Reading, asks, constant, pairs_in, is_watch, has_other_pair, body_read, restated_target, restated_body, restated, reads, constant_of, reading_of}
+use Rattle.dialect.specs.Restated.{asks, constant, pairs_in, is_watch, has_other_pair, body_read, restated_target, restated_body, restated, reads, constant_of, reading_of}
 use Rattle.dialect.specs.ReadingOf.{reading_seen, IsReadOnce}
 use Rattle.dialect.specs.declared.reading.Reading as code
 use Rattle.dialect.specs.declared.reading.Reading.TheVariants.{Plain, Restated, Constant}

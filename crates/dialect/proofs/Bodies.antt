@@ -1,5 +1,5 @@
 -- Bodies that are served have nothing that is left out, and of what is added they lack the label of a Namespace at most.
-use Rattle.std.proofs.Common.{◌≡◌, ℕ, List, [], ◌∷◌, Bool, true, false, not, ◌&&◌, ◌||◌, cond, codes, Option, Some, None, refl, sym, ap, ◌∙◌, subst, true≢false}
+use Rattle.std.proofs.Common.{◌≡◌, ℕ, List, [], ◌∷◌, Bool, true, false, not, ◌&&◌, ◌||◌, cond, codes, Option, Some, None, refl, sym, ap, ◌∙◌, true≢false}
 use Rattle.std.proofs.lemmas.Bool.{cond-false}
 use Rattle.std.specs.Prelude.{is_some, is_none, option_and_then, unwrap_or}
 use Rattle.std.specs.Option.{option_map_or}
@@ -11,7 +11,7 @@ use Rattle.jsondoc.proofs.Json.{both}
 use Rattle.names.specs.declared.resource.Resource.{Resource}
 use Rattle.names.specs.Resource.{row, api_version}
 use Rattle.names.specs.Key.{is_name_of}
-use Rattle.documents.specs.Document.{metadata_of, has_text, has_kind, is_text_that, is_metadata_member, is_metadata, is_metadata_of, is_object_of, each_member}
+use Rattle.documents.specs.Document.{metadata_of, has_text, has_kind, is_metadata_member, is_metadata, is_metadata_of, is_object_of, each_member}
 use Rattle.documents.proofs.MemberLemmas.{each_member-get_member}
 use Rattle.requests.specs.declared.refusal.Refusal.{Refusal}
 use Rattle.requests.specs.declared.refusal.Refusal.TheVariants.{WrongKind, BadMetadata, WrongName, VersionOnCreate, BadDeleteOptions}
@@ -20,7 +20,7 @@ use Rattle.requests.specs.Manifest.{Target, fits_path, asks_for_version, documen
 use Rattle.requests.specs.Refusal.{Condition, first_of}
 use Rattle.dialect.specs.Labels.{labelled, labelled_object, lacks_its_label}
 use Rattle.dialect.specs.Objects.{is_null, has_null, has_null_metadata, without_null_metadata, lacks, with_text, with_kind, restated_object}
-use Rattle.dialect.specs.Options.{has_other_version, has_idle_option, kept_options, restated_options}
+use Rattle.dialect.specs.Options.{has_other_version, has_idle_option, restated_options}
 
 -- ---- conditions
 

@@ -1,5 +1,5 @@
 -- Texts that are decoded are UTF-8, and pairs of such texts are read back from a query that is written of them.
-use Rattle.std.proofs.Common.{◌≡◌, ◌≢◌, ℕ, zero, suc, ◌+◌, ◌*◌, ◌<◌, ◌≤◌, ◌/◌, ◌%◌, ◌⊎◌, inl, inr, ◌&&◌, ◌==◌, nat_lt, List, [], ◌∷◌, ◌++◌, map, length, take, drop, Bool, true, false, cond, Option, Some, None, IsUtf8, All, refl, sym, ap, ◌∙◌, subst, ⊎_elim, arith, length-drop, slice_index, unwrap_or}
+use Rattle.std.proofs.Common.{◌≡◌, ℕ, zero, suc, ◌+◌, ◌<◌, ◌≤◌, ◌/◌, ◌==◌, nat_lt, List, [], ◌∷◌, map, length, take, drop, true, cond, Option, Some, None, IsUtf8, All, refl, sym, ap, ◌∙◌, subst, ⊎_elim, arith, length-drop, slice_index, unwrap_or}
 use Rattle.std.specs.Str.{is_utf8}
 use Rattle.std.specs.Int.{is_in_range}
 use Rattle.std.specs.Str.Lossy.{utf8_lossy, utf8_valid_len, valid_len_up_to, replacement_bytes, after_first_chunk, utf8_error_len, utf8_invalid_len, error_len_of_some, error_len_after_one, error_len_after_two, second_byte_min, second_byte_max}
@@ -8,7 +8,7 @@ use Rattle.std.proofs.lemmas.Bool.{cond_both, cases_lt, and_parts, lt-ltb, le-lt
 use Rattle.std.proofs.lemmas.List.{take_all}
 use Rattle.std.proofs.lemmas.List.Elements.{All-nil, All-cons, All-append}
 use lib.Utf8.{scalar, scalars, next, encode, encodes, scalar_cases}
-use Rattle.form_urlencoded.specs.Form.{raw_pairs, decode, parse, extend_pairs}
+use Rattle.form_urlencoded.specs.Form.{raw_pairs, decode, extend_pairs}
 use Rattle.form_urlencoded.proofs.FormLemmas.{IsBytePair, round_trip}
 use Rattle.routes.specs.Query.{Pair, decoded, pairs_of}
 

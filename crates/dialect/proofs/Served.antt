@@ -1,5 +1,5 @@
 -- Messages that are served stay as they are, but for the label of a Namespace.
-use Rattle.std.proofs.Common.{◌≡◌, ℕ, zero, suc, ◌+◌, ◌<◌, List, [], ◌∷◌, map, Bool, true, false, not, ◌&&◌, ◌||◌, cond, nat_lt, codes, Option, Some, None, refl, sym, ap, ◌∙◌, subst, true≢false, arith}
+use Rattle.std.proofs.Common.{◌≡◌, ℕ, ◌+◌, List, [], ◌∷◌, map, Bool, true, false, not, ◌&&◌, ◌||◌, cond, nat_lt, codes, Option, Some, None, refl, sym, ap, ◌∙◌, subst, true≢false, arith}
 use Rattle.std.proofs.lemmas.Bool.{cond-false}
 use Rattle.std.specs.Prelude.{unwrap_or, is_none, option_map, option_and_then, find}
 use Rattle.std.specs.List.{list_any, list_all, count_by}
@@ -20,13 +20,13 @@ use Rattle.requests.specs.DeleteOptions.{delete_body_conditions, version_of_body
 use Rattle.jsondoc.specs.Json.{reading}
 use Rattle.names.specs.Key.{key_of}
 use Rattle.requests.specs.Refusal.{Condition, first_of}
-use Rattle.requests.specs.Request.{Request, refused, watch, list, delete}
+use Rattle.requests.specs.Request.{Request, refused, watch, delete}
 use Rattle.httpmsg.specs.declared.head.Method.{Method}
 use Rattle.httpmsg.specs.declared.head.Method.TheVariants.{Get, Head, Post, Put, Delete, Other}
 use Rattle.httpmsg.specs.Stream.{Message}
 use Rattle.routes.specs.Asked.{unless_refused, item_conditions, look, creation, replacement, deletion, answering, collection_conditions, collection_request, collection_at, all_of, of_item, of_collection, of_everywhere, asked_at, place_in, asked}
 use Rattle.routes.specs.Path.{PathPlace, everywhere, within, query_of, resource_in}
-use Rattle.routes.specs.Query.{Pair, Question, objects, events, decoded, pairs_of, has_pairs, is_any, is_served, truth_of, watches, watched, listed, count_of, value_of, has_known_names, question_by, question_of}
+use Rattle.routes.specs.Query.{Pair, Question, objects, events, decoded, has_pairs, is_any, is_served, truth_of, watches, watched, listed, count_of, value_of, has_known_names, question_of}
 use Rattle.dialect.specs.Pairs.{is_left_out, is_misread, is_restated}
 use Rattle.dialect.specs.Restated.{pairs_in, is_watch, has_other_pair, body_read, restated_target, restated_body, restated}
 use Rattle.dialect.specs.Laws.{body_labelled, labelled_message}

@@ -1,8 +1,8 @@
 -- Objects as Kubernetes clients send them, in the body of a POST or a PUT, and as they are read.
-use Rattle.std.specs.Prelude.{ℕ, Bool, true, false, List, ◌||◌, ◌&&◌, not, codes, if◌then◌else◌, Option, Some, None, is_some, is_none, option_and_then, unwrap_or}
+use Rattle.std.specs.Prelude.{ℕ, Bool, false, List, ◌||◌, ◌&&◌, codes, if◌then◌else◌, is_some, is_none, option_and_then}
 use Rattle.std.specs.Option.{option_map_or}
-use Rattle.serde_json.specs.Data.{Data, null, boolean, number, string, array, object, Items, no_items, item, Members, no_members, member}
-use Rattle.serde_json.specs.Find.{get, as_null, as_str, as_object}
+use Rattle.serde_json.specs.Data.{Data, string, Members, no_members, member}
+use Rattle.serde_json.specs.Find.{get, as_null, as_object}
 use Rattle.jsondoc.specs.Json.{Reading, not_json, not_whole, document, reading, text, with_member, without_member}
 use Rattle.names.specs.declared.resource.Resource.{Resource}
 use Rattle.names.specs.Resource.{row, api_version}

@@ -1,4 +1,4 @@
-use Rattle.std.proofs.Common.{rules, ◌≡◌, ◌∙◌, ap, false, option_map, unwrap_or, string_bytes}
+use Rattle.std.proofs.Common.{rules, ◌≡◌, ◌∙◌, false, option_map, unwrap_or, string_bytes}
 use Rattle.std.proofs.lemmas.Result.{IfOk-weaker}
 use Rattle.httpmsg.specs.Stream.{Message}
 use Rattle.dialect.specs.Restated.{asks, has_other_pair, restated_body, restated_target}
