@@ -1,5 +1,6 @@
--- Bodies that are served have nothing that is left out or added.
-use Rattle.std.proofs.Common.{◌≡◌, ℕ, List, [], ◌∷◌, Bool, true, false, not, ◌&&◌, ◌||◌, cond, codes, Option, Some, None, refl, sym, ap, ◌∙◌, subst, true≢false}
+-- Bodies that are served have nothing that is left out, and of what is added they lack the label of a Namespace at most.
+use Rattle.std.proofs.Common.{◌≡◌, ℕ, List, [], ◌∷◌, Bool, true, false, not, ◌&&◌, ◌||◌, cond, codes, Option, Some, None, refl, sym, ap, ◌∙◌, true≢false}
+use Rattle.std.proofs.lemmas.Bool.{cond-false}
 use Rattle.std.specs.Prelude.{is_some, is_none, option_and_then, unwrap_or}
 use Rattle.std.specs.Option.{option_map_or}
 use Rattle.std.specs.Str.{bytes_eq}
@@ -10,15 +11,16 @@ use Rattle.jsondoc.proofs.Json.{both}
 use Rattle.names.specs.declared.resource.Resource.{Resource}
 use Rattle.names.specs.Resource.{row, api_version}
 use Rattle.names.specs.Key.{is_name_of}
-use Rattle.documents.specs.Document.{metadata_of, has_text, has_kind, is_text_that, is_metadata_member, is_metadata, is_metadata_of, is_object_of, each_member}
+use Rattle.documents.specs.Document.{metadata_of, has_text, has_kind, is_metadata_member, is_metadata, is_metadata_of, is_object_of, each_member}
 use Rattle.documents.proofs.MemberLemmas.{each_member-get_member}
 use Rattle.requests.specs.declared.refusal.Refusal.{Refusal}
 use Rattle.requests.specs.declared.refusal.Refusal.TheVariants.{WrongKind, BadMetadata, WrongName, VersionOnCreate, BadDeleteOptions}
 use Rattle.requests.specs.DeleteOptions.{is_option, are_delete_options, options_conditions, delete_body_conditions}
 use Rattle.requests.specs.Manifest.{Target, fits_path, asks_for_version, document_conditions, reading_conditions}
 use Rattle.requests.specs.Refusal.{Condition, first_of}
-use Rattle.dialect.specs.Objects.{is_null, has_null, has_null_metadata, lacks, is_short, restated_object, completed}
-use Rattle.dialect.specs.Options.{has_other_version, has_idle_option, kept_options, restated_options}
+use Rattle.dialect.specs.Labels.{labelled, labelled_object, lacks_its_label}
+use Rattle.dialect.specs.Objects.{is_null, has_null, has_null_metadata, without_null_metadata, lacks, with_text, with_kind, restated_object}
+use Rattle.dialect.specs.Options.{has_other_version, has_idle_option, restated_options}
 
 -- ---- conditions
 
@@ -132,10 +134,8 @@ and_false false b is = refl
 has_it : (name text : List ℕ) (d : Data) → has_text name text d ≡ true → lacks name d ≡ false
 has_it name text d is = and_false (is_some (as_object d)) (is_none (get name d)) (found_text text (get name d) is)
 
-none_short : (a b c : Bool) → a ≡ false → b ≡ false → c ≡ false → (a || (b || c)) ≡ false
-none_short a b c p q r = rw (p, q, r) refl
-
-whole : (t : Target) (d : Data) → first_of (document_conditions t d) ≡ None → is_short d ≡ false
+whole : (t : Target) (d : Data) → first_of (document_conditions t d) ≡ None
+    → (has_null_metadata d ≡ false) × (lacks (codes "apiVersion") d ≡ false) × (lacks (codes "kind") d ≡ false)
 whole t d none =
     let named : List Condition = (WrongName, not (fits_path t.namespace t.name d)) ∷ (VersionOnCreate, is_none t.name && asks_for_version d) ∷ [] in
     let kinds = first_fails WrongKind (not (has_kind t.resource d)) ((BadMetadata, not (is_metadata_of t.resource (metadata_of d))) ∷ named) none in
@@ -143,13 +143,31 @@ whole t d none =
     let kind = both (has_text (codes "apiVersion") (api_version t.resource) d) (has_text (codes "kind") (row t.resource).kind d) (not_false (has_kind t.resource d) kinds.0) in
     let fit = both (is_metadata (metadata_of d)) (option_map_or (is_name_of t.resource) (option_and_then as_str (get (codes "name") (metadata_of d))) false) (not_false (is_metadata_of t.resource (metadata_of d)) metas.0) in
     let members = both (is_object_of is_metadata_member (metadata_of d)) (is_some (get (codes "name") (metadata_of d))) fit.0 in
-    none_short _ _ _ (no_null_found (get (codes "metadata") d) members.0)
-    (has_it (codes "apiVersion") (api_version t.resource) d kind.0) (has_it (codes "kind") (row t.resource).kind d kind.1)
+    (no_null_found (get (codes "metadata") d) members.0, has_it (codes "apiVersion") (api_version t.resource) d kind.0, has_it (codes "kind") (row t.resource).kind d kind.1)
 
-object_stays : (t : Target) (r : Resource) (body : List ℕ) (read : Reading) → reading body ≡ read → first_of (reading_conditions t read) ≡ None → restated_object r body ≡ body
+-- the label alone is added to what is whole
+label_alone : (r : Resource) (d made : Data) (body : List ℕ) (n v k : Bool) → n ≡ false → v ≡ false → k ≡ false → made ≡ d
+    → cond (n || (v || (k || lacks_its_label r d))) (text (labelled r made)) body ≡ cond (lacks_its_label r d) (text (labelled r d)) body
+label_alone r d made body n v k p q s same = rw (p, q, s, same) refl
+
+no_nulls : (d : Data) → has_null_metadata d ≡ false → without_null_metadata d ≡ d
+no_nulls d none = cond-false _ _ _ none
+
+no_text : (name text : List ℕ) (d : Data) → lacks name d ≡ false → with_text name text d ≡ d
+no_text name text d none = cond-false _ _ _ none
+
+kinds_stay : (r : Resource) (d : Data) → lacks (codes "apiVersion") d ≡ false → lacks (codes "kind") d ≡ false → with_kind r d ≡ d
+kinds_stay r d version kind = ap (with_text (codes "kind") (row r).kind) (no_text (codes "apiVersion") (api_version r) d version) ∙ no_text (codes "kind") (row r).kind d kind
+
+object_stays : (t : Target) (r : Resource) (body : List ℕ) (read : Reading) → reading body ≡ read → first_of (reading_conditions t read) ≡ None → restated_object r body ≡ labelled_object r body
 object_stays t r body not_json is none = absurd (let bad : Some _ ≡ None = none in cc)
 object_stays t r body not_whole is none = absurd (let bad : Some _ ≡ None = none in cc)
-object_stays t r body (document d) is none = rw (is, whole t d none) refl
+object_stays t r body (document d) is none =
+    let facts = whole t d none in
+    let nulls = no_nulls d facts.0 in
+    let kinds = ap (with_kind r) nulls ∙ kinds_stay r d facts.1 facts.2 in
+    rw is
+    (label_alone r d (with_kind r (without_null_metadata d)) body (has_null_metadata d) (lacks (codes "apiVersion") d) (lacks (codes "kind") d) facts.0 facts.1 facts.2 kinds)
 
-pub object_is_kept : (t : Target) (r : Resource) (body : List ℕ) → first_of (reading_conditions t (reading body)) ≡ None → restated_object r body ≡ body
+pub object_is_kept : (t : Target) (r : Resource) (body : List ℕ) → first_of (reading_conditions t (reading body)) ≡ None → restated_object r body ≡ labelled_object r body
 object_is_kept t r body none = object_stays t r body (reading body) refl none

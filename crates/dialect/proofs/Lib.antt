@@ -1,3 +1,6 @@
 mod Refusing
 mod Served
 mod Bodies
+mod Decoding
+mod Complete
+mod Again

@@ -1,5 +1,5 @@
 -- Messages with a pair that is neither served nor left out are refused.
-use Rattle.std.proofs.Common.{◌≡◌, ℕ, List, [], ◌∷◌, map, Bool, true, false, not, ◌&&◌, ◌||◌, cond, codes, Option, Some, None, refl, sym, ◌∙◌, true≢false}
+use Rattle.std.proofs.Common.{◌≡◌, ℕ, List, [], ◌∷◌, map, Bool, true, false, not, ◌&&◌, ◌||◌, cond, codes, Option, Some, None, refl, sym, true≢false}
 use Rattle.std.specs.Prelude.{unwrap_or}
 use Rattle.std.specs.List.{list_any, list_all}
 use Rattle.std.specs.Option.{option_map_or}
@@ -11,14 +11,14 @@ use Rattle.requests.specs.Collection.{Collection}
 use Rattle.requests.specs.Manifest.{Target, is_target, body_conditions}
 use Rattle.jsondoc.specs.Json.{reading}
 use Rattle.names.specs.Key.{key_of}
-use Rattle.requests.specs.Refusal.{Condition, first_of}
+use Rattle.requests.specs.Refusal.{Condition}
 use Rattle.requests.specs.Request.{Request, refused}
 use Rattle.httpmsg.specs.declared.head.Method.{Method}
 use Rattle.httpmsg.specs.declared.head.Method.TheVariants.{Get, Head, Post, Put, Delete, Other}
 use Rattle.httpmsg.specs.Stream.{Message}
 use Rattle.routes.specs.Asked.{unless_refused, look, creation, replacement, deletion, answering, collection_conditions, collection_request, collection_at, all_of, of_item, of_collection, of_everywhere, asked_at, place_in, asked}
-use Rattle.routes.specs.Path.{PathPlace, everywhere, within, query_of}
-use Rattle.routes.specs.Query.{Pair, Question, decoded, pairs_of, has_pairs, is_any, is_served, has_known_names, is_at_most_once, value_of, question_by, question_of}
+use Rattle.routes.specs.Path.{PathPlace, everywhere, within}
+use Rattle.routes.specs.Query.{Pair, Question, decoded, is_any, is_served, is_at_most_once, value_of, question_by, question_of}
 use Rattle.dialect.specs.Pairs.{is_left_out, is_other}
 use Rattle.dialect.specs.Restated.{pairs_in, is_watch, has_other_pair}
 

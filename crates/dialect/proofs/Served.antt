@@ -1,5 +1,5 @@
--- Messages that are served stay as they are.
-use Rattle.std.proofs.Common.{◌≡◌, ℕ, zero, suc, ◌+◌, ◌<◌, List, [], ◌∷◌, map, Bool, true, false, not, ◌&&◌, ◌||◌, cond, nat_lt, codes, Option, Some, None, refl, sym, ap, ◌∙◌, subst, true≢false, arith}
+-- Messages that are served stay as they are, but for the label of a Namespace.
+use Rattle.std.proofs.Common.{◌≡◌, ℕ, ◌+◌, List, [], ◌∷◌, map, Bool, true, false, not, ◌&&◌, ◌||◌, cond, nat_lt, codes, Option, Some, None, refl, sym, ap, ◌∙◌, subst, true≢false, arith}
 use Rattle.std.proofs.lemmas.Bool.{cond-false}
 use Rattle.std.specs.Prelude.{unwrap_or, is_none, option_map, option_and_then, find}
 use Rattle.std.specs.List.{list_any, list_all, count_by}
@@ -20,15 +20,17 @@ use Rattle.requests.specs.DeleteOptions.{delete_body_conditions, version_of_body
 use Rattle.jsondoc.specs.Json.{reading}
 use Rattle.names.specs.Key.{key_of}
 use Rattle.requests.specs.Refusal.{Condition, first_of}
-use Rattle.requests.specs.Request.{Request, refused, watch, list, delete}
+use Rattle.requests.specs.Request.{Request, refused, watch, delete}
 use Rattle.httpmsg.specs.declared.head.Method.{Method}
 use Rattle.httpmsg.specs.declared.head.Method.TheVariants.{Get, Head, Post, Put, Delete, Other}
 use Rattle.httpmsg.specs.Stream.{Message}
 use Rattle.routes.specs.Asked.{unless_refused, item_conditions, look, creation, replacement, deletion, answering, collection_conditions, collection_request, collection_at, all_of, of_item, of_collection, of_everywhere, asked_at, place_in, asked}
 use Rattle.routes.specs.Path.{PathPlace, everywhere, within, query_of, resource_in}
-use Rattle.routes.specs.Query.{Pair, Question, objects, events, decoded, pairs_of, has_pairs, is_any, is_served, truth_of, watches, watched, listed, count_of, value_of, has_known_names, question_by, question_of}
+use Rattle.routes.specs.Query.{Pair, Question, objects, events, decoded, has_pairs, is_any, is_served, truth_of, watches, watched, listed, count_of, value_of, has_known_names, question_of}
 use Rattle.dialect.specs.Pairs.{is_left_out, is_misread, is_restated}
 use Rattle.dialect.specs.Restated.{pairs_in, is_watch, has_other_pair, body_read, restated_target, restated_body, restated}
+use Rattle.dialect.specs.Laws.{body_labelled, labelled_message}
+use Rattle.dialect.proofs.Refusing.{others}
 use Rattle.dialect.proofs.Bodies.{first_fails, options_are_kept, object_is_kept}
 
 -- ---- what is not refused
@@ -200,7 +202,7 @@ collection_stays m c w served other = list_stays w (pairs_in m) (asked_question 
 -- ---- all of a message
 
 abbrev Stays : Message → (method : Method) → Option Resource → Type 0
-Stays m method r = ((m.method ≡ method) → restated_target m ≡ m.target) × (body_read method r m.body ≡ m.body)
+Stays m method r = ((m.method ≡ method) → restated_target m ≡ m.target) × (body_read method r m.body ≡ body_labelled method r m.body)
 
 module _ (m : Message) where
   of_list : (c : Collection) (r : Option Resource) → IsServed (collection_request m c) → IsNoWatch (collection_request m c) → Stays m Get r
@@ -212,7 +214,7 @@ module _ (m : Message) where
   -- of one that must have no pair, and whose body is judged by other conditions
   no_query : (method : Method) (r : Option Resource) (conditions : List Condition) (request : Request)
       → IsServed (unless_refused ((BadQuery, has_pairs (query_of m.target)) ∷ conditions) request)
-      → (first_of conditions ≡ None → body_read method r m.body ≡ m.body) → Stays m method r
+      → (first_of conditions ≡ None → body_read method r m.body ≡ body_labelled method r m.body) → Stays m method r
   no_query method r conditions request served body =
       let first = first_fails BadQuery (has_pairs (query_of m.target)) conditions (passes ((BadQuery, has_pairs (query_of m.target)) ∷ conditions) request served) in
       ((λ is. no_pairs m first.0), body first.1)
@@ -265,15 +267,16 @@ module _ (m : Message) where
   at_place (Some (everywhere r)) served other = in_everywhere r m.method served other
   at_place (Some (within t)) served other = within_target t t.name served other
 
-with_both : (m : Message) (target body : List ℕ) → target ≡ m.target → body ≡ m.body
-    → (let restated : Message = record { method = m.method; target = target; closes = m.closes; body = body } in restated ≡ m)
-with_both m target body is_target is_body = λ i. record { method = m.method; target = is_target i; closes = m.closes; body = is_body i }
+with_both : (m : Message) (target body new : List ℕ) → target ≡ m.target → body ≡ new
+    → (let restated : Message = record { method = m.method; target = target; closes = m.closes; body = body } in
+    let expected : Message = record { method = m.method; target = m.target; closes = m.closes; body = new } in restated ≡ expected)
+with_both m target body new is_target is_body = λ i. record { method = m.method; target = is_target i; closes = m.closes; body = is_body i }
 
-pub stays : (f : Format) (m : Message) → IsServed (asked f m) → IsNoWatch (asked f m) → restated f m ≡ m
-stays f m served other =
-    let same = at_place m (place_in f m) served other in
-    let is_same = with_both m (restated_target m) (restated_body f m) (same.0 refl) same.1 in
-    elim (has_other_pair m) as (λ b. cond b m (record { method = m.method; target = restated_target m; closes = m.closes; body = restated_body f m }) ≡ m) [
-      | true ↦ refl
-      | false ↦ is_same
-    ]
+pub stays : (f : Format) (m : Message) → IsServed (asked f m) → IsNoWatch (asked f m) → restated f m ≡ labelled_message f m
+stays f m served other = go (has_other_pair m) refl
+  where
+    go : (b : Bool) → has_other_pair m ≡ b → restated f m ≡ labelled_message f m
+    go true is = let refusal = others f m is in absurd (served refusal.0 refusal.1)
+    go false is =
+        let same = at_place m (place_in f m) served other in
+        cond-false _ _ _ is ∙ with_both m (restated_target m) (restated_body f m) (body_labelled m.method (option_map resource_in (place_in f m)) m.body) (same.0 refl) same.1

@@ -1,5 +1,5 @@
 -- What tells a Kubernetes client which resources there are (Kubernetes API concepts, "Discovery API" and "OpenAPI V3"), and its version: constant texts.
-use Rattle.std.specs.Prelude.{ℕ, Bool, true, false, not, List, [], ◌∷◌, ◌++◌, map, filter, length, ◌&&◌, ◌||◌, ◌==◌, codes, if◌then◌else◌, Option, Some, None}
+use Rattle.std.specs.Prelude.{ℕ, Bool, false, not, List, [], ◌∷◌, ◌++◌, map, filter, ◌&&◌, codes, if◌then◌else◌, Option, Some, None}
 use Rattle.std.specs.Str.{bytes_eq}
 use Rattle.std.specs.Char.{to_ascii_lowercase}
 use Rattle.names.specs.declared.format.Format.{Format}

@@ -2,6 +2,7 @@ pub mod Discovery
 pub mod ConstantBytes
 pub mod Pairs
 pub mod Options
+pub mod Labels
 pub mod Objects
 pub mod Restated
 pub mod ReadingOf

@@ -1,11 +1,13 @@
 -- Objects as Kubernetes clients send them, in the body of a POST or a PUT, and as they are read.
-use Rattle.std.specs.Prelude.{ℕ, Bool, true, false, List, ◌||◌, ◌&&◌, not, codes, if◌then◌else◌, Option, Some, None, is_some, is_none, option_and_then, unwrap_or}
+use Rattle.std.specs.Prelude.{ℕ, Bool, false, List, ◌||◌, ◌&&◌, codes, if◌then◌else◌, is_some, is_none, option_and_then}
 use Rattle.std.specs.Option.{option_map_or}
-use Rattle.serde_json.specs.Data.{Data, null, boolean, number, string, array, object, Items, no_items, item, Members, no_members, member}
-use Rattle.serde_json.specs.Find.{get, as_null, as_str, as_object}
+use Rattle.serde_json.specs.Data.{Data, string, Members, no_members, member}
+use Rattle.serde_json.specs.Find.{get, as_null, as_object}
 use Rattle.jsondoc.specs.Json.{Reading, not_json, not_whole, document, reading, text, with_member, without_member}
 use Rattle.names.specs.declared.resource.Resource.{Resource}
 use Rattle.names.specs.Resource.{row, api_version}
+use Rattle.documents.specs.Document.{metadata_of}
+use Rattle.dialect.specs.Labels.{labelled, lacks_its_label}
 
 abbrev pub is_null : Data → Bool
 is_null d = is_some (as_null d)
@@ -27,9 +29,9 @@ without_nulls d = option_map_or (without_each d) (as_object d) d
 abbrev pub has_null_metadata : Data → Bool
 has_null_metadata d = option_map_or has_null (option_and_then as_object (get (codes "metadata") d)) false
 
--- the object without those members
+-- the object without those members, where there are any
 abbrev pub without_null_metadata : Data → Data
-without_null_metadata d = option_map_or (λ metadata. with_member (codes "metadata") (without_nulls metadata) d) (get (codes "metadata") d) d
+without_null_metadata d = if has_null_metadata d then with_member (codes "metadata") (without_nulls (metadata_of d)) d else d
 
 -- ---- a version and a kind that are not there
 
@@ -46,16 +48,17 @@ with_kind r d = with_text (codes "kind") (row r).kind (with_text (codes "apiVers
 
 -- ---- all of it
 
-abbrev pub is_short : Data → Bool
-is_short d = has_null_metadata d || (lacks (codes "apiVersion") d || lacks (codes "kind") d)
+-- something is to be left out or added
+abbrev pub is_short : Resource → Data → Bool
+is_short r d = has_null_metadata d || (lacks (codes "apiVersion") d || (lacks (codes "kind") d || lacks_its_label r d))
 
 abbrev pub completed : Resource → Data → Data
-completed r d = with_kind r (without_null_metadata d)
+completed r d = labelled r (with_kind r (without_null_metadata d))
 
 abbrev object_text : Resource → (body : List ℕ) → Reading → List ℕ
 object_text r body not_json = body
 object_text r body not_whole = body
-object_text r body (document d) = if is_short d then text (completed r d) else body
+object_text r body (document d) = if is_short r d then text (completed r d) else body
 
 -- The body of a POST or a PUT of an object of the resource. One to which nothing is to be added, or that is no document, stays as it is.
 abbrev pub restated_object : Resource → (body : List ℕ) → List ℕ

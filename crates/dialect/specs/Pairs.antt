@@ -1,6 +1,6 @@
 -- The pairs in the queries of Kubernetes clients (Kubernetes API conventions, "ListOptions", "CreateOptions", "UpdateOptions", "DeleteOptions"): which
 -- ask for nothing here and are left out, and how `watch` is read.
-use Rattle.std.specs.Prelude.{ℕ, Bool, true, false, not, List, [], ◌∷◌, ◌++◌, map, ◌&&◌, ◌||◌, codes, if◌then◌else◌, is_none}
+use Rattle.std.specs.Prelude.{ℕ, Bool, false, not, List, [], ◌∷◌, ◌++◌, map, ◌&&◌, ◌||◌, codes, if◌then◌else◌, is_none}
 use Rattle.std.specs.List.{list_any}
 use Rattle.std.specs.Str.{bytes_eq}
 use Rattle.std.specs.Char.{to_ascii_lowercase}

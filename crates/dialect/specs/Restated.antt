@@ -1,5 +1,5 @@
 -- The message that a message of a Kubernetes client stands for, and which ones are answered by constant bytes.
-use Rattle.std.specs.Prelude.{ℕ, Bool, true, false, not, List, ◌&&◌, if◌then◌else◌, Option, Some, None, option_map}
+use Rattle.std.specs.Prelude.{ℕ, Bool, true, false, not, List, ◌&&◌, if◌then◌else◌, Option, None, option_map}
 use Rattle.std.specs.List.{list_any}
 use Rattle.std.specs.Option.{option_map_or}
 use Rattle.names.specs.declared.format.Format.{Format}
@@ -29,12 +29,16 @@ has_other_pair m = list_any (is_other m.method (is_watch m)) (pairs_in m)
 abbrev pub restated_target : Message → List ℕ
 restated_target m = if is_restated m.method (is_watch m) (pairs_in m) then target_of (path_of m.target) (kept m.method (is_watch m) (pairs_in m)) else m.target
 
+-- the body of an object of a resource, if there is one
+abbrev pub object_body : Option Resource → (body : List ℕ) → List ℕ
+object_body place body = option_map_or (λ r. restated_object r body) place body
+
 -- what a method does to a body, at a place of a resource, if it is one
 abbrev pub body_read : Method → Option Resource → (body : List ℕ) → List ℕ
 body_read Get place body = body
 body_read Head place body = body
-body_read Post place body = option_map_or (λ r. restated_object r body) place body
-body_read Put place body = option_map_or (λ r. restated_object r body) place body
+body_read Post place body = object_body place body
+body_read Put place body = object_body place body
 body_read Delete place body = restated_options body
 body_read Other place body = body
 

@@ -3,8 +3,10 @@
 ghost use Rattle.std.specs.Prelude.{◌≡◌, IfOk, IsTrue, OnOk, option_map, string_bytes, unwrap_or, codes};
 ghost use Rattle.serde_json.specs.View.{view, members_view};
 ghost use Rattle.jsondoc.specs.Json.{is_whole};
+ghost use Rattle.documents.specs.Document.{metadata_of};
 ghost use Rattle.dialect.specs.Objects.{completed, has_null, has_null_metadata, is_null, is_short, lacks, restated_object, with_kind, with_text, without_each, without_null_metadata, without_nulls};
 
+use crate::labels::{lacks_its_label, put_label};
 use jsondoc::{Doc, JsonFault, Map, Value};
 use names::Resource;
 use std::alloc::{AllocError, Global};
@@ -60,14 +62,24 @@ fn without_nulls(part: &Value) -> Result<Doc, AllocError>
     }
 }
 
+// A copy of the metadata without them.
+fn kept_metadata(document: &Doc) -> Result<Doc, AllocError>
+    ensures { IfOk result (λ kept. kept ≡ without_nulls (metadata_of document.now)) }
+{
+    match document.get("metadata") {
+        Some(metadata) => without_nulls(metadata),
+        None => Ok(Doc::null()),
+    }
+}
+
 // Takes those members out of the metadata.
 fn drop_null_metadata(alloc: Global, document: &mut Doc) -> Result<(), AllocError>
     ensures { OnOk result (document.new ≡ without_null_metadata document.old) }
 {
-    let kept = match document.get("metadata") {
-        Some(metadata) => without_nulls(metadata)?,
-        None => return Ok(()),
-    };
+    if !has_null_metadata(document) {
+        return Ok(());
+    }
+    let kept = kept_metadata(document)?;
     document.put(alloc, "metadata", kept)
 }
 
@@ -98,10 +110,13 @@ fn put_kind(alloc: Global, resource: Resource, document: &mut Doc) -> Result<(),
 }
 
 // Whether something is to be left out or added.
-fn is_short(document: &Doc) -> bool
-    ensures { result ≡ is_short document.now }
+fn is_short(resource: Resource, document: &Doc) -> bool
+    ensures { result ≡ is_short resource document.now }
 {
-    has_null_metadata(document) || lacks("apiVersion", document) || lacks("kind", document)
+    has_null_metadata(document)
+        || lacks("apiVersion", document)
+        || lacks("kind", document)
+        || lacks_its_label(resource, document)
 }
 
 /// The body of a POST or a PUT of an object of a resource, completed, where something is to be left out or added.
@@ -110,7 +125,8 @@ pub(crate) fn restated_object(
     resource: Resource,
     body: &[u8],
 ) -> Result<Option<String>, AllocError>
-    ensures { IfOk result (λ text. unwrap_or (option_map string_bytes text) body.now ≡ restated_object resource body.now) }
+    ensures text { IfOk result (λ text. unwrap_or (option_map string_bytes text) body.now ≡ restated_object resource body.now) }
+    ensures again { IfOk result (λ _. restated_object resource (restated_object resource body.now) ≡ restated_object resource body.now) }
 {
     let mut document = match Doc::read(alloc, body) {
         Ok(document) => document,
@@ -118,10 +134,11 @@ pub(crate) fn restated_object(
         Err(JsonFault::NotJson) => return Ok(None),
         Err(JsonFault::Number) => return Ok(None),
     };
-    if !is_short(&document) {
+    if !is_short(resource, &document) {
         return Ok(None);
     }
     drop_null_metadata(alloc, &mut document)?;
     put_kind(alloc, resource, &mut document)?;
+    put_label(alloc, resource, &mut document)?;
     Ok(Some(document.text(alloc)?))
 }

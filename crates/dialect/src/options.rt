@@ -43,7 +43,8 @@ fn keep_options(options: &mut Doc)
 
 /// The body of a DELETE without what asks for nothing, where something does.
 pub(crate) fn restated_options(alloc: Global, body: &[u8]) -> Result<Option<String>, AllocError>
-    ensures { IfOk result (λ text. unwrap_or (option_map string_bytes text) body.now ≡ restated_options body.now) }
+    ensures text { IfOk result (λ text. unwrap_or (option_map string_bytes text) body.now ≡ restated_options body.now) }
+    ensures again { IfOk result (λ _. restated_options (restated_options body.now) ≡ restated_options body.now) }
 {
     if body.is_empty() {
         return Ok(None);

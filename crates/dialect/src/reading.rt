@@ -1,13 +1,11 @@
 //! What is made of a message of a Kubernetes client.
 
 ghost use Rattle.std.specs.Prelude.{◌≡◌, ◌&&◌, not, IfOk, Some, None, if◌then◌else◌, option_map, unwrap_or, string_bytes};
-ghost use Rattle.std.specs.Option.{option_map_or};
 ghost use Rattle.routes.specs.Asked.{place_in};
 ghost use Rattle.routes.specs.Path.{path_of, query_of, resource_in};
 ghost use Rattle.dialect.specs.Discovery.{constant_at};
-ghost use Rattle.dialect.specs.Objects.{restated_object};
-ghost use Rattle.dialect.specs.Restated.{asks, body_read, constant_of, is_watch, pairs_in, reading_of, reads, restated, restated_body};
-ghost use Rattle.dialect.specs.ReadingOf.{reading_seen};
+ghost use Rattle.dialect.specs.Restated.{asks, body_read, constant_of, is_watch, object_body, pairs_in, reading_of, reads, restated, restated_body};
+ghost use Rattle.dialect.specs.ReadingOf.{IsReadOnce, reading_seen};
 
 use crate::discovery::constant_at;
 use crate::nulls::restated_object;
@@ -75,8 +73,10 @@ fn restated_at_place(
     format: Format,
     message: &Message,
 ) -> Result<Option<String>, AllocError>
-    ensures { IfOk result (λ text. unwrap_or (option_map string_bytes text) message.now.body
-        ≡ option_map_or (λ r. restated_object r message.now.body) (option_map resource_in (place_in format message.now)) message.now.body) }
+    ensures text { IfOk result (λ text. unwrap_or (option_map string_bytes text) message.now.body
+        ≡ object_body (option_map resource_in (place_in format message.now)) message.now.body) }
+    ensures again { IfOk result (λ _. object_body (option_map resource_in (place_in format message.now)) (object_body (option_map resource_in (place_in format message.now)) message.now.body)
+        ≡ object_body (option_map resource_in (place_in format message.now)) message.now.body) }
 {
     match routes.resource_at(alloc, format, message.target())? {
         Some(resource) => restated_object(alloc, resource, message.body()),
@@ -91,7 +91,8 @@ fn restated_body(
     format: Format,
     message: &Message,
 ) -> Result<Option<String>, AllocError>
-    ensures { IfOk result (λ text. unwrap_or (option_map string_bytes text) message.now.body ≡ restated_body format message.now) }
+    ensures text { IfOk result (λ text. unwrap_or (option_map string_bytes text) message.now.body ≡ restated_body format message.now) }
+    ensures again { IfOk result (λ _. body_read message.now.method (option_map resource_in (place_in format message.now)) (restated_body format message.now) ≡ restated_body format message.now) }
 {
     match message.method() {
         Method::Post => restated_at_place(alloc, routes, format, message),
@@ -143,7 +144,9 @@ fn restated(
     requires path { path.now ≡ path_of message.now.target }
     requires pairs { pairs.now ≡ pairs_in message.now }
     requires watches { watches ≡ is_watch message.now }
-    ensures { IfOk result (λ reading. reading_seen message.now reading ≡ asks (restated format message.now)) }
+    requires constant { constant_of format message.now ≡ None }
+    ensures message { IfOk result (λ reading. reading_seen message.now reading ≡ asks (restated format message.now)) }
+    ensures once { IfOk result (λ reading. IsReadOnce format reading) }
 {
     let method = message.method();
     if has_other(method, watches, pairs) {
@@ -154,7 +157,7 @@ fn restated(
     with_parts(alloc, message, target, body)
 }
 
-/// What is made of a message of a Kubernetes client, for a store of a format.
+/// What is made of a message of a Kubernetes client, for a store of a format. A message that was restated is not restated again.
 ///
 /// # Errors
 ///
@@ -165,7 +168,8 @@ pub fn read(
     format: Format,
     message: &Message,
 ) -> Result<Reading, AllocError>
-    ensures { IfOk result (λ reading. reading_seen message.now reading ≡ reading_of format message.now) }
+    ensures reading { IfOk result (λ reading. reading_seen message.now reading ≡ reading_of format message.now) }
+    ensures once { IfOk result (λ reading. IsReadOnce format reading) }
 {
     let (path, query) = path_and_query(message.target());
     let pairs = pairs_of(alloc, query)?;
