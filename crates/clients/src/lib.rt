@@ -9,6 +9,9 @@
 //! one piece of each client of which nothing waits, and answers up to 16 messages of all clients as one group of the store. So a client that
 //! sends nothing, or that does not read, holds nobody else. Between two turns the store is compacted, where the limits ask for it and its log is long.
 //!
+//! Where the clients are Kubernetes', a [`sessions::Later`] stands before each session: what was read is restated before it is answered. What is proved of what
+//! each client was served is said of the others alone.
+//!
 //! What a turn does to the store and to the sessions is proved over the clauses of `sessions`: no reply is put where it may be sent before its
 //! group's second sync. What a piece does to a session, and what sending does, is proved for any reader and writer. That a socket which is
 //! ready is told, and told again, is the system's, and no contract speaks of it.
