@@ -1,15 +1,15 @@
 //! The socket of one client.
 
-ghost use Rattle.std.specs.Prelude.{◌≡◌, ◌↔◌, ◌≤◌, ◌<◌, ◌-◌, ◌⊎◌, ℕ, List, [], true, false, length, Option, Some, Err, IfErr, IsTrue, MatchOption, MatchResult};
+ghost use Rattle.std.specs.Prelude.{◌≡◌, ◌↔◌, ◌≤◌, ◌<◌, ◌-◌, ◌⊎◌, ℕ, List, [], true, false, length, Option, Some, Err, IfErr, OnOk, IsTrue, MatchOption, MatchResult};
 ghost use Rattle.std.specs.Duration.{as_nanos};
 ghost use Rattle.std.specs.Time.{instant_nanos};
 ghost use Rattle.objects.specs.Failing.{HasGrown};
 ghost use Rattle.sessions.specs.State.{is_open, is_lost};
-ghost use Rattle.httpmsg.specs.Stream.{Message as MessageData};
+ghost use Rattle.httpmsg.specs.Stream.{Message as MessageData, IsCut};
 ghost use Rattle.names.specs.declared.format.Format.{Format as FormatData};
 ghost use Rattle.sessions.specs.State.{State};
-ghost use Rattle.sessions.specs.Restating.{Queue, Gives};
-ghost use Rattle.clients.specs.Plain.{dialect_of, later_of, IsPlain, HandsOver};
+ghost use Rattle.sessions.specs.Restating.{Gives};
+ghost use Rattle.clients.specs.Plain.{dialect_of, later_of, IsPlain, HandsOver, ReadsRestated};
 ghost use Rattle.clients.specs.Story.{GoesOn, SendsOn};
 ghost use Rattle.clients.specs.Waiting.{IsWaitedFor, IsLate, IsEnd, HasDrained, EndsAtRest, EndsFor};
 
@@ -231,6 +231,8 @@ impl<S: Stream> Line<S> {
         requires idle { session.old.waiting ≡ [] }
         requires sent { session.old.unsent ≡ [] }
         requires none { later_of self.old ≡ [] }
+        ensures restated { OnOk result ((f : FormatData) → dialect_of self.old ≡ Some f → (read : List ℕ) (ms : List MessageData) → IsCut read ms session.old.progress
+            → ReadsRestated S.moved S.has_ended f read ms session.old session.new self.old self.new) }
         ensures goes_on { IsPlain self.old → GoesOn S.moved S.has_ended self.old.stream self.new.stream session.old session.new }
         ensures dialect { dialect_of self.new ≡ dialect_of self.old }
         ensures later { S.failures self.old.stream ≤ S.failures self.new.stream }
@@ -299,9 +301,7 @@ impl<S: Stream> Line<S> {
         ensures stream { self.new.stream ≡ self.old.stream }
         ensures dialect { dialect_of self.new ≡ dialect_of self.old }
         ensures plain { IsPlain self.old → session.new ≡ session.old }
-        ensures none { session.old.waiting ≡ [] → session.new ≡ session.old }
-        ensures gives { (f : FormatData) → dialect_of self.old ≡ Some f → (session.old.waiting ≡ [] → ⊥)
-            → HandsOver f session.old session.new (later_of self.new) }
+        ensures hands { (f : FormatData) → dialect_of self.old ≡ Some f → HandsOver f session.old session.new (later_of self.old) (later_of self.new) }
     {
         if session.is_idle() {
             return;
