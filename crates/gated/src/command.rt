@@ -321,11 +321,7 @@ fn line<'a>(alloc: Global) -> Result<Command<'a>, AllocError>
 
 // How the arguments of `serve` ask for connections to be served. If they are served at once, this says when the store is compacted meanwhile, and whether
 // messages of Kubernetes clients are served.
-fn serving_of<'a>(
-    matches: &ArgMatches<'a>,
-    compact_at: Option<u16>,
-    is_kubernetes: bool,
-) -> Serving
+fn serving_of<'a>(matches: &ArgMatches<'a>, compact_at: Option<u16>, is_kubernetes: bool) -> Serving
     ensures { IsServedAs (rows_of (found_of matches.now)) result }
 {
     match matches.get_one::<u16>("at-once") {
