@@ -1,5 +1,5 @@
 -- What clients are served, turn after turn.
-use Rattle.std.proofs.Common.{arith, ◌≡◌, ◌∙◌, sym, ap, refl, subst, ◌<◌, ◌≤◌, ◌⊎◌, inl, inr, ℕ, zero, suc, List, [], ◌∷◌, ◌++◌, append_assoc, map, length, take, get_or, Option, Some, None}
+use Rattle.std.proofs.Common.{arith, ◌≡◌, ◌∙◌, sym, ap, refl, subst, ◌<◌, ◌≤◌, ◌⊎◌, inl, inr, ℕ, zero, suc, List, [], ◌∷◌, ◌++◌, append_assoc, map, length, take, get_or, Option, Some, None, option_map}
 use Rattle.std.specs.List.{AllByRecursion}
 use Rattle.std.proofs.lemmas.List.{append-nil, length-append, length-map}
 use Rattle.std.specs.declared.time.Duration.{Duration}
@@ -23,6 +23,8 @@ use Rattle.sessions.specs.Stops.{TurnFails}
 use Rattle.sessions.proofs.Serving.{served_none, served_turn, served_or_told, no_bytes}
 use Rattle.clients.specs.declared.line.Line.{Line}
 use Rattle.clients.specs.declared.places.Places.{Places}
+use Rattle.clients.specs.Plain.{IsPlain}
+use Rattle.sessions.specs.Restating.{Queue}
 use Rattle.clients.specs.Places.{fresh, count, line_at, session_at, IsFree, IsFreshWhereFree, StaysBeside, AreMarked, IsThereStill, IsLetGo, TakeTurns}
 use Rattle.clients.specs.Serving.{Gathers, AnswersGroup}
 use Rattle.clients.specs.Clients.{Client, IsHere, HasLeft, AreServed, WasLeft, LeftNow}
@@ -82,7 +84,7 @@ module _ {S : Type 0} (moved : S → S → List ℕ → List ℕ → Type 0) (ha
 
         on : IsThereStill moved has_ended failures idle c.place a b here.line ⊎ IsLetGo moved has_ended failures idle c.place a b here.line → OneAnew b c
         on (inl still) =
-            let more = still.goes_on rules (after_all rules v (all_writes rules v here.earlier)) c.place here.own_places here.own c.read c.sent (here_served a c here) in
+            let more = still.goes_on here.plain rules (after_all rules v (all_writes rules v here.earlier)) c.place here.own_places here.own c.read c.sent (here_served a c here) in
             record {
               now = record { place = c.place; came = c.came; last = still.now.stream; read = c.read ++ more.more_read; sent = c.sent ++ more.more_sent; state = session_at b c.place };
               same = refl;
@@ -97,6 +99,7 @@ module _ {S : Type 0} (moved : S → S → List ℕ → List ℕ → Type 0) (ha
                 own_alike = here.own_alike;
                 line = still.now;
                 there = still.there;
+                plain = still.dialect ∙ here.plain;
                 last = refl;
                 state = refl;
                 exchanged = moved_then c.came here.line.stream still.now.stream c.read more.more_read c.sent more.more_sent came_by more.exchanged;
@@ -105,7 +108,7 @@ module _ {S : Type 0} (moved : S → S → List ℕ → List ℕ → Type 0) (ha
               });
             }
         on (inr left) =
-            let more = left.goes_on rules (after_all rules v (all_writes rules v here.earlier)) c.place here.own_places here.own c.read c.sent (here_served a c here) in
+            let more = left.goes_on here.plain rules (after_all rules v (all_writes rules v here.earlier)) c.place here.own_places here.own c.read c.sent (here_served a c here) in
             record {
               now = record { place = c.place; came = c.came; last = left.last; read = c.read ++ more.more_read; sent = c.sent ++ more.more_sent; state = left.state };
               same = refl;
@@ -164,6 +167,7 @@ module _ {S : Type 0} (moved : S → S → List ℕ → List ℕ → Type 0) (ha
           own_alike = here.own_alike;
           line = seen_line.0;
           there = seen_line.1;
+          plain = ap (λ (o : Option Queue). option_map (λ (q : Queue). q.format) o) seen_line.3 ∙ here.plain;
           last = here.last ∙ sym seen_line.2;
           state = here.state ∙ sym (marks.sessions c.place);
           exchanged = here.exchanged;
@@ -194,10 +198,10 @@ module _ {S : Type 0} (moved : S → S → List ℕ → List ℕ → Type 0) (ha
 
   -- a client comes to a place where nobody is
   pub comes : (a b : Places S) (clients : List (Client S)) (place : ℕ) (stream : S) → moved stream stream [] [] → IsFree a place → StaysBeside place a b
-      → session_at b place ≡ session_at a place → ((line : Line S) × (line_at b place ≡ Some line) × (line.stream ≡ stream))
+      → session_at b place ≡ session_at a place → ((line : Line S) × (line_at b place ≡ Some line) × (line.stream ≡ stream) × IsPlain line)
       → length places ≡ length answered → AreServed moved has_ended failures rules v places answered idle a clients
       → (now : List (Client S)) × (map (λ c. c.came) now ≡ map (λ c. c.came) clients ++ stream ∷ []) × AreServed moved has_ended failures rules v places answered idle b now
-  comes a b clients place stream none free beside session (line, there, is) alike served =
+  comes a b clients place stream none free beside session (line, there, is, plain) alike served =
       let anew = seen_anew (Is a) b stays clients served.each in (
         anew.now ++ newcomer b place stream ∷ [],
         came_then anew.now ∙ ap (λ ss. ss ++ stream ∷ []) anew.same,
@@ -233,6 +237,7 @@ module _ {S : Type 0} (moved : S → S → List ℕ → List ℕ → Type 0) (ha
               own_alike = here.own_alike;
               line = here.line;
               there = stay.line ∙ here.there;
+              plain = here.plain;
               last = here.last;
               state = here.state ∙ sym stay.session;
               exchanged = here.exchanged;
@@ -255,6 +260,7 @@ module _ {S : Type 0} (moved : S → S → List ℕ → List ℕ → Type 0) (ha
             own_alike = refl;
             line = line;
             there = there;
+            plain = plain;
             last = sym is;
             state = refl;
             exchanged = none;
@@ -388,6 +394,7 @@ module _ {S : Type 0} (moved : S → S → List ℕ → List ℕ → Type 0) (ha
             own_alike = length-append here.own_places ps ∙ omega (arith, here.own_alike, sizes) ∙ sym (length-append here.own xs);
             line = here.line;
             there = lines i ∙ here.there;
+            plain = here.plain;
             last = refl;
             state = refl;
             exchanged = subst (λ s. moved c.came s c.read c.sent) here.last here.exchanged;

@@ -1,9 +1,10 @@
 -- What the loop that serves clients makes of what they were served.
-use Rattle.std.proofs.Common.{arith, ◌≡◌, ◌∙◌, sym, ap, refl, subst, ◌⊎◌, inl, inr, ℕ, List, [], ◌∷◌, ◌++◌, append_assoc, map, length, take, Option, Some}
+use Rattle.std.proofs.Common.{arith, ◌≡◌, ◌∙◌, sym, ap, refl, subst, ◌⊎◌, inl, inr, ℕ, List, [], ◌∷◌, ◌++◌, append_assoc, map, length, take, Option, Some, None, option_map}
 use Rattle.std.specs.Bool.{⊤}
 use Rattle.std.proofs.lemmas.List.{append-nil, length-append, length-map, length-take-le}
 use Rattle.std.specs.declared.time.Duration.{Duration}
 use Rattle.device.specs.declared.device.Device.{Ghosts}
+use Rattle.names.specs.declared.format.Format.{Format}
 use Rattle.names.specs.declared.format.Rules.{Rules}
 use Rattle.decoded.specs.Standing.{View}
 use Rattle.durable.specs.declared.store.Store.{Store}
@@ -18,11 +19,19 @@ use Rattle.sessions.specs.Served.{IsServed, IsToldOfFailure}
 use Rattle.clients.specs.declared.line.Line.{Line}
 use Rattle.clients.specs.declared.places.Places.{Places}
 use Rattle.clients.specs.Story.{SendsOn}
+use Rattle.clients.specs.Plain.{IsPlain}
+use Rattle.sessions.specs.Restating.{Queue}
 use Rattle.clients.specs.Places.{fresh, count, line_at, session_at, IsFree, StaysBeside, AreMarked, TakeTurns, SendsLast, TakeLastTurns}
 use Rattle.clients.specs.Serving.{Gathers, AnswersGroup, StopsAtGroup}
 use Rattle.clients.specs.Clients.{Client, WasThere, IsAt, ServesOn, WasLeft, EndsOn, ServesTurn, FailsTurn, StopsTurn}
 use Rattle.clients.proofs.Stories.{sends_go, sends_tell}
 use Rattle.clients.proofs.Clients.{turned_all, marked_all, comes, answered_all, fails_all}
+
+-- where no format is given, the messages of one that comes are answered as they are
+pub plain_from : {S : Type 0} (line : Line S) (later : Option Queue) (dialect : Option Format) → line.later ≡ later
+    → later ≡ option_map (λ (f : Format). record Queue { format = f; messages = [] }) dialect → dialect ≡ None → IsPlain line
+plain_from line later dialect is from none =
+    ap (λ (o : Option Queue). option_map (λ (q : Queue). q.format) o) (is ∙ from ∙ ap (λ (d : Option Format). option_map (λ (f : Format). record Queue { format = f; messages = [] }) d) none)
 
 module _ {S : Type 0} (moved : S → S → List ℕ → List ℕ → Type 0) (has_ended : S → Type 0) (failures : S → ℕ) (idle : Option Duration) where
   pub serves_none : (a : Places S) → ServesOn moved has_ended failures idle a a []
@@ -45,7 +54,7 @@ module _ {S : Type 0} (moved : S → S → List ℕ → List ℕ → Type 0) (ha
       record { now = now.0; came = now.1 ∙ sym (append-nil (map (λ (c : Client S). c.came) clients)); served = now.2 }
 
   pub serves_coming : (a b : Places S) (place : ℕ) (stream : S) → moved stream stream [] [] → IsFree a place → StaysBeside place a b
-      → session_at b place ≡ session_at a place → ((line : Line S) × (line_at b place ≡ Some line) × (line.stream ≡ stream))
+      → session_at b place ≡ session_at a place → ((line : Line S) × (line_at b place ≡ Some line) × (line.stream ≡ stream) × IsPlain line)
       → ServesOn moved has_ended failures idle a b (stream ∷ [])
   serves_coming a b place stream none free beside session there rules v places answered clients alike served =
       let now = comes moved has_ended failures idle rules v places answered a b clients place stream none free beside session there alike served in

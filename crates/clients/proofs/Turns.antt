@@ -9,6 +9,7 @@ use Rattle.clients.specs.declared.line.Line.{Line}
 use Rattle.clients.specs.declared.line.Gone.{Gone}
 use Rattle.clients.specs.declared.line.Gone.TheVariants as gone
 use Rattle.clients.specs.declared.places.Places.{Places}
+use Rattle.clients.specs.Plain.{dialect_of, IsPlain}
 use Rattle.clients.specs.Story.{GoesOn, SendsOn}
 use Rattle.clients.specs.Places.{fresh, count, line_at, session_at, IsFree, IsFreshWhereFree, HasAsMany, StaysAt, StaysBeside, AreMarked, HasReason, IsThereStill, IsLetGo, TurnsAt, TakesTurn, TakeTurns, SendsLast, EndsAt, TakesLastTurn, TakeLastTurns}
 use Rattle.clients.proofs.Sending.{sends_none, sends_then}
@@ -70,7 +71,7 @@ beside_then place a b c first then = record {
 -- ---- marks
 
 pub marked_none : {S : Type 0} (p : Places S) → AreMarked p p
-marked_none p = record { many = as_many_same p; free = λ i is. is; sessions = λ i. refl; clients = λ i line is. (line, is, refl) }
+marked_none p = record { many = as_many_same p; free = λ i is. is; sessions = λ i. refl; clients = λ i line is. (line, is, refl, refl) }
 
 pub marked_then : {S : Type 0} (a b c : Places S) → AreMarked a b → AreMarked b c → AreMarked a c
 marked_then a b c first then = record {
@@ -80,12 +81,12 @@ marked_then a b c first then = record {
   clients = λ i line is.
       let one = first.clients i line is in
       let two = then.clients i one.0 one.1 in
-      (two.0, two.1, two.2 ∙ one.2);
+      (two.0, two.1, two.2 ∙ one.2, two.3 ∙ one.3);
 }
 
 -- the client at one place is marked
 pub marked_one : {S : Type 0} (place : ℕ) (b c : Places S) → StaysBeside place b c → session_at c place ≡ session_at b place → (IsFree b place → IsFree c place)
-    → ((line : Line S) → line_at b place ≡ Some line → (marked : Line S) × (line_at c place ≡ Some marked) × (marked.stream ≡ line.stream)) → AreMarked b c
+    → ((line : Line S) → line_at b place ≡ Some line → (marked : Line S) × (line_at c place ≡ Some marked) × (marked.stream ≡ line.stream) × (marked.later ≡ line.later)) → AreMarked b c
 marked_one {S} place b c beside session free client = record {
   many = beside.many;
   free = λ i is. ⊎_elim (λ same. subst (λ n. IsFree c n) (sym same) (free (subst (λ n. IsFree b n) same is))) (λ other. still_free i b c beside.many (beside.others i other) is) (cases_eq i place);
@@ -93,9 +94,9 @@ marked_one {S} place b c beside session free client = record {
   clients = λ i line is.
       ⊎_elim
       (λ same.
-      let At : ℕ → Type 0 = λ n. (marked : Line S) × (line_at c n ≡ Some marked) × (marked.stream ≡ line.stream) in
+      let At : ℕ → Type 0 = λ n. (marked : Line S) × (line_at c n ≡ Some marked) × (marked.stream ≡ line.stream) × (marked.later ≡ line.later) in
       subst At (sym same) (client line (subst (λ n. line_at b n ≡ Some line) same is)))
-      (λ other. (line, (beside.others i other).line ∙ is, refl)) (cases_eq i place);
+      (λ other. (line, (beside.others i other).line ∙ is, refl, refl)) (cases_eq i place);
 }
 
 grown_before : (earlier before now : ℕ) → earlier ≤ before → HasGrown before now → HasGrown earlier now
@@ -135,7 +136,8 @@ module _ {S : Type 0} (moved : S → S → List ℕ → List ℕ → Type 0) (ha
         inl (record {
           now = line;
           there = stays.line ∙ is;
-          goes_on = subst To (sym stays.session) (goes_none moved has_ended line.stream (session_at a i) (moved_none line.stream));
+          dialect = refl;
+          goes_on = λ plain. subst To (sym stays.session) (goes_none moved has_ended line.stream (session_at a i) (moved_none line.stream));
           later = omega arith;
         });
   }
@@ -156,14 +158,15 @@ module _ {S : Type 0} (moved : S → S → List ℕ → List ℕ → Type 0) (ha
       after line still (inl later) = inl (record {
         now = later.now;
         there = later.there;
-        goes_on = goes_then moved has_ended line.stream still.now.stream later.now.stream (session_at a i) (session_at b i) (session_at c i) moved_then still.goes_on later.goes_on;
+        dialect = later.dialect ∙ still.dialect;
+        goes_on = λ plain. goes_then moved has_ended line.stream still.now.stream later.now.stream (session_at a i) (session_at b i) (session_at c i) moved_then (still.goes_on plain) (later.goes_on (still.dialect ∙ plain));
         later = omega (arith, still.later, later.later);
       })
       after line still (inr left) = inr (record {
         last = left.last;
         state = left.state;
         gone = left.gone;
-        goes_on = goes_then moved has_ended line.stream still.now.stream left.last (session_at a i) (session_at b i) left.state moved_then still.goes_on left.goes_on;
+        goes_on = λ plain. goes_then moved has_ended line.stream still.now.stream left.last (session_at a i) (session_at b i) left.state moved_then (still.goes_on plain) (left.goes_on (still.dialect ∙ plain));
         later = omega (arith, still.later, left.later);
         reason = reason_before left.gone (failures line.stream) (failures still.now.stream) (failures left.last) left.state idle still.later left.reason;
         free = left.free;
@@ -284,18 +287,19 @@ module _ {S : Type 0} (moved : S → S → List ℕ → List ℕ → Type 0) (ha
     nobody free = none_or (line_at a place) line free.1 was
 
     -- it goes on
-    pub takes_on : GoesOn moved has_ended line.stream now.stream before state → failures line.stream ≤ failures now.stream
+    pub takes_on : (IsPlain line → GoesOn moved has_ended line.stream now.stream before state) → dialect_of now ≡ dialect_of line → failures line.stream ≤ failures now.stream
         → TakesTurn moved has_ended failures idle a b place
-    takes_on goes later = record {
+    takes_on goes dialect later = record {
       beside = beside;
       turn = record {
         free = λ free. absurd (nobody free);
         client = λ other is.
             let same : line ≡ other = some_same line other (sym was ∙ is) in
-            let From : Line S → State → State → Type 0 = λ l s t. GoesOn moved has_ended l.stream now.stream s t in
+            let From : Line S → State → State → Type 0 = λ l s t. IsPlain l → GoesOn moved has_ended l.stream now.stream s t in
             inl (record {
               now = now;
               there = is_now;
+              dialect = subst (λ (l : Line S). dialect_of now ≡ dialect_of l) same dialect;
               goes_on = subst (λ l. From l (session_at a place) (session_at b place)) same
                   (subst (λ s. From line s (session_at b place)) (sym had) (subst (λ t. From line before t) (sym has_now) goes));
               later = subst (λ (l : Line S). failures l.stream ≤ failures now.stream) same later;
@@ -304,7 +308,7 @@ module _ {S : Type 0} (moved : S → S → List ℕ → List ℕ → Type 0) (ha
     }
 
     -- or it is let go
-    pub takes_off : (c : Places S) (g : Gone) → GoesOn moved has_ended line.stream now.stream before state → failures line.stream ≤ failures now.stream
+    pub takes_off : (c : Places S) (g : Gone) → (IsPlain line → GoesOn moved has_ended line.stream now.stream before state) → failures line.stream ≤ failures now.stream
         → HasReason g (failures line.stream) (failures now.stream) state idle → StaysBeside place b c → IsFree c place → session_at c place ≡ fresh
         → TakesTurn moved has_ended failures idle a c place
     takes_off c g goes later reason let_go free is_fresh = record {
@@ -313,7 +317,7 @@ module _ {S : Type 0} (moved : S → S → List ℕ → List ℕ → Type 0) (ha
         free = λ was_free. absurd (nobody was_free);
         client = λ other is.
             let same : line ≡ other = some_same line other (sym was ∙ is) in
-            let From : Line S → State → Type 0 = λ l s. GoesOn moved has_ended l.stream now.stream s state in
+            let From : Line S → State → Type 0 = λ l s. IsPlain l → GoesOn moved has_ended l.stream now.stream s state in
             inr (record {
               last = now.stream;
               state = state;

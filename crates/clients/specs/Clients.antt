@@ -19,6 +19,7 @@ use Rattle.clients.specs.declared.line.Gone.{Gone}
 use Rattle.clients.specs.declared.places.Places.{Places}
 use Rattle.clients.specs.declared.fault.ClientsFault.{ClientsFault}
 use Rattle.clients.specs.declared.fault.ClientsFault.TheVariants as clients_fault
+use Rattle.clients.specs.Plain.{IsPlain}
 use Rattle.clients.specs.Places.{count, line_at, session_at, IsFree, IsFreshWhereFree, HasReason}
 
 -- A client: its place, its stream as it came and as it was last, what was read of it and sent to it, and how far its session was then.
@@ -44,6 +45,7 @@ module _ {S : Type 0} (moved : S → S → List ℕ → List ℕ → Type 0) (ha
     pub own_alike : length own_places ≡ length own
     pub line : Line S
     pub there : line_at p c.place ≡ Some line
+    pub plain : IsPlain line
     pub last : c.last ≡ line.stream
     pub state : c.state ≡ session_at p c.place
     pub exchanged : moved c.came c.last c.read c.sent
@@ -171,7 +173,8 @@ module _ {S : Type 0} (moved : S → S → List ℕ → List ℕ → Type 0) (ha
     pub came_by : came (map (λ c. c.came) clients)
     pub left : AllByRecursion (WasLeft rules v places answered p) clients
 
-  module _ {D : Type 0} {g : Ghosts D} (came : List S → Type 0) (rules : Rules) (old new : Store D g) (v : View) (a b : Places S) where
+  -- Where no message is restated, what is said of the clients holds.
+  module _ {D : Type 0} {g : Ghosts D} (came : List S → Type 0) (plain : Type 0) (rules : Rules) (old new : Store D g) (v : View) (a b : Places S) where
     -- Some messages were answered, each of the client at the place beside it, and the store has applied them. Where nobody was there before, all clients that came are
     -- served from this list.
     pub record HasServedClients : Type 0 where
@@ -179,7 +182,7 @@ module _ {S : Type 0} (moved : S → S → List ℕ → List ℕ → Type 0) (ha
       pub answered : List Answered
       pub alike : length places ≡ length answered
       pub store : HasApplied rules old new v answered
-      pub clients : HasNobody a → ServesThem came rules v places answered b
+      pub clients : plain → HasNobody a → ServesThem came rules v places answered b
 
     -- Then the store failed at some messages, now or before.
     pub record HasFailedClients : Type 0 where
@@ -187,7 +190,7 @@ module _ {S : Type 0} (moved : S → S → List ℕ → List ℕ → Type 0) (ha
       pub answered : List Answered
       pub failing : List Answered
       pub store : HasFailedIn rules old new v answered failing
-      pub clients : HasNobody a → LeavesThem came rules v places answered b
+      pub clients : plain → HasNobody a → LeavesThem came rules v places answered b
 
     -- Or it failed in a compaction.
     pub record HasStoppedClients : Type 0 where
@@ -198,7 +201,7 @@ module _ {S : Type 0} (moved : S → S → List ℕ → List ℕ → Type 0) (ha
       pub admitted : AreAdmitted rules v (all_writes rules v answered)
       pub left : WhereSettled rules old v (λ h. IsLeftAt rules new h (all_writes rules v answered) (all_writes rules v answered))
       pub moments : WhereSettled rules old v (λ h. LeavesSome rules old new h (all_writes rules v answered))
-      pub clients : HasNobody a → LeavesThem came rules v places answered b
+      pub clients : plain → HasNobody a → LeavesThem came rules v places answered b
 
     -- how a run stops by any fault
     abbrev pub StopsRun : ClientsFault → Type 0

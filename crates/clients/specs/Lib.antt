@@ -1,5 +1,6 @@
 pub mod Stream
 pub mod Moving
+pub mod Plain
 pub mod Story
 pub mod Journal
 pub mod Serving

@@ -9,6 +9,7 @@ use Rattle.clients.specs.declared.line.Line.{Line}
 use Rattle.clients.specs.declared.line.Gone.{Gone}
 use Rattle.clients.specs.declared.line.Gone.TheVariants as gone
 use Rattle.clients.specs.declared.places.Places.{Places}
+use Rattle.clients.specs.Plain.{dialect_of, IsPlain}
 use Rattle.clients.specs.Story.{GoesOn, SendsOn}
 use Rattle.clients.specs.Waiting.{IsLate}
 
@@ -56,7 +57,8 @@ pub record AreMarked {S : Type 0} (old new : Places S) : Type 0 where
   pub many : HasAsMany old new
   pub free : (i : ℕ) → IsFree old i → IsFree new i
   pub sessions : (i : ℕ) → session_at new i ≡ session_at old i
-  pub clients : (i : ℕ) (line : Line S) → line_at old i ≡ Some line → (marked : Line S) × (line_at new i ≡ Some marked) × (marked.stream ≡ line.stream)
+  pub clients : (i : ℕ) (line : Line S) → line_at old i ≡ Some line
+      → (marked : Line S) × (line_at new i ≡ Some marked) × (marked.stream ≡ line.stream) × (marked.later ≡ line.later)
 
 -- Why a client is let go, as its session then shows, and its stream, which had failed so often before and has so now.
 abbrev pub HasReason : Gone → (failed_before failed_now : ℕ) → State → (idle : Option Duration) → Type 0
@@ -66,11 +68,12 @@ HasReason gone.Done before now s idle = (is_open s.phase ≡ false) × (s.unsent
 HasReason gone.Late before now s idle = (since : Instant) × (at : Instant) × IsLate s since at idle
 
 module _ {S : Type 0} (moved : S → S → List ℕ → List ℕ → Type 0) (has_ended : S → Type 0) (failures : S → ℕ) (idle : Option Duration) (i : ℕ) (old new : Places S) where
-  -- The client at a place is there still, and what it was served goes on.
+  -- The client at a place is there still, and where its messages are answered as they are, what it was served goes on. A turn changes nothing of whether they are.
   pub record IsThereStill (line : Line S) : Type 0 where
     pub now : Line S
     pub there : line_at new i ≡ Some now
-    pub goes_on : GoesOn moved has_ended line.stream now.stream (session_at old i) (session_at new i)
+    pub dialect : dialect_of now ≡ dialect_of line
+    pub goes_on : IsPlain line → GoesOn moved has_ended line.stream now.stream (session_at old i) (session_at new i)
     pub later : failures line.stream ≤ failures now.stream
 
   -- It was let go for a reason, after what it was served went on. Nobody is at its place then.
@@ -78,7 +81,7 @@ module _ {S : Type 0} (moved : S → S → List ℕ → List ℕ → Type 0) (ha
     pub last : S
     pub state : State
     pub gone : Gone
-    pub goes_on : GoesOn moved has_ended line.stream last (session_at old i) state
+    pub goes_on : IsPlain line → GoesOn moved has_ended line.stream last (session_at old i) state
     pub later : failures line.stream ≤ failures last
     pub reason : HasReason gone (failures line.stream) (failures last) state idle
     pub free : IsFree new i

@@ -1,12 +1,13 @@
 //! The loop that serves clients.
 
-ghost use Rattle.std.specs.Prelude.{◌≡◌, ◌↔◌, ◌-◌, [], Option, None, Some, IfOk, IsTrue, List, MatchResult, option_map};
+ghost use Rattle.std.specs.Prelude.{◌≡◌, ◌↔◌, ◌-◌, [], false, Option, None, Some, IfOk, IsTrue, List, MatchResult, if◌then◌else◌, option_map};
 ghost use Rattle.std.specs.declared.time.Duration.{Duration as DurationData};
 ghost use Rattle.names.specs.declared.format.Rules.{Rules};
 ghost use Rattle.decoded.specs.Standing.{History, View};
 ghost use Rattle.histories.specs.View.{view};
 ghost use Rattle.durable.specs.Settled.{IsSettledAt};
 ghost use Rattle.api.specs.Answers.{ShowsAt};
+ghost use Rattle.sessions.specs.Restating.{Queue};
 ghost use Rattle.clients.specs.Places.{count};
 ghost use Rattle.clients.specs.Clients.{ServesOn, EndsOn, ServesTurn, StopsTurn, HasNobody, HasServedClients, StopsRun};
 
@@ -20,6 +21,8 @@ use api::ServeFault;
 use device::Device;
 use durable::Store;
 use httpmsg::Output;
+use names::Format;
+use sessions::Later;
 use std::alloc::{AllocError, Global};
 use std::io;
 use std::net::SocketAddr;
@@ -49,6 +52,32 @@ pub struct Limits {
     pub is_logged: bool,
     /// The store is compacted between two turns where its log is this many times as long as its pages, and at least 8 MiB; never where it is `None`.
     pub compact_at: Option<u16>,
+    /// The clients are Kubernetes': each message is restated as one that is served before it is answered, and those that ask which resources there are get
+    /// constants.
+    pub is_kubernetes: bool,
+}
+
+impl Limits {
+    // The format that messages are restated for, where they are, in a store of a format.
+    fn dialect(self, format: Format) -> Option<Format>
+        ensures { result ≡ (if self.is_kubernetes then Some format else None) }
+    {
+        if self.is_kubernetes {
+            Some(format)
+        } else {
+            None
+        }
+    }
+}
+
+// What stands before the session of a client that comes now: no messages, where they are restated.
+fn later_in(alloc: Global, dialect: Option<Format>) -> Option<Later>
+    ensures { result ≡ option_map (λ f. record Queue { format = f; messages = [] }) dialect }
+{
+    match dialect {
+        Some(format) => Some(Later::new(alloc, format)),
+        None => None,
+    }
 }
 
 // How long the network is asked to wait, in milliseconds: not at all where more can be done at once.
@@ -156,9 +185,15 @@ impl<S: Stream + Drop> EventLoop<S> {
     }
 
     // Accepts one client, if one waits and there is a place for it. It tells whether another may wait.
-    fn accept_one<N: Network<S>>(&mut self, alloc: Global, network: &mut N, now: Instant) -> bool
+    fn accept_one<N: Network<S>>(
+        &mut self,
+        alloc: Global,
+        network: &mut N,
+        now: Instant,
+        dialect: Option<Format>,
+    ) -> bool
         ensures serves { (streams : List S) × N.came network.old network.new streams
-            × ((idle : Option DurationData) → ServesOn S.moved S.has_ended S.failures idle self.old.places self.new.places streams) }
+            × (dialect ≡ None → (idle : Option DurationData) → ServesOn S.moved S.has_ended S.failures idle self.old.places self.new.places streams) }
         ensures limits { (self.new.limits.idle ≡ self.old.limits.idle) × (self.new.limits.compact_at ≡ self.old.limits.compact_at) }
     {
         if !self.is_asked || !self.has_left() {
@@ -171,7 +206,8 @@ impl<S: Stream + Drop> EventLoop<S> {
             Accepted::Client(stream, address) => {
                 self.count_one();
                 let peer = self.peer_text(alloc, address);
-                self.places.take(place, stream, peer, now);
+                let later = later_in(alloc, dialect);
+                self.places.take(place, stream, peer, later, now);
                 true
             }
             Accepted::Unwatched => {
@@ -188,13 +224,19 @@ impl<S: Stream + Drop> EventLoop<S> {
     }
 
     // Accepts clients that wait. It tells whether more may.
-    fn accept<N: Network<S>>(&mut self, alloc: Global, network: &mut N, now: Instant) -> bool
+    fn accept<N: Network<S>>(
+        &mut self,
+        alloc: Global,
+        network: &mut N,
+        now: Instant,
+        dialect: Option<Format>,
+    ) -> bool
         ensures serves { (streams : List S) × N.came network.old network.new streams
-            × ((idle : Option DurationData) → ServesOn S.moved S.has_ended S.failures idle self.old.places self.new.places streams) }
+            × (dialect ≡ None → (idle : Option DurationData) → ServesOn S.moved S.has_ended S.failures idle self.old.places self.new.places streams) }
         ensures limits { (self.new.limits.idle ≡ self.old.limits.idle) × (self.new.limits.compact_at ≡ self.old.limits.compact_at) }
     {
         for _ in 0..ACCEPTS {
-            if !self.accept_one(alloc, network, now) {
+            if !self.accept_one(alloc, network, now, dialect) {
                 return false;
             }
         }
@@ -272,6 +314,8 @@ impl<S: Stream + Drop> EventLoop<S> {
     /// Where the limits say so, a line is written to `log` for each message that is answered, after its reply was put to what is sent. It begins with the time
     /// at which the turn began that answered the message. Where the limits say so, the store is compacted between two turns, and a line is written of each
     /// compaction. All clients wait meanwhile. A log that cannot be written loses lines, and stops nothing.
+    ///
+    /// Where the limits say that the clients are Kubernetes', the messages that are answered are those that theirs are restated as.
     pub(crate) fn run<C: Clock, N: Network<S>, D: Device, L: Output>(
         &mut self,
         clock: &C,
@@ -282,12 +326,13 @@ impl<S: Stream + Drop> EventLoop<S> {
     ) -> Result<(), ClientsFault>
         // Without a compaction this holds of every view that the store shows, whatever its device keeps.
         ensures served { self.old.limits.compact_at ≡ None → (rules : Rules) (v : View) → ShowsAt rules store.old v → MatchResult result
-            (λ _. HasServedClients S.moved S.has_ended S.failures self.old.limits.idle (N.came network.old network.new) rules store.old store.new v self.old.places self.new.places)
-            (StopsRun S.moved S.has_ended S.failures self.old.limits.idle (N.came network.old network.new) rules store.old store.new v self.old.places self.new.places) }
+            (λ _. HasServedClients S.moved S.has_ended S.failures self.old.limits.idle (N.came network.old network.new) (self.old.limits.is_kubernetes ≡ false) rules store.old store.new v self.old.places self.new.places)
+            (StopsRun S.moved S.has_ended S.failures self.old.limits.idle (N.came network.old network.new) (self.old.limits.is_kubernetes ≡ false) rules store.old store.new v self.old.places self.new.places) }
         ensures settled { (rules : Rules) (h : History) → IsSettledAt rules store.old h → MatchResult result
-            (λ _. HasServedClients S.moved S.has_ended S.failures self.old.limits.idle (N.came network.old network.new) rules store.old store.new (view rules h) self.old.places self.new.places)
-            (StopsRun S.moved S.has_ended S.failures self.old.limits.idle (N.came network.old network.new) rules store.old store.new (view rules h) self.old.places self.new.places) }
+            (λ _. HasServedClients S.moved S.has_ended S.failures self.old.limits.idle (N.came network.old network.new) (self.old.limits.is_kubernetes ≡ false) rules store.old store.new (view rules h) self.old.places self.new.places)
+            (StopsRun S.moved S.has_ended S.failures self.old.limits.idle (N.came network.old network.new) (self.old.limits.is_kubernetes ≡ false) rules store.old store.new (view rules h) self.old.places self.new.places) }
     {
+        let dialect = self.limits.dialect(store.format());
         let mut compacting = Compacting::new(self.limits.compact_at);
         let mut wait = 0;
         for _ in 0..u64::MAX {
@@ -298,7 +343,7 @@ impl<S: Stream + Drop> EventLoop<S> {
                 return Err(ClientsFault::Network);
             };
             self.note_time(clock);
-            let is_asked = self.accept(alloc, network, now);
+            let is_asked = self.accept(alloc, network, now, dialect);
             let turned = self.turn(clock, alloc, now, store);
             self.desk.journal.write_to(alloc, log);
             let is_busy = match turned {

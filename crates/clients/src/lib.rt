@@ -9,6 +9,9 @@
 //! one piece of each client of which nothing waits, and answers up to 16 messages of all clients as one group of the store. So a client that
 //! sends nothing, or that does not read, holds nobody else. Between two turns the store is compacted, where the limits ask for it and its log is long.
 //!
+//! Where the clients are Kubernetes', a [`sessions::Later`] stands before each session: what was read is restated before it is answered. What is proved of what
+//! each client was served is said of the others alone.
+//!
 //! The theorem of the server is the contract of `EventLoop::run`, over every network and every stream: each client was sent the replies to its own
 //! messages, in their order, and the store has applied one list of all messages. No reply is put where it may be sent before its group's second
 //! sync. The system tells which sockets are ready. No contract says that it tells each of them.

@@ -1,10 +1,15 @@
 //! The socket of one client.
 
-ghost use Rattle.std.specs.Prelude.{◌≡◌, ◌↔◌, ◌≤◌, ◌<◌, ◌-◌, ◌⊎◌, ℕ, List, [], true, false, length, Err, IfErr, IsTrue, MatchOption, MatchResult};
+ghost use Rattle.std.specs.Prelude.{◌≡◌, ◌↔◌, ◌≤◌, ◌<◌, ◌-◌, ◌⊎◌, ℕ, List, [], true, false, length, Option, Some, Err, IfErr, OnOk, IsTrue, MatchOption, MatchResult};
 ghost use Rattle.std.specs.Duration.{as_nanos};
 ghost use Rattle.std.specs.Time.{instant_nanos};
 ghost use Rattle.objects.specs.Failing.{HasGrown};
 ghost use Rattle.sessions.specs.State.{is_open, is_lost};
+ghost use Rattle.httpmsg.specs.Stream.{Message as MessageData, IsCut};
+ghost use Rattle.names.specs.declared.format.Format.{Format as FormatData};
+ghost use Rattle.sessions.specs.State.{State};
+ghost use Rattle.sessions.specs.Restating.{Gives};
+ghost use Rattle.clients.specs.Plain.{dialect_of, later_of, IsPlain, HandsOver, ReadsRestated};
 ghost use Rattle.clients.specs.Story.{GoesOn, SendsOn};
 ghost use Rattle.clients.specs.Waiting.{IsWaitedFor, IsLate, IsEnd, HasDrained, EndsAtRest, EndsFor};
 
@@ -12,12 +17,16 @@ use crate::desk::Desk;
 use crate::journal::{Journal, status_in};
 use crate::moving::{Moved, forget_once, read_once, send_once};
 use crate::stream::Stream;
-use sessions::{Note, Session};
+use httpmsg::Message;
+use sessions::{Later, Note, Session};
 use std::alloc::Global;
 use std::time::{Duration, Instant};
 
 // How often one turn writes to one client.
 const SENDS: u32 = 64;
+
+// The status code of a constant.
+const CONSTANT_STATUS: u16 = 200;
 
 // How long what a client sends is read and forgotten, once it was sent all.
 const DRAIN_SECONDS: u64 = 1;
@@ -91,12 +100,20 @@ pub(crate) struct Line<S> {
     has_ended: bool,
     // Since when what it sends is forgotten.
     drained_since: Option<Instant>,
+    // Its messages that stand before the session, where they are restated.
+    later: Option<Later>,
 }
 
 impl<S> Line<S> {
-    /// Of a connection that was accepted now.
-    pub(crate) fn new(stream: S, peer: Option<String>, now: Instant) -> Line<S>
-        ensures { result.stream ≡ stream }
+    /// Of a connection that was accepted now. Its messages are restated where `later` is given.
+    pub(crate) fn new(
+        stream: S,
+        peer: Option<String>,
+        later: Option<Later>,
+        now: Instant,
+    ) -> Line<S>
+        ensures stream { result.stream ≡ stream }
+        ensures later { result.later ≡ later }
     {
         Line {
             stream,
@@ -109,12 +126,14 @@ impl<S> Line<S> {
             looks_on: false,
             has_ended: false,
             drained_since: None,
+            later,
         }
     }
 
     /// The system tells what the connection is ready for.
     pub(crate) fn mark(&mut self, is_readable: bool, is_writable: bool)
-        ensures { self.new.stream ≡ self.old.stream }
+        ensures stream { self.new.stream ≡ self.old.stream }
+        ensures later { self.new.later ≡ self.old.later }
     {
         self.is_readable = self.is_readable || is_readable;
         self.is_writable = self.is_writable || is_writable;
@@ -139,6 +158,7 @@ impl<S> Line<S> {
         ensures ends { MatchResult result (λ _. moved ≡ Moved.Failed → ⊥) (λ gone. (gone ≡ Gone.Failed) × (moved ≡ Moved.Failed)) }
         ensures since { moved ≡ Moved.Some → self.new.since ≡ now }
         ensures stream { self.new.stream ≡ self.old.stream }
+        ensures later { self.new.later ≡ self.old.later }
     {
         match moved {
             Moved::Some => self.since = now,
@@ -156,6 +176,7 @@ impl<S: Stream> Line<S> {
     fn send(&mut self, alloc: Global, session: &mut Session, now: Instant) -> Result<(), Gone>
         ensures sent { SendsOn S.moved self.old.stream self.new.stream session.old session.new }
         ensures later { S.failures self.old.stream ≤ S.failures self.new.stream }
+        ensures behind { self.new.later ≡ self.old.later }
         ensures failed { IfErr result (λ gone. (gone ≡ Gone.Failed) × HasGrown (S.failures self.old.stream) (S.failures self.new.stream)) }
     {
         for _ in 0..SENDS {
@@ -170,7 +191,8 @@ impl<S: Stream> Line<S> {
 
     // Takes note of a piece that the session took.
     fn note_piece(&mut self, session: &Session, now: Instant)
-        ensures { self.new.stream ≡ self.old.stream }
+        ensures stream { self.new.stream ≡ self.old.stream }
+        ensures later { self.new.later ≡ self.old.later }
     {
         let begins = session.has_begun() && !self.has_begun;
         if begins || !session.is_idle() {
@@ -185,6 +207,7 @@ impl<S: Stream> Line<S> {
     fn note_read(&mut self, moved: Moved, session: &Session, now: Instant) -> Result<(), Gone>
         ensures ends { MatchResult result (λ _. moved ≡ Moved.Failed → ⊥) (λ gone. (gone ≡ Gone.Failed) × (moved ≡ Moved.Failed)) }
         ensures stream { self.new.stream ≡ self.old.stream }
+        ensures later { self.new.later ≡ self.old.later }
     {
         match moved {
             Moved::Some => self.note_piece(session, now),
@@ -207,7 +230,11 @@ impl<S: Stream> Line<S> {
         requires opened { is_open session.old.phase ≡ true }
         requires idle { session.old.waiting ≡ [] }
         requires sent { session.old.unsent ≡ [] }
-        ensures goes_on { GoesOn S.moved S.has_ended self.old.stream self.new.stream session.old session.new }
+        requires none { later_of self.old ≡ [] }
+        ensures restated { OnOk result ((f : FormatData) → dialect_of self.old ≡ Some f → (read : List ℕ) (ms : List MessageData) → IsCut read ms session.old.progress
+            → ReadsRestated S.moved S.has_ended f read ms session.old session.new self.old self.new) }
+        ensures goes_on { IsPlain self.old → GoesOn S.moved S.has_ended self.old.stream self.new.stream session.old session.new }
+        ensures dialect { dialect_of self.new ≡ dialect_of self.old }
         ensures later { S.failures self.old.stream ≤ S.failures self.new.stream }
         ensures failed { IfErr result (λ gone. (gone ≡ Gone.Failed) × HasGrown (S.failures self.old.stream) (S.failures self.new.stream)) }
     {
@@ -215,13 +242,108 @@ impl<S: Stream> Line<S> {
         let moved = read_once(alloc, &mut desk.tools, &mut desk.buffer, stream, session);
         self.note_read(moved, session, now)?;
         tell_closing(alloc, &mut desk.journal, self.peer(), session);
+        self.hand_over(alloc, desk, session, now);
         Ok(())
+    }
+
+    // Whether messages stand before a session that is open.
+    fn has_later(&self, session: &Session) -> bool
+        ensures { IsTrue result ↔ ((is_open session.now.phase ≡ true) × (later_of self.now ≡ [] → ⊥)) }
+    {
+        match &self.later {
+            Some(later) => session.is_open() && !later.is_empty(),
+            None => false,
+        }
+    }
+
+    // Tells in the log of a message that a constant answered, whose reply is what was put behind so many bytes that waited to be sent.
+    fn tell_constant(
+        &self,
+        alloc: Global,
+        journal: &mut Journal,
+        message: &Message,
+        session: &Session,
+        before: usize,
+        now: Instant,
+    ) {
+        let note = Note {
+            status: CONSTANT_STATUS,
+            bytes: session.rest().len().saturating_sub(before),
+        };
+        journal.tell_answered(alloc, self.peer(), message, note, self.waited(now));
+    }
+
+    // Gives a session, of which no message waits, the next of the messages that stand before it.
+    fn give(&mut self, alloc: Global, desk: &mut Desk, session: &mut Session, now: Instant)
+        requires idle { session.old.waiting ≡ [] }
+        ensures stream { self.new.stream ≡ self.old.stream }
+        ensures dialect { dialect_of self.new ≡ dialect_of self.old }
+        ensures plain { IsPlain self.old → session.new ≡ session.old }
+        ensures gives { (f : FormatData) → dialect_of self.old ≡ Some f
+            → (answered : Option MessageData) × Gives f (later_of self.old) (later_of self.new) session.old session.new answered }
+    {
+        let before = session.rest().len();
+        let Some(later) = &mut self.later else {
+            return;
+        };
+        let answered = later.give(alloc, &mut desk.tools, session);
+        match answered {
+            Some(message) => {
+                self.tell_constant(alloc, &mut desk.journal, &message, session, before, now);
+            }
+            None => tell_closing(alloc, &mut desk.journal, self.peer(), session),
+        }
+    }
+
+    // Where messages are restated, takes those that wait in a session, before which none stands, and gives it the next of them.
+    fn hand_over(&mut self, alloc: Global, desk: &mut Desk, session: &mut Session, now: Instant)
+        requires ready { (session.old.waiting ≡ [] → ⊥) → later_of self.old ≡ [] }
+        ensures stream { self.new.stream ≡ self.old.stream }
+        ensures dialect { dialect_of self.new ≡ dialect_of self.old }
+        ensures plain { IsPlain self.old → session.new ≡ session.old }
+        ensures hands { (f : FormatData) → dialect_of self.old ≡ Some f → HandsOver f session.old session.new (later_of self.old) (later_of self.new) }
+    {
+        if session.is_idle() {
+            return;
+        }
+        let Some(later) = &mut self.later else {
+            return;
+        };
+        later.take_from(session);
+        self.give(alloc, desk, session, now);
+    }
+
+    // Where nothing waits, gives the session the next of the messages that stand before it, and sends what then waits.
+    fn give_next(
+        &mut self,
+        alloc: Global,
+        desk: &mut Desk,
+        session: &mut Session,
+        now: Instant,
+    ) -> Result<(), Gone>
+        ensures goes_on { IsPlain self.old → GoesOn S.moved S.has_ended self.old.stream self.new.stream session.old session.new }
+        ensures dialect { dialect_of self.new ≡ dialect_of self.old }
+        ensures later { S.failures self.old.stream ≤ S.failures self.new.stream }
+        ensures failed { IfErr result (λ gone. (gone ≡ Gone.Failed) × HasGrown (S.failures self.old.stream) (S.failures self.new.stream)) }
+
+        // A message gets a constant only where no reply waits and none of the client's messages, so the replies are in order.
+        ensures gives { (f : FormatData) → dialect_of self.old ≡ Some f → is_open session.old.phase ≡ true → (later_of self.old ≡ [] → ⊥)
+            → session.old.waiting ≡ [] → session.old.unsent ≡ []
+            → (given : State) × (answered : Option MessageData) × Gives f (later_of self.old) (later_of self.new) session.old given answered
+            × SendsOn S.moved self.old.stream self.new.stream given session.new }
+    {
+        if !is_quiet(session) || !self.has_later(session) {
+            return Ok(());
+        }
+        self.give(alloc, desk, session, now);
+        self.send(alloc, session, now)
     }
 
     // Since when what the client sends is forgotten: from now on, where it was not yet. Then the client is told that nothing more is sent.
     fn drain_since(&mut self, now: Instant) -> Instant
         ensures none { S.moved self.old.stream self.new.stream [] [] }
         ensures well { S.failures self.new.stream ≡ S.failures self.old.stream }
+        ensures behind { self.new.later ≡ self.old.later }
         ensures since { MatchOption self.old.drained_since (result ≡ now) (λ since. result ≡ since) }
     {
         match self.drained_since {
@@ -240,6 +362,7 @@ impl<S: Stream> Line<S> {
         requires room { 0 < length buffer.old }
         ensures forgets { (read : List ℕ) × S.moved self.old.stream self.new.stream read [] }
         ensures later { S.failures self.old.stream ≤ S.failures self.new.stream }
+        ensures behind { self.new.later ≡ self.old.later }
         ensures ends { IfErr result (IsEnd (HasGrown (S.failures self.old.stream) (S.failures self.new.stream))) }
 
         // A client that sends on is let go only once what it sends was forgotten for a second.
@@ -260,6 +383,7 @@ impl<S: Stream> Line<S> {
         requires room { 0 < length buffer.old }
         ensures forgets { (read : List ℕ) × S.moved self.old.stream self.new.stream read [] }
         ensures later { S.failures self.old.stream ≤ S.failures self.new.stream }
+        ensures behind { self.new.later ≡ self.old.later }
         ensures ends { IfErr result (IsEnd (HasGrown (S.failures self.old.stream) (S.failures self.new.stream))) }
         ensures done { result ≡ Err Gone.Done → S.has_ended self.new.stream }
     {
@@ -285,16 +409,18 @@ impl<S: Stream> Line<S> {
         session: &mut Session,
         now: Instant,
     ) -> Result<(), Gone>
-        ensures goes_on { GoesOn S.moved S.has_ended self.old.stream self.new.stream session.old session.new }
+        ensures goes_on { IsPlain self.old → GoesOn S.moved S.has_ended self.old.stream self.new.stream session.old session.new }
+        ensures dialect { dialect_of self.new ≡ dialect_of self.old }
         ensures later { S.failures self.old.stream ≤ S.failures self.new.stream }
         ensures failed { IfErr result (λ gone. (gone ≡ Gone.Failed) × HasGrown (S.failures self.old.stream) (S.failures self.new.stream)) }
     {
-        if !self.looks_on || !is_quiet(session) {
+        if !self.looks_on || !is_quiet(session) || self.has_later(session) {
             return Ok(());
         }
         session.take_piece(alloc, &mut desk.tools, &[]);
         tell_closing(alloc, &mut desk.journal, self.peer(), session);
         self.looks_on = !session.is_idle();
+        self.hand_over(alloc, desk, session, now);
         self.send(alloc, session, now)
     }
 
@@ -306,12 +432,13 @@ impl<S: Stream> Line<S> {
         session: &mut Session,
         now: Instant,
     ) -> Result<(), Gone>
-        ensures goes_on { GoesOn S.moved S.has_ended self.old.stream self.new.stream session.old session.new }
+        ensures goes_on { IsPlain self.old → GoesOn S.moved S.has_ended self.old.stream self.new.stream session.old session.new }
+        ensures dialect { dialect_of self.new ≡ dialect_of self.old }
         ensures later { S.failures self.old.stream ≤ S.failures self.new.stream }
         ensures ends { IfErr result (λ gone. EndsAtRest (HasGrown (S.failures self.old.stream) (S.failures self.new.stream)) gone session.new) }
         ensures done { result ≡ Err Gone.Done → (self.old.has_ended ≡ true) ⊎ S.has_ended self.new.stream ⊎ HasDrained self.old.drained_since now }
     {
-        if !is_quiet(session) {
+        if !is_quiet(session) || self.has_later(session) {
             return Ok(());
         }
         if !session.is_open() {
@@ -355,13 +482,15 @@ impl<S: Stream> Line<S> {
         ensures ends { MatchResult result
             (λ _. (is_lost session.old.phase ≡ false) × (IsLate session.new self.new.since now idle → ⊥))
             (λ gone. EndsFor gone session.old session.new (HasGrown (S.failures self.old.stream) (S.failures self.new.stream)) (IsLate session.new self.new.since now idle)) }
-        ensures goes_on { GoesOn S.moved S.has_ended self.old.stream self.new.stream session.old session.new }
+        ensures goes_on { IsPlain self.old → GoesOn S.moved S.has_ended self.old.stream self.new.stream session.old session.new }
+        ensures dialect { dialect_of self.new ≡ dialect_of self.old }
         ensures later { S.failures self.old.stream ≤ S.failures self.new.stream }
     {
         if session.is_lost() {
             return Err(Gone::Lost);
         }
         self.send(alloc, session, now)?;
+        self.give_next(alloc, desk, session, now)?;
         self.look_on(alloc, desk, session, now)?;
         self.attend(alloc, desk, session, now)?;
         if self.is_late(session, now, idle) {
@@ -380,6 +509,7 @@ impl<S: Stream> Line<S> {
     ) -> Result<(), Gone>
         ensures sent { SendsOn S.moved self.old.stream self.new.stream session.old session.new }
         ensures later { S.failures self.old.stream ≤ S.failures self.new.stream }
+        ensures behind { self.new.later ≡ self.old.later }
         ensures ends { IfErr result (λ gone. (gone ≡ Gone.Done) → session.new.unsent ≡ []) }
     {
         if session.is_lost() {

@@ -7,7 +7,7 @@ ghost use Rattle.clients.specs.Places.{fresh, count, line_at, session_at, IsFree
 use crate::desk::Desk;
 use crate::line::Line;
 use crate::stream::Stream;
-use sessions::Session;
+use sessions::{Later, Session};
 use std::alloc::{AllocError, Global};
 use std::time::{Duration, Instant};
 
@@ -60,14 +60,22 @@ impl<S: Drop> Places<S> {
         true
     }
 
-    /// A client comes to a place.
-    pub(crate) fn take(&mut self, place: usize, stream: S, peer: Option<String>, now: Instant)
+    /// A client comes to a place. Its messages are restated where `later` is given.
+    pub(crate) fn take(
+        &mut self,
+        place: usize,
+        stream: S,
+        peer: Option<String>,
+        later: Option<Later>,
+        now: Instant,
+    )
         ensures beside { StaysBeside place self.old self.new }
         ensures session { session_at self.new place ≡ session_at self.old place }
-        ensures there { place < count self.old → (line : LineData S) × (line_at self.new place ≡ Some line) × (line.stream ≡ stream) }
+        ensures there { place < count self.old
+            → (line : LineData S) × (line_at self.new place ≡ Some line) × (line.stream ≡ stream) × (line.later ≡ later) }
     {
         if place < self.lines.len() {
-            self.lines[place] = Some(Line::new(stream, peer, now));
+            self.lines[place] = Some(Line::new(stream, peer, later, now));
         }
     }
 
@@ -77,7 +85,7 @@ impl<S: Drop> Places<S> {
         ensures session { session_at self.new place ≡ session_at self.old place }
         ensures free { IsFree self.new place ↔ IsFree self.old place }
         ensures stream { (line : LineData S) → line_at self.old place ≡ Some line
-            → (marked : LineData S) × (line_at self.new place ≡ Some marked) × (marked.stream ≡ line.stream) }
+            → (marked : LineData S) × (line_at self.new place ≡ Some marked) × (marked.stream ≡ line.stream) × (marked.later ≡ line.later) }
     {
         if place >= self.lines.len() {
             return;

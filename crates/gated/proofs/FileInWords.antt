@@ -379,7 +379,7 @@ subs_are_bare W = (
   (
     ((λ is. (refl, refl, refl, (λ name. refl), (λ x. refl))), ((λ is. cc), tt)),
     (
-      ((λ is. (refl, refl, refl, (λ name. refl), (λ x. refl))), ((λ is. cc), ((λ is. cc), ((λ is. cc), ((λ is. cc), ((λ is. cc), ((λ is. cc), ((λ is. cc), tt)))))))),
+      ((λ is. (refl, refl, refl, (λ name. refl), (λ x. refl))), ((λ is. cc), ((λ is. cc), ((λ is. cc), ((λ is. cc), ((λ is. cc), ((λ is. cc), ((λ is. cc), ((λ is. cc), tt))))))))),
       (
         ((λ is. (refl, refl, refl, (λ name. refl), (λ x. refl))), ((λ is. cc), tt)),
         (

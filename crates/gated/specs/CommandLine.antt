@@ -45,6 +45,10 @@ log_rule = record (new_rule (codes "log")) { long = Some (codes "log"); action =
 abbrev pub compact_at_rule : Rule
 compact_at_rule = record (option_rule (codes "compact-at")) { parser = Some (parser.Unsigned 1 1000) }
 
+-- `--kubernetes`, a flag
+abbrev pub kubernetes_rule : Rule
+kubernetes_rule = record (new_rule (codes "kubernetes")) { long = Some (codes "kubernetes"); action = Some SetTrue }
+
 -- `--format N`: 1 to 3, and 3 where it is left out
 abbrev pub format_rule : Rule
 format_rule = record (option_rule (codes "format")) { defaults = codes "3" ∷ []; parser = Some (parser.Unsigned 1 3) }
@@ -57,7 +61,7 @@ abbrev pub create_shape : Shape
 create_shape = record (new_shape (codes "create")) { rules = file_rule ∷ format_rule ∷ [] }
 
 abbrev pub serve_shape : Shape
-serve_shape = record (new_shape (codes "serve")) { rules = file_rule ∷ listen_rule ∷ conns_rule ∷ at_once_rule ∷ idle_rule ∷ log_rule ∷ compact_at_rule ∷ [] }
+serve_shape = record (new_shape (codes "serve")) { rules = file_rule ∷ listen_rule ∷ conns_rule ∷ at_once_rule ∷ idle_rule ∷ log_rule ∷ compact_at_rule ∷ kubernetes_rule ∷ [] }
 
 -- `gated COMMAND FILE`, where the command is replay, compact, upgrade or check, `gated create FILE OPTION` and `gated serve FILE OPTION..`; `gated` alone is refused
 unfoldable pub gated_line : App
@@ -86,19 +90,24 @@ MayHaveNumber name rows (Some n) = HasNumber name rows n
 -- all; and where they have neither, 256 at once, of any number in all.
 abbrev pub IsServedAs : List Row → Serving → Type 0
 IsServedAs rows (OneByOne connections) = HasNoNumber (codes "at-once") rows × HasNumber (codes "conns") rows connections
-IsServedAs rows (AtOnce at_once connections compact_at) =
+IsServedAs rows (AtOnce at_once connections compact_at is_kubernetes) =
     (HasNumber (codes "at-once") rows at_once × MayHaveNumber (codes "conns") rows connections)
     ⊎ (HasNoNumber (codes "at-once") rows × HasNoNumber (codes "conns") rows × (at_once ≡ 256) × (connections ≡ None))
 
 -- Messages are told of in a log of connections that are served at once, and of no others.
 abbrev pub MayBeLogged : Serving → Bool → Type 0
 MayBeLogged (OneByOne connections) is_logged = is_logged ≡ false
-MayBeLogged (AtOnce at_once connections compact_at) is_logged = Unit {0}
+MayBeLogged (AtOnce at_once connections compact_at is_kubernetes) is_logged = Unit {0}
 
 -- when a store is compacted while connections are served so: never where they are served one by one
 abbrev pub compacted_at : Serving → Option ℕ
 compacted_at (OneByOne connections) = None
-compacted_at (AtOnce at_once connections times) = times
+compacted_at (AtOnce at_once connections times is_kubernetes) = times
+
+-- whether messages of Kubernetes clients are served: never where connections are served one by one
+abbrev pub serves_kubernetes : Serving → Bool
+serves_kubernetes (OneByOne connections) = false
+serves_kubernetes (AtOnce at_once connections compact_at is_served) = is_served
 
 -- whether an option without a value is there, as its row says
 pub record IsFlag (name : Text) (rows : List Row) (is_there : Bool) : Type 0 where
@@ -114,7 +123,7 @@ IsAsked name rows (Replay file) = (name ≡ codes "replay") × (first_of (codes 
 IsAsked name rows (Serve file address serving idle_seconds is_logged) =
     (name ≡ codes "serve") × (first_of (codes "file") rows ≡ Some file.now) × (first_of (codes "listen") rows ≡ Some address.now)
     × IsServedAs rows serving × HasNumber (codes "idle") rows idle_seconds × IsFlag (codes "log") rows is_logged × MayBeLogged serving is_logged
-    × MayHaveNumber (codes "compact-at") rows (compacted_at serving)
+    × MayHaveNumber (codes "compact-at") rows (compacted_at serving) × IsFlag (codes "kubernetes") rows (serves_kubernetes serving)
 IsAsked name rows (Compact file) = (name ≡ codes "compact") × (first_of (codes "file") rows ≡ Some file.now)
 IsAsked name rows (Upgrade file) = (name ≡ codes "upgrade") × (first_of (codes "file") rows ≡ Some file.now)
 IsAsked name rows (Check file) = (name ≡ codes "check") × (first_of (codes "file") rows ≡ Some file.now)

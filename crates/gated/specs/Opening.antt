@@ -32,7 +32,7 @@ pub record IsFoundIn {D : Type 0} {g : Ghosts D} (store : Store D g) (found : Fo
 -- The line of a store that was read in this time: the version, the file, what was found there, and the seconds.
 abbrev pub opened_line : (file : List ℕ) → Found → (nanoseconds : ℕ) → List ℕ
 opened_line file found nanoseconds =
-    codes "gated: 0.29.0, " ++ (file ++ (codes ": " ++ (found_shown found ++ (codes ", read in " ++ (seconds_shown nanoseconds ++ codes " s\n")))))
+    codes "gated: 0.30.0, " ++ (file ++ (codes ": " ++ (found_shown found ++ (codes ", read in " ++ (seconds_shown nanoseconds ++ codes " s\n")))))
 
 module _ {E : Type 0} (took : E → E → List ℕ → Type 0) (failures : E → ℕ) (old new : E) where
   -- It was told of a store in this file.

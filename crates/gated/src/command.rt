@@ -4,7 +4,7 @@ ghost use Rattle.std.specs.Prelude.{◌≡◌, true, false, List, [], map, optio
 ghost use Rattle.clap.specs.Words.{Row, Text, app_of, found_of, rows_of, rule_of, subcommand_rows_of, with_subcommand};
 ghost use Rattle.clap.specs.declared.builder.command.Command.TheViews.{out-Command};
 ghost use Rattle.names.specs.Format.{number_of};
-ghost use Rattle.gated.specs.CommandLine.{AskFor, HasNumber, IsAsked, IsServedAs, MayBeLogged, MayHaveNumber, address_of, at_once_rule, compact_at_rule, compacted_at, conns_rule, create_shape, file_of, gated_line, log_rule, option_rule, over_file, serve_shape};
+ghost use Rattle.gated.specs.CommandLine.{AskFor, HasNumber, IsAsked, IsServedAs, MayBeLogged, MayHaveNumber, address_of, at_once_rule, compact_at_rule, compacted_at, conns_rule, create_shape, file_of, gated_line, kubernetes_rule, log_rule, option_rule, over_file, serve_shape, serves_kubernetes};
 
 use clap::builder::ValueParser;
 use clap::error::ErrorKind;
@@ -14,7 +14,7 @@ use std::convert::AsStr;
 use store::Format;
 
 /// The program's version.
-pub const VERSION: &str = "0.29.0";
+pub const VERSION: &str = "0.30.0";
 
 // How many connections are served at once where the words say neither this nor how many there are in all.
 const DEFAULT_AT_ONCE: u16 = 256;
@@ -27,10 +27,12 @@ pub enum Serving {
         connections: u16,
     },
     /// This many at once, of this many in all, or of any number. Between them the store is compacted where its log is this many times as long as its pages, or never.
+    /// Messages of Kubernetes clients may be served among theirs.
     AtOnce {
         at_once: u16,
         connections: Option<u16>,
         compact_at: Option<u16>,
+        is_kubernetes: bool,
     },
 }
 
@@ -180,6 +182,19 @@ fn compact_at_option<'a>(alloc: Global) -> Arg<'a>
     .value_parser(ValueParser::unsigned(1, 1000))
 }
 
+// `--kubernetes`.
+fn kubernetes_option<'a>(alloc: Global) -> Arg<'a>
+    ensures rule { rule_of result ≡ kubernetes_rule }
+    ensures local { result.global ≡ false }
+{
+    Arg::new(alloc, "kubernetes")
+        .long("kubernetes")
+        .help(
+            "Serves kubectl and other Kubernetes clients: tells them which resources there are, and takes what they add to requests",
+        )
+        .action(ArgAction::SetTrue)
+}
+
 fn serve_line<'a>(alloc: Global) -> Result<Command<'a>, AllocError>
     ensures app { IfOk result (λ c. app_of c ≡ record { top = serve_shape; subs = [] }) }
     ensures local { IfOk result (λ c. (out-Command c).has_globals ≡ false) }
@@ -210,7 +225,8 @@ fn serve_line<'a>(alloc: Global) -> Result<Command<'a>, AllocError>
         .value_parser(ValueParser::unsigned(0, 86400)),
     )?
     .arg(log_option(alloc))?
-    .arg(compact_at_option(alloc))
+    .arg(compact_at_option(alloc))?
+    .arg(kubernetes_option(alloc))
 }
 
 fn create_line<'a>(alloc: Global) -> Result<Command<'a>, AllocError>
@@ -303,8 +319,9 @@ fn line<'a>(alloc: Global) -> Result<Command<'a>, AllocError>
     )
 }
 
-// How the arguments of `serve` ask for connections to be served, where the store is compacted meanwhile, or not, if they are served at once.
-fn serving_of<'a>(matches: &ArgMatches<'a>, compact_at: Option<u16>) -> Serving
+// How the arguments of `serve` ask for connections to be served. If they are served at once, this says when the store is compacted meanwhile, and whether
+// messages of Kubernetes clients are served.
+fn serving_of<'a>(matches: &ArgMatches<'a>, compact_at: Option<u16>, is_kubernetes: bool) -> Serving
     ensures { IsServedAs (rows_of (found_of matches.now)) result }
 {
     match matches.get_one::<u16>("at-once") {
@@ -312,6 +329,7 @@ fn serving_of<'a>(matches: &ArgMatches<'a>, compact_at: Option<u16>) -> Serving
             at_once,
             connections: matches.get_one::<u16>("conns"),
             compact_at,
+            is_kubernetes,
         },
         None => match matches.get_one::<u16>("conns") {
             Some(connections) => Serving::OneByOne { connections },
@@ -319,6 +337,7 @@ fn serving_of<'a>(matches: &ArgMatches<'a>, compact_at: Option<u16>) -> Serving
                 at_once: DEFAULT_AT_ONCE,
                 connections: None,
                 compact_at,
+                is_kubernetes,
             },
         },
     }
@@ -341,6 +360,16 @@ fn is_compacted_at(serving: Serving, asked: Option<u16>) -> bool
     }
 }
 
+// Whether messages of Kubernetes clients are served as this asks, where connections are served so.
+fn is_kubernetes_as(serving: Serving, asked: bool) -> bool
+    ensures { result ≡ true → serves_kubernetes serving ≡ asked }
+{
+    match serving {
+        Serving::OneByOne { .. } => !asked,
+        Serving::AtOnce { is_kubernetes, .. } => is_kubernetes == asked,
+    }
+}
+
 // Whether messages may be told of in a log where this is asked.
 fn may_be_logged(serving: Serving, is_logged: bool) -> bool
     ensures { result ≡ true → MayBeLogged serving is_logged }
@@ -351,15 +380,20 @@ fn may_be_logged(serving: Serving, is_logged: bool) -> bool
     }
 }
 
-// What the arguments of `serve` ask for; none where they ask for a log, or for compactions, of connections that are served one after the other.
+// What the arguments of `serve` ask for; none where they ask for a log, for compactions or for Kubernetes clients, of connections that are served one after the
+// other.
 fn serve_verb<'a>(matches: &ArgMatches<'a>) -> Option<Verb<'a>>
     ensures { IfSome result (IsAsked (codes "serve") (rows_of (found_of matches.now))) }
 {
     let file = matches.get_str("file")?;
     let compact_at = compact_at_of(matches);
-    let serving = serving_of(matches, compact_at);
+    let is_kubernetes = matches.get_flag("kubernetes");
+    let serving = serving_of(matches, compact_at, is_kubernetes);
     let is_logged = matches.get_flag("log");
-    if !may_be_logged(serving, is_logged) || !is_compacted_at(serving, compact_at) {
+    if !may_be_logged(serving, is_logged)
+        || !is_compacted_at(serving, compact_at)
+        || !is_kubernetes_as(serving, is_kubernetes)
+    {
         return None;
     }
     Some(Verb::Serve {
@@ -428,7 +462,7 @@ pub fn command<'a, S: AsStr>(alloc: Global, words: &'a [S]) -> Result<Verb<'a>, 
         // All else that is no verb was refused by then.
         None => Err(line.error(
             ErrorKind::MissingRequiredArgument,
-            "--log and --compact-at need --at-once where --conns is given",
+            "--log, --compact-at and --kubernetes need --at-once where --conns is given",
         )?),
     }
 }

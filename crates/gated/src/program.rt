@@ -165,6 +165,7 @@ fn serve_store<
             at_once,
             connections,
             compact_at,
+            is_kubernetes,
         } => {
             let limits = Limits {
                 at_once,
@@ -172,6 +173,7 @@ fn serve_store<
                 idle,
                 is_logged,
                 compact_at,
+                is_kubernetes,
             };
             if is_logged || compact_at.is_some() {
                 serve_at_once(net, alloc, address, limits, store, output, log)

@@ -8,3 +8,4 @@ pub mod Turns
 pub mod Counting
 pub mod Noting
 pub mod Serving
+pub mod Asking

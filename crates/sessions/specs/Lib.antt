@@ -9,3 +9,4 @@ pub mod Refusing
 pub mod Stops
 pub mod Served
 pub mod Laws
+pub mod Restating

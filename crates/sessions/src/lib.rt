@@ -15,11 +15,15 @@
 //! Where a log is kept, [`Tools::keep_notes`] is called first: then a [`Note`] is kept of each reply of a batch, its status code and its length,
 //! beside the messages that were answered.
 //!
+//! Where the clients are Kubernetes', a [`Later`] stands before each session: it takes the messages that a piece gave, and gives them back restated, in their
+//! order. Those that ask which resources there are it answers itself.
+//!
 //! A caller reads from a client only where the session is open and idle and has nothing to be sent. So what a session holds is bounded by
 //! one read of bytes, the messages of one read, and the replies to them.
 #![tactic(auto)]
 
 mod batch;
+mod later;
 mod laws;
 mod note;
 mod notes;
@@ -29,6 +33,7 @@ mod tally;
 mod turn;
 
 pub use batch::{Batch, UNSENT_LIMIT};
+pub use later::Later;
 pub use laws::turns_are_runs;
 pub use note::Note;
 pub use outbox::Outbox;

@@ -12,16 +12,19 @@ ghost use Rattle.httpmsg.specs.Cut.{end_of};
 ghost use Rattle.sessions.specs.Notes.{listed, closing_note};
 ghost use Rattle.sessions.specs.State.{is_open, is_lost, GoesOnWith, Closes};
 ghost use Rattle.sessions.specs.Pieces.{TakesPiece, EndsInput};
+ghost use Rattle.dialect.specs.ConstantBytes.{constant_bytes};
 
 use crate::note::{Note, note_of_failure};
 use crate::notes::Notes;
 use crate::outbox::Outbox;
+use dialect::write_constant;
 use httpmsg::{BrokenMessage, CutFault, Cutter, End, HeadRoom, Message, Sheet, StreamFault};
 use requests::Reply;
 use routes::{Routes, write_answer, write_fault, write_no_more, write_storage_failed};
 use std::alloc::{AllocError, Global};
 use std::collections::VecDeque;
 use std::marker::Model;
+use std::mem::swap;
 
 /// How far a session is.
 #[derive(Clone, Copy)]
@@ -178,6 +181,34 @@ impl Session {
         }
     }
 
+    /// Puts a constant text, as the reply to a message, after what waits to be sent.
+    pub(crate) fn put_constant(&mut self, message: &Message, text: &str)
+        ensures { GoesOnWith self.old self.new (constant_bytes message.now text.now) }
+    {
+        if self.is_lost() {
+            return;
+        }
+        match write_constant(&mut self.outbox, message, text) {
+            Ok(()) => {}
+            Err(_) => self.phase = Phase::Lost,
+        }
+    }
+
+    /// Gives the messages that wait, and takes others.
+    pub(crate) fn swap_waiting(&mut self, messages: &mut VecDeque<Message>)
+        ensures given { messages.new.items ≡ self.old.waiting }
+        ensures taken { self.new ≡ record self.old { waiting = messages.old.items } }
+    {
+        swap(&mut self.waiting, messages);
+    }
+
+    /// Lets messages wait, where none does.
+    pub(crate) fn let_wait(&mut self, messages: Vec<Message>)
+        ensures { self.new ≡ record self.old { waiting = messages.items } }
+    {
+        self.waiting = VecDeque::from_vec(messages);
+    }
+
     /// Puts the refusal "storage failed" after what waits to be sent, after which the session is over.
     pub(crate) fn refuse(&mut self, sheet: &mut Sheet)
         ensures refused { is_open self.old.phase ≡ true → Closes self.old self.new (closing_bytes false refusal.StorageFailed) }
@@ -204,8 +235,8 @@ impl Session {
         }
     }
 
-    // Ends the session: memory was refused to what its client sends.
-    fn end_without_memory(&mut self, sheet: &mut Sheet)
+    /// Ends the session: memory was refused to what its client sends.
+    pub(crate) fn end_without_memory(&mut self, sheet: &mut Sheet)
         ensures closes { Closes self.old self.new (closing_bytes false refusal.OutOfMemory) }
         ensures progress { self.new.progress ≡ self.old.progress }
     {

@@ -21,7 +21,8 @@ returns-clause-app c =
     let with_at_once = c.in_ok-arg-3.ensures.shape (search rules) ∙ ap₂ with_rule with_conns c.at_once_option.ensures.rule in
     let with_idle = c.in_ok-arg-4.ensures.shape (search rules) ∙ ap₂ with_rule with_at_once idle_is in
     let with_log = c.in_ok-arg-5.ensures.shape (search rules) ∙ ap₂ with_rule with_idle c.log_option.ensures.rule in
-    IfOk-weaker c.arg-6.result _ _ (λ r h. h.shape (search rules) ∙ ap₂ with_rule with_log c.compact_at_option.ensures.rule) c.arg-6.ensures
+    let with_compact_at = c.in_ok-arg-6.ensures.shape (search rules) ∙ ap₂ with_rule with_log c.compact_at_option.ensures.rule in
+    IfOk-weaker c.arg-7.result _ _ (λ r h. h.shape (search rules) ∙ ap₂ with_rule with_compact_at c.kubernetes_option.ensures.rule) c.arg-7.ensures
 
 pub returns-clause-local : goal.returns-clause-local
 returns-clause-local c =
@@ -32,4 +33,5 @@ returns-clause-local c =
     let with_at_once = c.in_ok-arg-3.ensures.globals ∙ ap₂ (λ a b. a || b) with_conns c.at_once_option.ensures.local in
     let with_idle = c.in_ok-arg-4.ensures.globals ∙ ap₂ (λ a b. a || b) with_at_once idle_local in
     let with_log = c.in_ok-arg-5.ensures.globals ∙ ap₂ (λ a b. a || b) with_idle c.log_option.ensures.local in
-    IfOk-weaker c.arg-6.result _ _ (λ r h. h.globals ∙ ap₂ (λ a b. a || b) with_log c.compact_at_option.ensures.local) c.arg-6.ensures
+    let with_compact_at = c.in_ok-arg-6.ensures.globals ∙ ap₂ (λ a b. a || b) with_log c.compact_at_option.ensures.local in
+    IfOk-weaker c.arg-7.result _ _ (λ r h. h.globals ∙ ap₂ (λ a b. a || b) with_compact_at c.kubernetes_option.ensures.local) c.arg-7.ensures

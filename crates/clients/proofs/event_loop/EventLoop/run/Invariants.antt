@@ -1,4 +1,4 @@
-use Rattle.std.specs.Prelude.{◌≡◌, None}
+use Rattle.std.specs.Prelude.{◌≡◌, false, None}
 use Rattle.names.specs.declared.format.Rules.{Rules}
 use Rattle.decoded.specs.Standing.{History, View}
 use Rattle.histories.specs.View.{view}
@@ -12,9 +12,9 @@ invariant-loop g l = record {
   times : l.compacting.times ≡ l.fn.self.limits.compact_at;
   idle : l.self.limits.idle ≡ l.fn.self.limits.idle;
   served : l.fn.self.limits.compact_at ≡ None → (rules : Rules) (v : View) → ShowsAt rules l.fn.store v
-      → HasServedClients g.S.Stream.moved g.S.Stream.has_ended g.S.Stream.failures l.fn.self.limits.idle (g.N.Network.came l.fn.network l.network) rules l.fn.store l.store v
+      → HasServedClients g.S.Stream.moved g.S.Stream.has_ended g.S.Stream.failures l.fn.self.limits.idle (g.N.Network.came l.fn.network l.network) (l.fn.self.limits.is_kubernetes ≡ false) rules l.fn.store l.store v
       l.fn.self.places l.self.places;
   settled : (rules : Rules) (h : History) → IsSettledAt rules l.fn.store h
-      → HasServedClients g.S.Stream.moved g.S.Stream.has_ended g.S.Stream.failures l.fn.self.limits.idle (g.N.Network.came l.fn.network l.network) rules l.fn.store l.store (view rules h)
+      → HasServedClients g.S.Stream.moved g.S.Stream.has_ended g.S.Stream.failures l.fn.self.limits.idle (g.N.Network.came l.fn.network l.network) (l.fn.self.limits.is_kubernetes ≡ false) rules l.fn.store l.store (view rules h)
       l.fn.self.places l.self.places;
 }

@@ -11,4 +11,4 @@ returns-in-Some-clause-stream g c line is =
     let at : line_at c.args.self.now c.args.place ≡ Some c.in-Some.line =
     at_index c.args.self.now.lines.items c.args.place c.index_mut.result.now None inside c.index_mut.ensures.value ∙ c.in-Some.is in
     let same : c.in-Some.line ≡ line = some_same c.in-Some.line line (sym at ∙ is) in
-    (c.mark.new.self, get_or-set_same c.args.self.now.lines.items c.args.place (Some c.mark.new.self) None inside, c.mark.ensures ∙ ap (λ (l : Line g.row.S.Denot). l.stream) same)
+    (c.mark.new.self, get_or-set_same c.args.self.now.lines.items c.args.place (Some c.mark.new.self) None inside, c.mark.ensures.stream ∙ ap (λ (l : Line g.row.S.Denot). l.stream) same, c.mark.ensures.later ∙ ap (λ (l : Line g.row.S.Denot). l.later) same)

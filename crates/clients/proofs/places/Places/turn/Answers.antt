@@ -18,7 +18,7 @@ returns-in-Ok g c =
     let had : session_at c.args.self.now c.args.place ≡ c.index_mut-2.result.now =
     at_index c.args.self.now.sessions.items c.args.place c.index_mut-2.result.now fresh room c.index_mut-2.ensures.value in
     takes_on g.S.Stream.moved g.S.Stream.has_ended g.S.Stream.failures c.args.idle g.met.S.Stream.moved_none g.met.S.Stream.moved_then c.args.self.now _ c.args.place
-    c.in-Some.line c.turn.new.self c.index_mut-2.result.now c.turn.new.session inside room refl refl was had c.turn.ensures.goes_on c.turn.ensures.later
+    c.in-Some.line c.turn.new.self c.index_mut-2.result.now c.turn.new.session inside room refl refl was had c.turn.ensures.goes_on c.turn.ensures.dialect c.turn.ensures.later
 
 pub returns-in-Err : goal.returns-in-Err
 returns-in-Err g c =
