@@ -402,6 +402,7 @@ impl<S: Stream> Line<S> {
     }
 
     // Where nothing waits, tells what stands behind the messages that were answered.
+    #[tactic(auto, using(crate::proofs::Leaving::none_before))]
     fn look_on(
         &mut self,
         alloc: Global,
@@ -425,6 +426,7 @@ impl<S: Stream> Line<S> {
     }
 
     // Where nothing waits: reads on, or ends the connection once the session is over.
+    #[tactic(auto, using(crate::proofs::Leaving::none_later))]
     fn attend(
         &mut self,
         alloc: Global,

@@ -13,6 +13,10 @@ pub record Queue : Type 0 where
   pub format : Format
   pub messages : List Message
 
+-- none of them
+abbrev pub no_queue : Format → Queue
+no_queue f = record { format = f; messages = [] }
+
 -- the messages before the first that a constant answers
 abbrev pub asking : Format → List Message → List Message
 asking f [] = []

@@ -110,11 +110,7 @@ impl Later {
     }
 
     // Takes the messages before the first that a constant answers, each restated.
-    fn take_asking(
-        &mut self,
-        alloc: Global,
-        routes: &Routes,
-    ) -> Result<Vec<Message>, AllocError>
+    fn take_asking(&mut self, alloc: Global, routes: &Routes) -> Result<Vec<Message>, AllocError>
         ensures format { self.new.format ≡ self.old.format }
         ensures taken { IfOk result (λ taken. taken.items ≡ map (restated self.old.format) (asking self.old.format self.old.messages)) }
         ensures rest { OnOk result (self.new.messages ≡ behind self.old.format self.old.messages) }
