@@ -1,5 +1,5 @@
 -- Why a turn lets a client go.
-use Rattle.std.proofs.Common.{◌≡◌, ◌∙◌, ap, refl, subst, sym, ℕ, Bool, true, false, List, [], ◌∷◌, Option, Some, None, option_map}
+use Rattle.std.proofs.Common.{◌≡◌, ◌∙◌, ap, refl, subst, sym, ℕ, Bool, true, List, [], ◌∷◌, Option, Some, None, option_map}
 use Rattle.httpmsg.specs.Stream.{Message}
 use Rattle.std.specs.declared.time.Instant.{Instant}
 use Rattle.std.specs.declared.time.Duration.{Duration}
@@ -7,7 +7,7 @@ use Rattle.objects.specs.Failing.{HasGrown}
 use Rattle.clients.specs.Places.{HasReason}
 use Rattle.names.specs.declared.format.Format.{Format}
 use Rattle.std.specs.Option.{option_map_or}
-use Rattle.sessions.specs.State.{State, is_open}
+use Rattle.sessions.specs.State.{State}
 use Rattle.sessions.specs.Restating.{Queue, Gives}
 use Rattle.clients.specs.declared.line.Line.{Line}
 use Rattle.clients.specs.Plain.{dialect_of, later_of, IsPlain}
@@ -28,15 +28,6 @@ has_failed g old new failed late is fails = subst (λ x. EndsFor x old new faile
 pub none_later : (opened : Bool) (later : List Message) → opened ≡ true → ((opened ≡ true) × (later ≡ [] → ⊥) → ⊥) → later ≡ []
 none_later opened [] is none = refl
 none_later opened (m ∷ ms) is none = absurd (none (is, λ (clash : m ∷ ms ≡ []). cc))
-
--- and where a message waits, it is open
-pub none_before : (s t : State) (later : List Message) → s.waiting ≡ [] → (is_open s.phase ≡ false → t ≡ s) → ((is_open s.phase ≡ true) × (later ≡ [] → ⊥) → ⊥)
-    → (t.waiting ≡ [] → ⊥) → later ≡ []
-none_before s t later idle over none waits = on (is_open s.phase) refl
-  where
-    on : (o : Bool) → is_open s.phase ≡ o → later ≡ []
-    on true opened = none_later (is_open s.phase) later opened none
-    on false closed = absurd (waits (ap (λ (x : State). x.waiting) (over closed) ∙ idle))
 
 -- what a turn ends for is a reason that is seen of the session and of the stream
 pub reason_of : (g : Gone) (old new : State) (before now : ℕ) (since at : Instant) (idle : Option Duration)
@@ -64,3 +55,12 @@ gives_of {S} old new q after f s t answered is now gives same =
   where
     some_is : (g h : Format) → Some g ≡ Some h → g ≡ h
     some_is g h same = cc
+
+-- a client whose messages are answered as they are has no dialect
+pub not_dialect : {S : Type 0} (line : Line S) (f : Format) → line.later ≡ None → dialect_of line ≡ Some f → ⊥
+not_dialect line f none is =
+    let clash : None ≡ Some f = sym (ap (λ (o : Option Queue). option_map (λ (x : Queue). x.format) o) none) ∙ is in cc
+
+-- where none of its messages stands before the session, the queue is empty
+pub empty_of : {S : Type 0} (line : Line S) (q : Queue) → line.later ≡ Some q → later_of line ≡ [] → q.messages ≡ []
+empty_of line q is none = sym (ap (λ (o : Option Queue). option_map_or (λ (x : Queue). x.messages) o []) is) ∙ none
