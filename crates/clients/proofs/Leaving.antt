@@ -1,11 +1,16 @@
 -- Why a turn lets a client go.
-use Rattle.std.proofs.Common.{◌≡◌, ◌∙◌, ap, refl, subst, sym, ℕ, Bool, true, false, List, [], ◌∷◌, Option}
+use Rattle.std.proofs.Common.{◌≡◌, ◌∙◌, ap, refl, subst, sym, ℕ, Bool, true, List, [], ◌∷◌, Option, Some, None, option_map}
 use Rattle.httpmsg.specs.Stream.{Message}
 use Rattle.std.specs.declared.time.Instant.{Instant}
 use Rattle.std.specs.declared.time.Duration.{Duration}
 use Rattle.objects.specs.Failing.{HasGrown}
 use Rattle.clients.specs.Places.{HasReason}
-use Rattle.sessions.specs.State.{State, is_open}
+use Rattle.names.specs.declared.format.Format.{Format}
+use Rattle.std.specs.Option.{option_map_or}
+use Rattle.sessions.specs.State.{State}
+use Rattle.sessions.specs.Restating.{Queue, Gives}
+use Rattle.clients.specs.declared.line.Line.{Line}
+use Rattle.clients.specs.Plain.{dialect_of, later_of, IsPlain}
 use Rattle.clients.specs.declared.line.Gone.{Gone}
 use Rattle.clients.specs.declared.line.Gone.TheVariants as gone
 use Rattle.clients.specs.Waiting.{IsLate, EndsAtRest, EndsFor}
@@ -24,15 +29,6 @@ pub none_later : (opened : Bool) (later : List Message) → opened ≡ true → 
 none_later opened [] is none = refl
 none_later opened (m ∷ ms) is none = absurd (none (is, λ (clash : m ∷ ms ≡ []). cc))
 
--- and where a message waits, it is open
-pub none_before : (s t : State) (later : List Message) → s.waiting ≡ [] → (is_open s.phase ≡ false → t ≡ s) → ((is_open s.phase ≡ true) × (later ≡ [] → ⊥) → ⊥)
-    → (t.waiting ≡ [] → ⊥) → later ≡ []
-none_before s t later idle over none waits = on (is_open s.phase) refl
-  where
-    on : (o : Bool) → is_open s.phase ≡ o → later ≡ []
-    on true opened = none_later (is_open s.phase) later opened none
-    on false closed = absurd (waits (ap (λ (x : State). x.waiting) (over closed) ∙ idle))
-
 -- what a turn ends for is a reason that is seen of the session and of the stream
 pub reason_of : (g : Gone) (old new : State) (before now : ℕ) (since at : Instant) (idle : Option Duration)
     → EndsFor g old new (HasGrown before now) (IsLate new since at idle) → HasReason g before now new idle
@@ -40,3 +36,31 @@ reason_of gone.Lost old new before now since at idle ends = ends.0
 reason_of gone.Failed old new before now since at idle ends = ends
 reason_of gone.Done old new before now since at idle ends = ends
 reason_of gone.Late old new before now since at idle ends = (since, at, ends)
+
+-- a client whose messages are restated is not one whose messages are answered as they are
+pub not_plain : {S : Type 0} (line : Line S) (q : Queue) → line.later ≡ Some q → IsPlain line → ⊥
+not_plain line q is plain =
+    let clash : Some q.format ≡ None = sym (ap (λ (o : Option Queue). option_map (λ (x : Queue). x.format) o) is) ∙ plain in cc
+
+-- What is given of the messages before a session is so of those of its client.
+pub gives_of : {S : Type 0} (old new : Line S) (q after : Queue) (f : Format) (s t : State) (answered : Option Message) → old.later ≡ Some q → new.later ≡ Some after
+    → Gives q.format q.messages after.messages s t answered → dialect_of old ≡ Some f → Gives f (later_of old) (later_of new) s t answered
+gives_of {S} old new q after f s t answered is now gives same =
+    let Messages : Option Queue → List Message = λ o. option_map_or (λ (x : Queue). x.messages) o [] in
+    let format_is : Some q.format ≡ Some f = sym (ap (λ (o : Option Queue). option_map (λ (x : Queue). x.format) o) is) ∙ same in
+    let By : Format → Type 0 = λ g. Gives g q.messages after.messages s t answered in
+    let From : Option Queue → Type 0 = λ o. Gives f (Messages o) after.messages s t answered in
+    let To : Option Queue → Type 0 = λ o. Gives f (later_of old) (Messages o) s t answered in
+    subst To (sym now) (subst From (sym is) (subst By (some_is q.format f format_is) gives))
+  where
+    some_is : (g h : Format) → Some g ≡ Some h → g ≡ h
+    some_is g h same = cc
+
+-- a client whose messages are answered as they are has no dialect
+pub not_dialect : {S : Type 0} (line : Line S) (f : Format) → line.later ≡ None → dialect_of line ≡ Some f → ⊥
+not_dialect line f none is =
+    let clash : None ≡ Some f = sym (ap (λ (o : Option Queue). option_map (λ (x : Queue). x.format) o) none) ∙ is in cc
+
+-- where none of its messages stands before the session, the queue is empty
+pub empty_of : {S : Type 0} (line : Line S) (q : Queue) → line.later ≡ Some q → later_of line ≡ [] → q.messages ≡ []
+empty_of line q is none = sym (ap (λ (o : Option Queue). option_map_or (λ (x : Queue). x.messages) o []) is) ∙ none

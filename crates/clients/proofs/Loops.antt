@@ -20,7 +20,7 @@ use Rattle.clients.specs.declared.line.Line.{Line}
 use Rattle.clients.specs.declared.places.Places.{Places}
 use Rattle.clients.specs.Story.{SendsOn}
 use Rattle.clients.specs.Plain.{IsPlain}
-use Rattle.sessions.specs.Restating.{Queue}
+use Rattle.sessions.specs.Restating.{Queue, no_queue}
 use Rattle.clients.specs.Places.{fresh, count, line_at, session_at, IsFree, StaysBeside, AreMarked, TakeTurns, SendsLast, TakeLastTurns}
 use Rattle.clients.specs.Serving.{Gathers, AnswersGroup, StopsAtGroup}
 use Rattle.clients.specs.Clients.{Client, WasThere, IsAt, ServesOn, WasLeft, EndsOn, ServesTurn, FailsTurn, StopsTurn}
@@ -29,9 +29,9 @@ use Rattle.clients.proofs.Clients.{turned_all, marked_all, comes, answered_all, 
 
 -- where no format is given, the messages of one that comes are answered as they are
 pub plain_from : {S : Type 0} (line : Line S) (later : Option Queue) (dialect : Option Format) → line.later ≡ later
-    → later ≡ option_map (λ (f : Format). record Queue { format = f; messages = [] }) dialect → dialect ≡ None → IsPlain line
+    → later ≡ option_map no_queue dialect → dialect ≡ None → IsPlain line
 plain_from line later dialect is from none =
-    ap (λ (o : Option Queue). option_map (λ (q : Queue). q.format) o) (is ∙ from ∙ ap (λ (d : Option Format). option_map (λ (f : Format). record Queue { format = f; messages = [] }) d) none)
+    ap (λ (o : Option Queue). option_map (λ (q : Queue). q.format) o) (is ∙ from ∙ ap (λ (d : Option Format). option_map no_queue d) none)
 
 module _ {S : Type 0} (moved : S → S → List ℕ → List ℕ → Type 0) (has_ended : S → Type 0) (failures : S → ℕ) (idle : Option Duration) where
   pub serves_none : (a : Places S) → ServesOn moved has_ended failures idle a a []

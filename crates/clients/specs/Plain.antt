@@ -21,10 +21,11 @@ later_of line = option_map_or (λ (q : Queue). q.messages) line.later []
 abbrev pub IsPlain : {S : Type 0} → Line S → Type 0
 IsPlain line = dialect_of line ≡ None
 
--- The messages that wait in a session are taken from it, where there are some, and it is given the next of them. The others stand before it.
+-- The messages that wait in a session are taken from it, where there are some and none stands before it, and it is given the next of them. The others stand
+-- before it then.
 abbrev pub HandsOver : Format → (old new : State) → (before after : List Message) → Type 0
 HandsOver f old new before after =
-    ((old.waiting ≡ []) × (new ≡ old) × (after ≡ before)) ⊎ ((answered : Option Message) × Gives f old.waiting after (record old { waiting = [] }) new answered)
+    (((old.waiting ≡ []) ⊎ (before ≡ [] → ⊥)) × (new ≡ old) × (after ≡ before)) ⊎ ((answered : Option Message) × Gives f old.waiting after (record old { waiting = [] }) new answered)
 
 -- One read of a stream, and then the messages that it gave are handed over.
 pub record ReadsRestated {S : Type 0} (moved : S → S → List ℕ → List ℕ → Type 0) (has_ended : S → Type 0) (f : Format) (read : List ℕ) (ms : List Message) (old new : State) (before after : Line S) : Type 0 where

@@ -7,7 +7,7 @@ ghost use Rattle.decoded.specs.Standing.{History, View};
 ghost use Rattle.histories.specs.View.{view};
 ghost use Rattle.durable.specs.Settled.{IsSettledAt};
 ghost use Rattle.api.specs.Answers.{ShowsAt};
-ghost use Rattle.sessions.specs.Restating.{Queue};
+ghost use Rattle.sessions.specs.Restating.{no_queue};
 ghost use Rattle.clients.specs.Places.{count};
 ghost use Rattle.clients.specs.Clients.{ServesOn, EndsOn, ServesTurn, StopsTurn, HasNobody, HasServedClients, StopsRun};
 
@@ -59,7 +59,7 @@ pub struct Limits {
 
 impl Limits {
     // The format that messages are restated for, where they are, in a store of a format.
-    fn dialect(self, format: Format) -> Option<Format>
+    fn dialect_in(self, format: Format) -> Option<Format>
         ensures { result ≡ (if self.is_kubernetes then Some format else None) }
     {
         if self.is_kubernetes {
@@ -72,7 +72,7 @@ impl Limits {
 
 // What stands before the session of a client that comes now: no messages, where they are restated.
 fn later_in(alloc: Global, dialect: Option<Format>) -> Option<Later>
-    ensures { result ≡ option_map (λ f. record Queue { format = f; messages = [] }) dialect }
+    ensures { result ≡ option_map no_queue dialect }
 {
     match dialect {
         Some(format) => Some(Later::new(alloc, format)),
@@ -332,7 +332,7 @@ impl<S: Stream + Drop> EventLoop<S> {
             (λ _. HasServedClients S.moved S.has_ended S.failures self.old.limits.idle (N.came network.old network.new) (self.old.limits.is_kubernetes ≡ false) rules store.old store.new (view rules h) self.old.places self.new.places)
             (StopsRun S.moved S.has_ended S.failures self.old.limits.idle (N.came network.old network.new) (self.old.limits.is_kubernetes ≡ false) rules store.old store.new (view rules h) self.old.places self.new.places) }
     {
-        let dialect = self.limits.dialect(store.format());
+        let dialect = self.limits.dialect_in(store.format());
         let mut compacting = Compacting::new(self.limits.compact_at);
         let mut wait = 0;
         for _ in 0..u64::MAX {

@@ -246,14 +246,21 @@ impl<S: Stream> Line<S> {
         Ok(())
     }
 
+    // Whether no message stands before the session.
+    fn has_none_later(&self) -> bool
+        ensures { IsTrue result ↔ (later_of self.now ≡ []) }
+    {
+        match &self.later {
+            Some(later) => later.is_empty(),
+            None => true,
+        }
+    }
+
     // Whether messages stand before a session that is open.
     fn has_later(&self, session: &Session) -> bool
         ensures { IsTrue result ↔ ((is_open session.now.phase ≡ true) × (later_of self.now ≡ [] → ⊥)) }
     {
-        match &self.later {
-            Some(later) => session.is_open() && !later.is_empty(),
-            None => false,
-        }
+        session.is_open() && !self.has_none_later()
     }
 
     // Tells in the log of a message that a constant answered, whose reply is what was put behind so many bytes that waited to be sent.
@@ -273,7 +280,24 @@ impl<S: Stream> Line<S> {
         journal.tell_answered(alloc, self.peer(), message, note, self.waited(now));
     }
 
+    // Tells in the log of what came of a step that gave a session messages: the message that a constant answered, or the reply that closed the session.
+    fn tell_given(
+        &self,
+        alloc: Global,
+        journal: &mut Journal,
+        answered: Option<Message>,
+        session: &Session,
+        before: usize,
+        now: Instant,
+    ) {
+        match &answered {
+            Some(message) => self.tell_constant(alloc, journal, message, session, before, now),
+            None => tell_closing(alloc, journal, self.peer(), session),
+        }
+    }
+
     // Gives a session, of which no message waits, the next of the messages that stand before it.
+    #[tactic(auto, using(crate::proofs::Leaving::not_dialect))]
     fn give(&mut self, alloc: Global, desk: &mut Desk, session: &mut Session, now: Instant)
         requires idle { session.old.waiting ≡ [] }
         ensures stream { self.new.stream ≡ self.old.stream }
@@ -287,23 +311,18 @@ impl<S: Stream> Line<S> {
             return;
         };
         let answered = later.give(alloc, &mut desk.tools, session);
-        match answered {
-            Some(message) => {
-                self.tell_constant(alloc, &mut desk.journal, &message, session, before, now);
-            }
-            None => tell_closing(alloc, &mut desk.journal, self.peer(), session),
-        }
+        self.tell_given(alloc, &mut desk.journal, answered, session, before, now);
     }
 
-    // Where messages are restated, takes those that wait in a session, before which none stands, and gives it the next of them.
+    // Where messages are restated, takes those that wait in a session, where none stands before it, and gives it the next of them.
+    #[tactic(auto, using(crate::proofs::Leaving::not_dialect, crate::proofs::Leaving::empty_of))]
     fn hand_over(&mut self, alloc: Global, desk: &mut Desk, session: &mut Session, now: Instant)
-        requires ready { (session.old.waiting ≡ [] → ⊥) → later_of self.old ≡ [] }
         ensures stream { self.new.stream ≡ self.old.stream }
         ensures dialect { dialect_of self.new ≡ dialect_of self.old }
         ensures plain { IsPlain self.old → session.new ≡ session.old }
         ensures hands { (f : FormatData) → dialect_of self.old ≡ Some f → HandsOver f session.old session.new (later_of self.old) (later_of self.new) }
     {
-        if session.is_idle() {
+        if session.is_idle() || !self.has_none_later() {
             return;
         }
         let Some(later) = &mut self.later else {
@@ -425,6 +444,7 @@ impl<S: Stream> Line<S> {
     }
 
     // Where nothing waits: reads on, or ends the connection once the session is over.
+    #[tactic(auto, using(crate::proofs::Leaving::none_later))]
     fn attend(
         &mut self,
         alloc: Global,

@@ -5,7 +5,8 @@ use Rattle.names.specs.declared.format.Format.{Format}
 use Rattle.requests.specs.declared.refusal.Refusal.TheVariants.{OutOfMemory}
 use Rattle.requests.specs.Reply.{Reply, status}
 use Rattle.routes.specs.AnswerBytes.{answer_bytes}
-use Rattle.std.specs.Prelude.{Option, unwrap_or}
+use Rattle.std.specs.Prelude.{Option, None, unwrap_or}
+use Rattle.dialect.specs.ConstantBytes.{constant_bytes}
 use Rattle.routes.specs.ReplyBytes.{response_of, allow_in, reply_bytes}
 use Rattle.httpmsg.specs.Response.{crlf, content}
 use Rattle.httpmsg.specs.Stream.{is_head}
@@ -33,6 +34,12 @@ reply_has_some format m r none =
 
 pub answer_has_some : (format : Format) (m : Message) (reply : Option Reply) → answer_bytes format m reply ≡ [] → ⊥
 answer_has_some format m reply none = reply_has_some format m (unwrap_or reply (status OutOfMemory)) none
+
+-- a constant has bytes too
+pub constant_has_some : (m : Message) (text : List ℕ) → constant_bytes m text ≡ [] → ⊥
+constant_has_some m text none =
+    let ends : crlf ≡ [] = back_nil _ crlf (front_nil _ (content (response_of None (is_head m.method) m.closes (record { code = 200; warnings = []; body = text }))) none) in
+    cc
 
 -- what an outbox took
 abbrev pub Gathers : Outbox → Outbox → List ℕ → Type 0

@@ -13,6 +13,15 @@ pub record Queue : Type 0 where
   pub format : Format
   pub messages : List Message
 
+-- none of them
+abbrev pub no_queue : Format → Queue
+no_queue f = record { format = f; messages = [] }
+
+-- the constant that answers the first of these messages, if one does
+abbrev pub first_constant : Format → List Message → Option (List ℕ)
+first_constant f [] = None
+first_constant f (m ∷ ms) = constant_of f m
+
 -- the messages before the first that a constant answers
 abbrev pub asking : Format → List Message → List Message
 asking f [] = []

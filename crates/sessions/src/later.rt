@@ -1,11 +1,12 @@
 //! Messages of a client that are restated before they are answered.
 
-ghost use Rattle.std.specs.Prelude.{◌≡◌, ◌↔◌, ◌⊎◌, List, [], ◌∷◌, map, false, IsTrue, IfNone, IfSome, IfOk, OnOk, Some};
+ghost use Rattle.std.specs.Prelude.{◌≡◌, ◌↔◌, ◌⊎◌, [], ◌∷◌, map, false, IsTrue, IfNone, IfSome, IfOk, OnOk, Some};
 ghost use Rattle.httpmsg.specs.Stream.{Message as MessageData};
 ghost use Rattle.requests.specs.declared.refusal.Refusal.TheVariants as refusal;
 ghost use Rattle.routes.specs.ReplyBytes.{closing_bytes};
-ghost use Rattle.dialect.specs.Restated.{constant_of, restated};
-ghost use Rattle.sessions.specs.Restating.{asking, behind, HandsOn, LacksRoom, Gives};
+ghost use Rattle.dialect.specs.ReadingOf.{reading_seen};
+ghost use Rattle.dialect.specs.Restated.{constant, constant_of, restated};
+ghost use Rattle.sessions.specs.Restating.{first_constant, asking, behind, HandsOn, LacksRoom, Gives};
 ghost use Rattle.sessions.specs.State.{Closes};
 
 use crate::session::{Session, Tools};
@@ -17,6 +18,16 @@ use std::alloc::{AllocError, Global};
 use std::collections::VecDeque;
 use std::marker::Model;
 
+// The constant that a reading is, if it is one.
+fn constant_in(reading: &Reading) -> Option<&'static str>
+    ensures some { (m : MessageData) → IfSome result (λ t. reading_seen m reading.now ≡ constant t.now) }
+{
+    match reading {
+        Reading::Constant(text) => Some(*text),
+        Reading::Plain | Reading::Restated(_) => None,
+    }
+}
+
 // The constant that answers a message, if one does.
 fn constant_for(
     alloc: Global,
@@ -26,10 +37,8 @@ fn constant_for(
 ) -> Result<Option<&'static str>, AllocError>
     ensures some { IfOk result (λ text. IfSome text (λ t. constant_of format message.now ≡ Some t.now)) }
 {
-    match read(alloc, routes, format, message)? {
-        Reading::Constant(text) => Ok(Some(text)),
-        Reading::Plain | Reading::Restated(_) => Ok(None),
-    }
+    let reading = read(alloc, routes, format, message)?;
+    Ok(constant_in(&reading))
 }
 
 /// Messages of a client that were cut, and that its session does not have yet, oldest first, and the format of the store that they ask.
@@ -88,10 +97,10 @@ impl Later {
         let Some(text) = self.first_constant(alloc, routes)? else {
             return Ok(None);
         };
-        match self.messages.pop_front() {
-            Some(message) => Ok(Some((message, text))),
-            None => Ok(None),
-        }
+        let Some(message) = self.messages.pop_front() else {
+            return Ok(None);
+        };
+        Ok(Some((message, text)))
     }
 
     // The constant that answers the first message, if there is one and one does.
@@ -100,8 +109,7 @@ impl Later {
         alloc: Global,
         routes: &Routes,
     ) -> Result<Option<&'static str>, AllocError>
-        ensures some { IfOk result (λ text. IfSome text (λ t. (m : MessageData) × (rest : List MessageData)
-            × (self.now.messages ≡ m ∷ rest) × (constant_of self.now.format m ≡ Some t.now))) }
+        ensures some { IfOk result (λ text. IfSome text (λ t. first_constant self.now.format self.now.messages ≡ Some t.now)) }
     {
         match self.messages.front() {
             Some(message) => constant_for(alloc, routes, self.format, message),
@@ -110,11 +118,7 @@ impl Later {
     }
 
     // Takes the messages before the first that a constant answers, each restated.
-    fn take_asking(
-        &mut self,
-        alloc: Global,
-        routes: &Routes,
-    ) -> Result<Vec<Message>, AllocError>
+    fn take_asking(&mut self, alloc: Global, routes: &Routes) -> Result<Vec<Message>, AllocError>
         ensures format { self.new.format ≡ self.old.format }
         ensures taken { IfOk result (λ taken. taken.items ≡ map (restated self.old.format) (asking self.old.format self.old.messages)) }
         ensures rest { OnOk result (self.new.messages ≡ behind self.old.format self.old.messages) }
@@ -146,6 +150,7 @@ impl Later {
 
     /// Gives a session, in which no message waits, the next of its messages, each restated, up to the first that a constant answers. Where that is the
     /// first of all, it is answered. Where memory is refused the session ends. It gives the message that was answered.
+    #[tactic(auto, using(crate::proofs::Asking::answers_first, crate::proofs::Asking::gives_up))]
     pub fn give(
         &mut self,
         alloc: Global,

@@ -18,5 +18,5 @@ returns-in-Client-clause-serves g c =
           let From : Places g.row.S.Denot → Type 0 = λ p. ServesOn g.S.Stream.moved g.S.Stream.has_ended g.S.Stream.failures idle p c.take.new.self (came ∷ []) in
           subst From same
           (serves_coming g.S.Stream.moved g.S.Stream.has_ended g.S.Stream.failures idle c.count_one.new.self.places c.take.new.self c.in-Some.place came (g.met.S.Stream.moved_none came) free c.take.ensures.beside c.take.ensures.session
-          (there.0, there.1, there.2, plain_from there.0 _ _ there.3 c.later_in-later.ensures plain)))),
+          (there.0, there.1, there.2, plain_from there.0 _ _ there.3 c.later_in-later.ensures plain))),
     )

@@ -17,6 +17,7 @@ pub loop-init : goal.loop-init
 loop-init g c = record {
   times = search rules;
   idle = refl;
+  dialect = λ plain. no_dialect _ _ _ c.dialect_in-dialect.ensures plain;
   served = λ none rules v shows.
       run_begins g.S.Stream.moved g.S.Stream.has_ended g.S.Stream.failures c.args.self.now.limits.idle (c.args.self.now.limits.is_kubernetes ≡ false) rules c.args.self.now.places (g.N.Network.came c.args.network.now c.args.network.now) c.args.store.now v
       (g.met.N.Network.came_none c.args.network.now) shows (λ keeps content since. g.met.D.Device.only_now _ content keeps since);
@@ -47,8 +48,8 @@ returns-in-Err-clause-served g c none rules v shows =
     let streams = c.accept-is_asked.ensures.serves.0 in
     let From : Places g.row.S.Denot → Type 0 = λ p. ServesOn g.S.Stream.moved g.S.Stream.has_ended g.S.Stream.failures idle p c.accept-is_asked.new.self.places streams in
     let given = g.met.N.Network.came_then c.loop.network c.look.new.network c.accept-is_asked.new.network [] streams c.look.ensures.came c.accept-is_asked.ensures.serves.1 in
-    let comes = λ plain. serves_then g.S.Stream.moved g.S.Stream.has_ended g.S.Stream.failures idle c.loop.self.places c.look.new.self.places c.accept-is_asked.new.self.places [] streams (c.look.ensures.serves idle)
-    (subst From c.note_time.ensures.places (c.accept-is_asked.ensures.serves.2 (no_dialect _ _ _ c.dialect.ensures plain) idle)) in
+    let comes = λ (plain : c.args.self.now.limits.is_kubernetes ≡ false). serves_then g.S.Stream.moved g.S.Stream.has_ended g.S.Stream.failures idle c.loop.self.places c.look.new.self.places c.accept-is_asked.new.self.places [] streams (c.look.ensures.serves idle)
+    (subst From c.note_time.ensures.places (c.accept-is_asked.ensures.serves.2 (c.loop.invariant.dialect plain) idle)) in
     let idle_is = c.accept-is_asked.ensures.limits.0 ∙ ap (λ (l : Limits). l.idle) c.note_time.ensures.limits ∙ ap (λ (l : Limits). l.idle) c.look.ensures.limits ∙ c.loop.invariant.idle in
     run_stops g.S.Stream.moved g.S.Stream.has_ended g.S.Stream.failures idle (c.args.self.now.limits.is_kubernetes ≡ false) rules start (g.N.Network.came c.args.network.now c.loop.network) (g.N.Network.came c.args.network.now c.send_last.new.network) streams
     (λ before is. g.met.N.Network.came_then c.args.network.now c.loop.network c.send_last.new.network before streams is
@@ -66,8 +67,8 @@ returns-in-Err-clause-settled g c rules h settled =
     let streams = c.accept-is_asked.ensures.serves.0 in
     let From : Places g.row.S.Denot → Type 0 = λ p. ServesOn g.S.Stream.moved g.S.Stream.has_ended g.S.Stream.failures idle p c.accept-is_asked.new.self.places streams in
     let given = g.met.N.Network.came_then c.loop.network c.look.new.network c.accept-is_asked.new.network [] streams c.look.ensures.came c.accept-is_asked.ensures.serves.1 in
-    let comes = λ plain. serves_then g.S.Stream.moved g.S.Stream.has_ended g.S.Stream.failures idle c.loop.self.places c.look.new.self.places c.accept-is_asked.new.self.places [] streams (c.look.ensures.serves idle)
-    (subst From c.note_time.ensures.places (c.accept-is_asked.ensures.serves.2 (no_dialect _ _ _ c.dialect.ensures plain) idle)) in
+    let comes = λ (plain : c.args.self.now.limits.is_kubernetes ≡ false). serves_then g.S.Stream.moved g.S.Stream.has_ended g.S.Stream.failures idle c.loop.self.places c.look.new.self.places c.accept-is_asked.new.self.places [] streams (c.look.ensures.serves idle)
+    (subst From c.note_time.ensures.places (c.accept-is_asked.ensures.serves.2 (c.loop.invariant.dialect plain) idle)) in
     let idle_is = c.accept-is_asked.ensures.limits.0 ∙ ap (λ (l : Limits). l.idle) c.note_time.ensures.limits ∙ ap (λ (l : Limits). l.idle) c.look.ensures.limits ∙ c.loop.invariant.idle in
     run_stops g.S.Stream.moved g.S.Stream.has_ended g.S.Stream.failures idle (c.args.self.now.limits.is_kubernetes ≡ false) rules start (g.N.Network.came c.args.network.now c.loop.network) (g.N.Network.came c.args.network.now c.send_last.new.network) streams
     (λ before is. g.met.N.Network.came_then c.args.network.now c.loop.network c.send_last.new.network before streams is
@@ -85,8 +86,8 @@ returns-in-Err-compacted-clause-settled g c rules h settled =
     let streams = c.accept-is_asked.ensures.serves.0 in
     let From : Places g.row.S.Denot → Type 0 = λ p. ServesOn g.S.Stream.moved g.S.Stream.has_ended g.S.Stream.failures idle p c.accept-is_asked.new.self.places streams in
     let given = g.met.N.Network.came_then c.loop.network c.look.new.network c.accept-is_asked.new.network [] streams c.look.ensures.came c.accept-is_asked.ensures.serves.1 in
-    let comes = λ plain. serves_then g.S.Stream.moved g.S.Stream.has_ended g.S.Stream.failures idle c.loop.self.places c.look.new.self.places c.accept-is_asked.new.self.places [] streams (c.look.ensures.serves idle)
-    (subst From c.note_time.ensures.places (c.accept-is_asked.ensures.serves.2 (no_dialect _ _ _ c.dialect.ensures plain) idle)) in
+    let comes = λ (plain : c.args.self.now.limits.is_kubernetes ≡ false). serves_then g.S.Stream.moved g.S.Stream.has_ended g.S.Stream.failures idle c.loop.self.places c.look.new.self.places c.accept-is_asked.new.self.places [] streams (c.look.ensures.serves idle)
+    (subst From c.note_time.ensures.places (c.accept-is_asked.ensures.serves.2 (c.loop.invariant.dialect plain) idle)) in
     let idle_is = c.accept-is_asked.ensures.limits.0 ∙ ap (λ (l : Limits). l.idle) c.note_time.ensures.limits ∙ ap (λ (l : Limits). l.idle) c.look.ensures.limits ∙ c.loop.invariant.idle in
     let turned = (run_turn g.S.Stream.moved g.S.Stream.has_ended g.S.Stream.failures idle (c.args.self.now.limits.is_kubernetes ≡ false) rules start (g.N.Network.came c.args.network.now c.loop.network) (g.N.Network.came c.args.network.now c.accept-is_asked.new.network) streams
     (λ before is. g.met.N.Network.came_then c.args.network.now c.loop.network c.accept-is_asked.new.network before streams is given)
@@ -116,12 +117,13 @@ loop-preserved g c =
     let streams = c.accept-is_asked.ensures.serves.0 in
     let From : Places g.row.S.Denot → Type 0 = λ p. ServesOn g.S.Stream.moved g.S.Stream.has_ended g.S.Stream.failures idle p c.accept-is_asked.new.self.places streams in
     let given = g.met.N.Network.came_then c.loop.network c.look.new.network c.accept-is_asked.new.network [] streams c.look.ensures.came c.accept-is_asked.ensures.serves.1 in
-    let comes = λ plain. serves_then g.S.Stream.moved g.S.Stream.has_ended g.S.Stream.failures idle c.loop.self.places c.look.new.self.places c.accept-is_asked.new.self.places [] streams (c.look.ensures.serves idle)
-    (subst From c.note_time.ensures.places (c.accept-is_asked.ensures.serves.2 (no_dialect _ _ _ c.dialect.ensures plain) idle)) in
+    let comes = λ (plain : c.args.self.now.limits.is_kubernetes ≡ false). serves_then g.S.Stream.moved g.S.Stream.has_ended g.S.Stream.failures idle c.loop.self.places c.look.new.self.places c.accept-is_asked.new.self.places [] streams (c.look.ensures.serves idle)
+    (subst From c.note_time.ensures.places (c.accept-is_asked.ensures.serves.2 (c.loop.invariant.dialect plain) idle)) in
     let idle_is = c.accept-is_asked.ensures.limits.0 ∙ ap (λ (l : Limits). l.idle) c.note_time.ensures.limits ∙ ap (λ (l : Limits). l.idle) c.look.ensures.limits ∙ c.loop.invariant.idle in
     record {
       times = c.in-Ok-compacted.ensures.times ∙ inv.times;
       idle = ap (λ (l : Limits). l.idle) c.turn-turned.ensures.limits ∙ idle_is;
+      dialect = inv.dialect;
       served = λ none rules v shows.
           let before = inv.served none rules v shows in
           let turned = (run_turn g.S.Stream.moved g.S.Stream.has_ended g.S.Stream.failures idle (c.args.self.now.limits.is_kubernetes ≡ false) rules start (g.N.Network.came c.args.network.now c.loop.network) (g.N.Network.came c.args.network.now c.accept-is_asked.new.network) streams
