@@ -12,7 +12,7 @@ use Rattle.documents.specs.Document.{Document}
 use Rattle.objects.specs.Merged.{merged}
 use Rattle.objects.specs.Steps.{put_by, puts_of}
 use Rattle.objects.proofs.Changing.{merged-filter}
-use Rattle.objects.proofs.Walking.{walk_end}
+use Rattle.objects.proofs.Taking.{step_end}
 use Rattle.histories.specs.declared.stored.Stored.{Stored}
 use Rattle.decoded.specs.Decoded.{Decoded}
 use Rattle.pages.specs.Page.{Entry}
@@ -159,25 +159,25 @@ module _ {X : Type 0} (p : Key → Bool) where
       ∙ ap (λ (cs : List (Key × Option X)). old ++ filter (λ o. p o.0) (puts_of cs)) (sym next)
       ∙ before
 
-module _ {P : Type 0} (lies : Resource → Bool) where
-  abbrev is_apart : Key → Bool
-  is_apart k = not (lies k.resource)
+abbrev is_apart : (lies : Resource → Bool) → Key → Bool
+is_apart lies k = not (lies k.resource)
 
-  none_apart : (base : List (Key × Stored P)) → AllLie lies base → filter (λ o. is_apart o.0) base ≡ []
+module _ {P : Type 0} (lies : Resource → Bool) where
+  none_apart : (base : List (Key × Stored P)) → AllLie lies base → filter (λ o. is_apart lies o.0) base ≡ []
   none_apart [] all = refl
   none_apart (o ∷ base) all =
-      let behind : List (Key × Stored P) = filter (λ o. is_apart o.0) base in
+      let behind : List (Key × Stored P) = filter (λ o. is_apart lies o.0) base in
       ap (λ b. cond (not b) (o ∷ behind) behind) all.0 ∙ none_apart base all.1
 
   -- Of what changes leave of objects that lie below, what does not is what they put of it.
   pub apart_put : (changes : List (Key × Option (Stored P))) (base objects : List (Key × Stored P)) → IsTrue (is_sorted key_cmp changes) → IsTrue (is_sorted key_cmp base)
       → AllLie lies base → merged changes base ≡ objects → filter (λ o. not (lies o.0.resource)) (puts_of changes) ≡ filter (λ o. not (lies o.0.resource)) objects
   apart_put changes base objects changes_sorted base_sorted all leave =
-      let some : List (Key × Option (Stored P)) = filter (λ c. is_apart c.0) changes in
-      puts_filtered is_apart changes
-      ∙ sym (walk_end some (sorted_filter is_apart changes changes_sorted))
+      let some : List (Key × Option (Stored P)) = filter (λ c. is_apart lies c.0) changes in
+      puts_filtered (is_apart lies) changes
+      ∙ step_end some [] 0 0 [] (puts_of some) (merged some []) (sorted_filter (is_apart lies) changes changes_sorted) refl refl refl
       ∙ ap (λ (bs : List (Key × Stored P)). merged some bs) (sym (none_apart base all))
-      ∙ sym (merged-filter is_apart changes base base_sorted)
+      ∙ sym (merged-filter (is_apart lies) changes base base_sorted)
       ∙ ap (λ (os : List (Key × Stored P)). filter (λ o. not (lies o.0.resource)) os) leave
 
 -- All plans are those of what does not lie below.

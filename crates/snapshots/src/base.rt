@@ -196,10 +196,7 @@ fn lying<P, M: FromDocument<P>>(
 }
 
 // Those of the cells whose objects are not held in memory.
-fn cells_lying<P, M: FromDocument<P>>(
-    making: &M,
-    cells: Vec<(Key, Vec<u8>)>,
-) -> Vec<(Key, Vec<u8>)>
+fn cells_lying<P, M: FromDocument<P>>(making: &M, cells: Vec<(Key, Vec<u8>)>) -> Vec<(Key, Vec<u8>)>
     ensures { result.items ≡ filter (λ c. not (M.held making.now c.0.resource)) cells.items }
 {
     let mut lying = cells;

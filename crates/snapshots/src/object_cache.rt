@@ -92,14 +92,7 @@ fn cells_with<D: Device>(
     let none = CellReader {
         cells: Vec::new(alloc),
     };
-    let told = tell_whole(
-        alloc,
-        shelf,
-        device,
-        &[OBJECT_MARK],
-        Reading::Passing,
-        none,
-    )?;
+    let told = tell_whole(alloc, shelf, device, &[OBJECT_MARK], Reading::Passing, none)?;
     Ok(told.cells)
 }
 

@@ -1,5 +1,8 @@
 use Rattle.std.proofs.Common.{◌≡◌, ◌∙◌, ◌++◌, ap, map, append_assoc, not}
 use Rattle.std.specs.List.{filter}
+use Rattle.std.specs.FinMap.{is_sorted}
+use Rattle.names.specs.Key.{key_cmp}
+use Rattle.objects.specs.Merged.{merged}
 use Rattle.checkpoint.specs.EntryList.{listed}
 use Rattle.chunks.specs.Chunks.{cut}
 use Rattle.histories.specs.View.{View}
@@ -18,7 +21,8 @@ returns g c base held none cells shows apart =
     ap (map (λ event. event.now)) c.deref-2.ensures.value ∙ ap (λ (v : View Decoded). v.events) (c.apart.view_is ∙ apart)
     in
     let objects : listed c.in_ok-pairs.pairs.items ≡ map stored_entry os =
-    c.in_ok-pairs.ensures base cells shows.objects.ascends c.changes.ensures.ascending ∙ ap (map stored_entry) ((λ i. ?) ∙ shows.objects.are)
+    c.in_ok-pairs.ensures base cells shows.objects.ascends (ap (is_sorted key_cmp) c.changes.ensures.value ∙ c.changes.ensures.ascending)
+    ∙ ap (map stored_entry) (ap (λ cs. merged cs base) c.changes.ensures.value ∙ shows.objects.are)
     in
     let plans : listed c.add_all_plans.new.entries.items ≡ map stored_entry os ++ plans_among held_plans os =
     c.in_ok-add_all_plans.ensures ∙ (λ i. objects i ++ plans_among held_plans (first i)) ∙ ap (λ es. map stored_entry os ++ es) (plans_apart lies none os)

@@ -14,6 +14,6 @@ returns g c base held all shows =
     c.in_ok-objects.ensures ∙ ap (λ cs. filter (λ o. not (lies o.0.resource)) (puts_of cs)) c.changes.ensures.value
     ∙ apart_put lies made base held.objects c.changes.ensures.ascending shows.objects.ascends all shows.objects.are
     in
-    let events = c.in_ok-events.ensures ∙ c.events-core.ensures ∙ shows.events in
+    let events = c.in_ok-events.ensures ∙ c.events.ensures ∙ shows.events in
     let revision = c.revision.ensures ∙ shows.revision in
     λ i. record { objects = objects i; revision = revision i; events = events i }

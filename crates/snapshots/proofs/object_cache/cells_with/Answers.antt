@@ -1,4 +1,4 @@
-use Rattle.std.proofs.Common.{rules, ◌≡◌, ◌∙◌, ap, ⊎_elim, Err}
+use Rattle.std.proofs.Common.{rules, ◌≡◌, ◌∙◌, ap, ⊎_elim, Err, [], ◌∷◌}
 use Rattle.chunks.specs.Whole.{cuts_of}
 use Rattle.snapshots.specs.ObjectCacheFaults.{of_shelf_fault}
 use Rattle.snapshots.specs.declared.object_cache_fault.ObjectCacheFault.TheVariants as ObjectCacheFault
@@ -11,13 +11,13 @@ returns-in_err-told-clause-damaged g c entries objects wholes alike of is =
     let told : of_shelf_fault c.in_err-told.field-0.0 ≡ ObjectCacheFault.Damaged = search rules in
     ⊎_elim
     (λ page. c.tell_whole.ensures.damaged _ wholes.shelves (c.in_err-told.was ∙ ap (λ fault. Err fault) page))
-    (λ entry. no_cell_refused (cuts_of c.args.shelf.now) _ entries objects wholes.can alike of _
+    (λ entry. no_cell_refused (cuts_of c.args.shelf.now) (1 ∷ []) entries objects wholes.can alike of _
     (c.tell_whole.ensures.refused _ wholes.shelves (c.in_err-told.was ∙ ap (λ fault. Err fault) entry)))
     (damage_is c.in_err-told.field-0.0 told)
 
 pub returns-clause-found : goal.returns-clause-found
 returns-clause-found g c entries objects wholes alike of =
-    told_cells (cuts_of c.args.shelf.now) _ entries objects wholes.can alike of _ c.in_ok-told.told c.new.ensures.items (c.in_ok-told.ensures.told _ wholes.shelves)
+    told_cells (cuts_of c.args.shelf.now) (1 ∷ []) entries objects wholes.can alike of _ c.in_ok-told.told c.new.ensures.items (c.in_ok-told.ensures.told _ wholes.shelves)
 
 pub returns-in_err-told-clause-memory : goal.returns-in_err-told-clause-memory
 returns-in_err-told-clause-memory g c is =
