@@ -33,11 +33,7 @@ use snapshots::{Base, LentView, SnapshotFault, handed_on, renewed_apart, shown_a
 use std::alloc::Global;
 
 // What is held in memory once the view that a core shows is written, by its numbers: this part of it does not lie in pages.
-fn renewed_over(
-    alloc: Global,
-    core: &Core,
-    apart: LentView<'_>,
-) -> Result<Core, LookupFault>
+fn renewed_over(alloc: Global, core: &Core, apart: LentView<'_>) -> Result<Core, LookupFault>
     ensures rules { IfOk result (λ next. next.rules ≡ core.now.rules) }
     ensures held { (base : List (KeyData × StoredData DecodedData)) (held : seen.View DecodedData) → Shows core.now base held → apart.entry ≡ apart_of lies held
         → IsHeld core.now.rules held → IfOk result (λ next. Shows next (base_of held) held) }

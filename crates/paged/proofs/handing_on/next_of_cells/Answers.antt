@@ -1,4 +1,4 @@
-use Rattle.std.proofs.Common.{◌≡◌, ◌∙◌, ap, List}
+use Rattle.std.proofs.Common.{◌∙◌, ap}
 use Rattle.std.proofs.lemmas.Result.{IfOk-from_err}
 use Rattle.names.specs.declared.format.Rules.{Rules}
 use Rattle.objects.specs.declared.fault.LookupFault.TheVariants as LookupFault
@@ -49,7 +49,7 @@ pub returns : goal.returns
 returns c = record {
   entries = λ base held cells all shows.
       c.in_ok-entries.ensures base held lie_without_plans cells shows (c.in_ok-apart.ensures base held all shows)
-      ∙ ap (λ (r : Rules). cut r.format (held_entries held)) c.rules.ensures;
+      ∙ ap (λ (r : Rules). cut r.format (held_entries held)) c.rules-format.ensures;
   rules = c.in_ok-core.ensures.rules;
   held = λ base held all shows is. c.in_ok-core.ensures.held base held shows (c.in_ok-apart.ensures base held all shows) is;
   damaged = λ part told. absurd (no_fault told);

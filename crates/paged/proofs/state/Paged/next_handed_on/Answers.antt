@@ -1,7 +1,6 @@
-use Rattle.std.proofs.Common.{◌≡◌, ◌∙◌, refl, sym, ap, subst}
+use Rattle.std.proofs.Common.{◌≡◌, refl, sym, subst}
 use Rattle.std.specs.Prelude.{IfOk}
 use Rattle.std.proofs.lemmas.Result.{IfOk-from_err}
-use Rattle.names.specs.declared.format.Rules.{Rules}
 use Rattle.histories.specs.View as seen
 use Rattle.holdings.specs.Holdings.{State, Shows}
 use Rattle.checkpoint.specs.EntryList.{entries_of as in_list}
