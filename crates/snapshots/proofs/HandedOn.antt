@@ -1,12 +1,12 @@
 -- Cells of objects that are told and handed on, and what of a view is held in memory.
-use Rattle.std.proofs.Common.{◌≡◌, ◌≢◌, ◌∙◌, sym, ap, subst, refl, ℕ, Bool, true, false, cond, not, List, [], ◌∷◌, ◌++◌, ◌+◌, ◌<◌, map, length, get_or, drop, append_assoc, Option, Some, None, IsTrue}
+use Rattle.std.proofs.Common.{◌≡◌, ◌∙◌, sym, ap, subst, refl, ℕ, Bool, true, false, cond, not, List, [], ◌∷◌, ◌++◌, ◌+◌, ◌<◌, map, length, get_or, drop, append_assoc, Option, Some, None, IsTrue}
 use Rattle.std.proofs.lemmas.List.{drop_more}
 use Rattle.std.specs.FinMap.{is_sorted}
 use Rattle.std.specs.List.{AllByRecursion, filter}
 use Rattle.std.specs.declared.alloc.Global.{Global}
 use Rattle.std.specs.declared.vec.Vec.{Vec}
 use Rattle.names.specs.declared.resource.Resource.{Resource}
-use Rattle.names.specs.Key.{Key, is_key, key_bytes, key_cmp}
+use Rattle.names.specs.Key.{Key, key_bytes, key_cmp}
 use Rattle.names.proofs.KeyOrder.{key_bytes-injective}
 use Rattle.documents.specs.Document.{Document}
 use Rattle.objects.specs.Merged.{merged}

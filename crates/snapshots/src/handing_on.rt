@@ -1,6 +1,6 @@
 //! The next checkpoint of what is held over cells in pages: where an object has no change, its cell is handed on.
 
-ghost use Rattle.std.specs.Prelude.{◌≡◌, ◌++◌, List, length, map, IfOk, OnOk};
+ghost use Rattle.std.specs.Prelude.{◌≡◌, ◌++◌, not, List, length, IfOk, OnOk};
 ghost use Rattle.std.specs.List.{filter};
 ghost use Rattle.checkpoint.specs.EntryList.{entries_of as in_list};
 ghost use Rattle.chunks.specs.Chunks.{cut};
@@ -15,7 +15,6 @@ ghost use Rattle.snapshots.specs.HandedOn.{AllLie, LieWithoutPlans};
 ghost use Rattle.snapshots.specs.Keeping.{IsHeld, held_entries};
 ghost use Rattle.snapshots.specs.LyingBelow.{apart_of, base_of};
 ghost use Rattle.snapshots.specs.Restoring.{IsDamaged};
-ghost use Rattle.std.specs.Prelude.{not};
 
 use crate::below::Below;
 use crate::event_entries::add_events;

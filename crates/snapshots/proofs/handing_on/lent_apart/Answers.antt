@@ -1,4 +1,4 @@
-use Rattle.std.proofs.Common.{rules, arith, not}
+use Rattle.std.proofs.Common.{arith, not}
 use Rattle.names.specs.Key.{Key}
 use Rattle.snapshots.proofs.HandedOn.{lent_more}
 use Rattle.snapshots.proofs.handing_on.lent_apart.Goals as goal

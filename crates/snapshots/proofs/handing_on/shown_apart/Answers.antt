@@ -1,7 +1,5 @@
-use Rattle.std.proofs.Common.{◌≡◌, ◌∙◌, ap, sym, List, map, not}
+use Rattle.std.proofs.Common.{◌∙◌, ap, List, not}
 use Rattle.std.specs.List.{filter}
-use Rattle.histories.specs.View.{View}
-use Rattle.decoded.specs.Decoded.{Decoded}
 use Rattle.objects.specs.Steps.{puts_of}
 use Rattle.snapshots.proofs.HandedOn.{apart_put}
 use Rattle.snapshots.proofs.handing_on.shown_apart.Goals as goal
