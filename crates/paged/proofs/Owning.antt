@@ -17,7 +17,8 @@ use Rattle.decoded.specs.Decoded.{Decoded}
 use Rattle.recovery.specs.Compiled.{HasOwnPlans}
 use Rattle.paged.specs.declared.without_plans.WithoutPlans.{WithoutPlans}
 use Rattle.paged.specs.declared.state.Paged.{Paged}
-use Rattle.paged.specs.Lying.{is_rule, made_bare, held_bare}
+use Rattle.snapshots.specs.HandedOn.{AllLie, LieWithoutPlans}
+use Rattle.paged.specs.Lying.{is_rule, made_bare, held_bare, lies}
 use Rattle.paged.specs.Paged.{Below}
 
 no_form : (f : Format) (r : Resource) (d : Data) → not (is_rule r) ≡ true → IsSpecification f r d (sound [])
@@ -63,3 +64,35 @@ pub below_own : (f : Format) {D : Type 0} (disk : Disk D) (device : D) (p : Page
 below_own f disk device p base below =
     let lies = below (record {}) in
     subst (AllByRecursion (HasOwnPlans f)) (sym lies.are) (each_own f (record {}) lies.all)
+
+-- ---- what is handed on of it
+
+no_bytes_at_all : (r : Resource) (plans : Plans) → not (is_rule r) ≡ true → plans_bytes r plans ≡ []
+no_bytes_at_all ConfigMap plans lies = refl
+no_bytes_at_all Node plans lies = refl
+no_bytes_at_all Pod plans lies = refl
+no_bytes_at_all Service plans lies = refl
+no_bytes_at_all Deployment plans lies = refl
+no_bytes_at_all Namespace plans lies = refl
+no_bytes_at_all ValidatingAdmissionPolicy plans lies = cc
+no_bytes_at_all ValidatingAdmissionPolicyBinding plans lies = cc
+
+-- No object that lies in pages has plans.
+pub lie_without_plans : LieWithoutPlans lies
+lie_without_plans = no_bytes_at_all
+
+each_lies : (bare : WithoutPlans) (os : List (Key × CachedObject)) → AllLie lies (map (whole (made_bare bare)) (not_held (held_bare bare) os))
+each_lies bare [] = tt
+each_lies bare (o ∷ os) =
+    let rest : List (Key × CachedObject) = not_held (held_bare bare) os in
+    elim (not (is_rule o.0.resource))
+    as (λ b. not (is_rule o.0.resource) ≡ b → AllLie lies (map (whole (made_bare bare)) (cond b (o ∷ rest) rest))) [
+      | true ↦ λ lie. (lie, each_lies bare os)
+      | false ↦ λ held. each_lies bare os
+    ] refl
+
+-- Each object that lies in pages is none that is held in memory.
+pub below_lies : {D : Type 0} (disk : Disk D) (device : D) (p : Paged) (base : List (Key × Stored Decoded)) → Below disk device p base → AllLie lies base
+below_lies disk device p base below =
+    let there = below (record {}) in
+    subst (AllLie lies) (sym there.are) (each_lies (record {}) there.all)

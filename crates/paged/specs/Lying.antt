@@ -25,6 +25,10 @@ made_bare bare d = spelled d.json (these [])
 abbrev pub held_bare : WithoutPlans → Resource → Bool
 held_bare bare r = is_rule r
 
+-- all others lie in pages
+abbrev pub lies : Resource → Bool
+lies r = not (is_rule r)
+
 -- the objects of a view that lie in pages
 abbrev pub base_of : seen.View Decoded → List (Key × Stored Decoded)
 base_of held = snapshots.base_of (λ r. not (is_rule r)) held

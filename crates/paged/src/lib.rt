@@ -15,6 +15,7 @@
 mod chosen;
 mod compacting;
 mod fault;
+mod handing_on;
 mod preparing;
 mod reading;
 mod state;

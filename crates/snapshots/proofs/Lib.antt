@@ -26,3 +26,4 @@ pub mod Lying
 mod NamesInUse
 pub mod Behind
 pub mod Upgrading
+pub mod HandedOn

@@ -13,3 +13,4 @@ pub mod KeptEntries
 pub mod Whole
 pub mod Base
 pub mod BaseFaults
+pub mod HandedOn

@@ -10,6 +10,8 @@ ghost use Rattle.histories.specs.declared.stored.Stored.{Stored as StoredData};
 ghost use Rattle.pages.specs.Page.{Entry as EntryData};
 ghost use Rattle.roots.specs.Root.{log_sector};
 ghost use Rattle.snapshots.specs.ObjectCache.{root_of, HasEntries, AreObjects};
+ghost use Rattle.handing.specs.Cells.{cells_in, stored_cells};
+ghost use Rattle.snapshots.specs.HandedOn.{AreCellsBelow};
 ghost use Rattle.snapshots.specs.BaseFaults.{of_cache_fault};
 ghost use Rattle.snapshots.specs.Whole.{found_of, whole};
 ghost use Rattle.snapshots.specs.declared.object_cache_fault.ObjectCacheFault.TheVariants as ObjectCacheFault;
@@ -104,6 +106,33 @@ impl<'a, D: Device, M: Drop> Base<'a, D, M> {
             Err(fault) => Err(self.told(fault)),
         }
     }
+
+    /// The cells of all objects that lie below, each with the key of its object, in key order. Each page is read once, and what of them lies in memory stays as
+    /// it is. No document is looked at.
+    ///
+    /// # Errors
+    ///
+    /// Those of [`Source::list`].
+    pub fn all_cells<P: Drop>(&mut self, alloc: Global) -> Result<Vec<(Key, Vec<u8>)>, LookupFault>
+    where
+        M: FromDocument<P>,
+        ensures listed { (objects : List (KeyData × StoredData P)) → HoldsBase M.made M.held self.old objects
+            → IfOk result (λ cells. cells_in cells.items ≡ stored_cells objects) }
+        ensures are { (entries : List EntryData) → HasEntries D.disk self.old.device.now self.old.cache.now entries
+            → IfOk result (λ cells. AreCellsBelow (M.held self.old.making) (root_of self.old.cache.now).label.format entries (cells_in cells.items)) }
+        ensures kept { (objects : List (KeyData × StoredData P)) → HoldsBase M.made M.held self.old objects → HoldsBase M.made M.held self.new objects }
+        ensures goes { GoesTo self.old self.new }
+        ensures counts { D.disk.failures self.old.device.now ≤ D.disk.failures self.new.device.now }
+        ensures steady { OnOk result (IsUnfailed self.old self.new) }
+        ensures device { IsErrOf result LookupFault.Device → HasGrown (D.disk.failures self.old.device.now) (D.disk.failures self.new.device.now) }
+        ensures memory { IsErrOf result LookupFault.Memory → IsUnfailed self.old self.new }
+        ensures damaged { (part : Part) → IsErrOf result (LookupFault.Damaged part) → self.new.is_damaged ≡ true }
+    {
+        match self.cache.all_cells(alloc, self.device) {
+            Ok(cells) => Ok(cells_lying::<P, M>(&self.making, cells)),
+            Err(fault) => Err(self.told(fault)),
+        }
+    }
 }
 
 // What is found of what is stored.
@@ -163,6 +192,15 @@ fn lying<P, M: FromDocument<P>>(
 {
     let mut lying = objects;
     lying.retain(|object| !making.is_held(object.0.resource()));
+    lying
+}
+
+// Those of the cells whose objects are not held in memory.
+fn cells_lying<P, M: FromDocument<P>>(making: &M, cells: Vec<(Key, Vec<u8>)>) -> Vec<(Key, Vec<u8>)>
+    ensures { result.items ≡ filter (λ c. not (M.held making.now c.0.resource)) cells.items }
+{
+    let mut lying = cells;
+    lying.retain(|cell| !making.is_held(cell.0.resource()));
     lying
 }
 

@@ -144,8 +144,8 @@ fn last_of<'a>(
     events.split_off(surplus)
 }
 
-// The same events, as a list.
-fn lent_events<'a>(
+/// The same events, as a list.
+pub(crate) fn lent_events<'a>(
     alloc: Global,
     events: Events<'a, Document>,
 ) -> Result<Vec<&'a Event<Document>>, AllocError>

@@ -46,9 +46,11 @@ mod added;
 mod base;
 mod below;
 mod cached_object;
+mod cells;
 mod changed;
 mod event_entries;
 mod fault;
+mod handing_on;
 mod kept_entries;
 mod keys;
 mod laws;
@@ -67,6 +69,7 @@ pub use base::Base;
 pub use below::Below;
 pub use cached_object::CachedObject;
 pub use fault::SnapshotFault;
+pub use handing_on::{handed_on, renewed_apart, shown_apart};
 pub use kept_entries::{Choice, KeptEntries};
 pub use laws::{
     entries_are_cuttable, entries_ascend, entries_fit, entries_have_one_view, histories_are_kept,

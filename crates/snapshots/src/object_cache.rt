@@ -18,9 +18,12 @@ ghost use Rattle.snapshots.specs.declared.object_cache_fault.ObjectCacheFault.Th
 ghost use Rattle.snapshots.specs.declared.cached_object.CachedObject.{CachedObject as CachedObjectData};
 ghost use Rattle.chunks.specs.Whole.{cuts_of, first_key, BeginsAlike, Wholes};
 ghost use Rattle.names.specs.Format.{has_chunks};
+ghost use Rattle.handing.specs.Cells.{cells_in};
+ghost use Rattle.snapshots.specs.HandedOn.{cells_of as cells_below, AreCutCells};
 ghost use Rattle.snapshots.specs.ObjectCache.{ObjectCaches, HasEntries, AreAmong, AreOf, AreCutOf, root_of};
 
 use crate::cached_object::{CachedObject, read_entry};
+use crate::cells::CellReader;
 use crate::changed::ChangedReader;
 use crate::keys::{has_zero, prefix_of};
 use crate::listed::ListingReader;
@@ -64,6 +67,33 @@ fn objects_with<D: Device>(
     };
     let listed = tell_whole(alloc, shelf, device, prefix, Reading::Passing, none)?;
     Ok(listed.objects)
+}
+
+// The cells of the entries of objects. What lies in memory stays as it is.
+fn cells_with<D: Device>(
+    alloc: Global,
+    shelf: &mut Shelf,
+    device: &mut D,
+) -> Result<Vec<(Key, Vec<u8>)>, ObjectCacheFault>
+    requires inside { D.disk.keeps device.old → 512 * log_sector (shelves.root_of shelf.old) ≤ length (D.disk.content device.old) }
+    ensures found { (entries : List EntryData) (objects : List (KeyData × CachedObjectData)) → Wholes D.disk device.old shelf.old entries
+        → AllByRecursion (BeginsAlike (1 ∷ [])) entries → AreOf (beginning (1 ∷ []) entries) objects → IfOk result (λ cells. cells_in cells.items ≡ cells_below objects) }
+    ensures are { (entries : List EntryData) → shelves.Shelves D.disk device.old shelf.old entries
+        → IfOk result (λ cells. AreCutCells (cuts_of shelf.old) (beginning (1 ∷ []) entries) (cells_in cells.items)) }
+    ensures entries { (entries : List EntryData) → shelves.Shelves D.disk device.old shelf.old entries → shelves.Shelves D.disk device.new shelf.new entries }
+    ensures root { shelves.root_of shelf.new ≡ shelves.root_of shelf.old }
+    ensures damaged { (entries : List EntryData) (objects : List (KeyData × CachedObjectData)) → Wholes D.disk device.old shelf.old entries
+        → AllByRecursion (BeginsAlike (1 ∷ [])) entries → AreOf (beginning (1 ∷ []) entries) objects → IsErrOf result ObjectCacheFault.Damaged → ⊥ }
+    ensures ran { Ran D.disk device.old device.new Same }
+    ensures cause { IsErrOf result ObjectCacheFault.Device → HasFailed D.disk device.old device.new }
+    ensures steady { OnOk result (D.disk.failures device.new ≡ D.disk.failures device.old) }
+    ensures memory { IsErrOf result ObjectCacheFault.Memory → D.disk.failures device.new ≡ D.disk.failures device.old }
+{
+    let none = CellReader {
+        cells: Vec::new(alloc),
+    };
+    let told = tell_whole(alloc, shelf, device, &[OBJECT_MARK], Reading::Passing, none)?;
+    Ok(told.cells)
 }
 
 // Whether one of the entries whose keys begin with a prefix is of an object that has none of these changes. The first that is ends the reading, and the pages
@@ -347,5 +377,32 @@ impl ObjectCache {
         ensures memory { IsErrOf result ObjectCacheFault.Memory → D.disk.failures device.new ≡ D.disk.failures device.old }
     {
         objects_with(alloc, &mut self.shelf, device, &[OBJECT_MARK])
+    }
+
+    /// The cells of all objects, each with the key of its object, ascending by key. Each page is read once that may have one, one after the other, and what lies
+    /// in memory stays as it is. No document is looked at: so of a cell with none nothing is told.
+    ///
+    /// # Errors
+    ///
+    /// Those of `find`.
+    pub fn all_cells<D: Device>(
+        &mut self,
+        alloc: Global,
+        device: &mut D,
+    ) -> Result<Vec<(Key, Vec<u8>)>, ObjectCacheFault>
+        requires inside { D.disk.keeps device.old → 512 * log_sector (root_of self.old) ≤ length (D.disk.content device.old) }
+        ensures found { (objects : List (KeyData × CachedObjectData)) → ObjectCaches D.disk device.old self.old objects
+            → IfOk result (λ cells. cells_in cells.items ≡ cells_below objects) }
+        ensures are { (entries : List EntryData) → HasEntries D.disk device.old self.old entries
+            → IfOk result (λ cells. AreCutCells (has_chunks (root_of self.old).label.format) (beginning (1 ∷ []) entries) (cells_in cells.items)) }
+        ensures kept { (objects : List (KeyData × CachedObjectData)) → ObjectCaches D.disk device.old self.old objects → ObjectCaches D.disk device.new self.new objects }
+        ensures root { root_of self.new ≡ root_of self.old }
+        ensures damaged { (objects : List (KeyData × CachedObjectData)) → ObjectCaches D.disk device.old self.old objects → IsErrOf result ObjectCacheFault.Damaged → ⊥ }
+        ensures ran { Ran D.disk device.old device.new Same }
+        ensures cause { IsErrOf result ObjectCacheFault.Device → HasFailed D.disk device.old device.new }
+        ensures steady { OnOk result (D.disk.failures device.new ≡ D.disk.failures device.old) }
+        ensures memory { IsErrOf result ObjectCacheFault.Memory → D.disk.failures device.new ≡ D.disk.failures device.old }
+    {
+        cells_with(alloc, &mut self.shelf, device)
     }
 }

@@ -26,8 +26,11 @@ struct KeptApart {
     count_below: usize,
 }
 
-// Keys, each with what stands under it, as entries.
-fn as_entries(alloc: Global, pairs: Vec<(Vec<u8>, Vec<u8>)>) -> Result<Vec<Entry>, AllocError>
+/// Keys, each with what stands under it, as entries.
+pub(crate) fn as_entries(
+    alloc: Global,
+    pairs: Vec<(Vec<u8>, Vec<u8>)>,
+) -> Result<Vec<Entry>, AllocError>
     ensures { IfOk result (λ entries. entries.items ≡ listed pairs.items) }
 {
     let mut entries = Vec::new(alloc);

@@ -1,6 +1,6 @@
 //! Writing the next generation.
 
-ghost use Rattle.std.specs.Prelude.{◌≡◌, ◌≢◌, ◌≤◌, ◌+◌, ◌-◌, ◌^◌, ◌<◌, IsTrue, [], List, length, true, false, IfOk, OnOk, OnErr, IsErrOf, ◌⊎◌, ◌↔◌};
+ghost use Rattle.std.specs.Prelude.{◌≡◌, ◌≢◌, ◌≤◌, ◌+◌, ◌-◌, ◌^◌, ◌<◌, ℕ, IsTrue, [], List, length, true, false, IfOk, OnOk, OnErr, IsErrOf, ◌⊎◌, ◌↔◌};
 ghost use Rattle.checkpoint.specs.declared.writing.WriteFault.TheVariants as WriteFault;
 ghost use Rattle.durable.specs.Compacted.{label_of};
 ghost use Rattle.durable.specs.Rules.{rules_at};
@@ -46,7 +46,8 @@ impl<D: Device> Store<D> {
     ghost use Rattle.checkpoint.specs.Pages.{IsIndex, pages_of_root};
     ghost use Rattle.chunks.specs.Chunks.{cut, HoldsWhole};
     ghost use Rattle.snapshots.specs.Keeping.{entries_of, held_entries, IsHeld, IsKeepable};
-    ghost use Rattle.snapshots.specs.ObjectCache.{AreObjects};
+    ghost use Rattle.names.specs.Key.{Key};
+    ghost use Rattle.snapshots.specs.HandedOn.{AreCellsBelow};
     ghost use Rattle.gatelog.specs.Log.{HoldsLog};
     ghost use Rattle.roots.specs.Root.{log_sector, HoldsRoot, MayHaveFloor};
     ghost use Rattle.names.specs.declared.format.Rules.{Rules};
@@ -54,7 +55,7 @@ impl<D: Device> Store<D> {
     ghost use Rattle.holdings.specs.Holdings.{Shows};
     ghost use Rattle.decoded.specs.Decoded.{Decoded};
     ghost use Rattle.decoded.specs.Standing.{History, View, with_plans};
-    ghost use Rattle.paged.specs.Lying.{base_of};
+    ghost use Rattle.paged.specs.Lying.{base_of, is_rule};
     ghost use Rattle.paged.specs.Paged.{HasEntries};
     ghost use Rattle.durable.specs.declared.fault.Damage.{Damage};
     ghost use Rattle.durable.specs.declared.fault.Fault.TheVariants as Fault;
@@ -65,7 +66,8 @@ impl<D: Device> Store<D> {
     ghost use Rattle.durable.specs.Stands.{StandsFor};
     ghost use Rattle.durable.specs.Settled.{device_of, paged_of, root_of, log_of, serves, kept_rules, LiesUnder, LiesStill, IsShown, ServesAt, IsSettledAt, IsLeftAt, LeavesSome};
 
-    /// Writes what the store shows as the next generation, with an empty log. What it shows stays as it is.
+    /// Writes what the store shows as the next generation, with an empty log. What it shows stays as it is. An object without a change is written as it lies in
+    /// the pages, and its text is not read: [`Store::check`] looks at it.
     ///
     /// # Errors
     ///
@@ -87,6 +89,10 @@ impl<D: Device> Store<D> {
         ensures empty { OnOk result (((log_of self.new).first_gate_sector ≡ log_sector (root_of self.new)) × ((log_of self.new).last_gate_sector ≡ (log_of self.new).first_gate_sector)) }
         ensures told { IfOk result (IsToldOf (root_of self.new)) }
         ensures keeps_format { OnOk result ((root_of self.new).label.format ≡ (root_of self.old).label.format) }
+
+        // Each entry in the pages that has an object's key is that of a cell.
+        ensures are { (entries : List Entry) → HasEntries D.disk (device_of self.old) (paged_of self.old) entries
+            → OnOk result ((cells : List (Key × List ℕ)) × AreCellsBelow is_rule (root_of self.old).label.format entries cells) }
 
         // At every moment a crash leaves the history.
         ensures any_moment { (rules : Rules) (h : History) → IsSettledAt rules self.old h → LeavesSome rules self.old self.new h [] }
@@ -122,15 +128,16 @@ impl<D: Device> Store<D> {
         self.write_next(alloc, next)
     }
 
-    /// What the next generation has. Where the device fails, or what is read of it is damaged, the store serves no more.
-    pub(super) fn next(&mut self, alloc: Global) -> Result<NextCheckpoint, Fault>
+    // What the next generation has: what no change covers is handed on. Where the device fails, or what is read of it is damaged, the store serves no more.
+    fn next(&mut self, alloc: Global) -> Result<NextCheckpoint, Fault>
         requires serves { serves self.old ≡ true }
         ensures entries { (v : View) → IsShown self.old v → IfOk result (λ n. in_list n.entries ≡ cut (kept_rules self.old).format (entries_of v)) }
         ensures ascending { IfOk result (λ n. IsTrue (is_sorted bytes_cmp (in_list n.entries))) }
         ensures rules { IfOk result (λ n. n.core.rules ≡ kept_rules self.old) }
         ensures held { (v : View) → IsShown self.old v → IsKeepable (kept_rules self.old) v
             → IfOk result (λ n. Shows n.core (base_of (with_plans v)) (with_plans v)) }
-        ensures are { (entries : List Entry) → HasEntries D.disk (device_of self.old) (paged_of self.old) entries → OnOk result (AreObjects (root_of self.old).label.format entries) }
+        ensures are { (entries : List Entry) → HasEntries D.disk (device_of self.old) (paged_of self.old) entries
+            → OnOk result ((cells : List (Key × List ℕ)) × AreCellsBelow is_rule (root_of self.old).label.format entries cells) }
         ensures damaged { (damage : Damage) → IsErrOf result (Fault.Damaged damage) → (v : View) → IsShown self.old v → IsKeepable (kept_rules self.old) v → ⊥ }
         ensures core { self.new.paged.core ≡ self.old.paged.core }
         ensures root { root_of self.new ≡ root_of self.old }
@@ -138,7 +145,7 @@ impl<D: Device> Store<D> {
         ensures device { Ran D.disk (device_of self.old) (device_of self.new) Same }
         ensures leaves { ServesOn self.old self.new result }
     {
-        let next = match self.paged.next(alloc, &mut self.device) {
+        let next = match self.paged.next_handed_on(alloc, &mut self.device) {
             Ok(next) => next,
             Err(fault) => return Err(self.met(fault)),
         };

@@ -46,27 +46,27 @@ returns-then-not-self g c = record {
   failed = λ stopped. (refl, refl);
 }
 
-pub returns-in_err-next : goal.returns-in_err-next
-returns-in_err-next g c =
+pub returns-in_err-next_read : goal.returns-in_err-next_read
+returns-in_err-next_read g c =
     let store = c.args.self.now in
-    let mid = c.next.new.self in
+    let mid = c.next_read.new.self in
     let told = c.from_residual.result in
     let passed = c.from_residual.ensures in
-    let leaves = serves_passed told passed.1 c.in_err-next.was c.next.ensures.leaves in
+    let leaves = serves_passed told passed.1 c.in_err-next_read.was c.next_read.ensures.leaves in
     record {
       told = λ held holds. IfOk-from_err told _ passed.0;
       counted = λ rules h settled. IfOk-from_err told _ passed.0;
       plans = λ held holds. IfOk-from_err told _ passed.0;
       are = λ entries has. IfOk-from_err told _ passed.0;
       serving = λ rules v serving. IfOk-from_err told _ passed.0;
-      memory = λ rules v serving is. serves_between store mid mid c.next.ensures.device c.next.ensures.core c.next.ensures.lies (leaves.memory_goes_on is) rules v serving;
+      memory = λ rules v serving is. serves_between store mid mid c.next_read.ensures.device c.next_read.ensures.core c.next_read.ensures.lies (leaves.memory_goes_on is) rules v serving;
       settled = λ rules h settled. IfOk-from_err told _ passed.0;
       told_settled = λ rules h settled. IfOk-from_err told _ passed.0;
-      memory_settled = λ rules h settled is. settled_between store mid mid c.next.ensures.device c.next.ensures.core c.next.ensures.lies (leaves.memory_goes_on is) rules h settled;
-      device = c.next.ensures.device;
+      memory_settled = λ rules h settled is. settled_between store mid mid c.next_read.ensures.device c.next_read.ensures.core c.next_read.ensures.lies (leaves.memory_goes_on is) rules h settled;
+      device = c.next_read.ensures.device;
       damaged = λ damage is rules v serving keepable.
           let Keeps : Rules → Type 0 = λ r. IsKeepable r v in
-          c.next.ensures.damaged damage (passed_on told (Faults.Damaged damage) passed.1 c.in_err-next.was is) v serving.shows (subst Keeps (sym serving.rules_are) keepable);
+          c.next_read.ensures.damaged damage (passed_on told (Faults.Damaged damage) passed.1 c.in_err-next_read.was is) v serving.shows (subst Keeps (sym serving.rules_are) keepable);
       refusal = λ serves. leaves.refusal;
       stops = leaves.stops;
       damaged_stops = leaves.damaged_stops;
@@ -80,22 +80,22 @@ returns-in_err-next g c =
 pub returns-in_err-has_own_plans : goal.returns-in_err-has_own_plans
 returns-in_err-has_own_plans g c =
     let store = c.args.self.now in
-    let mid = c.next.new.self in
+    let mid = c.next_read.new.self in
     let told = c.from_residual-in_err-has_own_plans.result in
     let passed = c.from_residual-in_err-has_own_plans.ensures in
-    let working = c.in_ok-next.ensures.leaves.goes_on in
-    let leaves = serves_refused store mid told passed.1 refl working c.in_ok-next.ensures.leaves.steady in
+    let working = c.in_ok-next_read.ensures.leaves.goes_on in
+    let leaves = serves_refused store mid told passed.1 refl working c.in_ok-next_read.ensures.leaves.steady in
     record {
       told = λ held holds. IfOk-from_err told _ passed.0;
       counted = λ rules h settled. IfOk-from_err told _ passed.0;
       plans = λ held holds. IfOk-from_err told _ passed.0;
       are = λ entries has. IfOk-from_err told _ passed.0;
       serving = λ rules v serving. IfOk-from_err told _ passed.0;
-      memory = λ rules v serving is. serves_between store mid mid c.next.ensures.device c.next.ensures.core c.next.ensures.lies working rules v serving;
+      memory = λ rules v serving is. serves_between store mid mid c.next_read.ensures.device c.next_read.ensures.core c.next_read.ensures.lies working rules v serving;
       settled = λ rules h settled. IfOk-from_err told _ passed.0;
       told_settled = λ rules h settled. IfOk-from_err told _ passed.0;
-      memory_settled = λ rules h settled is. settled_between store mid mid c.next.ensures.device c.next.ensures.core c.next.ensures.lies working rules h settled;
-      device = c.next.ensures.device;
+      memory_settled = λ rules h settled is. settled_between store mid mid c.next_read.ensures.device c.next_read.ensures.core c.next_read.ensures.lies working rules h settled;
+      device = c.next_read.ensures.device;
       damaged = λ damage is. absurd (true≢false (sym working ∙ leaves.damaged_stops damage is));
       refusal = λ serves. leaves.refusal;
       stops = leaves.stops;
@@ -110,7 +110,7 @@ returns-in_err-has_own_plans g c =
 pub returns-then-not-branch : goal.returns-then-not-branch
 returns-then-not-branch g c =
     let store = c.args.self.now in
-    let mid = c.next.new.self in
+    let mid = c.next_read.new.self in
     let new = c.stop_for.new.self in
     let leaves = serves_spoiled store new Plans c.stop_for.ensures.fault c.stop_for.ensures.stops in
     record {
@@ -123,12 +123,12 @@ returns-then-not-branch g c =
       settled = λ rules h settled. tt;
       told_settled = λ rules h settled. tt;
       memory_settled = λ rules h settled is. absurd (true≢false (sym (leaves.memory_goes_on is) ∙ c.stop_for.ensures.stops));
-      device = ran_met new mid.device mid.paged c.stop_for.ensures.device c.stop_for.ensures.paged store.device c.next.ensures.device;
+      device = ran_met new mid.device mid.paged c.stop_for.ensures.device c.stop_for.ensures.paged store.device c.next_read.ensures.device;
       damaged = λ damage is rules v serving keepable.
           let shown = serving.shows in
           let Over : State Decoded → Type 0 = λ core. ShowsOver core shown.base v in
           let Seen : Rules → Type 0 = λ r. IsView r.format v in
-          let same = c.core.ensures ∙ c.next.ensures.core in
+          let same = c.core.ensures ∙ c.next_read.ensures.core in
           c.in_ok-has_own_plans.ensures.no shown.base v (subst Over (sym same) shown.shows)
           (subst Seen (sym (ap (λ (core : State Decoded). core.rules) same ∙ serving.rules_are)) serving.seen) c.if-not-branch.true;
       refusal = λ serves. leaves.refusal;
@@ -144,10 +144,10 @@ returns-then-not-branch g c =
 pub returns : goal.returns
 returns g c =
     let store = c.args.self.now in
-    let mid = c.next.new.self in
-    let working = c.in_ok-next.ensures.leaves.goes_on in
-    let root = c.root.ensures ∙ c.next.ensures.root in
-    let format = c.format.ensures.told ∙ ap (λ (r : Root). r.label.format) c.next.ensures.root in
+    let mid = c.next_read.new.self in
+    let working = c.in_ok-next_read.ensures.leaves.goes_on in
+    let root = c.root.ensures ∙ c.next_read.ensures.root in
+    let format = c.format.ensures.told ∙ ap (λ (r : Root). r.label.format) c.next_read.ensures.root in
     record {
       told = λ held holds. search rules;
       counted = λ rules h settled.
@@ -156,27 +156,27 @@ returns g c =
       plans = λ held holds.
           let Held : State Decoded → Type 0 = λ core. Shows core holds.base held in
           let Own : Format → Type 0 = λ format. AllByRecursion (HasOwnPlans format) held.objects in
-          let same = c.core.ensures ∙ c.next.ensures.core in
+          let same = c.core.ensures ∙ c.next_read.ensures.core in
           subst Own (ap (λ (core : State Decoded). core.rules.format) same ∙ kept_format store)
           (c.in_ok-has_own_plans.ensures.yes holds.base held (subst Held (sym same) holds.shows)
           (below_own c.core.result.now.rules.format g.D.Device.disk store.device store.paged holds.base holds.below) c.if-not-branch.false);
-      are = c.in_ok-next.ensures.are;
-      serving = λ rules v serving. serves_between store mid mid c.next.ensures.device c.next.ensures.core c.next.ensures.lies working rules v serving;
+      are = c.in_ok-next_read.ensures.are;
+      serving = λ rules v serving. serves_between store mid mid c.next_read.ensures.device c.next_read.ensures.core c.next_read.ensures.lies working rules v serving;
       memory = λ rules v serving is. absurd (no_fault is);
-      settled = λ rules h settled. settled_between store mid mid c.next.ensures.device c.next.ensures.core c.next.ensures.lies working rules h settled;
+      settled = λ rules h settled. settled_between store mid mid c.next_read.ensures.device c.next_read.ensures.core c.next_read.ensures.lies working rules h settled;
       told_settled = λ numbers h settled.
           let same = root_is g.D.Device.disk store.device (root_of store) store.log (store.ready settled.working settled.keeps) settled.read.root settled.read.counts in
           checked_settled store numbers h settled _ (λ held holds. search rules) (ap (λ (r : Root). r.generation) (root ∙ same))
           (format ∙ ap (λ (r : Root). r.label.format) same);
       memory_settled = λ rules h settled is. absurd (no_fault is);
-      device = c.next.ensures.device;
+      device = c.next_read.ensures.device;
       damaged = λ damage is. absurd (no_fault is);
       refusal = λ serves. tt;
       stops = λ is. absurd (no_fault is);
       damaged_stops = λ damage is. absurd (no_fault is);
       memory_goes_on = λ is. absurd (no_fault is);
       cause = λ is. absurd (no_fault is);
-      steady = c.in_ok-next.ensures.leaves.steady;
+      steady = c.in_ok-next_read.ensures.leaves.steady;
       unfailed = λ is. absurd (no_fault is);
       failed = λ stopped. absurd (true≢false (sym c.if-not-self.false ∙ stopped));
     }

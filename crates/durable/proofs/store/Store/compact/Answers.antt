@@ -7,6 +7,7 @@ use Rattle.chunks.specs.Chunks.{cut}
 use Rattle.snapshots.specs.Keeping.{entries_of, IsKeepable}
 use Rattle.histories.specs.View.{view}
 use Rattle.recovery.proofs.Histories.{on_ok_to}
+use Rattle.snapshots.proofs.BaseFaults.{on_any}
 use Rattle.durable.specs.declared.fault.Fault.TheVariants as Fault
 use Rattle.durable.specs.Settled.{root_of, kept_rules, IsSettledAt}
 use Rattle.durable.proofs.Answering.{held}
@@ -40,6 +41,7 @@ returns-then-not-self g c =
       empty = tt;
       told = tt;
       keeps_format = tt;
+      are = λ entries has. tt;
       any_moment = λ rules h settled. absurd (true≢false (sym settled.working ∙ stopped));
       device = λ rules h settled is. absurd (true≢false (sym settled.working ∙ stopped));
       memory_serving = λ rules v serving told. absurd (true≢false (sym serving.working ∙ stopped));
@@ -80,6 +82,7 @@ returns-in_err-next g c =
       empty = IfOk-from_err told _ passed.0;
       told = IfOk-from_err told _ passed.0;
       keeps_format = IfOk-from_err told _ passed.0;
+      are = λ entries has. IfOk-from_err told _ passed.0;
       any_moment = λ rules h settled. moments_read rules store mid h [] run settled;
       device = λ rules h settled is. left_read rules store mid h [] run settled (leaves.stops is);
       memory_serving = λ rules v serving is.
@@ -197,6 +200,7 @@ returns g c =
       told = c.write_next.ensures.told;
       keeps_format = on_ok_to c.write_next.result _ _
           (λ label. ap (λ (l : Label). l.format) label ∙ format_of c.in_ok-next.next.core.rules (root_of store).label (c.in_ok-next.ensures.rules ∙ store.numbers)) c.write_next.ensures.label;
+      are = λ entries has. on_any c.write_next.result (c.in_ok-next.ensures.are entries has);
       greatest = λ is. sym (ap (λ (r : Root). r.generation) c.next.ensures.root) ∙ c.write_next.ensures.greatest is;
       failed = λ stopped. absurd (true≢false (sym c.if-not-self.false ∙ stopped));
       failed_only = λ is. absurd (c.write_next.ensures.refusal is);

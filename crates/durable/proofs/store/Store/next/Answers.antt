@@ -24,8 +24,8 @@ use Rattle.roots.specs.declared.root.Root.{Root}
 use Rattle.durable.specs.Rules.{rules_by}
 use Rattle.durable.proofs.store.Store.next.Goals as goal
 
-pub next-requires : goal.next-requires
-next-requires g c =
+pub next_handed_on-requires : goal.next_handed_on-requires
+next_handed_on-requires g c =
     let store = c.args.self.now in
     record { inside = λ keeps. pages_inside g.D.Device.disk store.device (root_of store) store.log (store.ready c.requires.serves keeps) }
 
@@ -33,18 +33,18 @@ pub invariant_of-self : goal.invariant_of-self
 invariant_of-self g c =
     let store = c.args.self.now in
     record {
-      numbers = ap (λ (core : State Decoded). core.rules) c.next.ensures.core ∙ store.numbers ∙ sym (ap (λ (r : Root). rules_by r.label) c.next.ensures.root);
-      floor = may_still (root_of store) _ c.next.ensures.root store.floor;
+      numbers = ap (λ (core : State Decoded). core.rules) c.next_handed_on.ensures.core ∙ store.numbers ∙ sym (ap (λ (r : Root). rules_by r.label) c.next_handed_on.ensures.root);
+      floor = may_still (root_of store) _ c.next_handed_on.ensures.root store.floor;
       in_data = store.in_data;
       works = store.works;
-      ready = λ serves. still_ready g.D.Device.disk store.device c.next.new.device (root_of store) _ store.log c.next.ensures.root c.next.ensures.ran (store.ready serves);
+      ready = λ serves. still_ready g.D.Device.disk store.device c.next_handed_on.new.device (root_of store) _ store.log c.next_handed_on.ensures.root c.next_handed_on.ensures.ran (store.ready serves);
     }
 
 pub returns-in-Err : goal.returns-in-Err
 returns-in-Err g c =
     let store = c.args.self.now in
     let new = c.met.new.self in
-    let device = c.next.new.device in
+    let device = c.next_handed_on.new.device in
     record {
       entries = λ v shown. tt;
       ascending = tt;
@@ -54,10 +54,10 @@ returns-in-Err g c =
       damaged = λ damage is v shown keepable.
           let found = look_damaged c.in-Err.fault damage (sym (err_same is) ∙ c.met.ensures.fault) in
           c.in-Err.ensures.damaged found.0 (ap Err found.1) (with_plans v) (holds_shown store v shown) (kept_held (kept_rules store) v keepable);
-      core = ap (λ (p : Paged). p.core) c.met.ensures.paged ∙ c.next.ensures.core;
-      root = ap (λ (p : Paged). paged.root_of p) c.met.ensures.paged ∙ c.next.ensures.root;
-      lies = λ base below. lies_met new device _ c.met.ensures.device c.met.ensures.paged base (c.next.ensures.below base below);
-      device = ran_met new device _ c.met.ensures.device c.met.ensures.paged store.device c.next.ensures.ran;
+      core = ap (λ (p : Paged). p.core) c.met.ensures.paged ∙ c.next_handed_on.ensures.core;
+      root = ap (λ (p : Paged). paged.root_of p) c.met.ensures.paged ∙ c.next_handed_on.ensures.root;
+      lies = λ base below. lies_met new device _ c.met.ensures.device c.met.ensures.paged base (c.next_handed_on.ensures.below base below);
+      device = ran_met new device _ c.met.ensures.device c.met.ensures.paged store.device c.next_handed_on.ensures.ran;
       leaves = serves_met store new c.in-Err.fault c.met.ensures.fault c.met.ensures.serves
           (λ is. failed_met new device _ c.met.ensures.device c.met.ensures.paged store.device (c.in-Err.ensures.device (ap Err is)))
           (λ is. steady_met new device _ c.met.ensures.device c.met.ensures.paged store.device (c.in-Err.ensures.memory (ap Err is)));
@@ -73,10 +73,10 @@ returns-then-ascends g c =
       held = λ v shown keepable. c.in-Ok.ensures.held (with_plans v) (holds_shown store v shown) (kept_held (kept_rules store) v keepable);
       are = c.in-Ok.ensures.are;
       damaged = λ damage is. absurd (no_fault is);
-      core = c.next.ensures.core;
-      root = c.next.ensures.root;
-      lies = c.next.ensures.below;
-      device = c.next.ensures.ran;
+      core = c.next_handed_on.ensures.core;
+      root = c.next_handed_on.ensures.root;
+      lies = c.next_handed_on.ensures.below;
+      device = c.next_handed_on.ensures.ran;
       leaves = serves_value store _ c.in-Ok.next c.requires.serves c.in-Ok.ensures.steady;
     }
 
@@ -84,7 +84,7 @@ pub returns : goal.returns
 returns g c =
     let store = c.args.self.now in
     let new = c.stop_for.new.self in
-    let device = c.next.new.device in
+    let device = c.next_handed_on.new.device in
     record {
       entries = λ v shown. tt;
       ascending = tt;
@@ -97,9 +97,9 @@ returns g c =
           c.in-Ok.ensures.entries (with_plans v) (holds_shown store v shown) ∙ ap (cut (kept_rules store).format) (entries_shown (with_plans v) v (held_as_it_is (with_plans v))) in
           let ascends = c.ascends.ensures.1 (subst Sorted (sym entries) (entries_ascend (kept_rules store) (kept_rules store).format v keepable)) in
           true≢false (sym ascends ∙ c.if-ascends.false);
-      core = ap (λ (p : Paged). p.core) c.stop_for.ensures.paged ∙ c.next.ensures.core;
-      root = ap (λ (p : Paged). paged.root_of p) c.stop_for.ensures.paged ∙ c.next.ensures.root;
-      lies = λ base below. lies_met new device _ c.stop_for.ensures.device c.stop_for.ensures.paged base (c.next.ensures.below base below);
-      device = ran_met new device _ c.stop_for.ensures.device c.stop_for.ensures.paged store.device c.next.ensures.ran;
+      core = ap (λ (p : Paged). p.core) c.stop_for.ensures.paged ∙ c.next_handed_on.ensures.core;
+      root = ap (λ (p : Paged). paged.root_of p) c.stop_for.ensures.paged ∙ c.next_handed_on.ensures.root;
+      lies = λ base below. lies_met new device _ c.stop_for.ensures.device c.stop_for.ensures.paged base (c.next_handed_on.ensures.below base below);
+      device = ran_met new device _ c.stop_for.ensures.device c.stop_for.ensures.paged store.device c.next_handed_on.ensures.ran;
       leaves = serves_spoiled store new Parts.Entry c.stop_for.ensures.fault c.stop_for.ensures.stops;
     }
