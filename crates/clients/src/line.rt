@@ -450,7 +450,6 @@ impl<S: Stream> Line<S> {
     }
 
     // Where nothing waits: reads on, or ends the connection once the session is over.
-    #[tactic(auto, using(crate::proofs::Leaving::none_later))]
     fn attend(
         &mut self,
         alloc: Global,

@@ -1,4 +1,4 @@
-use Rattle.std.proofs.Common.{rules, ◌≡◌, ◌∙◌, ap, sym, subst, refl, inl, inr, IsTrue, false, true≢false, [], Option, Some, option_map}
+use Rattle.std.proofs.Common.{rules, ◌≡◌, ◌∙◌, ap, sym, subst, refl, inl, inr, false, true≢false, [], Option, Some, option_map}
 use Rattle.httpmsg.specs.Stream.{Message}
 use Rattle.sessions.specs.State.{State}
 use Rattle.sessions.specs.Restating.{Queue, Gives}
