@@ -42,19 +42,17 @@ pub not_plain : {S : Type 0} (line : Line S) (q : Queue) → line.later ≡ Some
 not_plain line q is plain =
     let clash : Some q.format ≡ None = sym (ap (λ (o : Option Queue). option_map (λ (x : Queue). x.format) o) is) ∙ plain in cc
 
+some_is : (g h : Format) → Some g ≡ Some h → g ≡ h
+some_is g h same = cc
+
 -- What is given of the messages before a session is so of those of its client.
-pub gives_of : {S : Type 0} (old new : Line S) (q after : Queue) (f : Format) (s t : State) (answered : Option Message) → old.later ≡ Some q → new.later ≡ Some after
-    → Gives q.format q.messages after.messages s t answered → dialect_of old ≡ Some f → Gives f (later_of old) (later_of new) s t answered
-gives_of {S} old new q after f s t answered is now gives same =
-    let Messages : Option Queue → List Message = λ o. option_map_or (λ (x : Queue). x.messages) o [] in
+pub gives_of : {S : Type 0} (line : Line S) (q after : Queue) (f : Format) (s t : State) (answered : Option Message) → line.later ≡ Some q
+    → Gives q.format q.messages after.messages s t answered → dialect_of line ≡ Some f → Gives f (later_of line) after.messages s t answered
+gives_of line q after f s t answered is gives same =
     let format_is : Some q.format ≡ Some f = sym (ap (λ (o : Option Queue). option_map (λ (x : Queue). x.format) o) is) ∙ same in
     let By : Format → Type 0 = λ g. Gives g q.messages after.messages s t answered in
-    let From : Option Queue → Type 0 = λ o. Gives f (Messages o) after.messages s t answered in
-    let To : Option Queue → Type 0 = λ o. Gives f (later_of old) (Messages o) s t answered in
-    subst To (sym now) (subst From (sym is) (subst By (some_is q.format f format_is) gives))
-  where
-    some_is : (g h : Format) → Some g ≡ Some h → g ≡ h
-    some_is g h same = cc
+    let From : Option Queue → Type 0 = λ o. Gives f (option_map_or (λ (x : Queue). x.messages) o []) after.messages s t answered in
+    subst From (sym is) (subst By (some_is q.format f format_is) gives)
 
 -- a client whose messages are answered as they are has no dialect
 pub not_dialect : {S : Type 0} (line : Line S) (f : Format) → line.later ≡ None → dialect_of line ≡ Some f → ⊥

@@ -322,7 +322,10 @@ impl<S: Stream> Line<S> {
         ensures plain { IsPlain self.old → session.new ≡ session.old }
         ensures hands { (f : FormatData) → dialect_of self.old ≡ Some f → HandsOver f session.old session.new (later_of self.old) (later_of self.new) }
     {
-        if session.is_idle() || !self.has_none_later() {
+        if session.is_idle() {
+            return;
+        }
+        if !self.has_none_later() {
             return;
         }
         let Some(later) = &mut self.later else {
@@ -351,7 +354,10 @@ impl<S: Stream> Line<S> {
             → (given : State) × (answered : Option MessageData) × Gives f (later_of self.old) (later_of self.new) session.old given answered
             × SendsOn S.moved self.old.stream self.new.stream given session.new }
     {
-        if !is_quiet(session) || !self.has_later(session) {
+        if !is_quiet(session) {
+            return Ok(());
+        }
+        if !self.has_later(session) {
             return Ok(());
         }
         self.give(alloc, desk, session, now);
@@ -444,7 +450,6 @@ impl<S: Stream> Line<S> {
     }
 
     // Where nothing waits: reads on, or ends the connection once the session is over.
-    #[tactic(auto, using(crate::proofs::Leaving::none_later))]
     fn attend(
         &mut self,
         alloc: Global,

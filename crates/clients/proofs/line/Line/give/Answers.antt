@@ -1,4 +1,4 @@
-use Rattle.std.proofs.Common.{◌∙◌, ap, sym, refl, Option, Some, option_map}
+use Rattle.std.proofs.Common.{◌∙◌, ap, sym, Option, Some, option_map}
 use Rattle.sessions.specs.Restating.{Queue}
 use Rattle.clients.proofs.Leaving.{not_plain, gives_of}
 use Rattle.clients.proofs.line.Line.give.Goals as goal
@@ -12,5 +12,5 @@ returns-clause-plain g c plain = absurd (not_plain c.args.self.now c.in-Some.lat
 pub returns-clause-gives : goal.returns-clause-gives
 returns-clause-gives g c f is = (
   c.give-answered.result,
-  gives_of c.args.self.now _ c.in-Some.later c.give-answered.new.self f c.args.session.now c.give-answered.new.session c.give-answered.result c.in-Some.is refl c.give-answered.ensures.gives is,
+  gives_of c.args.self.now c.in-Some.later c.give-answered.new.self f c.args.session.now c.give-answered.new.session c.give-answered.result c.in-Some.is c.give-answered.ensures.gives is,
 )

@@ -1,4 +1,4 @@
-use Rattle.std.proofs.Common.{arith, ap, sym, subst}
+use Rattle.std.proofs.Common.{arith, ◌∙◌, ap, sym, subst}
 use Rattle.clients.specs.Story.{SendsOn}
 use Rattle.clients.proofs.Sending.{sends_once, sends_then}
 use Rattle.clients.proofs.line.Line.send.Goals as goal
@@ -21,4 +21,5 @@ loop-preserved g c =
           g.met.S.Stream.moved_then c.loop.invariant.sent
           (sends_once g.S.Stream.moved c.loop.self.stream c.send_once-moved.new.stream c.loop.session c.send_once-moved.new.session c.send_once-moved.ensures.sends));
       later = omega (arith, c.loop.invariant.later, c.send_once-moved.ensures.counts.later, same);
+      behind = c.note_sent.ensures.later ∙ c.loop.invariant.behind;
     }

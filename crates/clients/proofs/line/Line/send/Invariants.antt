@@ -1,4 +1,4 @@
-use Rattle.std.proofs.Common.{◌≤◌}
+use Rattle.std.proofs.Common.{◌≡◌, ◌≤◌}
 use Rattle.clients.specs.Story.{SendsOn}
 use Rattle.clients.proofs.line.Line.send.Given as goal
 
@@ -6,4 +6,5 @@ abbrev pub invariant-loop : goal.invariant-loop
 invariant-loop g l = record {
   sent : SendsOn g.S.Stream.moved l.fn.self.stream l.self.stream l.fn.session l.session;
   later : g.S.Stream.failures l.fn.self.stream ≤ g.S.Stream.failures l.self.stream;
+  behind : l.self.later ≡ l.fn.self.later;
 }
