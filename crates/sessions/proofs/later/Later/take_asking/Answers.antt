@@ -13,7 +13,7 @@ returns-in-Constant-clause-taken c =
     let m = c.in-Some.message.now in
     let below : 0 < q.messages.len = search rules in
     taken_all c.args.self.now.format q.format c.loop-message.taken.items q.messages.items m _ c.in-Constant.field-0.now c.loop-message.invariant.format
-    (omega (arith, below, q.messages.ok.0)) c.in-Some.ensures.lookup (sym (ap (reading_seen m) c.in-Constant.is) ∙ c.in_ok-reading.ensures) c.loop-message.invariant.taken
+    (omega (arith, below, q.messages.ok.0)) c.in-Some.ensures.lookup (sym (ap (reading_seen m) c.in-Constant.is) ∙ c.in_ok-reading.ensures.reading) c.loop-message.invariant.taken
 
 pub returns-in-Constant-clause-rest : goal.returns-in-Constant-clause-rest
 returns-in-Constant-clause-rest c =
@@ -21,7 +21,7 @@ returns-in-Constant-clause-rest c =
     let m = c.in-Some.message.now in
     let below : 0 < q.messages.len = search rules in
     rest_all c.args.self.now.format q.format q.messages.items m _ c.in-Constant.field-0.now c.loop-message.invariant.format
-    (omega (arith, below, q.messages.ok.0)) c.in-Some.ensures.lookup (sym (ap (reading_seen m) c.in-Constant.is) ∙ c.in_ok-reading.ensures) c.loop-message.invariant.rest
+    (omega (arith, below, q.messages.ok.0)) c.in-Some.ensures.lookup (sym (ap (reading_seen m) c.in-Constant.is) ∙ c.in_ok-reading.ensures.reading) c.loop-message.invariant.rest
 
 pub loop-message-preserved-in-Continue-branch-2 : goal.loop-message-preserved-in-Continue-branch-2
 loop-message-preserved-in-Continue-branch-2 c =
@@ -34,8 +34,8 @@ loop-message-preserved-in-Continue-branch-2 c =
     let Else : Option Message → Message = λ o. unwrap_or o p in
     let reads : asks c.unwrap_or.result ≡ reading_of q.format m =
     elim c.match-reading.branch [
-      | in-Plain w ↦ ap asks (c.unwrap_or.ensures ∙ ap Else w.other-is ∙ sym same) ∙ sym (ap (reading_seen m) w.in-Plain.is) ∙ c.in_ok-reading.ensures
-      | in-Restated w ↦ ap asks (c.unwrap_or.ensures ∙ ap Else w.other-is) ∙ sym (ap (reading_seen m) w.in-Restated.is) ∙ c.in_ok-reading.ensures
+      | in-Plain w ↦ ap asks (c.unwrap_or.ensures ∙ ap Else w.other-is ∙ sym same) ∙ sym (ap (reading_seen m) w.in-Plain.is) ∙ c.in_ok-reading.ensures.reading
+      | in-Restated w ↦ ap asks (c.unwrap_or.ensures ∙ ap Else w.other-is) ∙ sym (ap (reading_seen m) w.in-Restated.is) ∙ c.in_ok-reading.ensures.reading
     ] in
     let reads_it : asks c.unwrap_or.result ≡ reading_of q.format p = reads ∙ ap (reading_of q.format) same in
     record {
